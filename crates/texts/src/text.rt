@@ -1,0 +1,120 @@
+//! A shared text.
+ghost use Rattle.std.specs.Prelude.{◌≡◌, nat_eq, IfOk, IsTrue, Some, refl};
+ghost use Rattle.std.specs.Hash as fed;
+ghost use Rattle.std.proofs.Common.{rules};
+ghost use Rattle.std.specs.Cmp.{partial_equiv_from_equiv, partial_order_from_own_ties};
+ghost use Rattle.std.specs.Cmp.Rules.{comparing, hashing};
+ghost use Rattle.std.specs.Cmp.Lexicographic.{pointwise, slice_cmp, nat_list_eq_equiv, nat_list_cmp_total, texts_po, texts_ties};
+ghost use Rattle.std.specs.Ordering.{nat_cmp, as_partial_cmp};
+
+use crate::memory::Memory;
+use std::alloc::Global;
+use std::cmp::Ordering;
+use std::hash::{Hash, Hasher};
+use std::marker::Model;
+use std::sync::Arc;
+
+/// A shared text, which a contract sees as its bytes.
+#[derive(Drop)]
+pub struct Text {
+    inner: Arc<String>,
+}
+
+impl Model for Text {
+    ghost use Rattle.std.specs.Prelude.{ℕ, List};
+    ghost use Rattle.std.specs.Arc.{arc_value};
+    ghost use Rattle.std.specs.String.{string_bytes};
+
+    ghost Value = { List ℕ };
+
+    ghost view = { λ t. string_bytes (arc_value t.inner) };
+}
+
+impl Text {
+    /// A new text.
+    pub fn new(alloc: Global, text: &str) -> Result<Text, Memory>
+        ensures { IfOk result (λ t. t ≡ text.now) }
+    {
+        let inner = Arc::new(alloc, String::from_str(alloc, text)?)?;
+        Ok(Text { inner })
+    }
+
+    /// The text.
+    pub fn as_str(&self) -> &str
+        ensures { result.now ≡ self.now }
+    {
+        self.inner.as_str()
+    }
+
+    /// The same text, shared.
+    pub fn share(&self) -> Result<Text, Memory>
+        ensures { IfOk result (λ t. t ≡ self.now) }
+    {
+        let inner = Arc::try_clone(&self.inner)?;
+        Ok(Text { inner })
+    }
+}
+
+impl PartialEq for Text {
+    ghost eq = { pointwise nat_eq };
+
+    ghost laws = { partial_equiv_from_equiv nat_list_eq_equiv };
+
+    fn eq(&self, other: &Text) -> bool {
+        self.as_str() == other.as_str()
+    }
+}
+
+impl Eq for Text {
+    ghost laws = { nat_list_eq_equiv };
+}
+
+impl PartialOrd for Text {
+    ghost partial_cmp = { as_partial_cmp (slice_cmp nat_cmp) };
+
+    ghost laws = { texts_po };
+
+    fn partial_cmp(&self, other: &Text) -> Option<Ordering> {
+        Some(self.cmp(other))
+    }
+}
+
+impl Ord for Text {
+    ghost cmp = { slice_cmp nat_cmp };
+
+    ghost total = { nat_list_cmp_total };
+
+    ghost matches_partial_cmp = { λ x y. refl };
+
+    ghost matches_eq = { texts_ties };
+
+    fn cmp(&self, other: &Text) -> Ordering {
+        self.as_str().cmp(other.as_str())
+    }
+}
+
+impl Hash for Text {
+    ghost hash_input = { λ t. fed.str t };
+
+    ghost respects_eq = { Prim.search (hashing, rules) };
+
+    fn hash<H: Hasher>(&self, state: &mut H) {
+        self.as_str().hash(state);
+    }
+}
+
+#[cfg(test)]
+mod tests {
+    use super::*;
+    use std::test::Fail;
+
+    #[test]
+    fn a_shared_text_is_equal(rt: HostRuntime) -> Result<(), Fail> {
+        let text = Text::new(rt.alloc(), "a/BUILD")?;
+        let shared = text.share()?;
+        assert_eq!(rt; shared.as_str(), "a/BUILD");
+        assert!(rt; shared == text);
+        assert!(rt; Text::new(rt.alloc(), "a-b")? < text);
+        Ok(())
+    }
+}
