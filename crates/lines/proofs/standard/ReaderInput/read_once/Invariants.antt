@@ -1,0 +1,9 @@
+use Rattle.std.proofs.Common.{◌≡◌}
+use Rattle.lines.proofs.standard.ReaderInput.read_once.Given as goal
+
+abbrev pub invariant-loop : goal.invariant-loop
+invariant-loop g l = record {
+  told : l.self.told ≡ l.fn.self.told;
+  left : l.self.left ≡ l.fn.self.left;
+  failures : l.self.failures ≡ l.fn.self.failures;
+}

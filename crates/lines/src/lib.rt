@@ -1,0 +1,12 @@
+//! Lines of an input, one at a time, and the devices that bytes come from and go to.
+#![tactic(auto)]
+
+mod device;
+mod line;
+mod pending;
+mod standard;
+
+pub use device::{Failed, Input, Output};
+pub use line::Line;
+pub use pending::{Pending, ReadStop, next_line};
+pub use standard::{ReaderInput, WriterOutput};
