@@ -2,6 +2,7 @@
 #![tactic(auto)]
 
 mod error;
+mod lookups;
 mod tree;
 
 pub use error::TreeError;

@@ -8,6 +8,7 @@ ghost use Rattle.filetree.specs.Files as specs;
 ghost use Rattle.filetree.specs.Edits.{Edits, Tells};
 
 use crate::error::TreeError;
+use crate::lookups::{some_above, some_below};
 use labels::is_path;
 use std::alloc::Global;
 use std::collections::BTreeMap;
@@ -35,36 +36,6 @@ impl Model for Tree {
     ghost coded = { map.code (coded_list coded_ℕ) (coded_list coded_ℕ) };
 
     ghost view = { λ t. map.from_entries (each (λ e. (string_bytes e.0, e.1)) t.files.entries) };
-}
-
-// Whether the other path goes on from the path by a slash.
-fn is_ancestor(path: &str, other: &str) -> bool
-    ensures { result ≡ specs.is_ancestor path.now other.now }
-{
-    goes_on(path.as_bytes(), other.as_bytes())
-}
-
-fn goes_on(path: &[u8], other: &[u8]) -> bool
-    ensures { result ≡ specs.is_ancestor path.now other.now }
-{
-    if other.len() <= path.len() {
-        return false;
-    }
-    other.starts_with(path) && other[path.len()] == b'/'
-}
-
-// Whether some key goes on from the path.
-fn some_below(files: &BTreeMap<String, Text>, path: &str) -> bool
-    ensures { result ≡ list_any (λ key. specs.is_ancestor path.now (string_bytes key)) (keys files.now) }
-{
-    files.keys().any(|key| is_ancestor(path, key.as_str()))
-}
-
-// Whether the path goes on from some key.
-fn some_above(files: &BTreeMap<String, Text>, path: &str) -> bool
-    ensures { result ≡ list_any (λ key. specs.is_ancestor (string_bytes key) path.now) (keys files.now) }
-{
-    files.keys().any(|key| is_ancestor(key.as_str(), path))
 }
 
 impl Tree {
@@ -95,7 +66,7 @@ impl Tree {
     fn is_directory(&self, path: &str) -> bool
         ensures { result ≡ specs.is_directory self.now path.now }
     {
-        some_below(&self.files, path)
+        some_below(self.alloc, &self.files, path)
     }
 
     fn is_below_a_file(&self, path: &str) -> bool
