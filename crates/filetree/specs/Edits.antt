@@ -1,0 +1,23 @@
+-- What an edit did.
+use Rattle.std.specs.Prelude.{◌≡◌, ℕ, Option, Some, None, Result, Ok, Err}
+use Rattle.filetree.specs.Files.{Files}
+use Rattle.filetree.specs.declared.error.TreeError.{TreeError}
+use Rattle.filetree.specs.declared.error.TreeError.TheVariants.{Code2, Code3, Code4, Code7, Memory}
+
+-- the refusal that an error names; memory runs out only where there is none
+abbrev pub refusal_of : TreeError → Option ℕ
+refusal_of Code2 = Some 2
+refusal_of Code3 = Some 3
+refusal_of Code4 = Some 4
+refusal_of Code7 = Some 7
+refusal_of Memory = None
+
+-- the change is made, or the refusal is told and nothing changes
+abbrev pub Edits : {A : Type 0} → Result A TreeError → Option ℕ → Files → Files → Files → Type 0
+Edits (Ok _) refusal before change after = (refusal ≡ None) × (after ≡ change)
+Edits (Err e) refusal before change after = (refusal ≡ refusal_of e) × (after ≡ before)
+
+-- the refusal is told, if there is one
+abbrev pub Tells : {A : Type 0} → Result A TreeError → Option ℕ → Type 0
+Tells (Ok _) refusal = refusal ≡ None
+Tells (Err e) refusal = refusal ≡ refusal_of e

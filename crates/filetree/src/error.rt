@@ -1,0 +1,56 @@
+//! Why an edit is refused.
+use std::alloc::{AllocError, AllocFailed};
+use thiserror::Error;
+
+/// Why an edit is refused. The numbers are those of the answers to a client.
+#[derive(Debug, Drop, Error)]
+pub enum TreeError {
+    /// The text is not a path.
+    #[error("bad path")]
+    Code2,
+    /// A proper ancestor of the path is a file, or the path is a directory.
+    #[error("a file or a directory is in the way")]
+    Code3,
+    /// No such file.
+    #[error("no such file")]
+    Code4,
+    /// The text is longer than 262,144 bytes.
+    #[error("text too long")]
+    Code7,
+    /// A growth was refused.
+    #[error("out of memory")]
+    Memory,
+}
+
+impl From<texts::Memory> for TreeError {
+    ghost use Rattle.std.specs.Prelude.{◌≡◌};
+    ghost use Rattle.filetree.specs.declared.error.TreeError.TheVariants.{Memory};
+
+    ghost from_gives = { λ _ e. e ≡ Memory };
+
+    fn from(_error: texts::Memory) -> TreeError {
+        TreeError::Memory
+    }
+}
+
+impl From<AllocError> for TreeError {
+    ghost use Rattle.std.specs.Prelude.{◌≡◌};
+    ghost use Rattle.filetree.specs.declared.error.TreeError.TheVariants.{Memory};
+
+    ghost from_gives = { λ _ e. e ≡ Memory };
+
+    fn from(_error: AllocError) -> TreeError {
+        TreeError::Memory
+    }
+}
+
+impl<T: Drop> From<AllocFailed<T>> for TreeError {
+    ghost use Rattle.std.specs.Prelude.{◌≡◌};
+    ghost use Rattle.filetree.specs.declared.error.TreeError.TheVariants.{Memory};
+
+    ghost from_gives = { λ _ e. e ≡ Memory };
+
+    fn from(_error: AllocFailed<T>) -> TreeError {
+        TreeError::Memory
+    }
+}

@@ -1,0 +1,14 @@
+use Rattle.std.proofs.Common.{rules, tests, ◌≡◌, lit<, true, length}
+use Rattle.std.proofs.lemmas.Iterator.Search.{all_from_yields_List}
+use Rattle.std.proofs.lemmas.Iterator.Splits.{YieldsList-from_str_split}
+use Rattle.std.specs.Prelude.{nat_le}
+use Rattle.std.specs.List.{list_all}
+use Rattle.labels.specs.Paths as paths
+use Rattle.labels.proofs.path.is_path.Goals as goal
+
+pub returns : goal.returns
+returns c =
+    let each : c.all.result ≡ list_all paths.is_segment (paths.segments c.args.text.now) =
+    all_from_yields_List paths.is_segment _ _ _ c.all.ensures.ran (YieldsList-from_str_split 47 c.args.text.now (lit< tt) c.split.ensures.text c.split.ensures.has_more c.split.ensures.pattern) (λ x b q k. search (rules, tests)) in
+    let short : nat_le (length c.args.text.now) 255 ≡ true = search (rules, tests) in
+    rw short each

@@ -1,0 +1,138 @@
+//! Paths of files and names of packages.
+ghost use Rattle.std.specs.Prelude.{◌≡◌, IsTrue, IfOk, IsErrOf, false};
+ghost use Rattle.labels.specs.Paths as paths;
+
+use std::alloc::Global;
+use std::marker::Model;
+use texts::{Memory, Text};
+use thiserror::Error;
+
+fn is_name_byte(byte: u8) -> bool
+    ensures { result ≡ paths.is_name_byte byte }
+{
+    matches!(byte, b'0'..=b'9' | b'A'..=b'Z' | b'a'..=b'z' | b'_' | b'-' | b'.')
+}
+
+fn is_segment(name: &str) -> bool
+    ensures { result ≡ paths.is_segment name.now }
+{
+    if name.is_empty() || name == "." || name == ".." {
+        return false;
+    }
+    name.bytes().all(is_name_byte)
+}
+
+/// Whether the text is a path: segments joined by `/`, at most 255 bytes. A segment is one or more of
+/// ASCII letters, digits, `_`, `-` and `.`, and is neither `.` nor `..`.
+pub fn is_path(text: &str) -> bool
+    ensures { result ≡ paths.is_path text.now }
+{
+    if text.len() > 255 {
+        return false;
+    }
+    text.split('/').all(is_segment)
+}
+
+/// Whether the text names a package or a directory: a path, or the empty text for the root.
+pub fn is_package_name(text: &str) -> bool
+    ensures { result ≡ paths.is_package_name text.now }
+{
+    text.is_empty() || is_path(text)
+}
+
+/// Why there is no path.
+#[derive(Debug, Drop, Error)]
+pub enum BadPath {
+    /// The text is not a path.
+    #[error("not a path")]
+    Code2,
+    /// A growth was refused.
+    #[error("out of memory")]
+    Memory,
+}
+
+impl From<Memory> for BadPath {
+    ghost use Rattle.std.specs.Prelude.{◌≡◌};
+    ghost use Rattle.labels.specs.declared.path.BadPath.TheVariants.{Memory};
+
+    ghost from_gives = { λ _ e. e ≡ Memory };
+
+    fn from(_error: Memory) -> BadPath {
+        BadPath::Memory
+    }
+}
+
+/// A path of a file, as a shared text. A contract sees it as its bytes.
+#[derive(Drop)]
+pub struct Path {
+    text: Text,
+}
+
+impl Model for Path {
+    ghost use Rattle.std.specs.Prelude.{ℕ, List, IsTrue};
+    ghost use Rattle.labels.specs.Paths as paths;
+
+    ghost Value = { List ℕ };
+
+    ghost view = { λ p. p.text };
+
+    ghost invariant = { λ p. IsTrue (paths.is_path p.text) };
+}
+
+impl Path {
+    /// Takes exactly the texts that are paths; another text is `Code2`.
+    pub fn new(alloc: Global, text: &str) -> Result<Path, BadPath>
+        ensures ok { IfOk result (λ p. p ≡ text.now) }
+        ensures path { IfOk result (λ p. IsTrue (paths.is_path p)) }
+        ensures bad { IsErrOf result BadPath.Code2 → paths.is_path text.now ≡ false }
+    {
+        if !is_path(text) {
+            return Err(BadPath::Code2);
+        }
+        let text = Text::new(alloc, text)?;
+        Ok(Path { text })
+    }
+
+    /// The path.
+    pub fn as_str(&self) -> &str
+        ensures value { result.now ≡ self.now }
+        ensures path { IsTrue (paths.is_path self.now) }
+    {
+        self.text.as_str()
+    }
+
+    /// The path as a shared text.
+    pub fn text(&self) -> &Text
+        ensures value { result.now ≡ self.now }
+        ensures path { IsTrue (paths.is_path self.now) }
+    {
+        &self.text
+    }
+}
+
+#[cfg(test)]
+mod tests {
+    use super::*;
+    use std::test::Fail;
+
+    #[test]
+    fn paths_and_package_names(rt: HostRuntime) -> Result<(), Fail> {
+        for path in ["a", "BUILD.bazel", "a/b-c/_.d", "...", "a/.b", "0"] {
+            assert!(rt; is_path(path) && is_package_name(path), "at {path}");
+            assert_eq!(rt; Path::new(rt.alloc(), path)?.as_str(), path);
+        }
+        for text in [
+            "/", "/a", "a/", "a//b", ".", "..", "a/.", "a/../b", "a b", "a:b", "a@b", "\u{e9}", "*",
+        ] {
+            assert!(rt; !is_path(text) && !is_package_name(text), "at {text}");
+            assert!(rt;
+                matches!(Path::new(rt.alloc(), text), Err(BadPath::Code2)),
+                "at {text}"
+            );
+        }
+        assert!(rt; !is_path("") && is_package_name(""));
+        assert!(rt; is_path("p".repeat(rt.alloc(), 255)?.as_str()));
+        assert!(rt; !is_path("p".repeat(rt.alloc(), 256)?.as_str()));
+        Ok(())
+    }
+}
