@@ -1,0 +1,4 @@
+pub mod Lookups
+pub mod Next
+pub mod NextLaws
+pub mod Replies

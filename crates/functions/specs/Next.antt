@@ -1,0 +1,29 @@
+-- What each kind of node asks and ends with, and what a leaf holds.
+use Rattle.std.specs.Prelude.{◌≡◌, List, Option, Some, None, Bool, true, false}
+use Rattle.std.specs.FinMap as map
+use Rattle.evaluation.specs.Reply.{Reply, Done}
+use Rattle.filetree.specs.Files.{Files}
+use Rattle.keys.specs.declared.key.Key.{Key}
+use Rattle.keys.specs.declared.key.Key.TheVariants as key
+use Rattle.keys.specs.declared.value.Value.{Value}
+use Rattle.keys.specs.declared.value.Value.TheVariants as value
+use Rattle.functions.specs.Lookups as lookup
+use Rattle.functions.specs.declared.loading.Kept.{Kept}
+
+-- the table of turns, from all answers so far; a leaf needs none
+abbrev pub next : Key → List Value → Reply Key Value
+next (key.File path) answers = Done (value.File None)
+next (key.Lookup directory) answers = lookup.next directory answers
+
+abbrev pub is_leaf : Key → Bool
+is_leaf (key.File path) = true
+is_leaf (key.Lookup directory) = false
+
+-- the value of a leaf in the files, and None where the key is no leaf
+abbrev pub read : Files → Key → Option Value
+read files (key.File path) = Some (value.File (map.get files path))
+read files (key.Lookup directory) = None
+
+-- the state is of the key
+abbrev pub fits : Kept → Key → List Value → Type 0
+fits state k answers = state.key ≡ k

@@ -1,0 +1,33 @@
+//! The leaves of the graph.
+ghost use Rattle.std.specs.Prelude.{◌≡◌, IsTrue, IfOk, Some};
+ghost use Rattle.functions.specs.Next as specs;
+
+use filetree::Tree;
+use keys::{Key, Value};
+use std::alloc::Global;
+use texts::Memory;
+
+/// Whether the key is a leaf, whose value is read from the files.
+pub fn is_leaf(key: &Key) -> bool
+    ensures { result ≡ specs.is_leaf key.now }
+{
+    match key {
+        Key::File(_) => true,
+        Key::Lookup(_) => false,
+    }
+}
+
+/// The value of a leaf in the files: of a file its text, shared, or none where there is no such file. That the key is a
+/// leaf is the caller's condition. `Memory` where a growth was refused.
+pub fn read_leaf(_alloc: Global, tree: &Tree, key: &Key) -> Result<Value, Memory>
+    requires { IsTrue (specs.is_leaf key.now) }
+    ensures { IfOk result (λ v. specs.read tree.now key.now ≡ Some v) }
+{
+    match key {
+        Key::File(path) => match tree.file(path.as_str()) {
+            None => Ok(Value::File(None)),
+            Some(text) => Ok(Value::File(Some(text.share()?))),
+        },
+        Key::Lookup(_) => unreachable!(),
+    }
+}

@@ -1,0 +1,16 @@
+-- The value that the members of a loop share.
+use Rattle.std.specs.Prelude.{ℕ, List, Option, None}
+use Rattle.evaluation.specs.Rotated.{loop_labels}
+use Rattle.keys.specs.declared.key.Key.{Key}
+use Rattle.keys.specs.declared.key.Key.TheVariants.{File, Lookup}
+use Rattle.keys.specs.declared.value.Value.{Value}
+use Rattle.keys.specs.declared.value.Value.TheVariants as value
+
+-- the label by which a loop names the key, and none where it does not name it
+abbrev pub label_of : Key → Option (List ℕ)
+label_of (File path) = None
+label_of (Lookup name) = None
+
+-- the labels of the loop's members, turned so that the least by bytes stands first
+abbrev pub cycle : List Key → Value
+cycle keys = value.Cycle (loop_labels label_of keys)

@@ -1,0 +1,34 @@
+-- The order of keys, what tells them apart, and how they are written.
+use Rattle.std.specs.Prelude.{ℕ, List, ◌++◌, Bool, ◌==◌, codes}
+use Rattle.std.specs.declared.cmp.Ordering.{Ordering}
+use Rattle.std.specs.Ordering.{nat_cmp, on, then_cmp, eq_of_both}
+use Rattle.std.specs.Cmp.Lexicographic.{slice_cmp, pointwise}
+use Rattle.keys.specs.declared.key.Key.{Key}
+use Rattle.keys.specs.declared.key.Key.TheVariants.{File, Lookup}
+
+-- the place of its kind in the order
+abbrev pub kind : Key → ℕ
+kind (File path) = 0
+kind (Lookup name) = 1
+
+-- the path or the package's name
+abbrev pub name_of : Key → List ℕ
+name_of (File path) = path
+name_of (Lookup name) = name
+
+-- the kind's word, and what stands before the name
+abbrev pub prefix : Key → List ℕ
+prefix (File path) = codes "file "
+prefix (Lookup name) = codes "lookup //"
+
+-- the key as it is written
+abbrev pub key_text : Key → List ℕ
+key_text key = prefix key ++ name_of key
+
+-- by kind, and then by the name's bytes
+abbrev pub key_cmp : Key → Key → Ordering
+key_cmp = then_cmp (on kind nat_cmp) (on name_of (slice_cmp nat_cmp))
+
+-- of one kind, with one name
+abbrev pub key_eq : Key → Key → Bool
+key_eq = eq_of_both (on kind ◌==◌) (on name_of (pointwise ◌==◌))

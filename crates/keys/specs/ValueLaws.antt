@@ -1,0 +1,60 @@
+-- Two values are equal exactly where they are one value, so equality is an equivalence.
+use Rattle.std.proofs.Common.{◌≡◌, ℕ, List, Bool, Option, Some, None, refl, sym, ap}
+use Rattle.std.specs.Bool.{Decides}
+use Rattle.std.specs.Option.{option_eq}
+use Rattle.std.specs.Cmp.{IsEquivalence, both_ways, unsigned_Decides}
+use Rattle.std.specs.Cmp.Lexicographic.{pointwise}
+use lib.Pointwise.{pointwise_decides}
+use Rattle.keys.specs.declared.value.BuildName.{BuildName}
+use Rattle.keys.specs.declared.value.BuildName.TheVariants.{BuildBazel, Build}
+use Rattle.keys.specs.declared.value.Value.{Value}
+use Rattle.keys.specs.declared.value.Value.TheVariants.{File, Lookup, Cycle}
+use Rattle.keys.specs.Values.{text_eq, build_eq, value_eq}
+
+-- a test that holds exactly of a value and itself
+module _ {X : Type 0} (E : X → X → Bool) (exact : (x y : X) → Decides (E x y) (x ≡ y)) where
+  pub equiv_from_exact : IsEquivalence E
+  equiv_from_exact = record {
+    refl = λ x. (exact x x).1 refl;
+    symm = λ x y. both_ways (E x y) (E y x) (λ h. (exact y x).1 (sym ((exact x y).0 h))) (λ h. (exact x y).1 (sym ((exact y x).0 h)));
+    congr = λ x y z h. ap (λ w. E w z) ((exact x y).0 h);
+  }
+
+  pub exact_option : (s t : Option X) → Decides (option_eq E s t) (s ≡ t)
+  exact_option None None = (λ h. refl, λ e. refl)
+  exact_option None (Some y) = (λ h. cc, λ e. cc)
+  exact_option (Some x) None = (λ h. cc, λ e. cc)
+  exact_option (Some x) (Some y) = (λ h. ap Some ((exact x y).0 h), λ e. (exact x y).1 (cc))
+
+pub exact_texts : (s t : List ℕ) → Decides (text_eq s t) (s ≡ t)
+exact_texts = pointwise_decides unsigned_Decides
+
+pub exact_builds : (a b : BuildName) → Decides (build_eq a b) (a ≡ b)
+exact_builds BuildBazel BuildBazel = (λ h. refl, λ e. refl)
+exact_builds BuildBazel Build = (λ h. cc, λ e. cc)
+exact_builds Build BuildBazel = (λ h. cc, λ e. cc)
+exact_builds Build Build = (λ h. refl, λ e. refl)
+
+pub exact_names : (ss ts : List (List ℕ)) → Decides (pointwise text_eq ss ts) (ss ≡ ts)
+exact_names = pointwise_decides exact_texts
+
+-- equal values are one value
+pub exact_values : (v w : Value) → Decides (value_eq v w) (v ≡ w)
+exact_values (File s) (File t) = let d = exact_option text_eq exact_texts s t in (λ h. ap File (d.0 h), λ e. d.1 (cc))
+exact_values (File s) (Lookup b) = (λ h. cc, λ e. cc)
+exact_values (File s) (Cycle ts) = (λ h. cc, λ e. cc)
+exact_values (Lookup a) (File t) = (λ h. cc, λ e. cc)
+exact_values (Lookup a) (Lookup b) = let d = exact_option build_eq exact_builds a b in (λ h. ap Lookup (d.0 h), λ e. d.1 (cc))
+exact_values (Lookup a) (Cycle ts) = (λ h. cc, λ e. cc)
+exact_values (Cycle ss) (File t) = (λ h. cc, λ e. cc)
+exact_values (Cycle ss) (Lookup b) = (λ h. cc, λ e. cc)
+exact_values (Cycle ss) (Cycle ts) = let d = exact_names ss ts in (λ h. ap Cycle (d.0 h), λ e. d.1 (cc))
+
+pub builds_equiv : IsEquivalence build_eq
+builds_equiv = equiv_from_exact build_eq exact_builds
+
+pub names_equiv : IsEquivalence (pointwise text_eq)
+names_equiv = equiv_from_exact (pointwise text_eq) exact_names
+
+pub values_equiv : IsEquivalence value_eq
+values_equiv = equiv_from_exact value_eq exact_values

@@ -1,0 +1,30 @@
+-- When two values are equal.
+use Rattle.std.specs.Prelude.{ℕ, List, Bool, true, false, nat_eq}
+use Rattle.std.specs.Option.{option_eq}
+use Rattle.std.specs.Cmp.Lexicographic.{pointwise}
+use Rattle.keys.specs.declared.value.BuildName.{BuildName}
+use Rattle.keys.specs.declared.value.BuildName.TheVariants.{BuildBazel, Build}
+use Rattle.keys.specs.declared.value.Value.{Value}
+use Rattle.keys.specs.declared.value.Value.TheVariants.{File, Lookup, Cycle}
+
+-- texts with the same bytes
+abbrev pub text_eq : List ℕ → List ℕ → Bool
+text_eq = pointwise nat_eq
+
+abbrev pub build_eq : BuildName → BuildName → Bool
+build_eq BuildBazel BuildBazel = true
+build_eq BuildBazel Build = false
+build_eq Build BuildBazel = false
+build_eq Build Build = true
+
+-- of one kind, with equal parts
+abbrev pub value_eq : Value → Value → Bool
+value_eq (File s) (File t) = option_eq text_eq s t
+value_eq (File s) (Lookup b) = false
+value_eq (File s) (Cycle ts) = false
+value_eq (Lookup a) (File t) = false
+value_eq (Lookup a) (Lookup b) = option_eq build_eq a b
+value_eq (Lookup a) (Cycle ts) = false
+value_eq (Cycle ss) (File t) = false
+value_eq (Cycle ss) (Lookup b) = false
+value_eq (Cycle ss) (Cycle ts) = pointwise text_eq ss ts

@@ -1,0 +1,153 @@
+//! What names a node.
+ghost use Rattle.std.specs.Prelude.{◌≡◌, ◌++◌, IfOk, refl};
+ghost use Rattle.std.proofs.Common.{rules};
+ghost use Rattle.std.specs.Hash as fed;
+ghost use Rattle.std.specs.String.{string_bytes};
+ghost use Rattle.std.specs.Cmp.{partial_order_from_own_ties};
+ghost use Rattle.std.specs.Cmp.Rules.{comparing, hashing};
+ghost use Rattle.std.specs.Ordering.{as_partial_cmp};
+ghost use Rattle.keys.specs.Keys.{key_cmp, key_eq, kind, name_of, prefix, key_text};
+
+use std::alloc::Global;
+use std::cmp::Ordering;
+use std::hash::{Hash, Hasher};
+use texts::{Memory, Text};
+
+/// What names a node. Keys are ordered by kind, as they stand here, and then by the bytes of the text.
+#[derive(Drop)]
+pub enum Key {
+    /// A file, by its path. It is a leaf: its value is read from the files.
+    File(Text),
+    /// Which BUILD file a package has, by the package's name, which is empty for the root.
+    Lookup(Text),
+}
+
+impl Key {
+    /// The same key, its text shared.
+    pub fn share(&self) -> Result<Key, Memory>
+        ensures { IfOk result (λ k. k ≡ self.now) }
+    {
+        match self {
+            Key::File(path) => Ok(Key::File(path.share()?)),
+            Key::Lookup(package) => Ok(Key::Lookup(package.share()?)),
+        }
+    }
+
+    // The place of the kind in the order.
+    fn kind(&self) -> u8
+        ensures { result ≡ kind self.now }
+    {
+        match self {
+            Key::File(_) => 0,
+            Key::Lookup(_) => 1,
+        }
+    }
+
+    // The kind's word, and what stands before the name.
+    fn prefix(&self) -> &'static str
+        ensures { result.now ≡ prefix self.now }
+    {
+        match self {
+            Key::File(_) => "file ",
+            Key::Lookup(_) => "lookup //",
+        }
+    }
+
+    /// The path or the package's name.
+    pub fn name(&self) -> &Text
+        ensures { result.now ≡ name_of self.now }
+    {
+        match self {
+            Key::File(path) => path,
+            Key::Lookup(package) => package,
+        }
+    }
+
+    /// The key as it is written: `file PATH` or `lookup //PACKAGE`.
+    pub fn text(&self, alloc: Global) -> Result<String, Memory>
+        ensures { IfOk result (λ t. string_bytes t ≡ key_text self.now) }
+    {
+        let mut text = String::from_str(alloc, self.prefix())?;
+        text.push_str(self.name().as_str())?;
+        Ok(text)
+    }
+}
+
+impl PartialEq for Key {
+    ghost eq = { key_eq };
+
+    ghost laws = { Prim.search (comparing, rules) };
+
+    fn eq(&self, other: &Key) -> bool {
+        self.kind() == other.kind() && self.name() == other.name()
+    }
+}
+
+impl Eq for Key {
+    ghost laws = { Prim.search (comparing, rules) };
+}
+
+impl PartialOrd for Key {
+    ghost partial_cmp = { as_partial_cmp key_cmp };
+
+    ghost laws = { partial_order_from_own_ties (Prim.search (comparing, rules)) (Prim.search (comparing, rules)) };
+
+    fn partial_cmp(&self, other: &Key) -> Option<Ordering> {
+        Some(self.cmp(other))
+    }
+}
+
+impl Ord for Key {
+    ghost cmp = { key_cmp };
+
+    ghost total = { Prim.search (comparing, rules) };
+
+    ghost matches_partial_cmp = { λ x y. refl };
+
+    ghost matches_eq = { Prim.search (comparing, rules) };
+
+    fn cmp(&self, other: &Key) -> Ordering {
+        self.kind()
+            .cmp(&other.kind())
+            .then(self.name().cmp(other.name()))
+    }
+}
+
+impl Hash for Key {
+    ghost hash_input = { λ k. fed.u8 (kind k) ++ fed.str (name_of k) };
+
+    ghost respects_eq = { Prim.search (hashing, rules) };
+
+    fn hash<H: Hasher>(&self, state: &mut H) {
+        self.kind().hash(state);
+        self.name().hash(state);
+    }
+}
+
+#[cfg(test)]
+mod tests {
+    use super::*;
+    use std::test::Fail;
+
+    #[test]
+    fn keys_are_written_and_ordered_by_kind_and_name(rt: HostRuntime) -> Result<(), Fail> {
+        let alloc = rt.alloc();
+        let rows = [
+            (Key::File(Text::new(alloc, "a-b")?), "file a-b"),
+            (Key::File(Text::new(alloc, "a/b")?), "file a/b"),
+            (Key::Lookup(Text::new(alloc, "")?), "lookup //"),
+            (Key::Lookup(Text::new(alloc, "a")?), "lookup //a"),
+        ];
+        let mut last: Option<Key> = None;
+        for (key, written) in Vec::from_array(alloc, rows)? {
+            assert_eq!(rt; key.text(alloc)?.as_str(), written);
+            assert!(rt; key.share()? == key);
+            if let Some(last) = last {
+                assert!(rt; last < key);
+                assert!(rt; last != key);
+            }
+            last = Some(key);
+        }
+        Ok(())
+    }
+}

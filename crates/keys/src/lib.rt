@@ -1,0 +1,19 @@
+//! Keys of nodes, the values of nodes, the trait of node functions, and the turns that they make.
+//!
+//! A node function gets other nodes' values only by asking for them, in groups. A turn is one call of it: it ends with
+//! the next group to be asked or with the node's value. Between two turns a state may be kept.
+#![tactic(auto)]
+
+mod job;
+mod key;
+mod rules;
+mod turned;
+mod value;
+mod waiting;
+
+pub use job::Job;
+pub use key::Key;
+pub use rules::{Rules, Turn};
+pub use turned::{Step, Turned};
+pub use value::{BuildName, Names, Value};
+pub use waiting::Waiting;
