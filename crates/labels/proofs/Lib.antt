@@ -1,0 +1,3 @@
+pub mod Ancestors
+pub mod Cuts
+pub mod Segments

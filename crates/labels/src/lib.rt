@@ -1,6 +1,8 @@
 //! Paths of files, package names and labels.
 #![tactic(auto)]
 
+mod label;
 mod path;
 
+pub use label::{BadLabel, Label};
 pub use path::{BadPath, Path, is_package_name, is_path};
