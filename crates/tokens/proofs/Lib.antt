@@ -1,0 +1,5 @@
+pub mod Words
+pub mod Numbers
+pub mod Strings
+pub mod Scan
+pub mod Depths

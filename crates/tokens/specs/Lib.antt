@@ -1,0 +1,11 @@
+pub mod Bytes
+pub mod Token
+pub mod Words
+pub mod Numbers
+pub mod Strings
+pub mod Pieces
+pub mod Lines
+pub mod View
+pub mod Nesting
+pub mod Reading
+pub mod Counts

@@ -1,0 +1,43 @@
+-- The tokens of a text, or its first fault.
+use Rattle.std.specs.Prelude.{◌≡◌, ℕ, ◌+◌, List, [], ◌∷◌, ◌==◌, nat_lt, if◌then◌else◌, Option, Some, None, Result, Ok, Err, map}
+use Rattle.std.specs.declared.alloc.Global.{Global}
+use Rattle.std.specs.declared.vec.Vec.{Vec}
+use Rattle.tokens.specs.declared.refused.Refused.{Refused}
+use Rattle.tokens.specs.declared.refused.Refused.TheVariants as r
+use Rattle.tokens.specs.declared.token.Lexed.{Lexed}
+use Rattle.tokens.specs.Token.{Lex, lex_of}
+use Rattle.tokens.specs.Lines.{start, scan}
+use Rattle.tokens.specs.Nesting.{too_deep, outermost}
+
+pub record Fault : Type 0 where
+  pub code : ℕ
+  pub line : ℕ
+
+abbrev pub fault : {A : Type 0} → ℕ → ℕ → Result A Fault
+fault code line = Err (record { code = code; line = line })
+
+-- the line of the first byte over 127, counted from that of the first byte
+abbrev pub foreign : ℕ → List ℕ → Option ℕ
+foreign line [] = None
+foreign line (b ∷ bs) = if nat_lt 127 b then Some line else foreign (if b == 10 then line + 1 else line) bs
+
+abbrev pub not_too_deep : Option (List Lex) → Result (List Lex) Fault
+not_too_deep None = fault 3 0
+not_too_deep (Some ts) = if too_deep outermost ts then fault 12 0 else Ok ts
+
+abbrev pub of_ascii : Option ℕ → List ℕ → Result (List Lex) Fault
+of_ascii (Some line) bytes = fault 2 line
+of_ascii None bytes = not_too_deep (scan start 0 bytes)
+
+-- The first that applies: a byte over 127, 2 with its line; malformed tokens, 3; a nesting over 64, 12; the tokens.
+unfoldable pub tokens_of : List ℕ → Result (List Lex) Fault
+tokens_of bytes = of_ascii (foreign 1 bytes) bytes
+
+-- What a function returned is what the definition gives, unless memory ran out.
+abbrev pub Refuses : {A : Type 0} → Result A Fault → Refused → Type 0
+Refuses expected (r.Syntax code line) = expected ≡ fault code line
+Refuses expected r.Memory = Unit {0}
+
+abbrev pub Reads : Result (List Lex) Fault → Result (Vec Lexed Global) Refused → Type 0
+Reads expected (Ok found) = expected ≡ Ok (map lex_of found.items)
+Reads expected (Err refused) = Refuses expected refused

@@ -1,0 +1,52 @@
+-- Strings: where one ends, and the text that it stands for.
+use Rattle.std.specs.Prelude.{ℕ, ◌+◌, List, [], ◌∷◌, Bool, true, false, not, ◌==◌, ◌&&◌, ◌||◌, if◌then◌else◌, Option, Some, None}
+use Rattle.tokens.specs.declared.quoted.Extent.{Extent}
+use Rattle.tokens.specs.declared.quoted.Inside.{Inside}
+use Rattle.tokens.specs.Bytes.{is_escape, is_text_byte}
+
+-- the first two bytes are that quote
+abbrev pub begins_with_two : ℕ → List ℕ → Bool
+begins_with_two q (b ∷ c ∷ bs) = b == q && c == q
+begins_with_two q _ = false
+
+-- A string ends where its quote stands, a long one where three stand in a row.
+abbrev pub ends : Bool → ℕ → List ℕ → Bool
+ends long q [] = false
+ends long q (b ∷ bs) = b == q && (not long || begins_with_two q bs)
+
+-- What a byte in a string makes of the next one, and whether it ends a line; None where it can't stand there.
+-- A backslash escapes the next byte. A line ends only in a long string.
+abbrev pub inside : Bool → Bool → ℕ → Option Inside
+inside long escaped b =
+    if escaped then (if is_escape b then Some (record { escaped = false; line_ends = 0 }) else None)
+    else if b == 92 then Some (record { escaped = true; line_ends = 0 })
+    else if b == 10 then (if long then Some (record { escaped = false; line_ends = 1 }) else None)
+    else if is_text_byte b then Some (record { escaped = false; line_ends = 0 })
+    else None
+
+abbrev pub farther : ℕ → ℕ → Option Extent → Option Extent
+farther n k None = None
+farther n k (Some e) = Some (record { len = n + e.len; line_ends = k + e.line_ends })
+
+-- How far the text of a string goes from behind its opening quote; None where it isn't ended, or has what can't stand there.
+unfoldable pub extent : Bool → ℕ → Bool → List ℕ → Option Extent
+extent long q escaped [] = None
+extent long q escaped (b ∷ bs) =
+    if not escaped && ends long q (b ∷ bs) then Some (record { len = 0; line_ends = 0 })
+    else elim (inside long escaped b) [ None ↦ None | Some i ↦ farther 1 i.line_ends (extent long q i.escaped bs) ]
+
+-- what an escaped byte stands for: n a line's end, t a tab, r a carriage return, another one itself
+abbrev pub meant : ℕ → ℕ
+meant b = if b == 110 then 10 else if b == 116 then 9 else if b == 114 then 13 else b
+
+-- the text that the written text of a string goes on to stand for, where a backslash stands before it or not
+abbrev pub unescaped_after : Bool → List ℕ → List ℕ
+unescaped_after escaped [] = []
+unescaped_after escaped (b ∷ bs) =
+    if escaped then meant b ∷ unescaped_after false bs
+    else if b == 92 then unescaped_after true bs
+    else b ∷ unescaped_after false bs
+
+-- the text that a string stands for, from what is written between its quotes
+abbrev pub unescaped : List ℕ → List ℕ
+unescaped = unescaped_after false

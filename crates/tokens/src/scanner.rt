@@ -1,0 +1,375 @@
+//! The tokens so far, and what is open: the statement, levels of indentation, brackets.
+ghost use Rattle.std.specs.Prelude.{◌≡◌, ◌∷◌, ◌++◌, ◌+◌, ◌<◌, ◌≤◌, ◌^◌, [], vec_len, IsOkUnless, OnOk};
+ghost use Rattle.tokens.specs.Lines.{top, kept, dedents, layout, layout_at, begun, begun_at, brackets_after, shut, with_brackets, taken, spaced_at, end_token, ended_at, part_after, after, said, ending, start, lex};
+ghost use Rattle.tokens.specs.Token.{tok_of, symbol};
+ghost use Rattle.tokens.specs.View.{part_of, piece_of, state_of, said_by, Goes, Ends};
+ghost use Rattle.tokens.specs.declared.scanner.Stop.TheVariants.{Memory};
+ghost use Rattle.tokens.specs.declared.scanner.Place.TheVariants.{Between, Within};
+
+use crate::piece::{Part, Piece};
+use crate::symbol::Symbol;
+use crate::token::{Lexed, Token};
+use std::alloc::{AllocError, AllocFailed, Global};
+
+/// Where in the file a piece stands.
+#[derive(Clone, Copy, Drop)]
+pub(crate) enum Place {
+    /// Before the first statement.
+    Start,
+    /// At the start of a later line, before its first token.
+    Between,
+    /// In a statement.
+    Within,
+}
+
+#[derive(Clone, Copy, Drop)]
+pub(crate) enum Bracket {
+    Round,
+    Square,
+    Curly,
+}
+
+/// Why scanning has stopped.
+#[derive(Clone, Copy, Drop)]
+pub(crate) enum Stop {
+    Malformed,
+    Memory,
+}
+
+impl From<AllocError> for Stop {
+    ghost from_gives = { λ _ e. e ≡ Memory };
+
+    fn from(_error: AllocError) -> Stop {
+        Stop::Memory
+    }
+}
+
+impl<T: Drop> From<AllocFailed<T>> for Stop {
+    ghost from_gives = { λ _ e. e ≡ Memory };
+
+    fn from(_error: AllocFailed<T>) -> Stop {
+        Stop::Memory
+    }
+}
+
+/// The tokens so far, and what is open.
+#[derive(Drop)]
+pub(crate) struct Scanner<'a> {
+    pub(crate) place: Place,
+    pub(crate) spaces: usize,
+    pub(crate) levels: Vec<usize>,
+    pub(crate) brackets: Vec<Bracket>,
+    pub(crate) line: usize,
+    pub(crate) out: Vec<Lexed<'a>>,
+}
+
+impl<'a> Scanner<'a> {
+    /// At the start of a text.
+    pub(crate) fn new(alloc: Global) -> Scanner<'a>
+        ensures state { state_of result ≡ start }
+        ensures said { said_by result ≡ [] }
+        ensures place { (result.line ≡ 1) × (result.spaces ≡ 0) }
+    {
+        Scanner {
+            place: Place::Start,
+            spaces: 0,
+            levels: Vec::new(alloc),
+            brackets: Vec::new(alloc),
+            line: 1,
+            out: Vec::new(alloc),
+        }
+    }
+
+    /// Adds a token.
+    fn say(&mut self, token: Token<'a>) -> Result<(), Stop>
+        ensures state { state_of self.new ≡ state_of self.old }
+        ensures said { OnOk result (said_by self.new ≡ said_by self.old ++ lex (tok_of token.entry) self.old.line ∷ []) }
+        ensures err { IsOkUnless result Memory }
+    {
+        self.out.push(Lexed {
+            token,
+            line: self.line,
+        })?;
+        Ok(())
+    }
+
+    /// The spaces of the deepest level.
+    fn top(&self) -> usize
+        ensures { result ≡ top (state_of self.now).levels }
+    {
+        match self.levels.last() {
+            Some(level) => *level,
+            None => 0,
+        }
+    }
+
+    /// Closes the deepest level.
+    fn pop_level(&mut self)
+        requires { 0 < top (state_of self.old).levels }
+        ensures state { state_of self.old ≡ record (state_of self.new) { levels = top (state_of self.old).levels ∷ (state_of self.new).levels } }
+        ensures said { said_by self.new ≡ said_by self.old }
+        ensures len { vec_len self.new.levels + 1 ≡ vec_len self.old.levels }
+    {
+        let _level = self.levels.pop();
+    }
+
+    /// Closes the levels that a line with so many spaces does not leave open.
+    fn close_levels(&mut self, spaces: usize) -> Result<(), Stop>
+        ensures line { self.new.line ≡ self.old.line }
+        ensures spaces { self.new.spaces ≡ self.old.spaces }
+        ensures state { OnOk result (state_of self.new ≡ record (state_of self.old) { levels = kept spaces (state_of self.old).levels }) }
+        ensures said { OnOk result (said_by self.new ≡ said_by self.old ++ dedents self.old.line spaces (state_of self.old).levels) }
+        ensures err { IsOkUnless result Memory }
+    {
+        'levels: while spaces < self.top() {
+            self.pop_level();
+            self.say(Token::Symbol(Symbol::Dedent))?;
+        }
+        Ok(())
+    }
+
+    /// Begins a statement on a later line.
+    fn begin_line(&mut self) -> Result<(), Stop>
+        ensures state { Goes (begun_at Between (state_of self.old)) (state_of self.new) result }
+        ensures said { OnOk result (said_by self.new ≡ said_by self.old ++ layout_at Between (state_of self.old)) }
+        ensures line { self.new.line ≡ self.old.line }
+        ensures spaces { self.new.spaces ≡ self.old.spaces }
+    {
+        let spaces = self.spaces;
+        if self.top() < spaces {
+            self.open_level()?;
+            self.say(Token::Symbol(Symbol::Indent))?;
+            Ok(())
+        } else {
+            self.close_levels(spaces)?;
+            self.place = Place::Within;
+            if self.top() == spaces {
+                Ok(())
+            } else {
+                Err(Stop::Malformed)
+            }
+        }
+    }
+
+    /// Opens a level of the line's spaces.
+    fn open_level(&mut self) -> Result<(), Stop>
+        ensures line { self.new.line ≡ self.old.line }
+        ensures spaces { self.new.spaces ≡ self.old.spaces }
+        ensures state { OnOk result (state_of self.new ≡ record (state_of self.old) { place = Within; levels = self.old.spaces ∷ (state_of self.old).levels }) }
+        ensures said { said_by self.new ≡ said_by self.old }
+        ensures err { IsOkUnless result Memory }
+    {
+        self.place = Place::Within;
+        self.levels.push(self.spaces)?;
+        Ok(())
+    }
+
+    /// Begins a statement, unless one has begun.
+    #[tactic(auto, unfolding(crate::specs::Lines::begun, crate::specs::Lines::layout))]
+    fn begin(&mut self) -> Result<(), Stop>
+        ensures state { Goes (begun (state_of self.old)) (state_of self.new) result }
+        ensures said { OnOk result (said_by self.new ≡ said_by self.old ++ layout (state_of self.old)) }
+        ensures line { self.new.line ≡ self.old.line }
+        ensures spaces { self.new.spaces ≡ self.old.spaces }
+    {
+        match self.place {
+            Place::Within => Ok(()),
+            Place::Start => {
+                if self.spaces == 0 {
+                    self.place = Place::Within;
+                    Ok(())
+                } else {
+                    Err(Stop::Malformed)
+                }
+            }
+            Place::Between => {
+                self.begin_line()?;
+                Ok(())
+            }
+        }
+    }
+
+    /// Closes a bracket.
+    fn shut(&mut self, bracket: Bracket) -> Result<(), Stop>
+        ensures line { self.new.line ≡ self.old.line }
+        ensures spaces { self.new.spaces ≡ self.old.spaces }
+        ensures state { Goes (with_brackets (state_of self.old) (shut bracket (state_of self.old).brackets)) (state_of self.new) result }
+        ensures said { said_by self.new ≡ said_by self.old }
+    {
+        match (bracket, self.brackets.pop()) {
+            (Bracket::Round, Some(Bracket::Round)) => Ok(()),
+            (Bracket::Square, Some(Bracket::Square)) => Ok(()),
+            (Bracket::Curly, Some(Bracket::Curly)) => Ok(()),
+            _ => Err(Stop::Malformed),
+        }
+    }
+
+    fn open_bracket(&mut self, bracket: Bracket) -> Result<(), Stop>
+        ensures line { self.new.line ≡ self.old.line }
+        ensures spaces { self.new.spaces ≡ self.old.spaces }
+        ensures state { OnOk result (state_of self.new ≡ record (state_of self.old) { brackets = bracket ∷ (state_of self.old).brackets }) }
+        ensures said { said_by self.new ≡ said_by self.old }
+        ensures err { IsOkUnless result Memory }
+    {
+        self.brackets.push(bracket)?;
+        Ok(())
+    }
+
+    /// Opens or closes the bracket that a symbol is, if it is one.
+    #[tactic(auto, unfolding(crate::specs::Lines::brackets_after))]
+    fn bracket(&mut self, mark: Symbol) -> Result<(), Stop>
+        ensures line { self.new.line ≡ self.old.line }
+        ensures spaces { self.new.spaces ≡ self.old.spaces }
+        ensures state { Goes (with_brackets (state_of self.old) (brackets_after (symbol mark) (state_of self.old).brackets)) (state_of self.new) result }
+        ensures said { said_by self.new ≡ said_by self.old }
+    {
+        match mark {
+            Symbol::LeftParen => {
+                self.open_bracket(Bracket::Round)?;
+                Ok(())
+            }
+            Symbol::LeftBracket => {
+                self.open_bracket(Bracket::Square)?;
+                Ok(())
+            }
+            Symbol::LeftBrace => {
+                self.open_bracket(Bracket::Curly)?;
+                Ok(())
+            }
+            Symbol::RightParen => {
+                self.shut(Bracket::Round)?;
+                Ok(())
+            }
+            Symbol::RightBracket => {
+                self.shut(Bracket::Square)?;
+                Ok(())
+            }
+            Symbol::RightBrace => {
+                self.shut(Bracket::Curly)?;
+                Ok(())
+            }
+            _ => Ok(()),
+        }
+    }
+
+    /// Takes a token, with the layout before it.
+    #[tactic(auto, unfolding(crate::specs::Lines::brackets_after))]
+    fn take(&mut self, token: Token<'a>) -> Result<(), Stop>
+        ensures line { self.new.line ≡ self.old.line }
+        ensures spaces { self.new.spaces ≡ self.old.spaces }
+        ensures state { Goes (taken (tok_of token.entry) (state_of self.old)) (state_of self.new) result }
+        ensures said { OnOk result (said_by self.new ≡ said_by self.old ++ (layout (state_of self.old) ++ lex (tok_of token.entry) self.old.line ∷ [])) }
+    {
+        self.begin()?;
+        self.say(token)?;
+        match token {
+            Token::Symbol(mark) => {
+                self.bracket(mark)?;
+                Ok(())
+            }
+            Token::Name(_) => Ok(()),
+            Token::Int(_) => Ok(()),
+            Token::Text(_) => Ok(()),
+        }
+    }
+
+    /// Counts a space at a line's start.
+    fn space(&mut self)
+        requires { self.old.spaces + 1 < 2 ^ 64 }
+        ensures state { state_of self.new ≡ spaced_at self.old.place (state_of self.old) }
+        ensures said { said_by self.new ≡ said_by self.old }
+    {
+        match self.place {
+            Place::Within => {}
+            Place::Start | Place::Between => self.spaces += 1,
+        }
+    }
+
+    /// Ends a statement, if one has begun.
+    fn end_statement(&mut self) -> Result<(), Stop>
+        ensures state { state_of self.new ≡ state_of self.old }
+        ensures said { OnOk result (said_by self.new ≡ said_by self.old ++ end_token self.old.place [] self.old.line) }
+        ensures err { IsOkUnless result Memory }
+    {
+        match self.place {
+            Place::Within => {
+                self.say(Token::Symbol(Symbol::NewLine))?;
+                Ok(())
+            }
+            Place::Start | Place::Between => Ok(()),
+        }
+    }
+
+    /// Ends a line.
+    fn end_line(&mut self) -> Result<(), Stop>
+        ensures line { self.new.line ≡ self.old.line }
+        ensures spaces { self.new.spaces ≤ self.old.spaces }
+        ensures state { OnOk result (state_of self.new ≡ ended_at (state_of self.old).brackets (state_of self.old)) }
+        ensures said { OnOk result (said_by self.new ≡ said_by self.old ++ end_token self.old.place (state_of self.old).brackets self.old.line) }
+        ensures err { IsOkUnless result Memory }
+    {
+        if !self.brackets.is_empty() {
+            return Ok(());
+        }
+        self.end_statement()?;
+        self.place = match self.place {
+            Place::Start => Place::Start,
+            Place::Within | Place::Between => Place::Between,
+        };
+        self.spaces = 0;
+        Ok(())
+    }
+
+    /// Takes a part.
+    #[tactic(auto, unfolding(crate::specs::Lines::part_after, crate::specs::Lines::said))]
+    fn part(&mut self, part: Part<'a>) -> Result<(), Stop>
+        requires { self.old.spaces + 1 < 2 ^ 64 }
+        ensures line { self.new.line ≡ self.old.line }
+        ensures spaces { self.new.spaces ≤ self.old.spaces + 1 }
+        ensures state { Goes (part_after (state_of self.old) (part_of part.entry)) (state_of self.new) result }
+        ensures said { OnOk result (said_by self.new ≡ said_by self.old ++ said (state_of self.old) (part_of part.entry)) }
+    {
+        match part {
+            Part::Space => {
+                self.space();
+                Ok(())
+            }
+            Part::Comment => Ok(()),
+            Part::LineEnd => {
+                self.end_line()?;
+                Ok(())
+            }
+            Part::Token(token) => {
+                self.take(token)?;
+                Ok(())
+            }
+        }
+    }
+
+    /// Takes a piece.
+    pub(crate) fn step(&mut self, piece: Piece<'a>) -> Result<(), Stop>
+        requires spaces { self.old.spaces + 1 < 2 ^ 64 }
+        requires line { self.old.line + piece.line_ends < 2 ^ 64 }
+        ensures line { OnOk result (self.new.line ≡ self.old.line + piece.entry.line_ends) }
+        ensures spaces { self.new.spaces ≤ self.old.spaces + 1 }
+        ensures state { Goes (after (state_of self.old) (piece_of piece.entry)) (state_of self.new) result }
+        ensures said { OnOk result (said_by self.new ≡ said_by self.old ++ said (state_of self.old) (part_of piece.entry.part)) }
+    {
+        self.part(piece.part)?;
+        self.line += piece.line_ends;
+        Ok(())
+    }
+
+    /// Ends the text.
+    #[tactic(auto, unfolding(crate::specs::Lines::ending))]
+    pub(crate) fn end(&mut self) -> Result<(), Stop>
+        ensures { Ends (ending (state_of self.old)) (said_by self.old) (said_by self.new) result }
+    {
+        if !self.brackets.is_empty() {
+            return Err(Stop::Malformed);
+        }
+        self.end_statement()?;
+        self.close_levels(0)?;
+        Ok(())
+    }
+}
