@@ -1,0 +1,22 @@
+# Two commands matter: 'make run' shows the program at work, 'make test' is the whole gate.
+# Both need nothing but the kit's command `rt`, GNU make and a shell.
+
+PROGRAM := crates/cli/out/cli
+
+.PHONY: run build test bench
+
+# Proves what the program stands on, builds it, and shows each line of an example with its answer.
+run: build
+	@$(PROGRAM) run < examples/session.jsonl | paste -d '\n' examples/session.jsonl -
+
+build:
+	cd crates/cli && rt run -- run < /dev/null
+
+# Everything is proved from nothing, the wrong bodies are refused, the tests and the program are run.
+test:
+	rt ci
+
+# Times of the program; prints a table. Needs python3.
+bench: build
+	cd crates/parse_only && rt run < /dev/null
+	python3 bench/bench.py

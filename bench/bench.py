@@ -1,0 +1,130 @@
+#!/usr/bin/env python3
+"""Times of the program, on lines that this script makes. Run it by `make bench`.
+
+Times are noisy: each is the least of several runs, and what counts is the ratio to `parse_only`,
+which parses the same lines as JSON and does nothing else, in the same minute.
+"""
+import json
+import os
+import subprocess
+import sys
+import tempfile
+import time
+
+HERE = os.path.dirname(os.path.abspath(__file__))
+LOADER = [os.path.join(HERE, "../crates/cli/out/cli"), "run"]
+PARSE_ONLY = [os.path.join(HERE, "../crates/parse_only/out/parse_only")]
+
+
+def line(**members):
+    return json.dumps(members, separators=(",", ":")) + "\n"
+
+
+def path(file, directories):
+    """Ten files or so in each of the directories, which are a hundred to a level."""
+    directory = file % directories
+    return f"d{directory // 100}/p{directory % 100}/f{file // directories}"
+
+
+def put(file, directories):
+    return line(op="put", path=path(file, directories), text=f"text {file}")
+
+
+def find(directory):
+    return line(op="find", name=f"d{directory // 100}/p{directory % 100}")
+
+
+def seconds(command, file, runs=3):
+    best = None
+    for _ in range(runs):
+        with open(file) as lines:
+            start = time.perf_counter()
+            subprocess.run(command, stdin=lines, stdout=subprocess.DEVNULL, check=True)
+            took = time.perf_counter() - start
+        best = took if best is None else min(best, took)
+    return best
+
+
+def throughput(folder):
+    file = os.path.join(folder, "lines")
+    puts, directories = 100_000, 10_000
+    with open(file, "w") as lines:
+        for n in range(puts):
+            lines.write(put(n, directories))
+        for n in range(puts):
+            lines.write(find(n % directories))
+    size = os.path.getsize(file)
+    served, parsed = seconds(LOADER, file), seconds(PARSE_ONLY, file)
+    print(f"{puts} puts in {directories} directories and as many finds, {size / 1e6:.1f} MB:")
+    print(f"  served in {served:.3f} s ({size / served / 1e6:.1f} MB/s), only parsed in {parsed:.3f} s "
+          f"({size / parsed / 1e6:.1f} MB/s): {served / parsed:.2f} times")
+
+
+class Session:
+    """The program at work, a line at a time."""
+
+    def __init__(self):
+        self.process = subprocess.Popen(LOADER, stdin=subprocess.PIPE, stdout=subprocess.PIPE)
+
+    def load(self, text):
+        import threading
+        count = text.count(b"\n")
+        reader = threading.Thread(target=lambda: [self.process.stdout.readline() for _ in range(count)])
+        reader.start()
+        self.process.stdin.write(text)
+        self.process.stdin.flush()
+        reader.join()
+
+    def ask(self, text):
+        self.process.stdin.write(text)
+        self.process.stdin.flush()
+        return self.process.stdout.readline()
+
+    def close(self):
+        self.process.stdin.close()
+        self.process.wait()
+
+
+def one_edit(files):
+    directories = max(1, files // 10)
+    session = Session()
+    session.load("".join(put(n, directories) for n in range(files)).encode())
+    edit, ask = put(files // 2, directories).encode(), find(directories // 2).encode()
+    edits, asks = [], []
+    for _ in range(300):
+        start = time.perf_counter()
+        session.ask(edit)
+        middle = time.perf_counter()
+        session.ask(ask)
+        end = time.perf_counter()
+        edits.append(middle - start)
+        asks.append(end - middle)
+    session.close()
+    print(f"one edit and one find at {files} files, through two pipes: "
+          f"{sorted(edits)[150] * 1e6:.0f} and {sorted(asks)[150] * 1e6:.0f} microseconds (median of 300)")
+
+
+def long_line():
+    session = Session()
+    start = time.perf_counter()
+    for _ in range(300):
+        session.process.stdin.write(b"x" * 1_000_000)
+    answer = session.ask(b"\n")
+    took = time.perf_counter() - start
+    with open(f"/proc/{session.process.pid}/status") as status:
+        most = next(line.split()[1] for line in status if line.startswith("VmHWM"))
+    session.close()
+    assert answer == b'{"refused":6}\n', answer
+    print(f"a line of 300 MB: refused in {took:.2f} s, at most {int(most) / 1024:.1f} MB of memory")
+
+
+def main():
+    with tempfile.TemporaryDirectory() as folder:
+        long_line()
+        throughput(folder)
+        for files in (1_000, 100_000):
+            one_edit(files)
+
+
+if __name__ == "__main__":
+    sys.exit(main())

@@ -1,0 +1,14 @@
+use Rattle.std.proofs.Common.{◌∙◌, ap}
+use Rattle.keys.specs.declared.value.Value.TheVariants.{Lookup}
+use Rattle.functions.specs.Lookups.{build_of}
+use Rattle.functions.proofs.LookupValue.{lookup_value}
+use Rattle.loader.specs.State.{State}
+use Rattle.loader.proofs.session.Session.find.Goals as goal
+
+pub returns : goal.returns
+returns c =
+    let name = c.args.name.now in
+    let tree = c.self.inside.tree in
+    c.held_build.ensures (build_of c.args.self.now.files name)
+    (c.deref.ensures ∙ lookup_value tree c.in_ok-new.field-0 _ c.in_ok-value.ensures.value
+    ∙ ap (λ directory. Lookup (build_of tree directory)) c.in_ok-new.ensures ∙ ap (λ (s : State). Lookup (build_of s.files name)) c.self.view_is)

@@ -1,0 +1,5 @@
+pub mod State
+pub mod Commands
+pub mod Answers
+pub mod Served
+pub mod Seen

@@ -1,0 +1,13 @@
+//! Lines of commands in, lines of answers out: a resident loader of packages.
+#![tactic(auto)]
+
+mod answers;
+mod commands;
+mod program;
+mod serve;
+mod session;
+
+pub use lines::{Failed, Input, Output};
+pub use program::{BUDGET, command};
+pub use serve::{ServeStop, serve_here};
+pub use session::{Edit, EditError, Session};
