@@ -1,0 +1,5 @@
+pub mod Wild
+pub mod Patterns
+pub mod Pieces
+pub mod Parts
+pub mod Rest

@@ -1,0 +1,9 @@
+//! Glob patterns.
+#![tactic(auto)]
+
+mod pattern;
+mod segment;
+mod walk;
+
+pub use pattern::{BadPattern, Pattern, is_double_star};
+pub use segment::segment_matches;
