@@ -1,22 +1,26 @@
 # Two commands matter: 'make run' shows the program at work, 'make test' is the whole gate.
-# Both need nothing but the kit's command `rt`, GNU make and a shell.
+# They need nothing but the kit's command `rt`, GNU make and a shell.
 
 PROGRAM := crates/cli/out/cli
 
-.PHONY: run build test bench
+.PHONY: run build test allocations bench
 
 # Proves what the program stands on, builds it, and shows each line of an example with its answer.
 run: build
 	@$(PROGRAM) run < examples/session.jsonl | paste -d '\n' examples/session.jsonl -
 
 build:
-	cd crates/cli && rt run -- run < /dev/null
+	@cd crates/cli && rt run -- run < /dev/null > build.log 2>&1 || { tail -n 30 build.log; exit 1; }
 
-# Everything is proved from nothing, the wrong bodies are refused, the tests and the program are run.
+# Everything is proved from nothing, the wrong bodies are refused, the tests and the programs are run.
 test:
 	rt ci
 
+# Each allocation of the program refused in turn, over the example. Needs cc and python3.
+allocations: build
+	python3 tests/allocations.py
+
 # Times of the program; prints a table. Needs python3.
 bench: build
-	cd crates/parse_only && rt run < /dev/null
+	@cd crates/parse_only && rt run < /dev/null > build.log 2>&1 || { tail -n 30 build.log; exit 1; }
 	python3 bench/bench.py
