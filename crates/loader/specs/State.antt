@@ -54,6 +54,11 @@ changed_files (del path) files = map.remove files path
 abbrev pub changed : Edit → State → State
 changed edit s = record { files = changed_files edit s.files; version = s.version + 1 }
 
+-- the error of a refusal; without one it is want of memory
+abbrev pub error_of : Option ℕ → EditError
+error_of (Some n) = Refused n
+error_of None = Memory
+
 -- the edit is made, and its version told; or its first refusal is told, or memory was refused, and nothing changes
 abbrev pub Applies : Edit → State → State → Result ℕ EditError → Type 0
 Applies edit before after (Ok version) = (refusal_of edit before ≡ None) × (after ≡ changed edit before) × (version ≡ after.version)

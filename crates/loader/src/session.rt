@@ -1,18 +1,20 @@
 //! The present files, and their edits.
-ghost use Rattle.std.specs.Prelude.{◌≡◌, Option, None, OnOk, OnErr, IfOk};
+ghost use Rattle.std.specs.Prelude.{◌≡◌, Option, IfOk};
+ghost use Rattle.filetree.specs.Edits as edits;
+ghost use Rattle.filetree.specs.Edits.{Edits};
 ghost use Rattle.functions.specs.Lookups.{build_of};
 ghost use Rattle.keys.specs.declared.value.BuildName.{BuildName};
 ghost use Rattle.keys.specs.declared.value.Value.TheVariants as values;
 ghost use Rattle.loader.specs.State as state;
 ghost use Rattle.loader.specs.Seen.{edit_seen};
 
-use filetree::Tree;
+use filetree::{Tree, TreeError};
 use functions::Loading;
 use keys::{BuildName, Key, Value};
 use round::{Stop, evaluate_from_nothing};
 use std::alloc::Global;
 use std::marker::Model;
-use texts::{Memory, Text};
+use texts::Text;
 use thiserror::Error;
 
 /// A change of one file.
@@ -86,18 +88,15 @@ impl Session {
     pub fn apply(&mut self, edit: &Edit<'_>) -> Result<u32, EditError>
         ensures { state.Applies (edit_seen edit.now) self.old self.new result }
     {
-        if let Some(n) = self.files_refusal(edit) {
-            return Err(EditError::Refused(n));
-        }
         if self.version == u32::MAX {
-            return Err(EditError::Refused(8));
+            return Err(EditError::Refused(self.files_refusal(edit).unwrap_or(8)));
         }
         match self.change_files(edit) {
             Ok(()) => {
                 self.version += 1;
                 Ok(self.version)
             }
-            Err(_) => Err(EditError::Memory),
+            Err(error) => Err(refused_as(&error)),
         }
     }
 
@@ -111,19 +110,15 @@ impl Session {
         }
     }
 
-    // Changes the files alone.
-    fn change_files(&mut self, edit: &Edit<'_>) -> Result<(), Memory>
-        requires { state.files_refusal (edit_seen edit.now) self.old.files ≡ None }
-        ensures ok { OnOk result (self.new ≡ record self.old { files = state.changed_files (edit_seen edit.now) self.old.files }) }
-        ensures err { OnErr result (self.new ≡ self.old) }
+    // Changes the files alone, or answers their first refusal and changes nothing.
+    fn change_files(&mut self, edit: &Edit<'_>) -> Result<(), TreeError>
+        ensures files { Edits result (state.files_refusal (edit_seen edit.now) self.old.files)
+            self.old.files (state.changed_files (edit_seen edit.now) self.old.files) self.new.files }
+        ensures version { self.new.version ≡ self.old.version }
     {
-        let done = match edit {
+        match edit {
             Edit::Put(path, text) => self.tree.put(path, text),
             Edit::Del(path) => self.tree.del(path),
-        };
-        match done {
-            Ok(()) => Ok(()),
-            Err(_) => Err(Memory),
         }
     }
 
@@ -135,6 +130,19 @@ impl Session {
         let root = Key::Lookup(Text::new(self.alloc, name)?);
         let value = evaluate_from_nothing(self.alloc, &self.tree, &mut rules, &root, budget)?;
         Ok(held_build(&value))
+    }
+}
+
+// The error of an edit that the tree refuses.
+fn refused_as(error: &TreeError) -> EditError
+    ensures { result ≡ state.error_of (edits.refusal_of error.now) }
+{
+    match error {
+        TreeError::Code2 => EditError::Refused(2),
+        TreeError::Code3 => EditError::Refused(3),
+        TreeError::Code4 => EditError::Refused(4),
+        TreeError::Code7 => EditError::Refused(7),
+        TreeError::Memory => EditError::Memory,
     }
 }
 
