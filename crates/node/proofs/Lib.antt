@@ -1,0 +1,4 @@
+pub mod Lists
+pub mod Reaching
+pub mod Linking
+pub mod Writing

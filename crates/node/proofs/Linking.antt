@@ -1,0 +1,162 @@
+-- The marks that were spread are those that an edit makes, and the parts of the graph stay linked.
+use Rattle.std.proofs.Common.{◌≡◌, ◌⊎◌, inl, inr, ℕ, Bool, true, false, cond, List, [], ◌∷◌, map, Bor, Option, Some, None, refl, sym, ◌∙◌, ap, subst}
+use Rattle.std.specs.Option.{option_map, option_copied}
+use Rattle.std.specs.Map.{lookup}
+use Rattle.std.specs.BTreeMap.{is_at, IsOrdered}
+use Rattle.evaluation.specs.Graph.{Record, Reaches, leaf, through, Marks}
+use Rattle.evaluation.specs.Value.{In, IsMember}
+use Rattle.evaluation.proofs.Marking.{reached_marked}
+use Rattle.keys.specs.Keys.{key_cmp}
+use Rattle.keys.specs.declared.key.Key.{Key}
+use Rattle.keys.specs.declared.key.Key.TheVariants as key
+use Rattle.keys.specs.declared.value.Value.{Value}
+use Rattle.node.specs.declared.kept.Kept.{Kept}
+use Rattle.node.specs.Kept.{Records, Users, kept_at, record_of}
+use Rattle.node.specs.Marks.{IsDirty, IsReached, at_leaf, by_user, Marked, HasPassed}
+use Rattle.node.specs.Graphs.{Recorded, recorded, record_at, groups_of, IsTouched, IsLinked}
+use Rattle.std.proofs.lemmas.Map.Lookups.{btree_map_from_get}
+use Rattle.keys.proofs.KeyLaws.{keys_total, exact_keys}
+use Rattle.node.proofs.Lists.{in_one, some_is, none_some}
+
+-- the record that a contract sees
+abbrev pub seen : Records → Key → Option (Record Key Value)
+seen records k = option_map record_of (kept_at records k)
+
+pub seen_is : (records : Records) (version : ℕ) (k : Key) → record_at (recorded version records) k ≡ seen records k
+seen_is records version k = go records.entries
+  where
+    pushed : (b : Bool) (x : Kept) (o : Option Kept) → cond b (Some (record_of x)) (option_map record_of o) ≡ option_map record_of (cond b (Some x) o)
+    pushed true x o = refl
+    pushed false x o = refl
+
+    go : (es : List (Key × Kept)) → lookup (is_at (key_cmp k)) (map (λ e. (e.0, record_of e.1)) es) ≡ option_map record_of (lookup (is_at (key_cmp k)) es)
+    go [] = refl
+    go (e ∷ es) = ap (cond (is_at (key_cmp k) e.0) (Some (record_of e.1))) (go es) ∙ pushed (is_at (key_cmp k) e.0) e.1 (lookup (is_at (key_cmp k)) es)
+
+pub seen_all : (records : Records) (version : ℕ) → record_at (recorded version records) ≡ seen records
+seen_all records version = λ i k. seen_is records version k i
+
+-- a record that is seen is kept
+pub is_kept : (records : Records) (k : Key) (r : Record Key Value) → seen records k ≡ Some r → (e : Kept) × (kept_at records k ≡ Some e) × (record_of e ≡ r)
+is_kept records k r h = go (kept_at records k) refl
+  where
+    go : (o : Option Kept) → kept_at records k ≡ o → (e : Kept) × (kept_at records k ≡ Some e) × (record_of e ≡ r)
+    go None q = absurd (none_some (ap (option_map record_of) (sym q) ∙ h))
+    go (Some e) q = (e, q, some_is (ap (option_map record_of) (sym q) ∙ h))
+
+pub is_seen : (records : Records) (k : Key) (e : Kept) → kept_at records k ≡ Some e → seen records k ≡ Some (record_of e)
+is_seen records k e h = ap (option_map record_of) h
+
+module _ (users : Users) (leaves : List Key) (old new : Records) (marked : List Key) (linked : IsLinked old users) (m : Marked users leaves old new marked) (passed : HasPassed users new marked) (begun : (k : Key) → In k leaves → IsDirty new k) where
+  -- a record before and after
+  later : (k : Key) (e : Kept) → kept_at old k ≡ Some e → (d : Bool) × (kept_at new k ≡ Some (record e { dirty = d })) × (e.dirty ≡ true → d ≡ true) × (d ≡ true → (e.dirty ≡ true) ⊎ IsReached users leaves k)
+  later k e h = elim (m.rest k) [
+    | inl a ↦ let p = m.each k a in let q : p.0 ≡ e = some_is (sym p.1 ∙ h) in
+        (true, p.3 ∙ ap (λ (y : Kept). Some (record y { dirty = true })) q, λ t. refl, λ t. inr p.4)
+    | inr p ↦ (e.dirty, p ∙ h, λ t. t, λ t. inl t)
+  ]
+
+  earlier : (k : Key) (e : Kept) → kept_at new k ≡ Some e → (x : Kept) × (kept_at old k ≡ Some x) × (d : Bool) × (e ≡ record x { dirty = d })
+  earlier k e h = elim (m.rest k) [
+    | inl a ↦ let p = m.each k a in (p.0, p.1, true, some_is (sym h ∙ p.3))
+    | inr p ↦ (e, sym p ∙ h, e.dirty, refl)
+  ]
+
+  dirty_stays : (k : Key) → IsDirty old k → IsDirty new k
+  dirty_stays k d e h = let p = earlier k e h in let l = later k p.0 p.1 in
+      let q : e ≡ record p.0 { dirty = l.0 } = some_is (sym h ∙ l.1) in ap (λ (y : Kept). y.dirty) q ∙ l.2 (d p.0 p.1)
+
+  -- what has a dirty member is dirty
+  dirty_user : (j k : Key) (e s : Kept) → kept_at old k ≡ Some e → IsMember j (groups_of e) → kept_at new j ≡ Some s → s.dirty ≡ true → IsDirty new k
+  dirty_user j k e s h i t d = elim (m.rest j) [
+    | inl a ↦ passed j a k (linked.complete j k e h i)
+    | inr p ↦ dirty_stays k (λ x g. let q : e ≡ x = some_is (sym h ∙ g) in subst (λ (y : Kept). y.dirty ≡ true) q (linked.dirty_above j k e s h i (sym p ∙ t) d))
+  ]
+
+  pub still_linked : IsOrdered key_cmp new → IsLinked new users
+  still_linked o = record {
+    ordered = o;
+    used = λ j k i. let p = linked.used j k i in let l = later k p.0 p.1 in (record p.0 { dirty = l.0 }, l.1, p.2);
+    complete = λ j k e h i. let p = earlier k e h in linked.complete j k p.0 p.1 (subst (λ (y : Kept). IsMember j (groups_of y)) p.3 i);
+    members = λ j k e h i. let p = earlier k e h in let s = linked.members j k p.0 p.1 (subst (λ (y : Kept). IsMember j (groups_of y)) p.3 i) in let l = later j s.0 s.1 in (record s.0 { dirty = l.0 }, l.1);
+    dirty_above = λ j k e s h i t d. let p = earlier k e h in dirty_user j k p.0 s p.1 (subst (λ (y : Kept). IsMember j (groups_of y)) p.3 i) t d e h;
+  }
+
+  abbrev IsLeaf : Key → Type 0
+  IsLeaf k = In k leaves
+
+  reaches : {k : Key} → IsReached users leaves k → Reaches (seen old) IsLeaf k
+  reaches (at_leaf i) = leaf i
+  reaches (by_user {j = j} {k = k} r i) = let p = linked.used j k i in through (is_seen old k p.0 p.1) p.2 (reaches r)
+
+  seen_later : (k : Key) (r : Record Key Value) → seen old k ≡ Some r → (d : Bool) × (seen new k ≡ Some (record r { dirty = d }))
+  seen_later k r h = let p = is_kept old k r h in let l = later k p.0 p.1 in
+      (l.0, is_seen new k (record p.0 { dirty = l.0 }) l.1 ∙ ap (λ (y : Record Key Value). Some (record y { dirty = l.0 })) p.2)
+
+  dirty_seen : (k : Key) (x : Record Key Value) → IsDirty new k → seen new k ≡ Some x → x.dirty ≡ true
+  dirty_seen k x d h = let p = is_kept new k x h in ap (λ (y : Record Key Value). y.dirty) (sym p.2) ∙ d p.0 p.1
+
+  pub edit_marks : Marks (seen old) (seen new) IsLeaf
+  edit_marks = record {
+    none_new = λ k h. go k h (m.rest k);
+    kept = seen_later;
+    marks = λ k r x h g w. elim w [
+      | inl d ↦ dirty_seen k x (dirty_stays k (λ e q. let p : record_of e ≡ r = some_is (sym (is_seen old k e q) ∙ h) in ap (λ (y : Record Key Value). y.dirty) p ∙ d)) g
+      | inr c ↦ reached_marked (seen old) (seen new) IsLeaf seen_later seen_members (λ i y a q. dirty_seen i y (begun i a) q) seen_users c g
+    ];
+    only = λ k r x h g d. let p = is_kept old k r h in let l = later k p.0 p.1 in
+        let q : x ≡ record_of (record p.0 { dirty = l.0 }) = some_is (sym g ∙ is_seen new k (record p.0 { dirty = l.0 }) l.1) in
+        elim (l.3 (sym (ap (λ (y : Record Key Value). y.dirty) q) ∙ d)) [
+          | inl c ↦ inl (ap (λ (y : Record Key Value). y.dirty) (sym p.2) ∙ c)
+          | inr c ↦ inr (reaches c)
+        ];
+  }
+    where
+      go : (k : Key) → seen old k ≡ None → In k marked ⊎ (kept_at new k ≡ kept_at old k) → seen new k ≡ None
+      go k h (inl a) = let p = m.each k a in absurd (none_some (sym h ∙ is_seen old k p.0 p.1))
+      go k h (inr q) = ap (option_map record_of) q ∙ h
+
+      seen_members : (k : Key) (r : Record Key Value) (j : Key) → seen old k ≡ Some r → IsMember j r.groups → (s : Record Key Value) × (seen old j ≡ Some s)
+      seen_members k r j h i = let p = is_kept old k r h in
+          let s = linked.members j k p.0 p.1 (subst (λ (y : Record Key Value). IsMember j y.groups) (sym p.2) i) in (record_of s.0, is_seen old j s.0 s.1)
+
+      seen_users : (k : Key) (r : Record Key Value) (j : Key) → seen old k ≡ Some r → IsMember j r.groups → (s x : Record Key Value) → seen new j ≡ Some s → s.dirty ≡ true → seen new k ≡ Some x → x.dirty ≡ true
+      seen_users k r j h i s x g d q = let p = is_kept old k r h in let t = is_kept new j s g in
+          dirty_seen k x (dirty_user j k p.0 t.0 p.1 (subst (λ (y : Record Key Value). IsMember j y.groups) (sym p.2) i) t.1 (ap (λ (y : Record Key Value). y.dirty) t.2 ∙ d)) q
+
+-- what a look-up finds is what a contract sees
+pub kept_seen : (records : Records) (version : ℕ) (k : Key) (found : Option (Bor Kept)) → option_copied found ≡ kept_at records k → option_map (λ e. record_of e.now) found ≡ record_at (recorded version records) k
+kept_seen records version k found h = go found ∙ ap (option_map record_of) h ∙ sym (seen_is records version k)
+  where
+    go : (o : Option (Bor Kept)) → option_map (λ e. record_of e.now) o ≡ option_map record_of (option_copied o)
+    go None = refl
+    go (Some e) = refl
+
+-- a table with the same records
+module _ (old new : Records) (same : (k : Key) → kept_at new k ≡ kept_at old k) (ordered : IsOrdered key_cmp new) where
+  pub linked_same : (users : Users) → IsLinked old users → IsLinked new users
+  linked_same users l = record {
+    ordered = ordered;
+    used = λ j k i. let p = l.used j k i in (p.0, same k ∙ p.1, p.2);
+    complete = λ j k e h i. l.complete j k e (sym (same k) ∙ h) i;
+    members = λ j k e h i. let p = l.members j k e (sym (same k) ∙ h) i in (p.0, same j ∙ p.1);
+    dirty_above = λ j k e s h i t d. l.dirty_above j k e s (sym (same k) ∙ h) i (sym (same j) ∙ t) d;
+  }
+
+  pub seen_same : (version : ℕ) → IsOrdered key_cmp old → recorded version new ≡ recorded version old
+  seen_same version o = ap (λ es. record { version = version; records = map (λ e. (e.0, record_of e.1)) es }) (btree_map_from_get keys_total new old ordered o same exact_keys)
+
+-- marks from one leaf
+module _ (users : Users) (old new : Records) (marked : List Key) (text : List ℕ) (linked : IsLinked old users) (m : Marked users (key.File text ∷ []) old new marked) (passed : HasPassed users new marked) (dirty : IsDirty new (key.File text)) where
+  begins : (k : Key) → In k (key.File text ∷ []) → IsDirty new k
+  begins k i = subst (IsDirty new) (sym (in_one i)) dirty
+
+  pub touched_linked : IsOrdered key_cmp new → IsLinked new users
+  touched_linked = still_linked users (key.File text ∷ []) old new marked linked m passed begins
+
+  pub touched_marks : (path : List ℕ) → text ≡ path → (before : Recorded) (version later_version : ℕ) → recorded version old ≡ before → Marks (record_at before) (record_at (recorded later_version new)) (IsTouched path)
+  touched_marks path e before version later_version b =
+      subst (λ (p : List ℕ). Marks (record_at before) (record_at (recorded later_version new)) (IsTouched p)) e
+      (subst (λ (r : Recorded). Marks (record_at r) (record_at (recorded later_version new)) (IsTouched text)) b
+      (subst (λ (f : Key → Option (Record Key Value)). Marks f (record_at (recorded later_version new)) (IsTouched text)) (sym (seen_all old version))
+      (subst (λ (f : Key → Option (Record Key Value)). Marks (seen old) f (IsTouched text)) (sym (seen_all new later_version)) (edit_marks users (key.File text ∷ []) old new marked linked m passed begins))))

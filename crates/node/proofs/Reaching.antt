@@ -1,0 +1,207 @@
+-- Marks are spread a key at a time.
+use Rattle.std.proofs.Common.{◌≡◌, ◌⊎◌, inl, inr, ℕ, ◌+◌, ◌<◌, ◌≤◌, Bool, true, false, List, [], ◌∷◌, ◌++◌, Some, refl, sym, ◌∙◌, ap, subst, length, take, drop, arith, add-one, append-nil, append_assoc, slice_index_or}
+use Rattle.std.specs.BTreeMap.{Updates, IsOrdered}
+use Rattle.std.proofs.lemmas.List.{take-append-le, length-append}
+use Rattle.std.proofs.Math.ListN.{take-append-drop}
+use Rattle.std.proofs.Math.Seq.{take-suc, take_all}
+use Rattle.evaluation.specs.Value.{In, first, after}
+use Rattle.keys.specs.declared.key.Key.{Key}
+use Rattle.keys.specs.Keys.{key_cmp}
+use Rattle.node.specs.declared.kept.Kept.{Kept}
+use Rattle.node.specs.Kept.{Records, Users, kept_at, users_at}
+use Rattle.node.specs.Marks.{IsDirty, IsReached, at_leaf, by_user, Marked, HasReached, HasReachedSome, HasReachedAll, HasSpread, HasPassed, Undoing}
+use Rattle.node.proofs.Lists.{in_split, in_left, in_right, in_one, not_in, some_is, true_false, same_or_key}
+
+module _ (old new : Records) (before now : List Key) (key : Key) where
+  -- the key has its mark
+  module _ (e : Kept) (had : kept_at old key ≡ Some e) (clean : e.dirty ≡ false) (u : Updates key_cmp old new key (Some (record e { dirty = true }))) where
+    now_dirty : IsDirty new key
+    now_dirty x h = let q : record e { dirty = true } ≡ x = some_is (sym u.1 ∙ h) in ap (λ (y : Kept). y.dirty) (sym q)
+
+    still_dirty : (k : Key) → IsDirty old k → IsDirty new k
+    still_dirty k d = elim (same_or_key old new key _ u k) [ inl q ↦ subst (IsDirty new) q now_dirty | inr q ↦ λ x h. d x (sym q ∙ h) ]
+
+    -- it was not listed
+    fresh : (users : Users) (leaves : List Key) (original : Records) → Marked users leaves original old before → In key before → ⊥
+    fresh users leaves original m i = let p = m.each key i in
+        let q : e ≡ record p.0 { dirty = true } = some_is (sym had ∙ p.3) in true_false (ap (λ (y : Kept). y.dirty) q) clean
+
+    more_marked : (users : Users) (leaves : List Key) (original : Records) → Marked users leaves original old before → IsReached users leaves key → Marked users leaves original new (before ++ key ∷ [])
+    more_marked users leaves original m r = record {
+      each = λ k i. elim (in_split i before (key ∷ []) refl) [
+        | inl a ↦ elim (same_or_key old new key _ u k) [
+          | inl q ↦ absurd (fresh users leaves original m (subst (λ x. In x before) (sym q) a))
+          | inr q ↦ let p = m.each k a in (p.0, p.1, p.2, q ∙ p.3, p.4)
+        ]
+        | inr b ↦ let Each : Key → Type 0 = λ x. (y : Kept) × (kept_at original x ≡ Some y) × (y.dirty ≡ false) × (kept_at new x ≡ Some (record y { dirty = true })) × IsReached users leaves x in
+            subst Each (sym (in_one b)) (e, was, clean, u.1, r)
+      ];
+      rest = λ k. elim (same_or_key old new key _ u k) [
+        | inl q ↦ inl (in_right before (subst (λ x. In x (key ∷ [])) q first))
+        | inr q ↦ elim (m.rest k) [ inl a ↦ inl (in_left (key ∷ []) a) | inr p ↦ inr (q ∙ p) ]
+      ];
+    }
+      where
+        was : kept_at original key ≡ Some e
+        was = elim (m.rest key) [ inl a ↦ absurd (fresh users leaves original m a) | inr p ↦ sym p ∙ had ]
+
+  pub reached_dirty : HasReached old new before now key → IsDirty new key
+  reached_dirty (inl s) = subst (λ t. IsDirty t key) (sym s.0) s.2
+  reached_dirty (inr s) = now_dirty s.0 s.1 s.2 s.3
+
+  pub reached_still : HasReached old new before now key → (k : Key) → IsDirty old k → IsDirty new k
+  reached_still (inl s) k d = subst (λ t. IsDirty t k) (sym s.0) d
+  reached_still (inr s) k d = still_dirty s.0 s.1 s.2 s.3 k d
+
+  reached_marked : HasReached old new before now key → (users : Users) (leaves : List Key) (original : Records) → Marked users leaves original old before → IsReached users leaves key → Marked users leaves original new now
+  reached_marked (inl s) users leaves original m r = subst (λ t. Marked users leaves original t now) (sym s.0) (subst (Marked users leaves original old) (sym s.1) m)
+  reached_marked (inr s) users leaves original m r = subst (Marked users leaves original new) (sym s.5) (more_marked s.0 s.1 s.2 s.3 users leaves original m r)
+
+  reached_ordered : HasReached old new before now key → IsOrdered key_cmp old → IsOrdered key_cmp new
+  reached_ordered (inl s) o = subst (IsOrdered key_cmp) (sym s.0) o
+  reached_ordered (inr s) o = s.4
+
+  reached_grows : HasReached old new before now key → (more : List Key) × (now ≡ before ++ more)
+  reached_grows (inl s) = ([], s.1 ∙ sym (append-nil before))
+  reached_grows (inr s) = (key ∷ [], s.5)
+
+  -- one key after others
+  pub some_more : (start : Records) (begun keys : List Key) → HasReachedSome start old begun before keys → HasReached old new before now key → In key keys → HasReachedSome start new begun now keys
+  some_more start begun keys s h i = record {
+    marks = λ users leaves original m r. reached_marked h users leaves original (s.marks users leaves original m r) (r key i);
+    still = λ k d. reached_still h k (s.still k d);
+    ordered = λ o. reached_ordered h (s.ordered o);
+    more = s.more ++ (reached_grows h).0;
+    grows = (reached_grows h).1 ∙ ap (λ xs. xs ++ (reached_grows h).0) s.grows ∙ append_assoc begun s.more (reached_grows h).0;
+  }
+
+-- no key yet
+pub some_none : (records : Records) (marked keys : List Key) → HasReachedSome records records marked marked keys
+some_none records marked keys = record {
+  marks = λ users leaves original m r. m;
+  still = λ k d. d;
+  ordered = λ o. o;
+  more = [];
+  grows = sym (append-nil marked);
+}
+
+pub spread_none : (users : Users) (records : Records) (marked : List Key) → HasSpread users records records marked marked
+spread_none users records marked = record { marks = λ leaves original m. m; still = λ k d. d; ordered = λ o. o }
+
+module _ (users : Users) (start old new : Records) (begun before now : List Key) (j : Key) where
+  -- from a listed key to its users
+  pub spread_more : HasSpread users start old begun before → HasReachedSome old new before now (users_at users j) → In j before → HasSpread users start new begun now
+  spread_more s h i = record {
+    marks = λ leaves original m. let p = s.marks leaves original m in h.marks users leaves original p (λ k u. by_user (p.each j i).4 u);
+    still = λ k d. h.still k (s.still k d);
+    ordered = λ o. h.ordered (s.ordered o);
+  }
+
+module _ {X : Type 0} where
+  in_take : {x : X} (n : ℕ) (xs : List X) → In x (take n xs) → In x xs
+  in_take {x} n xs i = subst (In x) (take-append-drop n xs) (in_left (drop n xs) i)
+
+  one_more : (xs : List X) (n : ℕ) (d : X) → n < length xs → take (n + 1) xs ≡ take n xs ++ slice_index_or xs n d ∷ []
+  one_more xs n d h = rw add-one (take-suc xs n d h)
+
+  pub in_at : (xs : List X) (n : ℕ) (d : X) → n < length xs → In (slice_index_or xs n d) xs
+  in_at xs n d h = in_take (n + 1) xs (subst (In (slice_index_or xs n d)) (sym (one_more xs n d h)) (in_right (take n xs) first))
+
+module _ (users : Users) (old new : Records) (before now : List Key) (at : ℕ) (d : Key) where
+  -- the users of one more listed key are dirty
+  pub passed_more : (j : Key) → j ≡ slice_index_or before at d → at < length before → HasPassed users old (take at before) → HasReachedSome old new before now (users_at users j) → HasReachedAll new (users_at users j) → HasPassed users new (take (at + 1) now)
+  passed_more j e l p s a = λ i m k u. elim (in_split m (take at before) (j ∷ []) these) [
+    | inl x ↦ s.still k (p i x k u)
+    | inr x ↦ a k (subst (λ y. In k (users_at users y)) (in_one x) u)
+  ]
+    where
+      these : take (at + 1) now ≡ take at before ++ j ∷ []
+      these =
+          ap (take (at + 1)) s.grows ∙ take-append-le (at + 1) before s.more (omega arith) ∙ one_more before at d l ∙ ap (λ y. take at before ++ y ∷ []) (sym e)
+
+  pub within_more : (keys : List Key) → at < length before → HasReachedSome old new before now keys → at + 1 ≤ length now
+  within_more keys l s = let e = ap length s.grows ∙ length-append before s.more in omega arith
+
+pub passed_none : (users : Users) (records : Records) → HasPassed users records []
+passed_none users records j i = elim i [ ]
+
+pub all_passed : (users : Users) (records : Records) (marked : List Key) (at : ℕ) → HasPassed users records (take at marked) → length marked ≤ at → HasPassed users records marked
+all_passed users records marked at p h = subst (HasPassed users records) (take_all at marked h) p
+
+-- a mark is taken away
+module _ (original records newer : Records) (rest : List Key) (key : Key) (e : Kept) (had : kept_at records key ≡ Some e) (u : Updates key_cmp records newer key (Some (record e { dirty = false }))) where
+  pub undo_more : Undoing original records (rest ++ key ∷ []) → Undoing original newer rest
+  undo_more h = record {
+    each = λ k i. elim (same_or_key records newer key _ u k) [
+      | inl q ↦ let p = h.each k (in_left (key ∷ []) i) in (p.0, p.1, p.2, false, there k q p.0 p.3 p.4)
+      | inr q ↦ let p = h.each k (in_left (key ∷ []) i) in (p.0, p.1, p.2, p.3, q ∙ p.4)
+    ];
+    rest = λ k. elim (same_or_key records newer key _ u k) [
+      | inl q ↦ let p = h.each k (subst (λ x. In x (rest ++ key ∷ [])) q (in_right rest first)) in inr (there k q p.0 p.3 p.4 ∙ unmarked p.0 p.2 ∙ sym p.1)
+      | inr q ↦ elim (h.rest k) [
+        | inl a ↦ elim (in_split a rest (key ∷ []) refl) [
+          | inl b ↦ inl b
+          | inr b ↦ let p = h.each k (in_right rest b) in inr (there k (sym (in_one b)) p.0 p.3 p.4 ∙ unmarked p.0 p.2 ∙ sym p.1)
+        ]
+        | inr p ↦ inr (q ∙ p)
+      ]
+    ];
+  }
+    where
+      there : (k : Key) → key ≡ k → (x : Kept) (b : Bool) → kept_at records k ≡ Some (record x { dirty = b }) → kept_at newer k ≡ Some (record x { dirty = false })
+      there k q x b p =
+          let s : e ≡ record x { dirty = b } = some_is (sym had ∙ ap (kept_at records) q ∙ p) in
+          ap (kept_at newer) (sym q) ∙ u.1 ∙ ap (λ (y : Kept). Some (record y { dirty = false })) s
+
+      unmarked : (x : Kept) → x.dirty ≡ false → Some (record x { dirty = false }) ≡ Some x
+      unmarked x c = ap (λ b. Some (record x { dirty = b })) (sym c)
+
+pub undone : (original records : Records) → Undoing original records [] → (k : Key) → kept_at records k ≡ kept_at original k
+undone original records h k = elim (h.rest k) [ inl i ↦ absurd (not_in i refl) | inr p ↦ p ]
+
+pub undoing : (users : Users) (leaves : List Key) (old new : Records) (marked : List Key) → Marked users leaves old new marked → Undoing old new marked
+undoing users leaves old new marked m = record {
+  each = λ k i. let p = m.each k i in (p.0, p.1, p.2, true, p.3);
+  rest = m.rest;
+}
+
+-- one more of the keys that are gone over
+module _ (old new : Records) (before now : List Key) (keys left more : List Key) (key : Key) (e : left ≡ key ∷ more) where
+  in_rest : {k : Key} {zs : List Key} → In k zs → zs ≡ key ∷ more → (key ≡ k) ⊎ In k more
+  in_rest first h = inl (cc)
+  in_rest {k} (after {xs = ws} i) h = let q : ws ≡ more = cc in inr (subst (In k) q i)
+
+  pub all_more : HasReached old new before now key → ((k : Key) → In k keys → In k left ⊎ IsDirty old k) → (k : Key) → In k keys → In k more ⊎ IsDirty new k
+  all_more h f k i = elim (f k i) [
+    | inl a ↦ elim (in_rest a e) [ inl q ↦ inr (subst (IsDirty new) q (reached_dirty old new before now key h)) | inr b ↦ inl b ]
+    | inr d ↦ inr (reached_still old new before now key h k d)
+  ]
+
+  pub left_more : ((k : Key) → In k left → In k keys) → (k : Key) → In k more → In k keys
+  left_more f k i = f k (subst (In k) (sym e) (after i))
+
+  pub is_left : ((k : Key) → In k left → In k keys) → In key keys
+  is_left f = f key (subst (In key) (sym e) first)
+
+pub none_left : (records : Records) (keys left : List Key) → left ≡ [] → ((k : Key) → In k keys → In k left ⊎ IsDirty records k) → HasReachedAll records keys
+none_left records keys left e f k i = elim (f k i) [ inl a ↦ absurd (not_in a e) | inr d ↦ d ]
+
+-- the last listed record has its mark taken away
+pub undo_popped : (original records newer : Records) (marked rest : List Key) (key : Key) → marked ≡ rest ++ key ∷ []
+    → ((e : Kept) → kept_at records key ≡ Some e → Updates key_cmp records newer key (Some (record e { dirty = false })))
+    → Undoing original records marked → Undoing original newer rest
+undo_popped original records newer marked rest key e u h =
+    let m : Undoing original records (rest ++ key ∷ []) = subst (Undoing original records) e h in
+    let p = m.each key (in_right rest first) in
+    undo_more original records newer rest key (record p.0 { dirty = p.3 }) p.4 (u (record p.0 { dirty = p.3 }) p.4) m
+
+pub in_at_is : {X : Type 0} (xs : List X) (n : ℕ) (d x : X) → x ≡ slice_index_or xs n d → n < length xs → In x xs
+in_at_is xs n d x e h = subst (λ y. In y xs) (sym e) (in_at xs n d h)
+
+-- from a leaf on, with nothing listed before
+pub from_leaf : (users : Users) (old middle new : Records) (none listed now : List Key) (leaf : Key) → none ≡ [] → HasReached old middle none listed leaf → HasSpread users middle new listed now → Marked users (leaf ∷ []) old new now
+from_leaf users old middle new none listed now leaf e h s =
+    s.marks (leaf ∷ []) old (reached_marked old middle none listed leaf h users (leaf ∷ []) old start (at_leaf first))
+  where
+    start : Marked users (leaf ∷ []) old old none
+    start = record { each = λ k i. absurd (not_in i e); rest = λ k. inr refl }

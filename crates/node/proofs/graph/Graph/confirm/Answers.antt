@@ -1,0 +1,12 @@
+use Rattle.node.proofs.Writing.{settled_linked, settled_sets}
+use Rattle.node.proofs.graph.Graph.confirm.Goals as goal
+
+pub invariant_of-self : goal.invariant_of-self
+invariant_of-self c =
+    settled_linked c.self.inside.records c.settle.new.records c.self.inside.users c.args.key.now c.self.inside.version c.self.invariant c.settle.ensures.updates
+    c.args.self.now c.self.view_is c.requires.members c.requires.recorded c.settle.ensures.ordered
+
+pub returns-clause-confirmed : goal.returns-clause-confirmed
+returns-clause-confirmed c =
+    settled_sets c.self.inside.records c.settle.new.records c.self.inside.users c.args.key.now c.self.inside.version c.self.invariant c.settle.ensures.updates
+    c.args.self.now c.self.view_is c.requires.members

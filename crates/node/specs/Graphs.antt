@@ -1,0 +1,56 @@
+-- What a contract sees of a graph, and what is true of its parts.
+use Rattle.std.specs.Prelude.{◌≡◌, ◌≢◌, ℕ, List, [], ◌∷◌, map, Option, Some, None, true, false, if◌then◌else◌}
+use Rattle.std.specs.Map.{lookup}
+use Rattle.std.specs.BTreeMap.{is_at, IsOrdered}
+use Rattle.evaluation.specs.Graph.{Record}
+use Rattle.evaluation.specs.Value.{In, IsMember}
+use Rattle.keys.specs.Keys.{key_cmp}
+use Rattle.keys.specs.declared.key.Key.{Key}
+use Rattle.keys.specs.declared.key.Key.TheVariants as key
+use Rattle.keys.specs.declared.value.Value.{Value}
+use Rattle.node.specs.declared.kept.Kept.{Kept}
+use Rattle.node.specs.Kept.{Records, Users, kept_at, users_at, record_of}
+
+-- its version, and its records in the order of their keys
+pub record Recorded : Type 0 where
+  pub version : ℕ
+  pub records : List (Key × Record Key Value)
+
+abbrev pub recorded : ℕ → Records → Recorded
+recorded version records = record { version = version; records = map (λ e. (e.0, record_of e.1)) records.entries }
+
+-- the record of a key
+abbrev pub record_at : Recorded → Key → Option (Record Key Value)
+record_at graph k = lookup (is_at (key_cmp k)) graph.records
+
+-- the value of a key, if it has a record that is not dirty
+abbrev pub present : Option (Record Key Value) → Option Value
+present None = None
+present (Some r) = (if r.dirty then None else Some r.value)
+
+-- the leaves that an edit of the path touches
+abbrev pub touched_leaves : List ℕ → List Key
+touched_leaves path = key.File path ∷ []
+
+abbrev pub IsTouched : List ℕ → Key → Type 0
+IsTouched path k = In k (touched_leaves path)
+
+abbrev pub groups_of : Kept → List (List Key)
+groups_of e = map (λ g. g.items) e.groups.items
+
+-- the users are the inverse of the recorded groups; each member of a group has a record, dirty only where the record with that group is
+pub record IsLinked (records : Records) (users : Users) : Type 0 where
+  pub ordered : IsOrdered key_cmp records
+  pub used : (j k : Key) → In k (users_at users j) → (e : Kept) × (kept_at records k ≡ Some e) × IsMember j (groups_of e)
+  pub complete : (j k : Key) (e : Kept) → kept_at records k ≡ Some e → IsMember j (groups_of e) → In k (users_at users j)
+  pub members : (j k : Key) (e : Kept) → kept_at records k ≡ Some e → IsMember j (groups_of e) → (s : Kept) × (kept_at records j ≡ Some s)
+  pub dirty_above : (j k : Key) (e s : Kept) → kept_at records k ≡ Some e → IsMember j (groups_of e) → kept_at records j ≡ Some s → s.dirty ≡ true → e.dirty ≡ true
+
+-- no member of the groups of k's record has a dirty one
+abbrev pub HasCleanMembers : (Key → Option (Record Key Value)) → Key → Type 0
+HasCleanMembers records k = (r s : Record Key Value) (j : Key) → records k ≡ Some r → IsMember j r.groups → records j ≡ Some s → s.dirty ≡ false
+
+-- the record of one key is set
+pub record Sets (old new : Key → Option (Record Key Value)) (k : Key) (r : Record Key Value) : Type 0 where
+  pub there : new k ≡ Some r
+  pub others : (j : Key) → k ≢ j → new j ≡ old j

@@ -1,0 +1,38 @@
+-- What a graph keeps, as its functions see it.
+use Rattle.std.specs.Prelude.{ℕ, List, [], map, Option, Some, None, sum_by, if◌then◌else◌}
+use Rattle.std.specs.Arc.{arc_value}
+use Rattle.std.specs.BTreeMap.{BTreeMap, get, values}
+use Rattle.std.specs.BTreeSet.{BTreeSet}
+use Rattle.evaluation.specs.Graph.{Record}
+use Rattle.keys.specs.Keys.{key_cmp}
+use Rattle.keys.specs.declared.key.Key.{Key}
+use Rattle.keys.specs.declared.value.Value.{Value}
+use Rattle.node.specs.declared.kept.Kept.{Kept}
+
+abbrev pub Records : Type 0
+Records = BTreeMap Key Kept
+
+abbrev pub Users : Type 0
+Users = BTreeMap Key (BTreeSet Key)
+
+abbrev pub kept_at : Records → Key → Option Kept
+kept_at records k = get key_cmp records k
+
+abbrev pub listed : Option (BTreeSet Key) → List Key
+listed None = []
+listed (Some set) = set.keys
+
+-- the keys that are kept as users of j
+abbrev pub users_at : Users → Key → List Key
+users_at users j = listed (get key_cmp users j)
+
+-- what a contract sees of a record
+abbrev pub record_of : Kept → Record Key Value
+record_of e = record { value = arc_value e.value; groups = map (λ g. g.items) e.groups.items; settled_at = e.settled_at; changed_at = e.changed_at; dirty = e.dirty }
+
+-- how many records are not dirty
+abbrev pub cost : Kept → ℕ
+cost e = if e.dirty then 0 else 1
+
+abbrev pub cleans : Records → ℕ
+cleans records = sum_by cost (values records)

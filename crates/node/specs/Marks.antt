@@ -1,0 +1,54 @@
+-- What marks are spread along reverse edges.
+use Rattle.std.specs.Prelude.{◌≡◌, ◌⊎◌, Bool, true, false, List, [], ◌∷◌, ◌++◌, Some}
+use Rattle.std.specs.BTreeMap.{Updates, IsOrdered}
+use Rattle.evaluation.specs.Value.{In}
+use Rattle.keys.specs.declared.key.Key.{Key}
+use Rattle.keys.specs.Keys.{key_cmp}
+use Rattle.node.specs.declared.kept.Kept.{Kept}
+use Rattle.node.specs.Kept.{Records, Users, kept_at, users_at}
+
+-- if k has a record, it is dirty
+abbrev pub IsDirty : Records → Key → Type 0
+IsDirty records k = (e : Kept) → kept_at records k ≡ Some e → e.dirty ≡ true
+
+-- k is a leaf of the list, or a user of what is reached
+pub data IsReached (users : Users) (leaves : List Key) : Key → Type 0 where
+  at_leaf : {k : Key} → In k leaves → IsReached users leaves k
+  by_user : {j k : Key} → IsReached users leaves j → In k (users_at users j) → IsReached users leaves k
+
+-- the listed records were clean, are reached, and are now dirty; the others are as before
+pub record Marked (users : Users) (leaves : List Key) (old new : Records) (marked : List Key) : Type 0 where
+  pub each : (k : Key) → In k marked → (e : Kept) × (kept_at old k ≡ Some e) × (e.dirty ≡ false) × (kept_at new k ≡ Some (record e { dirty = true })) × IsReached users leaves k
+  pub rest : (k : Key) → In k marked ⊎ (kept_at new k ≡ kept_at old k)
+
+-- nothing had to be done, or the record is now dirty and listed
+abbrev pub HasReached : Records → Records → List Key → List Key → Key → Type 0
+HasReached old new before after key = ((new ≡ old) × (after ≡ before) × IsDirty old key)
+    ⊎ ((e : Kept) × (kept_at old key ≡ Some e) × (e.dirty ≡ false) × Updates key_cmp old new key (Some (record e { dirty = true })) × IsOrdered key_cmp new × (after ≡ before ++ key ∷ []))
+
+-- some of these keys were reached
+pub record HasReachedSome (old new : Records) (before after keys : List Key) : Type 0 where
+  pub marks : (users : Users) (leaves : List Key) (original : Records) → Marked users leaves original old before → ((k : Key) → In k keys → IsReached users leaves k) → Marked users leaves original new after
+  pub still : (k : Key) → IsDirty old k → IsDirty new k
+  pub ordered : IsOrdered key_cmp old → IsOrdered key_cmp new
+  pub more : List Key
+  pub grows : after ≡ before ++ more
+
+-- all of these keys were reached
+abbrev pub HasReachedAll : Records → List Key → Type 0
+HasReachedAll new keys = (k : Key) → In k keys → IsDirty new k
+
+-- marks were spread from the listed keys
+pub record HasSpread (users : Users) (old new : Records) (before after : List Key) : Type 0 where
+  pub marks : (leaves : List Key) (original : Records) → Marked users leaves original old before → Marked users leaves original new after
+  pub still : (k : Key) → IsDirty old k → IsDirty new k
+  pub ordered : IsOrdered key_cmp old → IsOrdered key_cmp new
+
+-- the users of these keys are dirty
+abbrev pub HasPassed : Users → Records → List Key → Type 0
+HasPassed users records keys = (j : Key) → In j keys → (k : Key) → In k (users_at users j) → IsDirty records k
+
+-- the listed records were clean, and nothing but their marks and those of no others has changed
+pub record Undoing (original records : Records) (marked : List Key) : Type 0 where
+  pub each : (k : Key) → In k marked → (e : Kept) × (kept_at original k ≡ Some e) × (e.dirty ≡ false) × (d : Bool) × (kept_at records k ≡ Some (record e { dirty = d }))
+  pub rest : (k : Key) → In k marked ⊎ (kept_at records k ≡ kept_at original k)

@@ -1,0 +1,173 @@
+//! The graph of records.
+ghost use Rattle.std.specs.Prelude.{◌≡◌, ◌+◌, ◌<◌, [], IfOk, OnOk, OnErr, map, IsSome, Some, false};
+ghost use Rattle.std.specs.Option.{option_map};
+ghost use Rattle.std.specs.Arc.{arc_value};
+ghost use Rattle.evaluation.specs.Graph.{Record, Marks};
+ghost use Rattle.keys.specs.declared.key.Key.{Key};
+ghost use Rattle.keys.specs.declared.value.Value.{Value};
+ghost use Rattle.node.specs.Kept.{record_of};
+ghost use Rattle.node.specs.Graphs.{record_at, present, IsTouched, HasCleanMembers, Sets};
+
+use crate::kept::{Kept, Records, Users};
+use crate::marks::{mark_from, unmark_all};
+use crate::settling::settle;
+use keys::{Key, Value};
+use std::alloc::Global;
+use std::collections::BTreeMap;
+use std::marker::Model;
+use std::sync::Arc;
+use texts::{Memory, Text};
+
+/// What was recorded of the nodes that were settled: of each its value, the groups that it asked, the version at which
+/// it was last settled, the version at which its value last changed, and whether an edit since then may have changed
+/// it (it is dirty then). A contract sees the graph's version and the records in the order of their keys. The reverse
+/// edges, from a key to those whose records have it in a group, are kept beside them and are their inverse.
+#[derive(Drop)]
+pub struct Graph {
+    alloc: Global,
+    version: u32,
+    records: Records,
+    users: Users,
+}
+
+impl Model for Graph {
+    ghost use Rattle.node.specs.Graphs.{Recorded, recorded, IsLinked};
+
+    ghost Value = { Recorded };
+
+    ghost view = { λ g. recorded g.version g.records };
+
+    ghost invariant = { λ g. IsLinked g.records g.users };
+}
+
+impl Graph {
+    /// A graph without records, at version 0. It grows by the allocator that it is made with.
+    pub fn new(alloc: Global) -> Graph
+        ensures version { result.version ≡ 0 }
+        ensures records { result.records ≡ [] }
+    {
+        Graph::new_at(alloc, 0)
+    }
+
+    /// A graph without records, at the version.
+    pub fn new_at(alloc: Global, version: u32) -> Graph
+        ensures version { result.version ≡ version }
+        ensures records { result.records ≡ [] }
+    {
+        Graph {
+            alloc,
+            version,
+            records: BTreeMap::new(alloc),
+            users: BTreeMap::new(alloc),
+        }
+    }
+
+    /// The version.
+    pub fn version(&self) -> u32
+        ensures { result ≡ self.now.version }
+    {
+        self.version
+    }
+
+    // What is kept of a key.
+    fn kept(&self, key: &Key) -> Option<&Kept>
+        ensures { option_map (λ e. record_of e.now) result ≡ record_at self.now key.now }
+    {
+        self.records.get(key)
+    }
+
+    /// The value of a key, and None without a record and while it is dirty.
+    pub fn get(&self, key: &Key) -> Option<&Arc<Value>>
+        ensures { option_map (λ v. arc_value v.now) result ≡ present (record_at self.now key.now) }
+    {
+        match self.kept(key) {
+            None => None,
+            Some(kept) => { if kept.dirty { None } else { Some(&kept.value) } }
+        }
+    }
+
+    /// The groups of a key's record, dirty or not, and None without one.
+    pub fn groups(&self, key: &Key) -> Option<&[Vec<Key>]>
+        ensures { option_map (λ gs. map (λ g. g.items) gs.now) result ≡ option_map (λ r. r.groups) (record_at self.now key.now) }
+    {
+        match self.kept(key) {
+            None => None,
+            Some(kept) => Some(kept.groups.as_slice()),
+        }
+    }
+
+    /// The version at which a key's record was last settled, dirty or not, and None without one.
+    pub fn settled_at(&self, key: &Key) -> Option<u32>
+        ensures { result ≡ option_map (λ r. r.settled_at) (record_at self.now key.now) }
+    {
+        match self.kept(key) {
+            None => None,
+            Some(kept) => Some(kept.settled_at),
+        }
+    }
+
+    /// The version at which the value of a key's record last changed, dirty or not, and None without one.
+    pub fn changed_at(&self, key: &Key) -> Option<u32>
+        ensures { result ≡ option_map (λ r. r.changed_at) (record_at self.now key.now) }
+    {
+        match self.kept(key) {
+            None => None,
+            Some(kept) => Some(kept.changed_at),
+        }
+    }
+
+    /// Takes in an edit of the path: one version more, and each record is marked that reaches a leaf which the edit
+    /// touches. Nothing else changes. That the version is below its last value is the caller's condition. The new
+    /// version, or `Memory` where a growth was refused, and then nothing has changed.
+    pub fn touch(&mut self, path: &str) -> Result<u32, Memory>
+        requires { self.old.version < u32.MAX }
+        ensures version { IfOk result (λ v. v ≡ self.old.version + 1) }
+        ensures moved { OnOk result (self.new.version ≡ self.old.version + 1) }
+        ensures marks { OnOk result (Marks (record_at self.old) (record_at self.new) (IsTouched path.now)) }
+        ensures refused { OnErr result (self.new ≡ self.old) }
+    {
+        let leaf = Key::File(Text::new(self.alloc, path)?);
+        let mut marked = Vec::new(self.alloc);
+        match mark_from(&mut self.records, &self.users, &mut marked, &leaf) {
+            Ok(()) => {
+                self.version += 1;
+                Ok(self.version)
+            }
+            Err(error) => {
+                unmark_all(&mut self.records, marked);
+                Err(error)
+            }
+        }
+    }
+
+    /// Settles a key's record at the present version: that version is written into it and its mark is taken away.
+    /// Nothing else changes, and no memory is taken. That the key has a record, and that no member of its groups has
+    /// a dirty one, is the caller's condition.
+    pub fn confirm(&mut self, key: &Key)
+        requires recorded { IsSome (record_at self.old key.now) }
+        requires members { HasCleanMembers (record_at self.old) key.now }
+        ensures version { self.new.version ≡ self.old.version }
+        ensures confirmed { (r : Record Key Value) → record_at self.old key.now ≡ Some r → Sets (record_at self.old) (record_at self.new) key.now (record r { settled_at = self.old.version; dirty = false }) }
+    {
+        settle(&mut self.records, key, self.version);
+    }
+}
+
+#[cfg(test)]
+mod tests {
+    use super::*;
+    use std::test::Fail;
+
+    #[test]
+    fn an_edit_is_one_version(rt: HostRuntime) -> Result<(), Fail> {
+        let mut graph = Graph::new_at(rt.alloc(), 6);
+        assert_eq!(rt; graph.touch("a/BUILD")?, 7);
+        assert_eq!(rt; graph.version(), 7);
+        assert!(rt;
+            graph
+                .get(&Key::File(Text::new(rt.alloc(), "a/BUILD")?))
+                .is_none()
+        );
+        Ok(())
+    }
+}

@@ -1,0 +1,25 @@
+//! What a graph keeps.
+use keys::{Key, Value};
+use std::collections::{BTreeMap, BTreeSet};
+use std::sync::Arc;
+
+/// What is kept of a node that was settled.
+#[derive(Drop)]
+pub struct Kept {
+    /// Its value.
+    pub value: Arc<Value>,
+    /// The groups that it asked.
+    pub groups: Vec<Vec<Key>>,
+    /// The version at which it was last settled.
+    pub settled_at: u32,
+    /// The version at which its value last changed.
+    pub changed_at: u32,
+    /// Whether an edit since then may have changed it.
+    pub dirty: bool,
+}
+
+/// Records by key.
+pub type Records = BTreeMap<Key, Kept>;
+
+/// The keys whose records have a key in a group, by that key.
+pub type Users = BTreeMap<Key, BTreeSet<Key>>;

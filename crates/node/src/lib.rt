@@ -1,0 +1,9 @@
+//! The graph of what was recorded of nodes.
+#![tactic(auto)]
+
+mod graph;
+mod kept;
+mod marks;
+mod settling;
+
+pub use graph::Graph;

@@ -1,0 +1,113 @@
+//! Dirty marks, spread along reverse edges.
+ghost use Rattle.std.specs.Prelude.{◌≡◌, ◌+◌, ◌≤◌, [], ◌∷◌, ◌++◌, List, Some, None, true, false, OnOk, OnErr, vec_len};
+ghost use Rattle.std.specs.BTreeMap.{Updates, IsOrdered};
+ghost use Rattle.keys.specs.Keys.{key_cmp};
+ghost use Rattle.keys.specs.declared.key.Key.{Key};
+ghost use Rattle.node.specs.Kept.{Records, kept_at, users_at, cleans, cost};
+ghost use Rattle.node.specs.Marks.{HasReached, HasReachedAll, HasReachedSome, HasSpread, HasPassed, IsDirty, Marked, Undoing};
+ghost use Rattle.node.specs.declared.kept.Kept.{Kept};
+
+use crate::kept::{Records, Users};
+use keys::Key;
+use std::collections::BTreeSet;
+use texts::Memory;
+
+// Sets the mark of a record.
+fn mark(records: &mut Records, key: &Key)
+    ensures updates { (e : Kept) → kept_at records.old key.now ≡ Some e → Updates key_cmp records.old records.new key.now (Some (record e { dirty = true })) }
+    ensures work { (e : Kept) → kept_at records.old key.now ≡ Some e → cleans records.new + cost e ≡ cleans records.old }
+    ensures ordered { IsOrdered key_cmp records.new }
+{
+    if let Some(kept) = records.get_mut(key) {
+        kept.dirty = true;
+    }
+}
+
+// Takes the mark of a record away.
+fn clear(records: &mut Records, key: &Key)
+    ensures updates { (e : Kept) → kept_at records.old key.now ≡ Some e → Updates key_cmp records.old records.new key.now (Some (record e { dirty = false })) }
+    ensures absent { kept_at records.old key.now ≡ None → records.new.entries ≡ records.old.entries }
+    ensures ordered { IsOrdered key_cmp records.new }
+{
+    if let Some(kept) = records.get_mut(key) {
+        kept.dirty = false;
+    }
+}
+
+// Marks a record that is not dirty, and lists its key.
+fn reach(records: &mut Records, marked: &mut Vec<Key>, key: &Key) -> Result<(), Memory>
+    ensures ok { OnOk result (HasReached records.old records.new marked.old.items marked.new.items key.now) }
+    ensures err { OnErr result ((records.new ≡ records.old) × (marked.new.items ≡ marked.old.items)) }
+    ensures work { cleans records.new + vec_len marked.new ≤ cleans records.old + vec_len marked.old }
+{
+    let Some(kept) = records.get(key) else {
+        return Ok(());
+    };
+    if kept.dirty {
+        return Ok(());
+    }
+    marked.push(key.share()?)?;
+    mark(records, key);
+    Ok(())
+}
+
+// Marks the records of a key's users.
+fn reach_users(
+    records: &mut Records,
+    users: &Users,
+    marked: &mut Vec<Key>,
+    key: &Key,
+) -> Result<(), Memory>
+    ensures some { HasReachedSome records.old records.new marked.old.items marked.new.items (users_at users.now key.now) }
+    ensures all { OnOk result (HasReachedAll records.new (users_at users.now key.now)) }
+    ensures work { cleans records.new + vec_len marked.new ≤ cleans records.old + vec_len marked.old }
+{
+    let Some(set) = users.get(key) else {
+        return Ok(());
+    };
+    for user in set {
+        reach(records, marked, user)?;
+    }
+    Ok(())
+}
+
+// Marks what is reached from the listed keys, and lists it too.
+fn spread(records: &mut Records, users: &Users, marked: &mut Vec<Key>) -> Result<(), Memory>
+    ensures spread { HasSpread users.now records.old records.new marked.old.items marked.new.items }
+    ensures passed { OnOk result (HasPassed users.now records.new marked.new.items) }
+{
+    let mut at = 0;
+    while at < marked.len() {
+        let key = marked[at].share()?;
+        reach_users(records, users, marked, &key)?;
+        at += 1;
+    }
+    Ok(())
+}
+
+/// Takes the marks of the listed records away.
+pub fn unmark_all(records: &mut Records, mut marked: Vec<Key>)
+    ensures undone { (original : Records) → Undoing original records.old marked.items → (k : Key) → kept_at records.new k ≡ kept_at original k }
+    ensures ordered { IsOrdered key_cmp records.old → IsOrdered key_cmp records.new }
+{
+    while let Some(key) = marked.pop() {
+        clear(records, &key);
+    }
+}
+
+/// Marks what is reached from the leaf and not dirty yet, and lists it.
+pub fn mark_from(
+    records: &mut Records,
+    users: &Users,
+    marked: &mut Vec<Key>,
+    leaf: &Key,
+) -> Result<(), Memory>
+    requires { marked.old.items ≡ [] }
+    ensures marked { Marked users.now (leaf.now ∷ []) records.old records.new marked.new.items }
+    ensures ordered { IsOrdered key_cmp records.old → IsOrdered key_cmp records.new }
+    ensures passed { OnOk result (HasPassed users.now records.new marked.new.items) }
+    ensures begun { OnOk result (IsDirty records.new leaf.now) }
+{
+    reach(records, marked, leaf)?;
+    spread(records, users, marked)
+}
