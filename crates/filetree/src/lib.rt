@@ -2,7 +2,10 @@
 #![tactic(auto)]
 
 mod error;
+mod flat;
+mod folder;
 mod tree;
 
 pub use error::TreeError;
+pub use flat::FlatTree;
 pub use tree::Tree;

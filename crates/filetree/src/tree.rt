@@ -1,70 +1,77 @@
-//! The map of files.
-ghost use Rattle.std.specs.Prelude.{◌≡◌, ℕ, Option, string_bytes, IfOk};
+//! The map of files, in folders that are shared.
+ghost use Rattle.std.specs.Prelude.{◌≡◌, ℕ, List, Some, None, IfOk, bytes_eq, if◌then◌else◌};
 ghost use Rattle.std.specs.Option.{option_copied};
 ghost use Rattle.std.specs.FinMap as map;
-ghost use Rattle.std.specs.List.{list_any};
-ghost use Rattle.std.specs.BTreeMap.{keys};
 ghost use Rattle.filetree.specs.Files as specs;
 ghost use Rattle.filetree.specs.Edits.{Edits, Tells};
+ghost use Rattle.filetree.specs.Folders as levels;
 
-use crate::error::TreeError;
+use crate::error::{TreeError, refusal_number};
+use crate::folder::Folder;
 use labels::is_path;
 use std::alloc::Global;
-use std::collections::BTreeMap;
 use std::marker::Model;
+use std::sync::Arc;
 use texts::{Memory, Text};
 
 const TEXT_LIMIT: usize = 262_144;
 
 /// The files: texts by their paths. A contract sees a finite map from the bytes of paths to the bytes
-/// of texts. A directory exists exactly when a file lies below it.
+/// of texts. A directory exists exactly when a file lies below it. Copies share their folders: an edit
+/// makes the folders on its path anew and shares all else.
 #[derive(Drop)]
 pub struct Tree {
     alloc: Global,
-    files: BTreeMap<String, Text>,
+    root: Option<Arc<Folder>>,
 }
 
 impl Model for Tree {
-    ghost use Rattle.std.specs.Prelude.{map as each, string_bytes, List, ℕ};
     ghost use Rattle.std.specs.FinMap as map;
     ghost use Rattle.std.specs.Coded.{coded_list, coded_ℕ};
     ghost use Rattle.filetree.specs.Files.{Files};
+    ghost use Rattle.filetree.specs.Folders.{entries_of};
 
     ghost Value = { Files };
 
     ghost coded = { map.code (coded_list coded_ℕ) (coded_list coded_ℕ) };
 
-    ghost view = { λ t. map.from_entries (each (λ e. (string_bytes e.0, e.1)) t.files.entries) };
+    ghost view = { λ t. map.from_entries (entries_of t.root) };
 }
 
-// Whether the other path goes on from the path by a slash.
-fn is_ancestor(path: &str, other: &str) -> bool
-    ensures { result ≡ specs.is_ancestor path.now other.now }
+// The first folder with a text at a path.
+fn root_with(
+    alloc: Global,
+    root: &Option<Arc<Folder>>,
+    path: &str,
+    text: &str,
+) -> Result<Option<Arc<Folder>>, Memory>
+    ensures { IfOk result (λ new. (other : List ℕ) → levels.text_at (levels.entries_of new) other
+        ≡ (if bytes_eq path.now other then Some text.now else levels.text_at (levels.entries_of root.now) other)) }
 {
-    goes_on(path.as_bytes(), other.as_bytes())
+    let text = Arc::new(alloc, Text::new(alloc, text)?)?;
+    let new = match root {
+        Some(root) => root.put(alloc, path, &text)?,
+        None => Folder::new(alloc).put(alloc, path, &text)?,
+    };
+    Ok(Some(Arc::new(alloc, new)?))
 }
 
-fn goes_on(path: &[u8], other: &[u8]) -> bool
-    ensures { result ≡ specs.is_ancestor path.now other.now }
+// The first folder without a text at a path, if anything is left.
+fn root_without(
+    alloc: Global,
+    root: &Option<Arc<Folder>>,
+    path: &str,
+) -> Result<Option<Arc<Folder>>, Memory>
+    ensures { IfOk result (λ new. (other : List ℕ) → levels.text_at (levels.entries_of new) other
+        ≡ (if bytes_eq path.now other then None else levels.text_at (levels.entries_of root.now) other)) }
 {
-    if other.len() <= path.len() {
-        return false;
+    let Some(root) = root else {
+        return Ok(None);
+    };
+    match root.del(alloc, path)? {
+        Some(left) => Ok(Some(Arc::new(alloc, left)?)),
+        None => Ok(None),
     }
-    other.starts_with(path) && other[path.len()] == b'/'
-}
-
-// Whether some key goes on from the path.
-fn some_below(files: &BTreeMap<String, Text>, path: &str) -> bool
-    ensures { result ≡ list_any (λ key. specs.is_ancestor path.now (string_bytes key)) (keys files.now) }
-{
-    files.keys().any(|key| is_ancestor(path, key.as_str()))
-}
-
-// Whether the path goes on from some key.
-fn some_above(files: &BTreeMap<String, Text>, path: &str) -> bool
-    ensures { result ≡ list_any (λ key. specs.is_ancestor (string_bytes key) path.now) (keys files.now) }
-{
-    files.keys().any(|key| is_ancestor(key.as_str(), path))
 }
 
 impl Tree {
@@ -72,50 +79,55 @@ impl Tree {
     pub fn new(alloc: Global) -> Tree
         ensures { result ≡ map.empty }
     {
-        Tree {
-            alloc,
-            files: BTreeMap::new(alloc),
-        }
+        Tree { alloc, root: None }
     }
 
     /// The text of the file at the path.
     pub fn file(&self, path: &str) -> Option<&Text>
         ensures { option_copied result ≡ map.get self.now path.now }
     {
-        self.files.get(path)
+        match &self.root {
+            Some(root) => root.file(path),
+            None => None,
+        }
     }
 
     /// Whether there is a file at the path.
     pub fn is_file(&self, path: &str) -> bool
         ensures { result ≡ specs.is_file self.now path.now }
     {
-        self.files.contains_key(path)
+        self.file(path).is_some()
     }
 
     fn is_directory(&self, path: &str) -> bool
         ensures { result ≡ specs.is_directory self.now path.now }
     {
-        some_below(&self.files, path)
+        match &self.root {
+            Some(root) => root.has_below(path),
+            None => false,
+        }
     }
 
     fn is_below_a_file(&self, path: &str) -> bool
         ensures { result ≡ specs.is_below_a_file self.now path.now }
     {
-        some_above(&self.files, path)
+        match &self.root {
+            Some(root) => root.has_above(path),
+            None => false,
+        }
     }
 
-    /// An equal tree; it shares the texts of this one.
+    /// An equal tree, which shares all its folders with this one: one count, whatever the size.
     pub fn copy(&self) -> Result<Tree, Memory>
         ensures { IfOk result (λ t. t ≡ self.now) }
     {
-        let mut files = BTreeMap::new(self.alloc);
-        for (path, text) in self.files.iter().rev() {
-            let path = String::from_str(self.alloc, path.as_str())?;
-            files.insert(path, text.share()?)?;
-        }
+        let root = match &self.root {
+            Some(root) => Some(Arc::try_clone(root)?),
+            None => None,
+        };
         Ok(Tree {
             alloc: self.alloc,
-            files,
+            root,
         })
     }
 
@@ -151,14 +163,14 @@ impl Tree {
     pub fn put_refusal(&self, path: &str, text: &str) -> Option<u64>
         ensures { result ≡ specs.put_refusal self.now path.now text.now }
     {
-        refusal_told(self.test_put(path, text))
+        refusal_number(self.test_put(path, text))
     }
 
     /// The number of the first refusal of a removal, or none: 2 for a bad path, 4 for no such file.
     pub fn del_refusal(&self, path: &str) -> Option<u64>
         ensures { result ≡ specs.del_refusal self.now path.now }
     {
-        refusal_told(self.test_del(path))
+        refusal_number(self.test_del(path))
     }
 
     /// Puts a text at a path, or answers the first refusal and changes nothing; `Memory` comes only
@@ -168,39 +180,28 @@ impl Tree {
             self.old (map.insert self.old path.now text.now) self.new }
     {
         self.test_put(path, text)?;
-        let key = String::from_str(self.alloc, path)?;
-        let value = Text::new(self.alloc, text)?;
-        self.files.insert(key, value)?;
+        let root = root_with(self.alloc, &self.root, path, text)?;
+        self.root = root;
         Ok(())
     }
 
-    /// Removes a file, or answers the first refusal and changes nothing.
+    /// Removes a file, or answers the first refusal and changes nothing; `Memory` comes only where there
+    /// is no other refusal.
     pub fn del(&mut self, path: &str) -> Result<(), TreeError>
         ensures { Edits result (specs.del_refusal self.old path.now)
             self.old (map.remove self.old path.now) self.new }
     {
         self.test_del(path)?;
-        let _ = self.files.remove(path);
+        let root = root_without(self.alloc, &self.root, path)?;
+        self.root = root;
         Ok(())
-    }
-}
-
-fn refusal_told(outcome: Result<(), TreeError>) -> Option<u64>
-    ensures { (refusal : Option ℕ) → Tells outcome refusal → result ≡ refusal }
-{
-    match outcome {
-        Ok(()) => None,
-        Err(TreeError::Code2) => Some(2),
-        Err(TreeError::Code3) => Some(3),
-        Err(TreeError::Code4) => Some(4),
-        Err(TreeError::Code7) => Some(7),
-        Err(TreeError::Memory) => None,
     }
 }
 
 #[cfg(test)]
 mod tests {
     use super::*;
+    use crate::flat::FlatTree;
     use std::process::Abort;
     use std::test::Fail;
 
@@ -271,6 +272,35 @@ mod tests {
         assert_eq!(rt; code(tree.put("/", over.as_str())), 2);
         assert_eq!(rt; code(tree.put(longest.as_str(), "")), 0);
         assert_eq!(rt; code(tree.put(too_long.as_str(), "")), 2);
+        Ok(())
+    }
+
+    // The plain program gives the same answers over a long script of edits, of which many are refused.
+    #[test]
+    fn as_the_plain_program(rt: HostRuntime) -> Result<(), Fail> {
+        let paths = [
+            "a", "a/b", "a/b/c", "a/b/d", "a-b", "a/b-c", "b/c/d/e", "b/c/d", "b", "",
+        ];
+        let mut tree = Tree::new(rt.alloc());
+        let mut flat = FlatTree::new(rt.alloc());
+        let mut state: u32 = 1;
+        for _ in 0..2000 {
+            state = state.wrapping_mul(1_664_525).wrapping_add(1_013_904_223);
+            let path = paths[(state >> 16) as usize % paths.len()];
+            let text = if state >> 31 == 0 { "one" } else { "two" };
+            if state >> 30 == 0 {
+                assert_eq!(rt; code(tree.del(path)), code(flat.del(path)), "at {path}");
+            } else {
+                assert_eq!(rt;
+                    code(tree.put(path, text)),
+                    code(flat.put(path, text)),
+                    "at {path}"
+                );
+            }
+            for path in paths {
+                assert!(rt; tree.file(path) == flat.file(path), "at {path}");
+            }
+        }
         Ok(())
     }
 

@@ -3,7 +3,7 @@ use Rattle.std.specs.FinMap as map
 use Rattle.std.specs.Ordering.{nat_cmp}
 use Rattle.std.specs.Cmp.Lexicographic.{slice_cmp}
 use Rattle.filetree.proofs.FilesLemmas.{seen}
-use Rattle.filetree.proofs.tree.Tree.copy.Given as goal
+use Rattle.filetree.proofs.flat.FlatTree.copy.Given as goal
 
 -- the copy has the files that the iterator has passed, from the last on
 abbrev pub invariant-loop-path : goal.invariant-loop-path

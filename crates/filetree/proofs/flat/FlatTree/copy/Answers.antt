@@ -8,7 +8,7 @@ use Rattle.std.specs.Ordering.{nat_cmp}
 use Rattle.std.specs.Cmp.Lexicographic.{slice_cmp}
 use Rattle.std.proofs.lemmas.Map.Text.{btree_map_updates_text}
 use Rattle.filetree.proofs.FilesLemmas.{seen, seen_insert}
-use Rattle.filetree.proofs.tree.Tree.copy.Goals as goal
+use Rattle.filetree.proofs.flat.FlatTree.copy.Goals as goal
 
 passed_one : (es left rest passed : List (String Global × List ℕ)) (e : String Global × List ℕ) → es ≡ left ++ passed → left ≡ rest ++ e ∷ [] → es ≡ rest ++ e ∷ passed
 passed_one es left rest passed e split one = split ∙ ap (λ l. l ++ passed) one ∙ append_assoc rest (e ∷ []) passed
