@@ -1,6 +1,6 @@
 -- Files above and below a path.
 use Rattle.std.proofs.Common.{◌≡◌, ◌∙◌, ap, sym, refl, arith, ℕ, ◌<◌, true, false, cond, List, [], ◌∷◌, ◌++◌, length, Option, Some, None, Bor, inl, inr}
-use Rattle.std.specs.Prelude.{option_and_then, option_copied, is_some, IfSome, IfOk, Result, Ok, Err}
+use Rattle.std.specs.Prelude.{option_and_then, option_copied, is_some, IfSome, IfOk, MatchOption, Result, Ok, Err}
 use Rattle.std.proofs.lemmas.List.{append_assoc}
 use Rattle.filetree.specs.Folders.{Entries, Below, text_at, IsSplit}
 use Rattle.filetree.proofs.Slashes.{Cut, cut, one_cut, own_bytes}
@@ -42,3 +42,14 @@ above_none F path name rest split own inner front back e = above_at F path name 
 pub if_ok_map : {A E : Type 0} (P Q : A → Type 0) (r : Result A E) → ((a : A) → P a → Q a) → IfOk r P → IfOk r Q
 if_ok_map P Q (Ok a) f h = f a h
 if_ok_map P Q (Err e) f h = h
+
+pub folder_told : (r : Option (Bor Below)) (F : List ℕ → Option (List ℕ)) → ((rest : List ℕ) → option_and_then (λ f. text_at f.now.entries rest) r ≡ F rest)
+    → MatchOption r ((rest : List ℕ) → F rest ≡ None) (λ f. (rest : List ℕ) → text_at f.now.entries rest ≡ F rest)
+folder_told None F h = λ rest. sym (h rest)
+folder_told (Some f) F h = h
+
+pub moved_told : (r : Option (Bor Below)) (G F : List ℕ → Option (List ℕ)) → ((rest : List ℕ) → G rest ≡ F rest)
+    → MatchOption r ((rest : List ℕ) → G rest ≡ None) (λ f. (rest : List ℕ) → text_at f.now.entries rest ≡ G rest)
+    → MatchOption r ((rest : List ℕ) → F rest ≡ None) (λ f. (rest : List ℕ) → text_at f.now.entries rest ≡ F rest)
+moved_told None G F same h = λ rest. sym (same rest) ∙ h rest
+moved_told (Some f) G F same h = λ rest. h rest ∙ same rest

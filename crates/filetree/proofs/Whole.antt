@@ -45,7 +45,7 @@ or_right : (a b : Bool) → b ≡ true → a || b ≡ true
 or_right true b h = refl
 or_right false b h = h
 
-any_from : (p : List ℕ → Bool) (es : Entries) (q : List ℕ) → p q ≡ true → is_some (text_at es q) ≡ true → list_any p (each (λ e. e.0) es) ≡ true
+pub any_from : (p : List ℕ → Bool) (es : Entries) (q : List ℕ) → p q ≡ true → is_some (text_at es q) ≡ true → list_any p (each (λ e. e.0) es) ≡ true
 any_from p [] q pq h = absurd (false≢true h)
 any_from p (e ∷ es) q pq h =
     elim (bytes_eq q e.0) as (λ b. bytes_eq q e.0 ≡ b → is_some (cond b (Some e.1) (text_at es q)) ≡ true → p e.0 || list_any p (each (λ e. e.0) es) ≡ true) [
@@ -56,7 +56,7 @@ any_from p (e ∷ es) q pq h =
 some_later : (e : List ℕ × List ℕ) (es : Entries) (q : List ℕ) → is_some (text_at es q) ≡ true → is_some (text_at (e ∷ es) q) ≡ true
 some_later e es q h = elim (bytes_eq q e.0) as (λ b. is_some (cond b (Some e.1) (text_at es q)) ≡ true) [ true ↦ refl | false ↦ h ]
 
-any_to : (p : List ℕ → Bool) (es : Entries) → list_any p (each (λ e. e.0) es) ≡ true → (q : List ℕ) × (p q ≡ true) × (is_some (text_at es q) ≡ true)
+pub any_to : (p : List ℕ → Bool) (es : Entries) → list_any p (each (λ e. e.0) es) ≡ true → (q : List ℕ) × (p q ≡ true) × (is_some (text_at es q) ≡ true)
 any_to p [] h = absurd (false≢true h)
 any_to p (e ∷ es) h =
     elim (or_cases (p e.0) (list_any p (each (λ e. e.0) es)) h) [
@@ -64,7 +64,7 @@ any_to p (e ∷ es) h =
       | inr later ↦ let one = any_to p es later in (one.0, one.1, some_later e es one.0 one.2)
     ]
 
-same_bool : (r b : Bool) → (r ≡ true → b ≡ true) → (r ≡ false → b ≡ true → ⊥) → r ≡ b
+pub same_bool : (r b : Bool) → (r ≡ true → b ≡ true) → (r ≡ false → b ≡ true → ⊥) → r ≡ b
 same_bool true b told not_told = sym (told refl)
 same_bool false true told not_told = absurd (not_told refl refl)
 same_bool false false told not_told = refl

@@ -1,8 +1,11 @@
 //! Folders in folders.
-ghost use Rattle.std.specs.Prelude.{◌≡◌, ◌<◌, ◌==◌, ℕ, List, [], ◌∷◌, ◌++◌, length, true, false, Option, Some, None, IfOk, IfSome, MatchOption, bytes_eq, is_some, option_and_then, if◌then◌else◌};
+ghost use Rattle.std.specs.Prelude.{◌≡◌, ◌<◌, ◌==◌, ℕ, List, [], ◌∷◌, ◌++◌, length, true, false, Option, Some, None, IfOk, IfSome, MatchOption, bytes_eq, is_some, option_and_then, option_map, map as each, if◌then◌else◌};
 ghost use Rattle.std.specs.Option.{option_copied};
 ghost use Rattle.filetree.specs.Folders as levels;
+ghost use Rattle.filetree.specs.Listings.{names_in, sorted_names};
+ghost use Rattle.filetree.specs.Seen.{names_seen};
 
+use crate::listing::Listing;
 use std::alloc::Global;
 use std::collections::BTreeMap;
 use std::marker::Model;
@@ -47,6 +50,17 @@ fn copy_of<V: Drop>(map: &BTreeMap<String, Arc<V>>) -> Result<BTreeMap<String, A
 {
     let copy = map.clone()?;
     Ok(copy)
+}
+
+// The names of a map.
+fn names_of<V: Drop>(alloc: Global, map: &BTreeMap<String, Arc<V>>) -> Result<Vec<Text>, Memory>
+    ensures { IfOk result (λ names. names.items ≡ sorted_names (each (λ e. e.0) (levels.named map.now))) }
+{
+    let mut names = Vec::new(alloc);
+    for name in map.keys() {
+        names.push(Text::new(alloc, name.as_str())?)?;
+    }
+    Ok(names)
 }
 
 impl Folder {
@@ -230,6 +244,48 @@ impl Folder {
                     None => false,
                 }
             }
+        }
+    }
+
+    // The folder at a path; it is not empty.
+    fn folder_at(&self, path: &str) -> Option<&Folder>
+        ensures found { MatchOption result ((rest : List ℕ) → levels.text_at self.now.entries (path.now ++ 47 ∷ rest) ≡ None)
+            (λ f. (rest : List ℕ) → levels.text_at f.now.entries rest ≡ levels.text_at self.now.entries (path.now ++ 47 ∷ rest)) }
+        ensures some { IfSome result (λ f. 0 < length f.now.entries) }
+    {
+        match split_name(path) {
+            None => self.folder(path),
+            Some((name, rest)) => match self.folder(name) {
+                Some(folder) => folder.folder_at(rest),
+                None => None,
+            },
+        }
+    }
+
+    // The names in the folder, which is not empty.
+    fn names(&self, alloc: Global) -> Result<Listing, Memory>
+        requires { 0 < length self.now.entries }
+        ensures { IfOk result (λ l. Some (names_seen l) ≡ names_in [] (each (λ e. e.0) self.now.entries)) }
+    {
+        Ok(Listing {
+            files: names_of(alloc, &self.files)?,
+            directories: names_of(alloc, &self.folders)?,
+        })
+    }
+
+    /// The names in a directory, if it is there; the root's name is empty.
+    pub(crate) fn listing(&self, alloc: Global, directory: &str) -> Result<Option<Listing>, Memory>
+        ensures { IfOk result (λ l. option_map names_seen l ≡ names_in directory.now (each (λ e. e.0) self.now.entries)) }
+    {
+        if directory.is_empty() {
+            if self.is_empty() {
+                return Ok(None);
+            }
+            return Ok(Some(self.names(alloc)?));
+        }
+        match self.folder_at(directory) {
+            Some(folder) => Ok(Some(folder.names(alloc)?)),
+            None => Ok(None),
         }
     }
 }

@@ -4,8 +4,10 @@
 mod error;
 mod flat;
 mod folder;
+mod listing;
 mod tree;
 
 pub use error::TreeError;
 pub use flat::FlatTree;
+pub use listing::Listing;
 pub use tree::Tree;

@@ -1,13 +1,16 @@
 //! The map of files, in folders that are shared.
-ghost use Rattle.std.specs.Prelude.{◌≡◌, ℕ, List, Some, None, IfOk, bytes_eq, if◌then◌else◌};
+ghost use Rattle.std.specs.Prelude.{◌≡◌, ℕ, List, Some, None, IfOk, bytes_eq, option_map, if◌then◌else◌};
 ghost use Rattle.std.specs.Option.{option_copied};
 ghost use Rattle.std.specs.FinMap as map;
 ghost use Rattle.filetree.specs.Files as specs;
 ghost use Rattle.filetree.specs.Edits.{Edits, Tells};
 ghost use Rattle.filetree.specs.Folders as levels;
+ghost use Rattle.filetree.specs.Listings.{listing};
+ghost use Rattle.filetree.specs.Seen.{names_seen};
 
 use crate::error::{TreeError, refusal_number};
 use crate::folder::Folder;
+use crate::listing::Listing;
 use labels::is_path;
 use std::alloc::Global;
 use std::marker::Model;
@@ -114,6 +117,17 @@ impl Tree {
         match &self.root {
             Some(root) => root.has_above(path),
             None => false,
+        }
+    }
+
+    /// The names in a directory, or none where there is no such directory; the root's name is empty, and
+    /// the root of an empty tree is not there. It costs what the directory's own names do.
+    pub fn listing(&self, directory: &str) -> Result<Option<Listing>, Memory>
+        ensures { IfOk result (λ l. option_map names_seen l ≡ listing self.now directory.now) }
+    {
+        match &self.root {
+            Some(root) => root.listing(self.alloc, directory),
+            None => Ok(None),
         }
     }
 
@@ -304,6 +318,53 @@ mod tests {
         Ok(())
     }
 
+    fn joined(alloc: Global, names: &[Text]) -> Result<String, Memory> {
+        let mut all = String::new(alloc);
+        for name in names {
+            all.push_str(name.as_str())?;
+            all.push_str(" ")?;
+        }
+        Ok(all)
+    }
+
+    // A directory, the names of its files and those of its subdirectories.
+    const LISTINGS: [(&str, &str, &str); 5] = [
+        ("", "BUILD z ", "a a-b b "),
+        ("a", "b-c c ", "b "),
+        ("a/b", "c d ", ""),
+        ("a-b", "x ", ""),
+        ("b", "", "c "),
+    ];
+
+    #[test]
+    fn listings(rt: HostRuntime) -> Result<(), Fail> {
+        let mut tree = Tree::new(rt.alloc());
+        assert!(rt; tree.listing("")?.is_none());
+        for path in [
+            "z", "a/b/d", "a/b/c", "a-b/x", "a/b-c", "a/c", "b/c/d/e", "BUILD", "gone/x",
+        ] {
+            tree.put(path, "")?;
+        }
+        tree.del("gone/x")?;
+        for (directory, files, directories) in LISTINGS {
+            let listing = tree.listing(directory)?.expect(&rt, "the directory");
+            assert_eq!(rt;
+                joined(rt.alloc(), listing.files.as_slice())?.as_str(),
+                files,
+                "at {directory}"
+            );
+            assert_eq!(rt;
+                joined(rt.alloc(), listing.directories.as_slice())?.as_str(),
+                directories,
+                "at {directory}"
+            );
+        }
+        for absent in ["gone", "z", "a/b/c", "a/", "/", "b/c/d/e/f", "ab"] {
+            assert!(rt; tree.listing(absent)?.is_none(), "at {absent}");
+        }
+        Ok(())
+    }
+
     fn text_is(tree: &Tree, path: &str, want: &str) -> bool {
         match tree.file(path) {
             Some(text) => text.as_str() == want,
@@ -336,7 +397,21 @@ mod tests {
         let mut copy = copy?;
         put_at_last(&rt, &mut copy, "a/b", "three", "four");
         assert!(rt; text_is(&tree, "a/b", "three") && text_is(&copy, "a/c/d", "two"));
-        assert_eq!(rt; code(copy.del("a/b")), 0);
+        let mut listing = copy.listing("a");
+        if listing.is_err() {
+            listing = copy.listing("a");
+        }
+        let listing = listing?.expect(&rt, "the directory");
+        assert!(rt; listing.files.len() == 1 && listing.directories.len() == 1);
+        let mut outcome = copy.del("a/b");
+        if let Err(TreeError::Memory) = outcome {
+            assert!(rt;
+                text_is(&copy, "a/b", "four"),
+                "changed by a refused removal"
+            );
+            outcome = copy.del("a/b");
+        }
+        assert_eq!(rt; code(outcome), 0);
         assert!(rt; text_is(&copy, "a/b", "") && text_is(&tree, "a/b", "three"));
         Ok(())
     }
