@@ -40,8 +40,8 @@ nothing : {X : Type 0} (es : List X) → length es ≡ 0 → es ≡ []
 nothing [] h = refl
 nothing (e ∷ es) h = absurd (omega arith)
 
-no_entries : map.entries (map.empty {X = List ℕ} {R = slice_cmp nat_cmp}) ≡ []
-no_entries = nothing _ (sym (map.len-entries (map.empty {X = List ℕ} {R = slice_cmp nat_cmp})) ∙ map.len-empty (slice_cmp nat_cmp) (List ℕ))
+pub no_entries : {X : Type 0} → map.entries (map.empty {X = X} {R = slice_cmp nat_cmp}) ≡ []
+no_entries {X} = nothing _ (sym (map.len-entries (map.empty {X = X} {R = slice_cmp nat_cmp})) ∙ map.len-empty (slice_cmp nat_cmp) X)
 
 -- a test of some key
 pub any_key : (p : List ℕ → Bool) (es : List (List ℕ × List ℕ)) → list_any p (map.keys (map.from_entries {R = slice_cmp nat_cmp} es)) ≡ list_any p (each (λ e. e.0) es)

@@ -1,41 +1,80 @@
-//! The map of files.
-ghost use Rattle.std.specs.Prelude.{◌≡◌, ℕ, Option, string_bytes, IfOk};
+//! The map of files, in folders that are shared.
+ghost use Rattle.std.specs.Prelude.{◌≡◌, ℕ, List, Some, None, IfOk, bytes_eq, option_map, if◌then◌else◌};
 ghost use Rattle.std.specs.Option.{option_copied};
 ghost use Rattle.std.specs.FinMap as map;
-ghost use Rattle.std.specs.List.{list_any};
-ghost use Rattle.std.specs.BTreeMap.{keys};
 ghost use Rattle.filetree.specs.Files as specs;
 ghost use Rattle.filetree.specs.Edits.{Edits, Tells};
+ghost use Rattle.filetree.specs.Folders as levels;
+ghost use Rattle.filetree.specs.Listings.{listing};
+ghost use Rattle.filetree.specs.Seen.{names_seen};
 
-use crate::error::TreeError;
-use crate::lookups::{some_above, some_below};
+use crate::error::{TreeError, refusal_number};
+use crate::folder::Folder;
+use crate::listing::Listing;
 use labels::is_path;
 use std::alloc::Global;
-use std::collections::BTreeMap;
 use std::marker::Model;
+use std::sync::Arc;
 use texts::{Memory, Text};
 
 const TEXT_LIMIT: usize = 262_144;
 
 /// The files: texts by their paths. A contract sees a finite map from the bytes of paths to the bytes
-/// of texts. A directory exists exactly when a file lies below it.
+/// of texts. A directory exists exactly when a file lies below it. Copies share their folders: an edit
+/// makes the folders on its path anew and shares all else.
 #[derive(Drop)]
 pub struct Tree {
     alloc: Global,
-    files: BTreeMap<String, Text>,
+    root: Option<Arc<Folder>>,
 }
 
 impl Model for Tree {
-    ghost use Rattle.std.specs.Prelude.{map as each, string_bytes, List, ℕ};
     ghost use Rattle.std.specs.FinMap as map;
     ghost use Rattle.std.specs.Coded.{coded_list, coded_ℕ};
     ghost use Rattle.filetree.specs.Files.{Files};
+    ghost use Rattle.filetree.specs.Folders.{entries_of};
 
     ghost Value = { Files };
 
     ghost coded = { map.code (coded_list coded_ℕ) (coded_list coded_ℕ) };
 
-    ghost view = { λ t. map.from_entries (each (λ e. (string_bytes e.0, e.1)) t.files.entries) };
+    ghost view = { λ t. map.from_entries (entries_of t.root) };
+}
+
+// The first folder with a text at a path.
+fn root_with(
+    alloc: Global,
+    root: &Option<Arc<Folder>>,
+    path: &str,
+    text: &str,
+) -> Result<Option<Arc<Folder>>, Memory>
+    ensures { IfOk result (λ new. (other : List ℕ) → levels.text_at (levels.entries_of new) other
+        ≡ (if bytes_eq path.now other then Some text.now else levels.text_at (levels.entries_of root.now) other)) }
+{
+    let text = Arc::new(alloc, Text::new(alloc, text)?)?;
+    let new = match root {
+        Some(root) => root.put(alloc, path, &text)?,
+        None => Folder::new(alloc).put(alloc, path, &text)?,
+    };
+    Ok(Some(Arc::new(alloc, new)?))
+}
+
+// The first folder without a text at a path, if anything is left.
+fn root_without(
+    alloc: Global,
+    root: &Option<Arc<Folder>>,
+    path: &str,
+) -> Result<Option<Arc<Folder>>, Memory>
+    ensures { IfOk result (λ new. (other : List ℕ) → levels.text_at (levels.entries_of new) other
+        ≡ (if bytes_eq path.now other then None else levels.text_at (levels.entries_of root.now) other)) }
+{
+    let Some(root) = root else {
+        return Ok(None);
+    };
+    match root.del(alloc, path)? {
+        Some(left) => Ok(Some(Arc::new(alloc, left)?)),
+        None => Ok(None),
+    }
 }
 
 impl Tree {
@@ -43,50 +82,66 @@ impl Tree {
     pub fn new(alloc: Global) -> Tree
         ensures { result ≡ map.empty }
     {
-        Tree {
-            alloc,
-            files: BTreeMap::new(alloc),
-        }
+        Tree { alloc, root: None }
     }
 
     /// The text of the file at the path.
     pub fn file(&self, path: &str) -> Option<&Text>
         ensures { option_copied result ≡ map.get self.now path.now }
     {
-        self.files.get(path)
+        match &self.root {
+            Some(root) => root.file(path),
+            None => None,
+        }
     }
 
     /// Whether there is a file at the path.
     pub fn is_file(&self, path: &str) -> bool
         ensures { result ≡ specs.is_file self.now path.now }
     {
-        self.files.contains_key(path)
+        self.file(path).is_some()
     }
 
     fn is_directory(&self, path: &str) -> bool
         ensures { result ≡ specs.is_directory self.now path.now }
     {
-        some_below(self.alloc, &self.files, path)
+        match &self.root {
+            Some(root) => root.has_below(path),
+            None => false,
+        }
     }
 
     fn is_below_a_file(&self, path: &str) -> bool
         ensures { result ≡ specs.is_below_a_file self.now path.now }
     {
-        some_above(&self.files, path)
+        match &self.root {
+            Some(root) => root.has_above(path),
+            None => false,
+        }
     }
 
-    /// An equal tree; it shares the texts of this one.
+    /// The names in a directory, or none where there is no such directory; the root's name is empty, and
+    /// the root of an empty tree is not there. It costs what the directory's own names do.
+    pub fn listing(&self, directory: &str) -> Result<Option<Listing>, Memory>
+        ensures { IfOk result (λ l. option_map names_seen l ≡ listing self.now directory.now) }
+    {
+        match &self.root {
+            Some(root) => root.listing(self.alloc, directory),
+            None => Ok(None),
+        }
+    }
+
+    /// An equal tree, which shares all its folders with this one: one count, whatever the size.
     pub fn copy(&self) -> Result<Tree, Memory>
         ensures { IfOk result (λ t. t ≡ self.now) }
     {
-        let mut files = BTreeMap::new(self.alloc);
-        for (path, text) in self.files.iter().rev() {
-            let path = String::from_str(self.alloc, path.as_str())?;
-            files.insert(path, text.share()?)?;
-        }
+        let root = match &self.root {
+            Some(root) => Some(Arc::try_clone(root)?),
+            None => None,
+        };
         Ok(Tree {
             alloc: self.alloc,
-            files,
+            root,
         })
     }
 
@@ -122,14 +177,14 @@ impl Tree {
     pub fn put_refusal(&self, path: &str, text: &str) -> Option<u64>
         ensures { result ≡ specs.put_refusal self.now path.now text.now }
     {
-        refusal_told(self.test_put(path, text))
+        refusal_number(self.test_put(path, text))
     }
 
     /// The number of the first refusal of a removal, or none: 2 for a bad path, 4 for no such file.
     pub fn del_refusal(&self, path: &str) -> Option<u64>
         ensures { result ≡ specs.del_refusal self.now path.now }
     {
-        refusal_told(self.test_del(path))
+        refusal_number(self.test_del(path))
     }
 
     /// Puts a text at a path, or answers the first refusal and changes nothing; `Memory` comes only
@@ -139,39 +194,28 @@ impl Tree {
             self.old (map.insert self.old path.now text.now) self.new }
     {
         self.test_put(path, text)?;
-        let key = String::from_str(self.alloc, path)?;
-        let value = Text::new(self.alloc, text)?;
-        self.files.insert(key, value)?;
+        let root = root_with(self.alloc, &self.root, path, text)?;
+        self.root = root;
         Ok(())
     }
 
-    /// Removes a file, or answers the first refusal and changes nothing.
+    /// Removes a file, or answers the first refusal and changes nothing; `Memory` comes only where there
+    /// is no other refusal.
     pub fn del(&mut self, path: &str) -> Result<(), TreeError>
         ensures { Edits result (specs.del_refusal self.old path.now)
             self.old (map.remove self.old path.now) self.new }
     {
         self.test_del(path)?;
-        let _ = self.files.remove(path);
+        let root = root_without(self.alloc, &self.root, path)?;
+        self.root = root;
         Ok(())
-    }
-}
-
-fn refusal_told(outcome: Result<(), TreeError>) -> Option<u64>
-    ensures { (refusal : Option ℕ) → Tells outcome refusal → result ≡ refusal }
-{
-    match outcome {
-        Ok(()) => None,
-        Err(TreeError::Code2) => Some(2),
-        Err(TreeError::Code3) => Some(3),
-        Err(TreeError::Code4) => Some(4),
-        Err(TreeError::Code7) => Some(7),
-        Err(TreeError::Memory) => None,
     }
 }
 
 #[cfg(test)]
 mod tests {
     use super::*;
+    use crate::flat::FlatTree;
     use std::process::Abort;
     use std::test::Fail;
 
@@ -245,6 +289,82 @@ mod tests {
         Ok(())
     }
 
+    // The plain program gives the same answers over a long script of edits, of which many are refused.
+    #[test]
+    fn as_the_plain_program(rt: HostRuntime) -> Result<(), Fail> {
+        let paths = [
+            "a", "a/b", "a/b/c", "a/b/d", "a-b", "a/b-c", "b/c/d/e", "b/c/d", "b", "",
+        ];
+        let mut tree = Tree::new(rt.alloc());
+        let mut flat = FlatTree::new(rt.alloc());
+        let mut state: u32 = 1;
+        for _ in 0..2000 {
+            state = state.wrapping_mul(1_664_525).wrapping_add(1_013_904_223);
+            let path = paths[(state >> 16) as usize % paths.len()];
+            let text = if state >> 31 == 0 { "one" } else { "two" };
+            if state >> 30 == 0 {
+                assert_eq!(rt; code(tree.del(path)), code(flat.del(path)), "at {path}");
+            } else {
+                assert_eq!(rt;
+                    code(tree.put(path, text)),
+                    code(flat.put(path, text)),
+                    "at {path}"
+                );
+            }
+            for path in paths {
+                assert!(rt; tree.file(path) == flat.file(path), "at {path}");
+            }
+        }
+        Ok(())
+    }
+
+    fn joined(alloc: Global, names: &[Text]) -> Result<String, Memory> {
+        let mut all = String::new(alloc);
+        for name in names {
+            all.push_str(name.as_str())?;
+            all.push_str(" ")?;
+        }
+        Ok(all)
+    }
+
+    // A directory, the names of its files and those of its subdirectories.
+    const LISTINGS: [(&str, &str, &str); 5] = [
+        ("", "BUILD z ", "a a-b b "),
+        ("a", "b-c c ", "b "),
+        ("a/b", "c d ", ""),
+        ("a-b", "x ", ""),
+        ("b", "", "c "),
+    ];
+
+    #[test]
+    fn listings(rt: HostRuntime) -> Result<(), Fail> {
+        let mut tree = Tree::new(rt.alloc());
+        assert!(rt; tree.listing("")?.is_none());
+        for path in [
+            "z", "a/b/d", "a/b/c", "a-b/x", "a/b-c", "a/c", "b/c/d/e", "BUILD", "gone/x",
+        ] {
+            tree.put(path, "")?;
+        }
+        tree.del("gone/x")?;
+        for (directory, files, directories) in LISTINGS {
+            let listing = tree.listing(directory)?.expect(&rt, "the directory");
+            assert_eq!(rt;
+                joined(rt.alloc(), listing.files.as_slice())?.as_str(),
+                files,
+                "at {directory}"
+            );
+            assert_eq!(rt;
+                joined(rt.alloc(), listing.directories.as_slice())?.as_str(),
+                directories,
+                "at {directory}"
+            );
+        }
+        for absent in ["gone", "z", "a/b/c", "a/", "/", "b/c/d/e/f", "ab"] {
+            assert!(rt; tree.listing(absent)?.is_none(), "at {absent}");
+        }
+        Ok(())
+    }
+
     fn text_is(tree: &Tree, path: &str, want: &str) -> bool {
         match tree.file(path) {
             Some(text) => text.as_str() == want,
@@ -277,7 +397,21 @@ mod tests {
         let mut copy = copy?;
         put_at_last(&rt, &mut copy, "a/b", "three", "four");
         assert!(rt; text_is(&tree, "a/b", "three") && text_is(&copy, "a/c/d", "two"));
-        assert_eq!(rt; code(copy.del("a/b")), 0);
+        let mut listing = copy.listing("a");
+        if listing.is_err() {
+            listing = copy.listing("a");
+        }
+        let listing = listing?.expect(&rt, "the directory");
+        assert!(rt; listing.files.len() == 1 && listing.directories.len() == 1);
+        let mut outcome = copy.del("a/b");
+        if let Err(TreeError::Memory) = outcome {
+            assert!(rt;
+                text_is(&copy, "a/b", "four"),
+                "changed by a refused removal"
+            );
+            outcome = copy.del("a/b");
+        }
+        assert_eq!(rt; code(outcome), 0);
         assert!(rt; text_is(&copy, "a/b", "") && text_is(&tree, "a/b", "three"));
         Ok(())
     }

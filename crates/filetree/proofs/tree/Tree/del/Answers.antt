@@ -1,11 +1,12 @@
-use Rattle.std.proofs.Common.{◌∙◌, ap, ℕ, List, None}
-use Rattle.std.proofs.lemmas.Map.Text.{btree_map_updates_text}
+use Rattle.std.proofs.Common.{◌∙◌, ap}
 use Rattle.std.specs.FinMap as map
-use Rattle.filetree.proofs.FilesLemmas.{seen_remove}
+use Rattle.filetree.specs.Folders.{entries_of}
+use Rattle.filetree.proofs.Whole.{del_entries}
 use Rattle.filetree.proofs.tree.Tree.del.Goals as goal
 
 pub returns : goal.returns
-returns c =
-    let old = c.self.inside.files in
-    let path = c.args.path.now in
-    (c.in_ok-test_del.ensures, seen_remove (λ (a : List ℕ). a) old c.remove.new.self path (btree_map_updates_text path old c.remove.new.self None c.remove.ensures.updates) ∙ ap (λ m. map.remove m path) c.self.view_is)
+returns c = (
+  c.in_ok-test_del.ensures,
+  del_entries (entries_of c.self.inside.root) (entries_of c.in_ok-root.root) c.args.path.now c.in_ok-root.ensures
+      ∙ ap (λ m. map.remove m c.args.path.now) c.self.view_is,
+)

@@ -1,14 +1,14 @@
-use Rattle.std.proofs.Common.{◌≡◌, ◌∙◌, ap, sym, refl, ℕ, List, Option, Some, None, option_map}
+use Rattle.std.proofs.Common.{◌∙◌, ap, sym}
 use Rattle.std.specs.FinMap as map
-use Rattle.std.specs.BTreeMap as tree
-use Rattle.filetree.proofs.FilesLemmas.{get_seen}
+use Rattle.filetree.specs.Folders.{entries_of, text_at}
+use Rattle.filetree.proofs.Whole.{get_text}
 use Rattle.filetree.proofs.tree.Tree.file.Goals as goal
 
-as_it_is : (o : Option (List ℕ)) → option_map (λ (a : List ℕ). a) o ≡ o
-as_it_is None = refl
-as_it_is (Some x) = refl
+pub returns-in-Some : goal.returns-in-Some
+returns-in-Some c =
+    c.file.ensures ∙ ap (λ v. text_at v.entries c.args.path.now) c.deref.ensures
+    ∙ sym (get_text (entries_of c.self.inside.root) c.args.path.now ∙ ap (λ r. text_at (entries_of r) c.args.path.now) c.in-Some.is) ∙ ap (λ m. map.get m c.args.path.now) c.self.view_is
 
-pub returns : goal.returns
-returns c =
-    c.get.ensures.value ∙ sym (as_it_is (tree.get_by_text c.self.inside.files c.args.path.now))
-    ∙ sym (get_seen (λ (a : List ℕ). a) c.self.inside.files c.args.path.now) ∙ ap (λ m. map.get m c.args.path.now) c.self.view_is
+pub returns-in-None : goal.returns-in-None
+returns-in-None c =
+    sym (get_text (entries_of c.self.inside.root) c.args.path.now ∙ ap (λ r. text_at (entries_of r) c.args.path.now) c.in-None.is) ∙ ap (λ m. map.get m c.args.path.now) c.self.view_is

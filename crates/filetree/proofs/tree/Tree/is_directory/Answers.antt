@@ -1,12 +1,18 @@
-use Rattle.std.proofs.Common.{◌∙◌, ap, sym, ℕ, List, Bool}
+use Rattle.std.proofs.Common.{◌∙◌, ap, sym, refl, false, []}
+use Rattle.std.proofs.lemmas.Bool.{false≢true}
 use Rattle.std.specs.FinMap as map
-use Rattle.std.specs.List.{list_any}
-use Rattle.filetree.specs.Files as specs
-use Rattle.filetree.proofs.FilesLemmas.{seen, any_key, any_seen}
+use Rattle.filetree.specs.Files.{is_directory}
+use Rattle.filetree.specs.Folders.{entries_of}
+use Rattle.filetree.proofs.Whole.{directory_told}
 use Rattle.filetree.proofs.tree.Tree.is_directory.Goals as goal
 
-pub returns : goal.returns
-returns c =
-    let p : List ℕ → Bool = λ file. specs.is_ancestor c.args.path.now file in
-    let es = c.self.inside.files.entries in
-    c.some_below.ensures ∙ sym (any_seen (λ (a : List ℕ). a) p es) ∙ sym (any_key p (seen (λ (a : List ℕ). a) es)) ∙ ap (λ m. list_any p (map.keys m)) c.self.view_is
+pub returns-in-Some : goal.returns-in-Some
+returns-in-Some c =
+    directory_told c.deref.result.now.entries c.args.path.now c.has_below.result c.has_below.ensures.yes c.has_below.ensures.no
+    ∙ ap (λ v. is_directory (map.from_entries v.entries) c.args.path.now) c.deref.ensures
+    ∙ ap (λ r. is_directory (map.from_entries (entries_of r)) c.args.path.now) (sym c.in-Some.is) ∙ ap (λ m. is_directory m c.args.path.now) c.self.view_is
+
+pub returns-in-None : goal.returns-in-None
+returns-in-None c =
+    directory_told [] c.args.path.now false (λ h. absurd (false≢true h)) (λ h rest. refl)
+    ∙ ap (λ r. is_directory (map.from_entries (entries_of r)) c.args.path.now) (sym c.in-None.is) ∙ ap (λ m. is_directory m c.args.path.now) c.self.view_is

@@ -1,7 +1,10 @@
-use Rattle.std.proofs.Common.{◌∙◌, ap, ℕ, List}
-use Rattle.std.specs.FinMap as map
-use Rattle.filetree.proofs.FilesLemmas.{has_seen}
+use Rattle.std.proofs.Common.{◌≡◌, ◌∙◌, ap, refl, Option, Some, None, Bor}
+use Rattle.std.specs.Prelude.{is_some, option_copied}
 use Rattle.filetree.proofs.tree.Tree.is_file.Goals as goal
 
+copied : {X : Type 0} (r : Option (Bor X)) → is_some r ≡ is_some (option_copied r)
+copied None = refl
+copied (Some x) = refl
+
 pub returns : goal.returns
-returns c = c.contains_key.ensures ∙ has_seen (λ (a : List ℕ). a) c.self.inside.files c.args.path.now ∙ ap (λ m. map.contains_key m c.args.path.now) c.self.view_is
+returns c = c.is_some.ensures ∙ copied c.file.result ∙ ap is_some c.file.ensures

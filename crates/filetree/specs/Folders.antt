@@ -1,0 +1,69 @@
+-- The files below a folder.
+use Rattle.std.specs.Prelude.{◌≡◌, ◌<◌, ℕ, ◌+◌, List, [], ◌∷◌, ◌++◌, length, Bool, true, ◌&&◌, ◌==◌, not, nat_lt, Option, Some, None, map as each, flat_map, string_bytes, String, bytes_eq, if◌then◌else◌}
+use Rattle.std.specs.declared.alloc.Global.{Global}
+use Rattle.std.specs.declared.sync.Arc.{Arc}
+use Rattle.std.specs.BTreeMap.{BTreeMap}
+use Rattle.std.specs.Map.{lookup}
+use Rattle.std.specs.List.{list_all}
+use denote.Param.Weighed.{most}
+
+-- paths with their texts
+abbrev pub Entries : Type 0
+Entries = List (List ℕ × List ℕ)
+
+-- the files below a folder, and how deep folders lie in one another
+pub record Below : Type 0 where
+  pub entries : Entries
+  pub depth : ℕ
+
+abbrev pub name_value : {X : Type 0} → String Global × Arc X Global → List ℕ × X
+name_value e = (string_bytes e.0, e.1.value)
+
+-- the names of a map with what they stand for
+abbrev pub named : {X : Type 0} → BTreeMap (String Global) (Arc X Global) → List (List ℕ × X)
+named m = each name_value m.entries
+
+-- the entries below a name: behind it and a slash
+abbrev pub behind : List ℕ → Entries → Entries
+behind name es = each (λ e. (name ++ 47 ∷ e.0, e.1)) es
+
+-- the files of one folder, and those of the folders in it behind their names
+abbrev pub level : Entries → List (List ℕ × Below) → Entries
+level files folders = files ++ flat_map (λ e. behind e.0 e.1.entries) folders
+
+abbrev pub depth_of : BTreeMap (String Global) (Arc Below Global) → ℕ
+depth_of folders = most (λ a. a.value.depth + 1) (each (λ e. e.1) folders.entries)
+
+abbrev pub has_no_slash : List ℕ → Bool
+has_no_slash name = list_all (λ b. not (b == 47)) name
+
+abbrev pub is_distinct : {X : Type 0} → List (List ℕ × X) → Bool
+is_distinct [] = true
+is_distinct (e ∷ es) = list_all (λ f. not (bytes_eq e.0 f.0)) es && is_distinct es
+
+-- a folder in another has a name without a slash, and is not empty
+abbrev pub is_inner : List ℕ × Below → Bool
+is_inner e = has_no_slash e.0 && nat_lt 0 (length e.1.entries)
+
+-- names have no slash, no folder in it is empty, and no two have one name
+abbrev pub is_sound : Entries → List (List ℕ × Below) → Bool
+is_sound files folders = list_all (λ e. has_no_slash e.0) files && (list_all is_inner folders && is_distinct folders)
+
+-- the files below a folder that may be there
+abbrev pub entries_of : Option (Arc Below Global) → Entries
+entries_of None = []
+entries_of (Some folder) = folder.value.entries
+
+-- the text at a path
+abbrev pub text_at : Entries → List ℕ → Option (List ℕ)
+text_at es path = lookup (bytes_eq path) es
+
+-- below a name, the new entries have w at one path, and at the others what the old have
+abbrev pub Changes : List ℕ → List ℕ → Option (List ℕ) → Entries → Entries → Type 0
+Changes name rest w old new = (r : List ℕ) → text_at new r ≡ (if bytes_eq rest r then w else text_at old (name ++ 47 ∷ r))
+
+-- a path is a first name, a slash and a rest
+pub record IsSplit (path name rest : List ℕ) : Type 0 where
+  pub plain : has_no_slash name ≡ true
+  pub joined : path ≡ name ++ 47 ∷ rest
+  pub shorter : length rest < length path

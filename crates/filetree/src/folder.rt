@@ -1,0 +1,291 @@
+//! Folders in folders.
+ghost use Rattle.std.specs.Prelude.{◌≡◌, ◌<◌, ◌==◌, ℕ, List, [], ◌∷◌, ◌++◌, length, true, false, Option, Some, None, IfOk, IfSome, MatchOption, bytes_eq, is_some, option_and_then, option_map, map as each, if◌then◌else◌};
+ghost use Rattle.std.specs.Option.{option_copied};
+ghost use Rattle.filetree.specs.Folders as levels;
+ghost use Rattle.filetree.specs.Listings.{names_in, sorted_names};
+ghost use Rattle.filetree.specs.Seen.{names_seen};
+
+use crate::listing::Listing;
+use std::alloc::Global;
+use std::collections::BTreeMap;
+use std::marker::Model;
+use std::sync::Arc;
+use texts::{Memory, Text};
+
+/// The files of a folder and the folders in it, by their names. A contract sees the files below it, with
+/// the paths that lead to them from here.
+#[derive(Drop)]
+pub(crate) struct Folder {
+    files: BTreeMap<String, Arc<Text>>,
+    folders: BTreeMap<String, Arc<Folder>>,
+}
+
+impl Model for Folder {
+    ghost use Rattle.std.specs.Prelude.{IsTrue};
+    ghost use Rattle.filetree.specs.Folders as levels;
+
+    ghost Value = { levels.Below };
+
+    ghost view = { λ f. record { entries = levels.level (levels.named f.files) (levels.named f.folders); depth = levels.depth_of f.folders } };
+
+    ghost invariant = { λ f. IsTrue (levels.is_sound (levels.named f.files) (levels.named f.folders)) };
+
+    ghost size = { λ v. v.depth };
+
+    ghost use Rattle.std.proofs.Common.{arith};
+
+    ghost size_decreases = { λ a h. Prim.omega arith };
+}
+
+// The first name of a path and the rest, if it has a slash.
+fn split_name(path: &str) -> Option<(&str, &str)>
+    ensures { MatchOption result (levels.has_no_slash path.now ≡ true) (λ x. levels.IsSplit path.now x.0.now x.1.now) }
+{
+    path.split_once('/')
+}
+
+// The same names with the same values, which are shared.
+fn copy_of<V: Drop>(map: &BTreeMap<String, Arc<V>>) -> Result<BTreeMap<String, Arc<V>>, Memory>
+    ensures { IfOk result (λ copy. levels.named copy ≡ levels.named map.now) }
+{
+    let copy = map.clone()?;
+    Ok(copy)
+}
+
+// The names of a map.
+fn names_of<V: Drop>(alloc: Global, map: &BTreeMap<String, Arc<V>>) -> Result<Vec<Text>, Memory>
+    ensures { IfOk result (λ names. names.items ≡ sorted_names (each (λ e. e.0) (levels.named map.now))) }
+{
+    let mut names = Vec::new(alloc);
+    for name in map.keys() {
+        names.push(Text::new(alloc, name.as_str())?)?;
+    }
+    Ok(names)
+}
+
+impl Folder {
+    /// No files.
+    pub(crate) fn new(alloc: Global) -> Folder
+        ensures { result.entries ≡ [] }
+    {
+        Folder {
+            files: BTreeMap::new(alloc),
+            folders: BTreeMap::new(alloc),
+        }
+    }
+
+    // The file at a name.
+    fn own_file(&self, name: &str) -> Option<&Text>
+        requires { levels.has_no_slash name.now ≡ true }
+        ensures { option_copied result ≡ levels.text_at self.now.entries name.now }
+    {
+        match self.files.get(name) {
+            Some(text) => Some(text),
+            None => None,
+        }
+    }
+
+    // The folder at a name; it is not empty.
+    fn folder(&self, name: &str) -> Option<&Folder>
+        requires { levels.has_no_slash name.now ≡ true }
+        ensures below { (rest : List ℕ) → option_and_then (λ f. levels.text_at f.now.entries rest) result ≡ levels.text_at self.now.entries (name.now ++ 47 ∷ rest) }
+        ensures some { IfSome result (λ f. 0 < length f.now.entries) }
+    {
+        match self.folders.get(name) {
+            Some(folder) => Some(folder),
+            None => None,
+        }
+    }
+
+    fn is_empty(&self) -> bool
+        ensures { result ≡ (length self.now.entries == 0) }
+    {
+        self.files.is_empty() && self.folders.is_empty()
+    }
+
+    // The folder with another text at a name.
+    fn with_file(&self, alloc: Global, name: &str, text: &Arc<Text>) -> Result<Folder, Memory>
+        requires { levels.has_no_slash name.now ≡ true }
+        ensures { IfOk result (λ new. (path : List ℕ) → levels.text_at new.entries path
+            ≡ (if bytes_eq name.now path then Some text.now.value else levels.text_at self.now.entries path)) }
+    {
+        let mut files = copy_of(&self.files)?;
+        let folders = copy_of(&self.folders)?;
+        files.insert(String::from_str(alloc, name)?, Arc::try_clone(text)?)?;
+        Ok(Folder { files, folders })
+    }
+
+    // The folder without a file at a name.
+    fn without_file(&self, name: &str) -> Result<Folder, Memory>
+        requires { levels.has_no_slash name.now ≡ true }
+        ensures { IfOk result (λ new. (path : List ℕ) → levels.text_at new.entries path
+            ≡ (if bytes_eq name.now path then None else levels.text_at self.now.entries path)) }
+    {
+        let mut files = copy_of(&self.files)?;
+        let folders = copy_of(&self.folders)?;
+        let _ = files.remove(name);
+        Ok(Folder { files, folders })
+    }
+
+    // The folder with another folder at a name, which differs at one path from the one there.
+    fn with_folder(&self, alloc: Global, name: &str, inner: Folder) -> Result<Folder, Memory>
+        requires plain { levels.has_no_slash name.now ≡ true }
+        requires some { 0 < length inner.entries }
+        ensures { IfOk result (λ new. (rest : List ℕ) (w : Option (List ℕ)) → levels.Changes name.now rest w self.now.entries inner.entries
+            → (path : List ℕ) → levels.text_at new.entries path ≡ (if bytes_eq (name.now ++ 47 ∷ rest) path then w else levels.text_at self.now.entries path)) }
+    {
+        let files = copy_of(&self.files)?;
+        let mut folders = copy_of(&self.folders)?;
+        folders.insert(String::from_str(alloc, name)?, Arc::new(alloc, inner)?)?;
+        Ok(Folder { files, folders })
+    }
+
+    // The folder without a folder at a name, which has a text at one path at most.
+    fn without_folder(&self, name: &str) -> Result<Folder, Memory>
+        requires { levels.has_no_slash name.now ≡ true }
+        ensures { IfOk result (λ new. (rest : List ℕ) → levels.Changes name.now rest None self.now.entries []
+            → (path : List ℕ) → levels.text_at new.entries path ≡ (if bytes_eq (name.now ++ 47 ∷ rest) path then None else levels.text_at self.now.entries path)) }
+    {
+        let files = copy_of(&self.files)?;
+        let mut folders = copy_of(&self.folders)?;
+        let _ = folders.remove(name);
+        Ok(Folder { files, folders })
+    }
+
+    fn copy(&self) -> Result<Folder, Memory>
+        ensures { IfOk result (λ new. new.entries ≡ self.now.entries) }
+    {
+        let files = copy_of(&self.files)?;
+        let folders = copy_of(&self.folders)?;
+        Ok(Folder { files, folders })
+    }
+
+    fn unless_empty(self) -> Option<Folder>
+        ensures same { (path : List ℕ) → option_and_then (λ f. levels.text_at f.entries path) result ≡ levels.text_at self.entries path }
+        ensures some { IfSome result (λ f. 0 < length f.entries) }
+    {
+        if self.is_empty() { None } else { Some(self) }
+    }
+
+    /// The folder with a text at a path; its other parts are shared.
+    pub(crate) fn put(&self, alloc: Global, path: &str, text: &Arc<Text>) -> Result<Folder, Memory>
+        ensures { IfOk result (λ new. (other : List ℕ) → levels.text_at new.entries other
+            ≡ (if bytes_eq path.now other then Some text.now.value else levels.text_at self.now.entries other)) }
+    {
+        let Some((name, rest)) = split_name(path) else {
+            return self.with_file(alloc, path, text);
+        };
+        let inner = match self.folder(name) {
+            Some(folder) => folder.put(alloc, rest, text)?,
+            None => Folder::new(alloc).put(alloc, rest, text)?,
+        };
+        self.with_folder(alloc, name, inner)
+    }
+
+    /// The folder without a text at a path, if anything is left; its other parts are shared.
+    pub(crate) fn del(&self, alloc: Global, path: &str) -> Result<Option<Folder>, Memory>
+        ensures same { IfOk result (λ left. (other : List ℕ) → option_and_then (λ f. levels.text_at f.entries other) left
+            ≡ (if bytes_eq path.now other then None else levels.text_at self.now.entries other)) }
+        ensures some { IfOk result (λ left. IfSome left (λ f. 0 < length f.entries)) }
+    {
+        let Some((name, rest)) = split_name(path) else {
+            return Ok(self.without_file(path)?.unless_empty());
+        };
+        let Some(folder) = self.folder(name) else {
+            return Ok(self.copy()?.unless_empty());
+        };
+        let left = match folder.del(alloc, rest)? {
+            Some(inner) => self.with_folder(alloc, name, inner)?,
+            None => self.without_folder(name)?,
+        };
+        Ok(left.unless_empty())
+    }
+
+    /// The text at a path.
+    pub(crate) fn file(&self, path: &str) -> Option<&Text>
+        ensures { option_copied result ≡ levels.text_at self.now.entries path.now }
+    {
+        match split_name(path) {
+            None => self.own_file(path),
+            Some((name, rest)) => match self.folder(name) {
+                Some(folder) => folder.file(rest),
+                None => None,
+            },
+        }
+    }
+
+    /// Whether a file lies below the path.
+    pub(crate) fn has_below(&self, path: &str) -> bool
+        ensures yes { result ≡ true → (rest : List ℕ) × (is_some (levels.text_at self.now.entries (path.now ++ 47 ∷ rest)) ≡ true) }
+        ensures no { result ≡ false → (rest : List ℕ) → levels.text_at self.now.entries (path.now ++ 47 ∷ rest) ≡ None }
+    {
+        match split_name(path) {
+            None => self.folder(path).is_some(),
+            Some((name, rest)) => match self.folder(name) {
+                Some(folder) => folder.has_below(rest),
+                None => false,
+            },
+        }
+    }
+
+    /// Whether a proper ancestor of the path is a file.
+    pub(crate) fn has_above(&self, path: &str) -> bool
+        ensures yes { result ≡ true → (front : List ℕ) × (rest : List ℕ) × (path.now ≡ front ++ 47 ∷ rest) × (is_some (levels.text_at self.now.entries front) ≡ true) }
+        ensures no { result ≡ false → (front rest : List ℕ) → path.now ≡ front ++ 47 ∷ rest → levels.text_at self.now.entries front ≡ None }
+    {
+        match split_name(path) {
+            None => false,
+            Some((name, rest)) => {
+                if self.own_file(name).is_some() {
+                    return true;
+                }
+                match self.folder(name) {
+                    Some(folder) => folder.has_above(rest),
+                    None => false,
+                }
+            }
+        }
+    }
+
+    // The folder at a path; it is not empty.
+    fn folder_at(&self, path: &str) -> Option<&Folder>
+        ensures found { MatchOption result ((rest : List ℕ) → levels.text_at self.now.entries (path.now ++ 47 ∷ rest) ≡ None)
+            (λ f. (rest : List ℕ) → levels.text_at f.now.entries rest ≡ levels.text_at self.now.entries (path.now ++ 47 ∷ rest)) }
+        ensures some { IfSome result (λ f. 0 < length f.now.entries) }
+    {
+        match split_name(path) {
+            None => self.folder(path),
+            Some((name, rest)) => match self.folder(name) {
+                Some(folder) => folder.folder_at(rest),
+                None => None,
+            },
+        }
+    }
+
+    // The names in the folder, which is not empty.
+    fn names(&self, alloc: Global) -> Result<Listing, Memory>
+        requires { 0 < length self.now.entries }
+        ensures { IfOk result (λ l. Some (names_seen l) ≡ names_in [] (each (λ e. e.0) self.now.entries)) }
+    {
+        Ok(Listing {
+            files: names_of(alloc, &self.files)?,
+            directories: names_of(alloc, &self.folders)?,
+        })
+    }
+
+    /// The names in a directory, if it is there; the root's name is empty.
+    pub(crate) fn listing(&self, alloc: Global, directory: &str) -> Result<Option<Listing>, Memory>
+        ensures { IfOk result (λ l. option_map names_seen l ≡ names_in directory.now (each (λ e. e.0) self.now.entries)) }
+    {
+        if directory.is_empty() {
+            if self.is_empty() {
+                return Ok(None);
+            }
+            return Ok(Some(self.names(alloc)?));
+        }
+        match self.folder_at(directory) {
+            Some(folder) => Ok(Some(folder.names(alloc)?)),
+            None => Ok(None),
+        }
+    }
+}

@@ -1,0 +1,11 @@
+//! The names in a directory.
+use texts::Text;
+
+/// The names in a directory: of the files in it, and of its subdirectories, each in byte order.
+#[derive(Drop, PartialEq, Eq)]
+pub struct Listing {
+    /// The names of the files.
+    pub files: Vec<Text>,
+    /// The names of the subdirectories.
+    pub directories: Vec<Text>,
+}
