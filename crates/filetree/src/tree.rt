@@ -1,5 +1,5 @@
 //! The map of files, in folders that are shared.
-ghost use Rattle.std.specs.Prelude.{◌≡◌, ℕ, List, Some, None, IfOk, bytes_eq, option_map, if◌then◌else◌};
+ghost use Rattle.std.specs.Prelude.{◌≡◌, ℕ, List, Some, None, IfOk, OnOk, OnErr, bytes_eq, option_map, if◌then◌else◌};
 ghost use Rattle.std.specs.Option.{option_copied};
 ghost use Rattle.std.specs.FinMap as map;
 ghost use Rattle.filetree.specs.Files as specs;
@@ -9,7 +9,7 @@ ghost use Rattle.filetree.specs.Listings.{listing};
 ghost use Rattle.filetree.specs.Seen.{names_seen};
 
 use crate::error::{TreeError, refusal_number};
-use crate::folder::Folder;
+use crate::folder::{Folder, put_below};
 use crate::listing::Listing;
 use labels::is_path;
 use std::alloc::Global;
@@ -41,22 +41,26 @@ impl Model for Tree {
     ghost view = { λ t. map.from_entries (entries_of t.root) };
 }
 
-// The first folder with a text at a path.
-fn root_with(
+// Puts a text at a path below the first folder, in place where nobody shares it.
+fn put_root(
+    root: &mut Option<Arc<Folder>>,
     alloc: Global,
-    root: &Option<Arc<Folder>>,
     path: &str,
     text: &str,
-) -> Result<Option<Arc<Folder>>, Memory>
-    ensures { IfOk result (λ new. (other : List ℕ) → levels.text_at (levels.entries_of new) other
-        ≡ (if bytes_eq path.now other then Some text.now else levels.text_at (levels.entries_of root.now) other)) }
+) -> Result<(), Memory>
+    ensures ok { OnOk result ((other : List ℕ) → levels.text_at (levels.entries_of root.new) other
+        ≡ (if bytes_eq path.now other then Some text.now else levels.text_at (levels.entries_of root.old) other)) }
+    ensures err { OnErr result (root.new ≡ root.old) }
 {
     let text = Arc::new(alloc, Text::new(alloc, text)?)?;
-    let new = match root {
-        Some(root) => root.put(alloc, path, &text)?,
-        None => Folder::new(alloc).put(alloc, path, &text)?,
-    };
-    Ok(Some(Arc::new(alloc, new)?))
+    match root {
+        Some(first) => put_below(first, alloc, path, &text),
+        None => {
+            let first = Folder::new(alloc).put(alloc, path, &text)?;
+            *root = Some(Arc::new(alloc, first)?);
+            Ok(())
+        }
+    }
 }
 
 // The first folder without a text at a path, if anything is left.
@@ -194,8 +198,7 @@ impl Tree {
             self.old (map.insert self.old path.now text.now) self.new }
     {
         self.test_put(path, text)?;
-        let root = root_with(self.alloc, &self.root, path, text)?;
-        self.root = root;
+        put_root(&mut self.root, self.alloc, path, text)?;
         Ok(())
     }
 
