@@ -1,5 +1,5 @@
 -- What stands at the front of a text: a space, a comment, a line's end or a token.
-use Rattle.std.specs.Prelude.{ℕ, ◌+◌, List, [], ◌∷◌, true, false, take, drop, ◌==◌, ◌||◌, if◌then◌else◌, Option, Some, None}
+use Rattle.std.specs.Prelude.{ℕ, pos, ◌+◌, List, [], ◌∷◌, true, false, take, drop, ◌==◌, ◌||◌, if◌then◌else◌, Option, Some, None}
 use Rattle.tokens.specs.declared.symbol.Symbol.{Symbol}
 use Rattle.tokens.specs.declared.symbol.Symbol.TheVariants as s
 use Rattle.tokens.specs.declared.operator.Sign.{Sign}
@@ -69,7 +69,7 @@ word_at bs = let len = run is_name_byte bs in word_piece len (word_of (take len 
 
 abbrev pub number_piece : ℕ → Option ℕ → Option Piece
 number_piece len None = None
-number_piece len (Some n) = piece (token (int n)) len
+number_piece len (Some n) = piece (token (int (pos n))) len
 
 -- a number takes all digits, and no letter follows it
 unfoldable pub number_at : List ℕ → Option Piece

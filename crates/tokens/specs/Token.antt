@@ -1,5 +1,5 @@
 -- Tokens as plain data.
-use Rattle.std.specs.Prelude.{ℕ, List}
+use Rattle.std.specs.Prelude.{ℕ, ℤ, List}
 use Rattle.tokens.specs.declared.symbol.Symbol.{Symbol}
 use Rattle.tokens.specs.declared.token.Token.{Token}
 use Rattle.tokens.specs.declared.token.Token.TheVariants as v
@@ -8,7 +8,7 @@ use Rattle.tokens.specs.declared.token.Lexed.{Lexed}
 pub data Tok : Type 0 where
   -- its bytes
   name : List ℕ → Tok
-  int : ℕ → Tok
+  int : ℤ → Tok
   -- what stands between its quotes, as it is written
   string : List ℕ → Tok
   symbol : Symbol → Tok

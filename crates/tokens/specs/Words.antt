@@ -1,8 +1,9 @@
 -- Which words are no names.
-use Rattle.std.specs.Prelude.{ℕ, ◌==◌, if◌then◌else◌, List, [], ◌∷◌, Option, Some, None, codes, length, filter}
+use Rattle.std.specs.Prelude.{ℕ, ◌==◌, if◌then◌else◌, List, [], ◌∷◌, Option, Some, None, codes, length, filter, Bool, true, false, ◌&&◌}
 use Rattle.std.specs.Str.{bytes_eq}
 use Rattle.tokens.specs.declared.symbol.Symbol.{Symbol}
 use Rattle.tokens.specs.declared.symbol.Symbol.TheVariants as s
+use Rattle.tokens.specs.Bytes.{begins, is_letter, is_name_byte, run}
 use Rattle.tokens.specs.Token.{Tok, name, symbol}
 
 pub record Entry : Type 0 where
@@ -46,3 +47,11 @@ of_length n = filter (λ entry. length entry.spelling == n)
 
 unfoldable pub word_of : List ℕ → Option Tok
 word_of = word_by words
+
+abbrev pub is_plain : Option Tok → Bool
+is_plain (Some (name bytes)) = true
+is_plain _ = false
+
+-- the bytes are a name: a letter and what names go on with, and no other word
+unfoldable pub is_name_text : List ℕ → Bool
+is_name_text bytes = (begins is_letter bytes && run is_name_byte bytes == length bytes) && is_plain (word_of bytes)

@@ -1,6 +1,6 @@
 //! Whole numbers.
-ghost use Rattle.std.specs.Prelude.{◌≡◌};
-ghost use Rattle.tokens.specs.Numbers.{number_of};
+ghost use Rattle.std.specs.Prelude.{◌≡◌, ◌≤◌, IfSome};
+ghost use Rattle.tokens.specs.Numbers.{number_of, largest};
 
 use crate::bytes::is_digit;
 
@@ -9,7 +9,8 @@ const LARGEST: u64 = 9_223_372_036_854_775_807;
 
 /// The number that digits are, if it has no needless zero in front and is not too large.
 pub(crate) fn number_of(digits: &[u8]) -> Option<u64>
-    ensures { result ≡ number_of digits.now }
+    ensures exact { result ≡ number_of digits.now }
+    ensures few { IfSome result (λ n. n ≤ largest) }
 {
     if digits.len() > 1 && digits[0] == b'0' {
         return None;

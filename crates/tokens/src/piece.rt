@@ -64,7 +64,7 @@ fn number_at(bytes: &[u8]) -> Option<Piece<'_>>
     }
     match number_of(digits) {
         Some(n) => Some(Piece {
-            part: Part::Token(Token::Int(n)),
+            part: Part::Token(Token::Int(n as i64)),
             len,
             line_ends: 0,
         }),

@@ -32,3 +32,11 @@ impl<T: Drop> From<AllocFailed<T>> for Refused {
         Refused::Memory
     }
 }
+
+impl From<texts::Memory> for Refused {
+    ghost from_gives = { λ _ e. e ≡ Memory };
+
+    fn from(_error: texts::Memory) -> Refused {
+        Refused::Memory
+    }
+}

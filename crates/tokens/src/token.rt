@@ -16,8 +16,8 @@ pub struct Ascii<'a> {
 #[derive(Clone, Copy, Debug)]
 pub enum Token<'a> {
     Name(Ascii<'a>),
-    /// At most 9,223,372,036,854,775,807.
-    Int(u64),
+    /// Not negative.
+    Int(i64),
     /// What stands between the quotes of a string, as it is written.
     Text(Ascii<'a>),
     Symbol(Symbol),

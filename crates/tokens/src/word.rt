@@ -3,8 +3,9 @@ ghost use Rattle.std.specs.Prelude.{◌≡◌, length};
 ghost use Rattle.std.specs.Option.{option_map};
 ghost use Rattle.std.specs.Str.{IsAscii};
 ghost use Rattle.tokens.specs.Token.{tok_of};
-ghost use Rattle.tokens.specs.Words.{words, of_length, word_by, word_of};
+ghost use Rattle.tokens.specs.Words.{words, of_length, word_by, word_of, is_name_text};
 
+use crate::bytes::{begins_with_letter, name_run};
 use crate::symbol::Symbol;
 use crate::token::{Ascii, Token};
 
@@ -23,6 +24,24 @@ pub(crate) fn word_of(bytes: &[u8]) -> Option<Token<'_>>
         7 => word_of_seven(bytes),
         8 => word_of_eight(bytes),
         _ => Some(Token::Name(Ascii { bytes })),
+    }
+}
+
+/// The part is a name: a letter and what names go on with, and no keyword, literal or reserved word.
+#[tactic(auto, unfolding(crate::specs::Words::is_name_text))]
+pub fn is_name(part: Ascii<'_>) -> bool
+    ensures { result ≡ is_name_text part.entry.bytes.now }
+{
+    let bytes = part.bytes;
+    if !begins_with_letter(bytes) || name_run(bytes) != bytes.len() {
+        return false;
+    }
+    match word_of(bytes) {
+        Some(Token::Name(_)) => true,
+        Some(Token::Symbol(_)) => false,
+        Some(Token::Int(_)) => false,
+        Some(Token::Text(_)) => false,
+        None => false,
     }
 }
 

@@ -1,0 +1,8 @@
+use Rattle.std.proofs.Common.{◌≡◌, ◌-◌, map}
+use Rattle.tree.specs.Statements.{param_of, item_of, load_of, top_of}
+use Rattle.syntax.specs.View.{left}
+use Rattle.syntax.specs.Files.{params, params_after, more_items, items_after, loads, loads_after, tops, tops_after, has_name, has_default}
+use Rattle.syntax.proofs.file.tops.Given as goal
+
+abbrev pub invariant-loop-turn : goal.invariant-loop-turn
+invariant-loop-turn l = tops l.kind (left l.fn.t) ≡ tops_after l.kind (l._turn-end - l._turn) (map top_of l.found.items) (left l.t)

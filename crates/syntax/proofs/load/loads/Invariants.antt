@@ -1,0 +1,8 @@
+use Rattle.std.proofs.Common.{◌≡◌, ◌-◌, map}
+use Rattle.tree.specs.Statements.{param_of, item_of, load_of, top_of}
+use Rattle.syntax.specs.View.{left}
+use Rattle.syntax.specs.Files.{params, params_after, more_items, items_after, loads, loads_after, tops, tops_after, has_name, has_default}
+use Rattle.syntax.proofs.load.loads.Given as goal
+
+abbrev pub invariant-loop-turn : goal.invariant-loop-turn
+invariant-loop-turn l = loads (left l.fn.t) ≡ loads_after (l._turn-end - l._turn) (map load_of l.found.items) (left l.t)

@@ -1,0 +1,9 @@
+use Rattle.std.proofs.Common.{◌≡◌, ◌-◌, map}
+use Rattle.tree.specs.View.{tree_of}
+use Rattle.tree.specs.Statements.{stmt_of, branch_of}
+use Rattle.syntax.specs.View.{left}
+use Rattle.syntax.specs.Statements.{test, exprs_after, more_exprs, stmt, stmts, stmts_after, branches_after, more_branches}
+use Rattle.syntax.proofs.statement.Suites.more_branches.Given as goal
+
+abbrev pub invariant-loop-turn : goal.invariant-loop-turn
+invariant-loop-turn g l = more_branches (stmt l.self.depth) l.within (branch_of l.fn.first) (left l.fn.t) ≡ branches_after (stmt l.self.depth) l.within (l._turn-end - l._turn) (map branch_of l.found.items) (left l.t)

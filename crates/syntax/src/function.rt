@@ -1,0 +1,132 @@
+//! Functions.
+ghost use Rattle.std.specs.Prelude.{◌≡◌, [], length, map};
+ghost use Rattle.syntax.specs.Files as spec;
+ghost use Rattle.syntax.specs.View.{left, Reads};
+ghost use Rattle.tree.specs.Statements.{stmt_of, param_of, fn_of};
+
+use crate::front::{Stop, Tokens};
+use crate::statement::{LEVELS, Suites, Within, stmt, test};
+use std::alloc::Global;
+use std::sync::Arc;
+use texts::Text;
+use tokens::Symbol;
+use tree::{Def, Param, Stmt};
+
+/// A parameter has that name.
+fn has_name(params: &[Param], name: &Text) -> bool
+    ensures { result ≡ spec.has_name (map param_of params.now) name.now }
+{
+    for p in params {
+        if p.name == *name {
+            return true;
+        }
+    }
+    false
+}
+
+/// A parameter has a default.
+fn has_default(params: &[Param]) -> bool
+    ensures { result ≡ spec.has_default (map param_of params.now) }
+{
+    for p in params {
+        if p.default.is_some() {
+            return true;
+        }
+    }
+    false
+}
+
+/// Reads what stands behind the name of a parameter.
+#[tactic(auto, unfolding(crate::specs::Files::param_rest))]
+fn param_rest(
+    alloc: Global,
+    t: &mut Tokens<'_, '_>,
+    params: &[Param],
+    name: Text,
+) -> Result<Param, Stop>
+    ensures { Reads param_of (spec.param_rest (map param_of params.now) name (left t.old)) result (left t.new) }
+{
+    if t.eat(Symbol::Equal) {
+        let default = test(alloc, t)?;
+        return Ok(Param {
+            name,
+            default: Some(default),
+        });
+    }
+    if has_default(params) {
+        return Err(Stop::Malformed);
+    }
+    Ok(Param {
+        name,
+        default: None,
+    })
+}
+
+/// Reads a parameter.
+#[tactic(auto, unfolding(crate::specs::Files::param))]
+fn param(alloc: Global, t: &mut Tokens<'_, '_>, params: &[Param]) -> Result<Param, Stop>
+    ensures { Reads param_of (spec.param (map param_of params.now) (left t.old)) result (left t.new) }
+{
+    let name = t.take_name(alloc)?;
+    if has_name(params, &name) {
+        return Err(Stop::Malformed);
+    }
+    let found = param_rest(alloc, t, params, name)?;
+    Ok(found)
+}
+
+/// Reads parameters up to their closing bracket.
+#[tactic(auto, unfolding(crate::specs::Files::params))]
+fn params(alloc: Global, t: &mut Tokens<'_, '_>) -> Result<Vec<Param>, Stop>
+    ensures { Reads (λ v. map param_of v.items) (spec.params (left t.old)) result (left t.new) }
+{
+    let mut found = Vec::new(alloc);
+    for _turn in 0..t.len() {
+        if t.is_at(Symbol::RightParen) {
+            return Ok(found);
+        }
+        let next = param(alloc, t, found.as_slice())?;
+        found.push(next)?;
+        if !t.eat(Symbol::Comma) {
+            return Ok(found);
+        }
+    }
+    Ok(found)
+}
+
+/// Reads the suite of a function.
+#[tactic(auto, unfolding(crate::specs::Files::body))]
+fn body(alloc: Global, t: &mut Tokens<'_, '_>) -> Result<Vec<Stmt>, Stop>
+    ensures { Reads (λ v. map stmt_of v.items) (spec.body (left t.old)) result (left t.new) }
+{
+    let levels = Suites {
+        alloc,
+        depth: LEVELS,
+        stmt,
+    };
+    let within = Within {
+        in_def: true,
+        in_for: false,
+    };
+    levels.suite(t, within)
+}
+
+/// Reads a function behind its `def`.
+#[tactic(auto, unfolding(crate::specs::Files::def_rest))]
+pub(crate) fn def_rest(alloc: Global, t: &mut Tokens<'_, '_>, line: usize) -> Result<Def, Stop>
+    ensures { Reads fn_of (spec.def_rest line (left t.old)) result (left t.new) }
+{
+    let name = t.take_name(alloc)?;
+    t.expect(Symbol::LeftParen)?;
+    let params = params(alloc, t)?;
+    t.expect(Symbol::RightParen)?;
+    t.expect(Symbol::Colon)?;
+    let statements = body(alloc, t)?;
+    let body = Arc::new(alloc, statements)?;
+    Ok(Def {
+        line,
+        name,
+        params,
+        body,
+    })
+}

@@ -1,0 +1,112 @@
+//! Load statements.
+ghost use Rattle.std.specs.Prelude.{◌≡◌, ◌∷◌, [], length, map};
+ghost use Rattle.syntax.specs.Files as spec;
+ghost use Rattle.syntax.specs.View.{left, Reads};
+ghost use Rattle.tree.specs.Statements.{item_of, load_of};
+
+use crate::front::{Stop, Tokens};
+use std::alloc::Global;
+use texts::Text;
+use tokens::{Symbol, is_name, string_text};
+use tree::{LoadItem, LoadStmt};
+
+/// Reads a string, as the text that it stands for.
+#[tactic(auto, unfolding(crate::specs::Files::a_string))]
+fn a_string(alloc: Global, t: &mut Tokens<'_, '_>) -> Result<Text, Stop>
+    ensures { Reads (λ x. x) (spec.a_string (left t.old)) result (left t.new) }
+{
+    match t.text() {
+        Some(written) => {
+            let text = string_text(alloc, written)?;
+            t.skip();
+            Ok(text)
+        }
+        None => Err(Stop::Malformed),
+    }
+}
+
+/// Reads a string that is a name.
+#[tactic(auto, unfolding(crate::specs::Files::a_name_string))]
+fn a_name_string(alloc: Global, t: &mut Tokens<'_, '_>) -> Result<Text, Stop>
+    ensures { Reads (λ x. x) (spec.a_name_string (left t.old)) result (left t.new) }
+{
+    match t.text() {
+        Some(written) => {
+            if !is_name(written) {
+                return Err(Stop::Malformed);
+            }
+            let text = string_text(alloc, written)?;
+            t.skip();
+            Ok(text)
+        }
+        None => Err(Stop::Malformed),
+    }
+}
+
+/// Reads an item of a load.
+#[tactic(auto, unfolding(crate::specs::Files::item))]
+fn item(alloc: Global, t: &mut Tokens<'_, '_>) -> Result<LoadItem, Stop>
+    ensures { Reads item_of (spec.item (left t.old)) result (left t.new) }
+{
+    if t.text().is_some() {
+        let exported = a_name_string(alloc, t)?;
+        let local = exported.share()?;
+        return Ok(LoadItem { local, exported });
+    }
+    let local = t.take_name(alloc)?;
+    t.expect(Symbol::Equal)?;
+    let exported = a_name_string(alloc, t)?;
+    Ok(LoadItem { local, exported })
+}
+
+/// Reads the rest of the items of a load.
+#[tactic(auto, unfolding(crate::specs::Files::more_items))]
+fn more_items(alloc: Global, t: &mut Tokens<'_, '_>, first: LoadItem) -> Result<Vec<LoadItem>, Stop>
+    ensures { Reads (λ v. map item_of v.items) (spec.more_items (item_of first) (left t.old)) result (left t.new) }
+{
+    let mut found = Vec::new(alloc);
+    found.push(first)?;
+    for _turn in 0..t.len() {
+        if !t.eat(Symbol::Comma) {
+            return Ok(found);
+        }
+        if t.is_at(Symbol::RightParen) {
+            return Ok(found);
+        }
+        let next = item(alloc, t)?;
+        found.push(next)?;
+    }
+    Ok(found)
+}
+
+/// Reads a load statement behind its `load`.
+#[tactic(auto, unfolding(crate::specs::Files::load_rest))]
+fn load_rest(alloc: Global, t: &mut Tokens<'_, '_>, line: usize) -> Result<LoadStmt, Stop>
+    ensures { Reads load_of (spec.load_rest line (left t.old)) result (left t.new) }
+{
+    t.expect(Symbol::LeftParen)?;
+    let label = a_string(alloc, t)?;
+    t.expect(Symbol::Comma)?;
+    let first = item(alloc, t)?;
+    let items = more_items(alloc, t, first)?;
+    t.expect(Symbol::RightParen)?;
+    t.expect(Symbol::NewLine)?;
+    Ok(LoadStmt { line, label, items })
+}
+
+/// Reads the load statements.
+#[tactic(auto, unfolding(crate::specs::Files::loads))]
+pub(crate) fn loads(alloc: Global, t: &mut Tokens<'_, '_>) -> Result<Vec<LoadStmt>, Stop>
+    ensures { Reads (λ v. map load_of v.items) (spec.loads (left t.old)) result (left t.new) }
+{
+    let mut found = Vec::new(alloc);
+    for _turn in 0..t.len() {
+        let line = t.line();
+        if !t.eat(Symbol::Load) {
+            return Ok(found);
+        }
+        let next = load_rest(alloc, t, line)?;
+        found.push(next)?;
+    }
+    Ok(found)
+}

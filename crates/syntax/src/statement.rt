@@ -1,0 +1,394 @@
+//! Statements. What holds a statement one level down takes the parser of those as a parameter, so that each function
+//! is proved by itself.
+ghost use Rattle.std.specs.Prelude.{◌≡◌, ◌∷◌, ◌++◌, [], length, map};
+ghost use Rattle.syntax.specs.Inners.{Holds};
+ghost use Rattle.syntax.specs.Statements as spec;
+ghost use Rattle.syntax.specs.View.{left, Reads};
+ghost use Rattle.tree.specs.View.{tree_of};
+ghost use Rattle.tree.specs.Statements.{stmt_of, branch_of};
+
+use crate::front::{Stop, Tokens};
+use crate::grammar::{Grammar, Kind, expr};
+use crate::target::is_target;
+use std::alloc::Global;
+use tokens::Symbol;
+use tree::{BinaryOp, Branch, Expr, Stmt};
+
+/// How many levels an expression has: one more than brackets, signs and the like can be nested.
+pub(crate) const LEVELS: usize = 65;
+
+/// What a statement stands in.
+#[derive(Clone, Copy, Drop)]
+pub(crate) struct Within {
+    pub(crate) in_def: bool,
+    pub(crate) in_for: bool,
+}
+
+/// Reads an expression.
+#[tactic(auto, unfolding(crate::specs::Statements::test))]
+pub(crate) fn test(alloc: Global, t: &mut Tokens<'_, '_>) -> Result<Expr, Stop>
+    ensures { Reads tree_of (spec.test (left t.old)) result (left t.new) }
+{
+    expr(alloc, t, LEVELS, Kind::Test)
+}
+
+/// Reads the targets of a `for`.
+#[tactic(auto, unfolding(crate::specs::Statements::loop_targets))]
+fn loop_targets(alloc: Global, t: &mut Tokens<'_, '_>) -> Result<Expr, Stop>
+    ensures { Reads tree_of (spec.loop_targets (left t.old)) result (left t.new) }
+{
+    let levels = Grammar {
+        alloc,
+        depth: LEVELS - 1,
+        expr,
+    };
+    levels.targets(t)
+}
+
+/// Reads the rest of several expressions.
+#[tactic(auto, unfolding(crate::specs::Statements::more_exprs))]
+fn more_exprs(alloc: Global, t: &mut Tokens<'_, '_>, first: Expr) -> Result<Vec<Expr>, Stop>
+    ensures { Reads (λ v. map tree_of v.items) (spec.more_exprs (tree_of first) (left t.old)) result (left t.new) }
+{
+    let mut found = Vec::new(alloc);
+    found.push(first)?;
+    for _turn in 0..t.len() {
+        if !t.eat(Symbol::Comma) {
+            return Ok(found);
+        }
+        let next = test(alloc, t)?;
+        found.push(next)?;
+    }
+    Ok(found)
+}
+
+/// Reads expressions: a tuple if a comma.
+#[tactic(auto, unfolding(crate::specs::Statements::exprs))]
+fn exprs(alloc: Global, t: &mut Tokens<'_, '_>) -> Result<Expr, Stop>
+    ensures { Reads tree_of (spec.exprs (left t.old)) result (left t.new) }
+{
+    let first = test(alloc, t)?;
+    if !t.is_at(Symbol::Comma) {
+        return Ok(first);
+    }
+    let found = more_exprs(alloc, t, first)?;
+    let whole = Expr::tuple(alloc, found)?;
+    Ok(whole)
+}
+
+/// The operator of an augmented assignment that the next token is.
+#[tactic(auto, unfolding(crate::specs::Statements::augment_at))]
+fn augment_at(t: &Tokens<'_, '_>) -> Option<BinaryOp>
+    ensures { result ≡ spec.augment_at (left t.now) }
+{
+    if t.is_at(Symbol::PlusEqual) {
+        Some(BinaryOp::Add)
+    } else if t.is_at(Symbol::MinusEqual) {
+        Some(BinaryOp::Subtract)
+    } else if t.is_at(Symbol::StarEqual) {
+        Some(BinaryOp::Multiply)
+    } else if t.is_at(Symbol::SlashSlashEqual) {
+        Some(BinaryOp::Divide)
+    } else if t.is_at(Symbol::PercentEqual) {
+        Some(BinaryOp::Remainder)
+    } else {
+        None
+    }
+}
+
+/// An expression can be the target of an augmented assignment.
+fn can_augment(e: &Expr, in_def: bool) -> bool
+    ensures { result ≡ spec.can_augment in_def (tree_of e.now) }
+{
+    match e {
+        Expr::Name(_) => in_def,
+        Expr::Index(_, _) => true,
+        Expr::Tuple(_) => false,
+        Expr::List(_) => false,
+        Expr::Int(_) => false,
+        Expr::Str(_) => false,
+        Expr::Literal(_) => false,
+        Expr::Dict(_, _) => false,
+        Expr::ListOf(_, _) => false,
+        Expr::DictOf(_, _, _) => false,
+        Expr::Unary(_, _) => false,
+        Expr::Binary(_, _, _) => false,
+        Expr::Choice(_, _, _) => false,
+        Expr::Slice(_, _, _) => false,
+        Expr::Call(_, _, _) => false,
+        Expr::Method(_, _, _, _) => false,
+    }
+}
+
+/// Reads what stands behind `return`.
+#[tactic(auto, unfolding(crate::specs::Statements::return_rest))]
+fn return_rest(alloc: Global, t: &mut Tokens<'_, '_>, line: usize) -> Result<Stmt, Stop>
+    ensures { Reads stmt_of (spec.return_rest line (left t.old)) result (left t.new) }
+{
+    if t.is_at(Symbol::NewLine) {
+        return Ok(Stmt::give(line, None));
+    }
+    let value = exprs(alloc, t)?;
+    Ok(Stmt::give(line, Some(value)))
+}
+
+/// Reads what stands behind the first expressions of a statement.
+#[tactic(auto, unfolding(crate::specs::Statements::expr_rest))]
+fn expr_rest(
+    alloc: Global,
+    t: &mut Tokens<'_, '_>,
+    within: Within,
+    line: usize,
+    first: Expr,
+) -> Result<Stmt, Stop>
+    ensures { Reads stmt_of (spec.expr_rest within line (tree_of first) (left t.old)) result (left t.new) }
+{
+    if t.eat(Symbol::Equal) {
+        if !is_target(&first) {
+            return Err(Stop::Malformed);
+        }
+        let value = exprs(alloc, t)?;
+        return Ok(Stmt::assign(line, first, value));
+    }
+    let Some(op) = augment_at(t) else {
+        return Ok(Stmt::eval(line, first));
+    };
+    if !can_augment(&first, within.in_def) {
+        return Err(Stop::Malformed);
+    }
+    t.skip();
+    let value = exprs(alloc, t)?;
+    Ok(Stmt::augment(line, first, op, value))
+}
+
+/// Reads a small statement.
+#[tactic(auto, unfolding(crate::specs::Statements::small))]
+fn small(alloc: Global, t: &mut Tokens<'_, '_>, within: Within) -> Result<Stmt, Stop>
+    ensures { Reads stmt_of (spec.small within (left t.old)) result (left t.new) }
+{
+    let line = t.line();
+    if t.eat(Symbol::Pass) {
+        return Ok(Stmt::pass(line));
+    }
+    if t.eat(Symbol::Break) {
+        if !within.in_for {
+            return Err(Stop::Malformed);
+        }
+        return Ok(Stmt::break_off(line));
+    }
+    if t.eat(Symbol::Continue) {
+        if !within.in_for {
+            return Err(Stop::Malformed);
+        }
+        return Ok(Stmt::go_on(line));
+    }
+    if t.eat(Symbol::Return) {
+        if !within.in_def {
+            return Err(Stop::Malformed);
+        }
+        let found = return_rest(alloc, t, line)?;
+        return Ok(found);
+    }
+    let first = exprs(alloc, t)?;
+    let found = expr_rest(alloc, t, within, line, first)?;
+    Ok(found)
+}
+
+/// Reads a small statement and the end of its line.
+#[tactic(auto, unfolding(crate::specs::Statements::simple))]
+pub(crate) fn simple(alloc: Global, t: &mut Tokens<'_, '_>, within: Within) -> Result<Stmt, Stop>
+    ensures { Reads stmt_of (spec.simple within (left t.old)) result (left t.new) }
+{
+    let found = small(alloc, t, within)?;
+    t.expect(Symbol::NewLine)?;
+    Ok(found)
+}
+
+/// Reads statements that hold others one level down.
+#[derive(Clone, Copy)]
+pub(crate) struct Suites<F> {
+    pub(crate) alloc: Global,
+    /// How many levels may still be entered.
+    pub(crate) depth: usize,
+    pub(crate) stmt: F,
+}
+
+impl<F: Fn(Global, &mut Tokens<'_, '_>, usize, Within) -> Result<Stmt, Stop>> Suites<F> {
+    /// Reads a statement one level down.
+    fn stmt(&self, t: &mut Tokens<'_, '_>, within: Within) -> Result<Stmt, Stop>
+        requires { Holds self.now.depth (F.pre self.now.stmt) (F.post self.now.stmt) }
+        ensures { Reads stmt_of (spec.stmt self.now.depth within (left t.old)) result (left t.new) }
+    {
+        (self.stmt)(self.alloc, t, self.depth, within)
+    }
+
+    /// Reads the statements of a block.
+    #[tactic(auto, unfolding(crate::specs::Statements::stmts))]
+    fn stmts(&self, t: &mut Tokens<'_, '_>, within: Within) -> Result<Vec<Stmt>, Stop>
+        requires { Holds self.now.depth (F.pre self.now.stmt) (F.post self.now.stmt) }
+        ensures { Reads (λ v. map stmt_of v.items) (spec.stmts (spec.stmt self.now.depth) within (left t.old)) result (left t.new) }
+    {
+        let mut found = Vec::new(self.alloc);
+        for _turn in 0..t.len() {
+            if t.is_at(Symbol::Dedent) {
+                return Ok(found);
+            }
+            let next = self.stmt(t, within)?;
+            found.push(next)?;
+        }
+        Ok(found)
+    }
+
+    /// Reads a block.
+    #[tactic(auto, unfolding(crate::specs::Statements::block))]
+    fn block(&self, t: &mut Tokens<'_, '_>, within: Within) -> Result<Vec<Stmt>, Stop>
+        requires { Holds self.now.depth (F.pre self.now.stmt) (F.post self.now.stmt) }
+        ensures { Reads (λ v. map stmt_of v.items) (spec.block (spec.stmt self.now.depth) within (left t.old)) result (left t.new) }
+    {
+        t.expect(Symbol::Indent)?;
+        let found = self.stmts(t, within)?;
+        t.expect(Symbol::Dedent)?;
+        if found.is_empty() {
+            return Err(Stop::Malformed);
+        }
+        Ok(found)
+    }
+
+    /// Reads a suite.
+    #[tactic(auto, unfolding(crate::specs::Statements::suite))]
+    pub(crate) fn suite(&self, t: &mut Tokens<'_, '_>, within: Within) -> Result<Vec<Stmt>, Stop>
+        requires { Holds self.now.depth (F.pre self.now.stmt) (F.post self.now.stmt) }
+        ensures { Reads (λ v. map stmt_of v.items) (spec.suite (spec.stmt self.now.depth) within (left t.old)) result (left t.new) }
+    {
+        if t.eat(Symbol::NewLine) {
+            let found = self.block(t, within)?;
+            return Ok(found);
+        }
+        let only = simple(self.alloc, t, within)?;
+        let mut found = Vec::new(self.alloc);
+        found.push(only)?;
+        Ok(found)
+    }
+
+    /// Reads a branch behind its word.
+    #[tactic(auto, unfolding(crate::specs::Statements::branch))]
+    fn branch(&self, t: &mut Tokens<'_, '_>, within: Within, line: usize) -> Result<Branch, Stop>
+        requires { Holds self.now.depth (F.pre self.now.stmt) (F.post self.now.stmt) }
+        ensures { Reads branch_of (spec.branch (spec.stmt self.now.depth) within line (left t.old)) result (left t.new) }
+    {
+        let condition = test(self.alloc, t)?;
+        t.expect(Symbol::Colon)?;
+        let body = self.suite(t, within)?;
+        let whole = Branch::new(self.alloc, line, condition, body)?;
+        Ok(whole)
+    }
+
+    /// Reads the `elif` branches.
+    #[tactic(auto, unfolding(crate::specs::Statements::more_branches))]
+    fn more_branches(
+        &self,
+        t: &mut Tokens<'_, '_>,
+        within: Within,
+        first: Branch,
+    ) -> Result<Vec<Branch>, Stop>
+        requires { Holds self.now.depth (F.pre self.now.stmt) (F.post self.now.stmt) }
+        ensures { Reads (λ v. map branch_of v.items) (spec.more_branches (spec.stmt self.now.depth) within (branch_of first) (left t.old)) result (left t.new) }
+    {
+        let mut found = Vec::new(self.alloc);
+        found.push(first)?;
+        for _turn in 0..t.len() {
+            let line = t.line();
+            if !t.eat(Symbol::Elif) {
+                return Ok(found);
+            }
+            let next = self.branch(t, within, line)?;
+            found.push(next)?;
+        }
+        Ok(found)
+    }
+
+    /// Reads the `else` branch.
+    #[tactic(auto, unfolding(crate::specs::Statements::other))]
+    fn other(&self, t: &mut Tokens<'_, '_>, within: Within) -> Result<Vec<Stmt>, Stop>
+        requires { Holds self.now.depth (F.pre self.now.stmt) (F.post self.now.stmt) }
+        ensures { Reads (λ v. map stmt_of v.items) (spec.other (spec.stmt self.now.depth) within (left t.old)) result (left t.new) }
+    {
+        if !t.eat(Symbol::Else) {
+            return Ok(Vec::new(self.alloc));
+        }
+        t.expect(Symbol::Colon)?;
+        let found = self.suite(t, within)?;
+        Ok(found)
+    }
+
+    /// Reads what stands behind `if`.
+    #[tactic(auto, unfolding(crate::specs::Statements::if_rest))]
+    fn if_rest(&self, t: &mut Tokens<'_, '_>, within: Within, line: usize) -> Result<Stmt, Stop>
+        requires { Holds self.now.depth (F.pre self.now.stmt) (F.post self.now.stmt) }
+        ensures { Reads stmt_of (spec.if_rest (spec.stmt self.now.depth) within line (left t.old)) result (left t.new) }
+    {
+        let first = self.branch(t, within, line)?;
+        let branches = self.more_branches(t, within, first)?;
+        let other = self.other(t, within)?;
+        let whole = Stmt::choose(self.alloc, branches, other)?;
+        Ok(whole)
+    }
+
+    /// Reads what stands behind `for`.
+    #[tactic(auto, unfolding(crate::specs::Statements::for_rest))]
+    fn for_rest(&self, t: &mut Tokens<'_, '_>, within: Within, line: usize) -> Result<Stmt, Stop>
+        requires { Holds self.now.depth (F.pre self.now.stmt) (F.post self.now.stmt) }
+        ensures { Reads stmt_of (spec.for_rest (spec.stmt self.now.depth) within line (left t.old)) result (left t.new) }
+    {
+        let target = loop_targets(self.alloc, t)?;
+        t.expect(Symbol::In)?;
+        let sequence = exprs(self.alloc, t)?;
+        t.expect(Symbol::Colon)?;
+        let inside = Within {
+            in_def: within.in_def,
+            in_for: true,
+        };
+        let body = self.suite(t, inside)?;
+        let whole = Stmt::for_each(self.alloc, line, target, sequence, body)?;
+        Ok(whole)
+    }
+
+    /// Reads a statement.
+    #[tactic(auto, unfolding(crate::specs::Statements::statement))]
+    pub(crate) fn statement(&self, t: &mut Tokens<'_, '_>, within: Within) -> Result<Stmt, Stop>
+        requires { Holds self.now.depth (F.pre self.now.stmt) (F.post self.now.stmt) }
+        ensures { Reads stmt_of (spec.statement (spec.stmt self.now.depth) within (left t.old)) result (left t.new) }
+    {
+        let line = t.line();
+        if t.eat(Symbol::If) {
+            let found = self.if_rest(t, within, line)?;
+            return Ok(found);
+        }
+        if t.eat(Symbol::For) {
+            let found = self.for_rest(t, within, line)?;
+            return Ok(found);
+        }
+        let found = simple(self.alloc, t, within)?;
+        Ok(found)
+    }
+}
+
+/// Reads a statement, with so many levels.
+pub(crate) fn stmt(
+    alloc: Global,
+    t: &mut Tokens<'_, '_>,
+    depth: usize,
+    within: Within,
+) -> Result<Stmt, Stop>
+    ensures { Reads stmt_of (spec.stmt depth within (left t.old)) result (left t.new) }
+{
+    if depth == 0 {
+        return Err(Stop::Malformed);
+    }
+    Suites {
+        alloc,
+        depth: depth - 1,
+        stmt,
+    }
+    .statement(t, within)
+}

@@ -1,0 +1,185 @@
+//! The nodes of expressions.
+ghost use Rattle.std.specs.Prelude.{◌≡◌, IfOk, pos};
+ghost use Rattle.tree.specs.Tree.{name, int, str, literal, tuple, list, dict, list_of, dict_of, unary, binary, choice, index, slice, call, method, for_in, only_if};
+ghost use Rattle.tree.specs.View.{tree_of, trees_of, clause_of, clause_trees, bound_tree};
+
+use crate::expr::{BinaryOp, Clause, Expr, Literal, UnaryOp};
+use std::alloc::Global;
+use std::sync::Arc;
+use texts::{Memory, Text};
+
+impl Expr {
+    /// A name.
+    pub fn name(text: Text) -> Expr
+        ensures { tree_of result ≡ name text }
+    {
+        Expr::Name(text)
+    }
+
+    /// A whole number.
+    pub fn int(n: i64) -> Expr
+        ensures { tree_of result ≡ int n }
+    {
+        Expr::Int(n)
+    }
+
+    /// A string.
+    pub fn string(text: Text) -> Expr
+        ensures { tree_of result ≡ str text }
+    {
+        Expr::Str(text)
+    }
+
+    /// `None`, `True` or `False`.
+    pub fn literal(value: Literal) -> Expr
+        ensures { tree_of result ≡ literal value }
+    {
+        Expr::Literal(value)
+    }
+
+    /// A tuple.
+    pub fn tuple(alloc: Global, items: Vec<Expr>) -> Result<Expr, Memory>
+        ensures { IfOk result (λ e. tree_of e ≡ tuple (trees_of items.items)) }
+    {
+        Ok(Expr::Tuple(Arc::new(alloc, items)?))
+    }
+
+    /// A list.
+    pub fn list(alloc: Global, items: Vec<Expr>) -> Result<Expr, Memory>
+        ensures { IfOk result (λ e. tree_of e ≡ list (trees_of items.items)) }
+    {
+        Ok(Expr::List(Arc::new(alloc, items)?))
+    }
+
+    /// A dictionary of keys and as many values.
+    pub fn dict(alloc: Global, keys: Vec<Expr>, values: Vec<Expr>) -> Result<Expr, Memory>
+        ensures { IfOk result (λ e. tree_of e ≡ dict (trees_of keys.items) (trees_of values.items)) }
+    {
+        Ok(Expr::Dict(Arc::new(alloc, keys)?, Arc::new(alloc, values)?))
+    }
+
+    /// A list of an item for each turn of the clauses.
+    pub fn list_of(alloc: Global, item: Expr, clauses: Vec<Clause>) -> Result<Expr, Memory>
+        ensures { IfOk result (λ e. tree_of e ≡ list_of (tree_of item) (clause_trees clauses.items)) }
+    {
+        Ok(Expr::ListOf(Arc::new(alloc, item)?, Arc::new(alloc, clauses)?))
+    }
+
+    /// A dictionary of a key and a value for each turn of the clauses.
+    pub fn dict_of(
+        alloc: Global,
+        key: Expr,
+        value: Expr,
+        clauses: Vec<Clause>,
+    ) -> Result<Expr, Memory>
+        ensures { IfOk result (λ e. tree_of e ≡ dict_of (tree_of key) (tree_of value) (clause_trees clauses.items)) }
+    {
+        Ok(Expr::DictOf(
+            Arc::new(alloc, key)?,
+            Arc::new(alloc, value)?,
+            Arc::new(alloc, clauses)?,
+        ))
+    }
+
+    /// An operator before an operand.
+    pub fn unary(alloc: Global, op: UnaryOp, operand: Expr) -> Result<Expr, Memory>
+        ensures { IfOk result (λ e. tree_of e ≡ unary op (tree_of operand)) }
+    {
+        Ok(Expr::Unary(op, Arc::new(alloc, operand)?))
+    }
+
+    /// An operator between two operands.
+    pub fn binary(alloc: Global, op: BinaryOp, left: Expr, right: Expr) -> Result<Expr, Memory>
+        ensures { IfOk result (λ e. tree_of e ≡ binary op (tree_of left) (tree_of right)) }
+    {
+        Ok(Expr::Binary(op, Arc::new(alloc, left)?, Arc::new(alloc, right)?))
+    }
+
+    /// What it is if the condition holds, and what it is else.
+    pub fn choice(alloc: Global, then: Expr, condition: Expr, other: Expr) -> Result<Expr, Memory>
+        ensures { IfOk result (λ e. tree_of e ≡ choice (tree_of «then») (tree_of condition) (tree_of other)) }
+    {
+        Ok(Expr::Choice(
+            Arc::new(alloc, then)?,
+            Arc::new(alloc, condition)?,
+            Arc::new(alloc, other)?,
+        ))
+    }
+
+    /// What is at an index.
+    pub fn index(alloc: Global, value: Expr, at: Expr) -> Result<Expr, Memory>
+        ensures { IfOk result (λ e. tree_of e ≡ index (tree_of value) (tree_of at)) }
+    {
+        Ok(Expr::Index(Arc::new(alloc, value)?, Arc::new(alloc, at)?))
+    }
+
+    /// What is between two bounds.
+    pub fn slice(
+        alloc: Global,
+        value: Expr,
+        from: Option<Expr>,
+        to: Option<Expr>,
+    ) -> Result<Expr, Memory>
+        ensures { IfOk result (λ e. tree_of e ≡ slice (tree_of value) (bound_tree from) (bound_tree to)) }
+    {
+        let from = match from {
+            Some(bound) => Some(Arc::new(alloc, bound)?),
+            None => None,
+        };
+        let to = match to {
+            Some(bound) => Some(Arc::new(alloc, bound)?),
+            None => None,
+        };
+        Ok(Expr::Slice(Arc::new(alloc, value)?, from, to))
+    }
+
+    /// A call; the names are those of the last arguments.
+    pub fn call(
+        alloc: Global,
+        function: Expr,
+        arguments: Vec<Expr>,
+        names: Vec<Text>,
+    ) -> Result<Expr, Memory>
+        ensures { IfOk result (λ e. tree_of e ≡ call (tree_of function) (trees_of arguments.items) names.items) }
+    {
+        Ok(Expr::Call(
+            Arc::new(alloc, function)?,
+            Arc::new(alloc, arguments)?,
+            Arc::new(alloc, names)?,
+        ))
+    }
+
+    /// A call of a method; the names are those of the last arguments.
+    pub fn method(
+        alloc: Global,
+        receiver: Expr,
+        name: Text,
+        arguments: Vec<Expr>,
+        names: Vec<Text>,
+    ) -> Result<Expr, Memory>
+        ensures { IfOk result (λ e. tree_of e ≡ method (tree_of receiver) name (trees_of arguments.items) names.items) }
+    {
+        Ok(Expr::Method(
+            Arc::new(alloc, receiver)?,
+            name,
+            Arc::new(alloc, arguments)?,
+            Arc::new(alloc, names)?,
+        ))
+    }
+}
+
+impl Clause {
+    /// A turn for each item of a sequence.
+    pub fn for_in(target: Expr, sequence: Expr) -> Clause
+        ensures { clause_of result ≡ for_in (tree_of target) (tree_of sequence) }
+    {
+        Clause::For(target, sequence)
+    }
+
+    /// A turn only where a condition holds.
+    pub fn only_if(condition: Expr) -> Clause
+        ensures { clause_of result ≡ only_if (tree_of condition) }
+    {
+        Clause::If(condition)
+    }
+}

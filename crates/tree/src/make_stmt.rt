@@ -1,0 +1,126 @@
+//! The nodes of statements.
+ghost use Rattle.std.specs.Prelude.{◌≡◌, IfOk, map};
+ghost use Rattle.tree.specs.Tree.{pass, break, continue, return, eval, assign, augment, if_else, for_each, branch, stmt, def};
+ghost use Rattle.tree.specs.View.{tree_of, bound_tree};
+ghost use Rattle.tree.specs.Statements.{stmt_of, stmts_of, branch_of, branch_trees, fn_of, top_of, load_of, file_of};
+
+use crate::expr::{BinaryOp, Expr};
+use crate::stmt::{Branch, Def, File, LoadStmt, Stmt, Top};
+use std::alloc::Global;
+use std::sync::Arc;
+use texts::Memory;
+
+impl Stmt {
+    /// `pass`
+    pub fn pass(line: usize) -> Stmt
+        ensures { stmt_of result ≡ pass line }
+    {
+        Stmt::Pass(line)
+    }
+
+    /// `break`
+    pub fn break_off(line: usize) -> Stmt
+        ensures { stmt_of result ≡ break line }
+    {
+        Stmt::Break(line)
+    }
+
+    /// `continue`
+    pub fn go_on(line: usize) -> Stmt
+        ensures { stmt_of result ≡ continue line }
+    {
+        Stmt::Continue(line)
+    }
+
+    /// `return`, with a value or without one.
+    pub fn give(line: usize, value: Option<Expr>) -> Stmt
+        ensures { stmt_of result ≡ return line (bound_tree value) }
+    {
+        Stmt::Return(line, value)
+    }
+
+    /// An expression that is evaluated.
+    pub fn eval(line: usize, value: Expr) -> Stmt
+        ensures { stmt_of result ≡ eval line (tree_of value) }
+    {
+        Stmt::Eval(line, value)
+    }
+
+    /// An assignment.
+    pub fn assign(line: usize, target: Expr, value: Expr) -> Stmt
+        ensures { stmt_of result ≡ assign line (tree_of target) (tree_of value) }
+    {
+        Stmt::Assign(line, target, value)
+    }
+
+    /// An assignment of what an operator makes of the present value.
+    pub fn augment(line: usize, target: Expr, op: BinaryOp, value: Expr) -> Stmt
+        ensures { stmt_of result ≡ augment line (tree_of target) op (tree_of value) }
+    {
+        Stmt::Augment(line, target, op, value)
+    }
+
+    /// The branches, and the statements where no condition holds.
+    pub fn choose(alloc: Global, branches: Vec<Branch>, other: Vec<Stmt>) -> Result<Stmt, Memory>
+        ensures { IfOk result (λ s. stmt_of s ≡ if_else (branch_trees branches.items) (stmts_of other.items)) }
+    {
+        Ok(Stmt::If(Arc::new(alloc, branches)?, Arc::new(alloc, other)?))
+    }
+
+    /// The statements for each item of a sequence.
+    pub fn for_each(
+        alloc: Global,
+        line: usize,
+        target: Expr,
+        sequence: Expr,
+        body: Vec<Stmt>,
+    ) -> Result<Stmt, Memory>
+        ensures { IfOk result (λ s. stmt_of s ≡ for_each line (tree_of target) (tree_of sequence) (stmts_of body.items)) }
+    {
+        Ok(Stmt::For(line, target, sequence, Arc::new(alloc, body)?))
+    }
+}
+
+impl Branch {
+    /// A branch.
+    pub fn new(
+        alloc: Global,
+        line: usize,
+        condition: Expr,
+        body: Vec<Stmt>,
+    ) -> Result<Branch, Memory>
+        ensures { IfOk result (λ b. branch_of b ≡ branch line (tree_of condition) (stmts_of body.items)) }
+    {
+        let body = Arc::new(alloc, body)?;
+        Ok(Branch {
+            line,
+            condition,
+            body,
+        })
+    }
+}
+
+impl Top {
+    /// A statement of a file.
+    pub fn statement(value: Stmt) -> Top
+        ensures { top_of result ≡ stmt (stmt_of value) }
+    {
+        Top::Stmt(value)
+    }
+
+    /// A function of a file.
+    pub fn function(alloc: Global, value: Def) -> Result<Top, Memory>
+        ensures { IfOk result (λ t. top_of t ≡ def (fn_of value)) }
+    {
+        Ok(Top::Def(Arc::new(alloc, value)?))
+    }
+}
+
+impl File {
+    /// The load statements, in order.
+    pub fn loads(&self) -> &[LoadStmt]
+        ensures { map load_of result.now ≡ (file_of self.now).loads }
+    {
+        self.loads.as_slice()
+    }
+}
