@@ -1,13 +1,15 @@
 -- Keys that compare alike are one.
-use Rattle.std.proofs.Common.{◌≡◌, ℕ, List, ap}
+use Rattle.std.proofs.Common.{◌≡◌, ℕ, List, Bool, true, false, ◌&&◌, ◌==◌, refl, sym, ◌∙◌, ap, subst}
 use Rattle.std.specs.Ordering.{nat_cmp}
-use Rattle.std.specs.Cmp.{IsTotalOrder, nat_cmp_total}
-use Rattle.std.specs.Cmp.Lexicographic.{slice_cmp, nat_list_cmp_total}
+use Rattle.std.specs.Bool.{Decides}
+use Rattle.std.specs.Cmp.{IsTotalOrder, nat_cmp_total, unsigned_Decides}
+use Rattle.std.specs.Cmp.Lexicographic.{slice_cmp, nat_list_cmp_total, pointwise}
+use lib.Pointwise.{pointwise_decides}
 use Rattle.std.proofs.lemmas.Cmp.{then_total, on_total}
 use Rattle.std.proofs.lemmas.Map.Lookups.{CmpEqualImpliesEq, exact_bytes, exact_pairs, exact_unsigned}
 use Rattle.keys.specs.declared.key.Key.{Key}
 use Rattle.keys.specs.declared.key.Key.TheVariants.{File, Lookup}
-use Rattle.keys.specs.Keys.{kind, name_of, key_cmp}
+use Rattle.keys.specs.Keys.{kind, name_of, key_cmp, key_eq}
 
 pub keys_total : IsTotalOrder key_cmp
 keys_total = then_total (on_total kind nat_cmp_total) (on_total name_of nat_list_cmp_total)
@@ -22,3 +24,18 @@ pub exact_keys : CmpEqualImpliesEq key_cmp
 exact_keys a b h =
     let e = exact_pairs nat_cmp (slice_cmp nat_cmp) exact_unsigned exact_bytes (kind a, name_of a) (kind b, name_of b) h in
     same_parts a b (ap (λ (p : ℕ × List ℕ). p.0) e) (ap (λ (p : ℕ × List ℕ). p.1) e)
+
+apart : true ≡ false → ⊥
+apart h = cc
+
+-- equal keys are one key
+pub exact_key_eq : (a b : Key) → Decides (key_eq a b) (a ≡ b)
+exact_key_eq a b = (to (kind a == kind b) (pointwise ◌==◌ (name_of a) (name_of b)) refl refl, λ e. subst (λ k. key_eq a k ≡ true) e (join ((unsigned_Decides (kind a) (kind a)).1 refl) ((pointwise_decides unsigned_Decides (name_of a) (name_of a)).1 refl)))
+  where
+    join : {p q : Bool} → p ≡ true → q ≡ true → p && q ≡ true
+    join {p} {q} h g = ap (λ x. x && q) h ∙ g
+
+    to : (p q : Bool) → kind a == kind b ≡ p → pointwise ◌==◌ (name_of a) (name_of b) ≡ q → key_eq a b ≡ true → a ≡ b
+    to true true h g e = same_parts a b ((unsigned_Decides (kind a) (kind b)).0 h) ((pointwise_decides unsigned_Decides (name_of a) (name_of b)).0 g)
+    to true false h g e = absurd (apart (sym e ∙ (λ i. h i && g i)))
+    to false q h g e = absurd (apart (sym e ∙ (λ i. h i && g i)))

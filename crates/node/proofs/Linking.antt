@@ -13,14 +13,10 @@ use Rattle.keys.specs.declared.value.Value.{Value}
 use Rattle.node.specs.declared.kept.Kept.{Kept}
 use Rattle.node.specs.Kept.{Records, Users, kept_at, record_of}
 use Rattle.node.specs.Marks.{IsDirty, IsReached, at_leaf, by_user, Marked, HasPassed}
-use Rattle.node.specs.Graphs.{Recorded, recorded, record_at, groups_of, IsTouched, IsLinked}
+use Rattle.node.specs.Graphs.{Recorded, recorded, record_at, seen, groups_of, IsTouched, IsLinked}
 use Rattle.std.proofs.lemmas.Map.Lookups.{btree_map_from_get}
 use Rattle.keys.proofs.KeyLaws.{keys_total, exact_keys}
 use Rattle.node.proofs.Lists.{in_one, some_is, none_some}
-
--- the record that a contract sees
-abbrev pub seen : Records → Key → Option (Record Key Value)
-seen records k = option_map record_of (kept_at records k)
 
 pub seen_is : (records : Records) (version : ℕ) (k : Key) → record_at (recorded version records) k ≡ seen records k
 seen_is records version k = go records.entries

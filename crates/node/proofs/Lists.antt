@@ -1,5 +1,6 @@
 -- Elements of lists, and what a record of a table is after a change at one key.
-use Rattle.std.proofs.Common.{◌≡◌, ◌≢◌, ◌⊎◌, inl, inr, Bool, true, false, List, [], ◌∷◌, ◌++◌, Option, Some, None, refl, ap, subst}
+use Rattle.std.specs.Result.{OnErr}
+use Rattle.std.proofs.Common.{Result, Ok, Err, ◌≡◌, ◌≢◌, ◌⊎◌, inl, inr, Bool, true, false, List, [], ◌∷◌, ◌++◌, Option, Some, None, refl, ap, subst}
 use Rattle.std.specs.BTreeMap.{BTreeMap, get, Updates, is_at}
 use Rattle.std.proofs.lemmas.Map.Views.{tells_apart}
 use Rattle.evaluation.specs.Value.{In, first, after}
@@ -66,3 +67,7 @@ decide_key key k = go (is_at (key_cmp key) k) refl
 -- another key is as before
 pub other_key : {X : Type 0} (old new : BTreeMap Key X) (key : Key) (o : Option X) → Updates key_cmp old new key o → (k : Key) → key ≢ k → get key_cmp new k ≡ get key_cmp old k
 other_key old new key o u k n = elim (same_or_key old new key o u k) [ inl q ↦ absurd (n q) | inr q ↦ q ]
+
+pub on_err : {T E : Type 0} {P : Type 0} (r : Result T E) → P → OnErr r P
+on_err (Ok x) p = tt
+on_err (Err e) p = p

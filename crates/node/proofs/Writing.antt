@@ -1,5 +1,5 @@
 -- A record that is written keeps the parts of the graph linked.
-use Rattle.std.proofs.Common.{◌≡◌, ◌≢◌, inl, inr, ℕ, true, false, List, Option, Some, None, refl, sym, ◌∙◌, ap, subst}
+use Rattle.std.proofs.Common.{◌≡◌, ◌≢◌, inl, inr, ℕ, true, false, Option, Some, None, refl, sym, ◌∙◌, ap, subst}
 use Rattle.std.specs.BTreeMap.{IsOrdered, Updates}
 use Rattle.std.specs.Option.{option_map, IsSome}
 use Rattle.evaluation.specs.Graph.{Record}
@@ -9,16 +9,10 @@ use Rattle.keys.specs.declared.key.Key.{Key}
 use Rattle.keys.specs.declared.value.Value.{Value}
 use Rattle.node.specs.declared.kept.Kept.{Kept}
 use Rattle.node.specs.Kept.{Records, Users, kept_at, users_at, record_of}
-use Rattle.node.specs.Graphs.{Recorded, recorded, record_at, groups_of, IsLinked, HasCleanMembers, Sets}
+use Rattle.node.specs.Edges.{HasUsers}
+use Rattle.node.specs.Graphs.{Recorded, recorded, record_at, seen, groups_of, IsLinked, HasCleanMembers, Sets}
 use Rattle.node.proofs.Lists.{some_is, true_false, decide_key, other_key}
-use Rattle.node.proofs.Linking.{seen, seen_all, is_seen, is_kept}
-
--- the users after a record of the key with these groups is written
-pub record HasUsers (old new : Users) (key : Key) (groups : List (List Key)) : Type 0 where
-  pub own : (j : Key) → In key (users_at new j) → IsMember j groups
-  pub has : (j : Key) → IsMember j groups → In key (users_at new j)
-  pub others : (j k : Key) → key ≢ k → In k (users_at new j) → In k (users_at old j)
-  pub kept : (j k : Key) → key ≢ k → In k (users_at old j) → In k (users_at new j)
+use Rattle.node.proofs.Linking.{seen_all, is_seen, is_kept}
 
 module _ (old new : Records) (old_users users : Users) (key : Key) (e : Kept) (u : Updates key_cmp old new key (Some e)) (linked : IsLinked old old_users) (uses : HasUsers old_users users key (groups_of e)) (clean : e.dirty ≡ false)
     (ready : (j : Key) → IsMember j (groups_of e) → (s : Kept) × (kept_at new j ≡ Some s) × (s.dirty ≡ false)) where
@@ -59,14 +53,14 @@ module _ (old new : Records) (old_users users : Users) (key : Key) (e : Kept) (u
     ];
   }
 
+  pub seen_sets : Sets (seen old) (seen new) key (record_of e)
+  seen_sets = record { there = is_seen new key e there; others = λ j n. ap (option_map record_of) (other_key old new key (Some e) u j n) }
+
   pub written_sets : (version later_version : ℕ) (was : Recorded) → recorded version old ≡ was → Sets (record_at was) (record_at (recorded later_version new)) key (record_of e)
   written_sets version later_version was b =
       subst (λ (r : Recorded). Sets (record_at r) (record_at (recorded later_version new)) key (record_of e)) b
       (subst (λ (f : Key → Option (Record Key Value)). Sets f (record_at (recorded later_version new)) key (record_of e)) (sym (seen_all old version))
-      (subst (λ (f : Key → Option (Record Key Value)). Sets (seen old) f key (record_of e)) (sym (seen_all new later_version)) sets))
-    where
-      sets : Sets (seen old) (seen new) key (record_of e)
-      sets = record { there = is_seen new key e there; others = λ j n. ap (option_map record_of) (other_key old new key (Some e) u j n) }
+      (subst (λ (f : Key → Option (Record Key Value)). Sets (seen old) f key (record_of e)) (sym (seen_all new later_version)) seen_sets))
 
 -- a record that is only settled keeps its users
 module _ (old new : Records) (users : Users) (key : Key) (version : ℕ) (linked : IsLinked old users)

@@ -1,5 +1,6 @@
 -- What a contract sees of a graph, and what is true of its parts.
 use Rattle.std.specs.Prelude.{◌≡◌, ◌≢◌, ℕ, List, [], ◌∷◌, map, Option, Some, None, true, false, if◌then◌else◌}
+use Rattle.std.specs.Option.{option_map}
 use Rattle.std.specs.Map.{lookup}
 use Rattle.std.specs.BTreeMap.{is_at, IsOrdered}
 use Rattle.evaluation.specs.Graph.{Record}
@@ -22,6 +23,10 @@ recorded version records = record { version = version; records = map (λ e. (e.0
 -- the record of a key
 abbrev pub record_at : Recorded → Key → Option (Record Key Value)
 record_at graph k = lookup (is_at (key_cmp k)) graph.records
+
+-- the record that a contract sees of a key
+abbrev pub seen : Records → Key → Option (Record Key Value)
+seen records k = option_map record_of (kept_at records k)
 
 -- the value of a key, if it has a record that is not dirty
 abbrev pub present : Option (Record Key Value) → Option Value
@@ -54,3 +59,8 @@ HasCleanMembers records k = (r s : Record Key Value) (j : Key) → records k ≡
 pub record Sets (old new : Key → Option (Record Key Value)) (k : Key) (r : Record Key Value) : Type 0 where
   pub there : new k ≡ Some r
   pub others : (j : Key) → k ≢ j → new j ≡ old j
+
+-- the record of the key is stored, and the parts stay linked
+pub record HasStored (old new : Records) (users : Users) (k : Key) (r : Record Key Value) : Type 0 where
+  pub sets : Sets (seen old) (seen new) k r
+  pub linked : IsLinked new users

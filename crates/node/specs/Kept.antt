@@ -1,6 +1,8 @@
 -- What a graph keeps, as its functions see it.
 use Rattle.std.specs.Prelude.{ℕ, List, [], map, Option, Some, None, sum_by, if◌then◌else◌}
 use Rattle.std.specs.Arc.{arc_value}
+use Rattle.std.specs.declared.alloc.Global.{Global}
+use Rattle.std.specs.declared.vec.Vec.{Vec}
 use Rattle.std.specs.BTreeMap.{BTreeMap, get, values}
 use Rattle.std.specs.BTreeSet.{BTreeSet}
 use Rattle.evaluation.specs.Graph.{Record}
@@ -25,6 +27,10 @@ listed (Some set) = set.keys
 -- the keys that are kept as users of j
 abbrev pub users_at : Users → Key → List Key
 users_at users j = listed (get key_cmp users j)
+
+-- the groups of a list of lists
+abbrev pub items_of : List (Vec Key Global) → List (List Key)
+items_of groups = map (λ g. g.items) groups
 
 -- what a contract sees of a record
 abbrev pub record_of : Kept → Record Key Value

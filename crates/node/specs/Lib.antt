@@ -1,3 +1,5 @@
 pub mod Kept
 pub mod Marks
 pub mod Graphs
+pub mod Edges
+pub mod Writes

@@ -1,16 +1,17 @@
 //! The graph of records.
-ghost use Rattle.std.specs.Prelude.{◌≡◌, ◌+◌, ◌<◌, [], IfOk, OnOk, OnErr, map, IsSome, Some, false};
+ghost use Rattle.std.specs.Prelude.{◌≡◌, ◌+◌, ◌<◌, [], IfOk, OnOk, OnErr, map, IsSome, IsTrue, Some, false};
 ghost use Rattle.std.specs.Option.{option_map};
 ghost use Rattle.std.specs.Arc.{arc_value};
 ghost use Rattle.evaluation.specs.Graph.{Record, Marks};
 ghost use Rattle.keys.specs.declared.key.Key.{Key};
 ghost use Rattle.keys.specs.declared.value.Value.{Value};
-ghost use Rattle.node.specs.Kept.{record_of};
+ghost use Rattle.node.specs.Kept.{record_of, items_of};
+ghost use Rattle.node.specs.Writes.{HasReadyMembers, stored, is_ready_group, are_ready};
 ghost use Rattle.node.specs.Graphs.{record_at, present, IsTouched, HasCleanMembers, Sets};
 
 use crate::kept::{Kept, Records, Users};
 use crate::marks::{mark_from, unmark_all};
-use crate::settling::settle;
+use crate::settling::{settle, store};
 use keys::{Key, Value};
 use std::alloc::Global;
 use std::collections::BTreeMap;
@@ -140,6 +141,60 @@ impl Graph {
         }
     }
 
+    // Whether each member of a group is the key or has a record that is not dirty.
+    fn is_ready_group(&self, key: &Key, group: &[Key]) -> bool
+        ensures { result ≡ is_ready_group (record_at self.now) key.now group.now }
+    {
+        for member in group {
+            if key != member && self.get(member).is_none() {
+                return false;
+            }
+        }
+        true
+    }
+
+    /// Whether each member of the groups is the key or has a record that is not dirty, so that the key can be recorded
+    /// with these groups.
+    pub fn is_ready(&self, key: &Key, groups: &[Vec<Key>]) -> bool
+        ensures test { result ≡ are_ready (record_at self.now) key.now (items_of groups.now) }
+        ensures ready { IsTrue result → HasReadyMembers (record_at self.now) key.now (items_of groups.now) }
+    {
+        for group in groups {
+            if !self.is_ready_group(key, group.as_slice()) {
+                return false;
+            }
+        }
+        true
+    }
+
+    /// Stores the record of a key that was settled at the present version with this value, after it asked these groups.
+    /// The version at which its value last changed is kept where an equal value was there, and is the present one
+    /// otherwise. No other record changes. That each member of the groups is the key or has a record that is not dirty
+    /// is the caller's condition. `Memory` where a growth was refused, and then nothing has changed.
+    pub fn record(
+        &mut self,
+        key: Key,
+        value: Arc<Value>,
+        groups: Vec<Vec<Key>>,
+    ) -> Result<(), Memory>
+        requires { HasReadyMembers (record_at self.old) key (items_of groups.items) }
+        ensures version { self.new.version ≡ self.old.version }
+        ensures recorded { OnOk result (Sets (record_at self.old) (record_at self.new) key (stored (record_at self.old key) (arc_value value) (items_of groups.items) self.old.version)) }
+        ensures refused { OnErr result (self.new ≡ self.old) }
+    {
+        let version = self.version;
+        store(
+            self.alloc,
+            &mut self.records,
+            &mut self.users,
+            &key,
+            value,
+            groups,
+            version,
+        )?;
+        Ok(())
+    }
+
     /// Settles a key's record at the present version: that version is written into it and its mark is taken away.
     /// Nothing else changes, and no memory is taken. That the key has a record, and that no member of its groups has
     /// a dirty one, is the caller's condition.
@@ -156,18 +211,71 @@ impl Graph {
 #[cfg(test)]
 mod tests {
     use super::*;
+    use keys::BuildName;
     use std::test::Fail;
 
+    fn file(alloc: Global, path: &str) -> Result<Key, Memory> {
+        Ok(Key::File(Text::new(alloc, path)?))
+    }
+
+    // Records a key whose groups are ready; false where they are not.
+    fn settle_key(
+        graph: &mut Graph,
+        key: &Key,
+        value: Arc<Value>,
+        groups: Vec<Vec<Key>>,
+    ) -> Result<bool, Memory> {
+        let key = key.share()?;
+        if graph.is_ready(&key, groups.as_slice()) {
+            graph.record(key, value, groups)?;
+            Ok(true)
+        } else {
+            Ok(false)
+        }
+    }
+
+    // A look-up of `a` over its two files, recorded at the graph's version.
+    fn settle_lookup(alloc: Global, graph: &mut Graph, text: &str) -> Result<bool, Memory> {
+        let absent = file(alloc, "a/BUILD.bazel")?;
+        let build = file(alloc, "a/BUILD")?;
+        let lookup = Key::Lookup(Text::new(alloc, "a")?);
+        let held = Value::File(Some(Text::new(alloc, text)?));
+        let group = vec![in alloc; absent.share()?, build.share()?]?;
+        let first = settle_key(
+            graph,
+            &absent,
+            Arc::new(alloc, Value::File(None))?,
+            Vec::new(alloc),
+        )?;
+        let second = settle_key(graph, &build, Arc::new(alloc, held)?, Vec::new(alloc))?;
+        let found = Arc::new(alloc, Value::Lookup(Some(BuildName::Build)))?;
+        let third = settle_key(graph, &lookup, found, vec![in alloc; group]?)?;
+        Ok(first && second && third)
+    }
+
     #[test]
-    fn an_edit_is_one_version(rt: HostRuntime) -> Result<(), Fail> {
-        let mut graph = Graph::new_at(rt.alloc(), 6);
-        assert_eq!(rt; graph.touch("a/BUILD")?, 7);
-        assert_eq!(rt; graph.version(), 7);
-        assert!(rt;
-            graph
-                .get(&Key::File(Text::new(rt.alloc(), "a/BUILD")?))
-                .is_none()
-        );
+    fn an_edit_marks_what_reaches_its_file(rt: HostRuntime) -> Result<(), Fail> {
+        let alloc = rt.alloc();
+        let mut graph = Graph::new_at(alloc, 6);
+        let absent = file(alloc, "a/BUILD.bazel")?;
+        let build = file(alloc, "a/BUILD")?;
+        let lookup = Key::Lookup(Text::new(alloc, "a")?);
+        assert!(rt; settle_lookup(alloc, &mut graph, "x")?);
+        assert_eq!(rt; graph.version(), 6);
+        assert_eq!(rt; graph.touch("b/BUILD")?, 7);
+        assert!(rt; graph.get(&lookup).is_some());
+        assert_eq!(rt; graph.touch("a/BUILD")?, 8);
+        assert_eq!(rt; graph.version(), 8);
+        assert!(rt; graph.get(&lookup).is_none());
+        assert!(rt; graph.get(&build).is_none());
+        assert!(rt; graph.get(&absent).is_some());
+        assert_eq!(rt; graph.settled_at(&lookup), Some(6));
+        assert!(rt; settle_lookup(alloc, &mut graph, "y")?);
+        assert_eq!(rt; graph.settled_at(&lookup), Some(8));
+        assert_eq!(rt; graph.changed_at(&lookup), Some(6));
+        assert_eq!(rt; graph.changed_at(&build), Some(8));
+        assert_eq!(rt; graph.changed_at(&absent), Some(6));
+        assert!(rt; graph.get(&lookup).is_some());
         Ok(())
     }
 }

@@ -1,6 +1,7 @@
 //! The graph of what was recorded of nodes.
 #![tactic(auto)]
 
+mod edges;
 mod graph;
 mod kept;
 mod marks;

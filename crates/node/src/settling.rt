@@ -1,20 +1,145 @@
 //! Records written in place.
-ghost use Rattle.std.specs.Prelude.{◌≡◌, Some, None, false};
+ghost use Rattle.std.specs.Prelude.{◌≡◌, Some, None, false, OnOk, OnErr, IsSome};
+ghost use Rattle.std.specs.Arc.{arc_value};
 ghost use Rattle.std.specs.BTreeMap.{Updates, IsOrdered};
 ghost use Rattle.keys.specs.Keys.{key_cmp};
-ghost use Rattle.node.specs.Kept.{kept_at};
+ghost use Rattle.node.specs.Kept.{kept_at, items_of};
+ghost use Rattle.node.specs.Writes.{written, stored, groups_at, HasPlaced, HasReadyMembers, SameSets, SameRecords};
+ghost use Rattle.node.specs.Edges.{HasUsers};
+ghost use Rattle.node.specs.Graphs.{IsLinked, HasStored, seen};
 ghost use Rattle.node.specs.declared.kept.Kept.{Kept};
 
-use crate::kept::Records;
-use keys::Key;
+use crate::edges::{cut, link_groups};
+use crate::kept::{Kept, Records, Users};
+use keys::{Key, Value};
+use std::alloc::Global;
+use std::mem;
+use std::sync::Arc;
+use texts::Memory;
 
 /// Writes a version into a record, and takes its mark away.
 pub fn settle(records: &mut Records, key: &Key, version: u32)
     ensures updates { (e : Kept) → kept_at records.old key.now ≡ Some e → Updates key_cmp records.old records.new key.now (Some (record e { settled_at = version; dirty = false })) }
     ensures ordered { IsOrdered key_cmp records.new }
 {
-    if let Some(kept) = records.get_mut(key) {
-        kept.settled_at = version;
-        kept.dirty = false;
+    if let Some(found) = records.get_mut(key) {
+        found.settled_at = version;
+        found.dirty = false;
+    }
+}
+
+/// Writes a value and groups into a record that is settled at the version; the old groups.
+pub fn write(
+    records: &mut Records,
+    key: &Key,
+    value: Arc<Value>,
+    groups: Vec<Vec<Key>>,
+    version: u32,
+) -> Vec<Vec<Key>>
+    ensures updates { (e : Kept) → kept_at records.old key.now ≡ Some e → Updates key_cmp records.old records.new key.now (Some (written e value groups version)) }
+    ensures groups { (e : Kept) → kept_at records.old key.now ≡ Some e → result.items ≡ e.groups.items }
+    ensures ordered { IsOrdered key_cmp records.new }
+{
+    match records.get_mut(key) {
+        None => groups,
+        Some(kept) => {
+            if *kept.value != *value {
+                kept.changed_at = version;
+            }
+            kept.value = value;
+            kept.settled_at = version;
+            kept.dirty = false;
+            mem::replace(&mut kept.groups, groups)
+        }
+    }
+}
+
+/// The groups that are kept of a key.
+pub fn kept_groups<'a>(records: &'a Records, key: &Key) -> &'a [Vec<Key>]
+    ensures { items_of result.now ≡ groups_at (kept_at records.now key.now) }
+{
+    match records.get(key) {
+        None => &[],
+        Some(kept) => kept.groups.as_slice(),
+    }
+}
+
+/// Keeps a record without groups at a key that has none.
+pub fn place(
+    alloc: Global,
+    records: &mut Records,
+    key: &Key,
+    value: &Arc<Value>,
+    version: u32,
+) -> Result<(), Memory>
+    requires { IsOrdered key_cmp records.old }
+    ensures ok { OnOk result (HasPlaced records.old records.new key.now (arc_value value.now) version) }
+    ensures err { OnErr result (records.new.entries ≡ records.old.entries) }
+    ensures ordered { IsOrdered key_cmp records.new }
+{
+    let kept = Kept {
+        value: Arc::try_clone(value)?,
+        groups: Vec::new(alloc),
+        settled_at: version,
+        changed_at: version,
+        dirty: false,
+    };
+    records.insert(key.share()?, kept)?;
+    Ok(())
+}
+
+/// Writes a value and groups into the record of a key that has one, and the reverse edges with it. Where a growth was
+/// refused, the records and the edges are as before.
+pub fn rewrite(
+    alloc: Global,
+    records: &mut Records,
+    users: &mut Users,
+    key: &Key,
+    value: Arc<Value>,
+    groups: Vec<Vec<Key>>,
+    version: u32,
+) -> Result<(), Memory>
+    requires recorded { IsSome (kept_at records.old key.now) }
+    requires linked { IsLinked records.old users.old }
+    ensures ok { OnOk result ((e : Kept) → kept_at records.old key.now ≡ Some e → Updates key_cmp records.old records.new key.now (Some (written e value groups version)) × IsOrdered key_cmp records.new) }
+    ensures users { OnOk result (HasUsers users.old users.new key.now (items_of groups.items)) }
+    ensures err { OnErr result ((records.new ≡ records.old) × SameSets users.old users.new) }
+{
+    if let Err(error) = link_groups(alloc, users, groups.as_slice(), key) {
+        cut(users, groups.as_slice(), kept_groups(records, key), key);
+        return Err(error);
+    }
+    let old = write(records, key, value, groups, version);
+    cut(users, old.as_slice(), kept_groups(records, key), key);
+    Ok(())
+}
+
+/// Stores a record of a key, and the reverse edges with it. Where a growth was refused, the records and the edges are
+/// as before.
+pub fn store(
+    alloc: Global,
+    records: &mut Records,
+    users: &mut Users,
+    key: &Key,
+    value: Arc<Value>,
+    groups: Vec<Vec<Key>>,
+    version: u32,
+) -> Result<(), Memory>
+    requires linked { IsLinked records.old users.old }
+    requires ready { HasReadyMembers (seen records.old) key.now (items_of groups.items) }
+    ensures ok { OnOk result (HasStored records.old records.new users.new key.now (stored (seen records.old key.now) (arc_value value) (items_of groups.items) version)) }
+    ensures err { OnErr result (SameRecords records.old records.new × SameSets users.old users.new) }
+{
+    if records.contains_key(key) {
+        rewrite(alloc, records, users, key, value, groups, version)?;
+        return Ok(());
+    }
+    place(alloc, records, key, &value, version)?;
+    match rewrite(alloc, records, users, key, value, groups, version) {
+        Ok(()) => Ok(()),
+        Err(error) => {
+            let _placed = records.remove(key);
+            Err(error)
+        }
     }
 }

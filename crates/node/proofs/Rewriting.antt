@@ -1,0 +1,83 @@
+-- The reverse edges while a record is written.
+use Rattle.std.proofs.Common.{◌≡◌, ◌⊎◌, inl, inr, Bool, true, false, List, Option, Some, None, refl, sym, ◌∙◌, subst}
+use Rattle.std.specs.Option.{IsSome}
+use Rattle.evaluation.specs.Value.{In, IsMember}
+use Rattle.keys.specs.declared.key.Key.{Key}
+use Rattle.node.specs.declared.kept.Kept.{Kept}
+use Rattle.node.specs.Kept.{Records, Users, kept_at, users_at}
+use Rattle.node.specs.Edges.{HasLinkedSome, HasLinkedAll, HasCut, HasUsers, among}
+use Rattle.node.specs.Graphs.{IsLinked}
+use Rattle.node.specs.Writes.{groups_at, SameSets}
+use Rattle.node.proofs.Lists.{true_false, decide_key, not_in}
+use Rattle.node.proofs.Joining.{among_member, not_among}
+
+pub some_kept : (o : Option Kept) → IsSome o → (e : Kept) × (o ≡ Some e)
+some_kept None h = absurd (true_false h refl)
+some_kept (Some e) h = (e, refl)
+
+-- a key is a member of the groups, or is none
+decide_member : (groups : List (List Key)) (j : Key) → IsMember j groups ⊎ (IsMember j groups → ⊥)
+decide_member groups j = go (among groups j) refl
+  where
+    go : (b : Bool) → among groups j ≡ b → IsMember j groups ⊎ (IsMember j groups → ⊥)
+    go true t = inl (among_member groups j t)
+    go false t = inr (not_among groups j t)
+
+module _ (records : Records) (users : Users) (linked : IsLinked records users) (key : Key) where
+  abbrev old_groups : List (List Key)
+  old_groups = groups_at (kept_at records key)
+
+  complete_at : (j : Key) → IsMember j old_groups → In key (users_at users j)
+  complete_at j m = go (kept_at records key) refl m
+    where
+      go : (o : Option Kept) → kept_at records key ≡ o → IsMember j (groups_at o) → In key (users_at users j)
+      go None h m = absurd (not_in m.1 refl)
+      go (Some e) h m = linked.complete j key e h m
+
+  used_at : (j : Key) → In key (users_at users j) → IsMember j old_groups
+  used_at j i = let p = linked.used j key i in subst (λ o. IsMember j (groups_at o)) (sym p.1) p.2
+
+  module _ (middle later : Users) (groups linked_groups cut_groups kept_groups : List (List Key)) (g : linked_groups ≡ groups) (some : HasLinkedSome users middle key (λ j. IsMember j linked_groups)) where
+    -- the members that were linked are cut again
+    pub undone_users : cut_groups ≡ groups → kept_groups ≡ old_groups → HasCut middle later key (λ j. IsMember j cut_groups) (λ j. IsMember j kept_groups) → SameSets users later
+    undone_users c k cut j x = (to, back)
+      where
+        to : In x (users_at later j) → In x (users_at users j)
+        to i = elim (some.from j x (cut.from j x i)) [
+          | inl a ↦ a
+          | inr p ↦ elim (decide_member old_groups j) [
+            | inl m ↦ subst (λ y. In y (users_at users j)) p.1 (complete_at j m)
+            | inr n ↦ absurd (cut.gone j (subst (IsMember j) (g ∙ sym c) p.0) (λ m. n (subst (IsMember j) k m)) (subst (λ y. In y (users_at later j)) (sym p.1) i))
+          ]
+        ]
+
+        back : In x (users_at users j) → In x (users_at later j)
+        back i = elim (decide_key key x) [
+          | inl q ↦ subst (λ y. In y (users_at later j)) q (cut.kept j (subst (IsMember j) (sym k) (used_at j (subst (λ y. In y (users_at users j)) (sym q) i))) (some.keeps j key (subst (λ y. In y (users_at users j)) (sym q) i)))
+          | inr n ↦ cut.others j x n (some.keeps j x i)
+        ]
+
+    -- the members that are no more members are cut
+    pub finished_users : HasLinkedAll middle key (λ j. IsMember j linked_groups) → cut_groups ≡ old_groups → kept_groups ≡ groups → HasCut middle later key (λ j. IsMember j cut_groups) (λ j. IsMember j kept_groups) → HasUsers users later key groups
+    finished_users all c k cut = record {
+      own = λ j i. elim (some.from j key (cut.from j key i)) [
+        | inl a ↦ elim (decide_member groups j) [
+          | inl m ↦ m
+          | inr n ↦ absurd (cut.gone j (subst (IsMember j) (sym c) (used_at j a)) (λ m. n (subst (IsMember j) k m)) i)
+        ]
+        | inr p ↦ subst (IsMember j) g p.0
+      ];
+      has = λ j m. cut.kept j (subst (IsMember j) (sym k) m) (all j (subst (IsMember j) (sym g) m));
+      others = λ j x n i. elim (some.from j x (cut.from j x i)) [ inl a ↦ a | inr p ↦ absurd (n p.1) ];
+      kept = λ j x n i. cut.others j x n (some.keeps j x i);
+    }
+
+-- the same users in any order
+pub linked_sets : (records : Records) (old new : Users) → SameSets old new → IsLinked records old → IsLinked records new
+linked_sets records old new same l = record {
+  ordered = l.ordered;
+  used = λ j k i. l.used j k ((same j k).0 i);
+  complete = λ j k e h m. (same j k).1 (l.complete j k e h m);
+  members = l.members;
+  dirty_above = l.dirty_above;
+}

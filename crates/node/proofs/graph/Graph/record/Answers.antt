@@ -1,0 +1,23 @@
+use Rattle.std.proofs.Common.{◌∙◌}
+use Rattle.node.specs.Kept.{items_of}
+use Rattle.node.proofs.Lists.{on_err}
+use Rattle.node.proofs.Linking.{seen_same}
+use Rattle.node.proofs.Storing.{unstored_linked, ready_seen, stored_seen}
+use Rattle.node.proofs.graph.Graph.record.Goals as goal
+
+pub store-requires-clause-ready : goal.store-requires-clause-ready
+store-requires-clause-ready c = ready_seen c.self.inside.records c.self.inside.version c.args.self.now c.self.view_is c.args.key (items_of c.args.groups.items) c.requires
+
+pub invariant_of-self : goal.invariant_of-self
+invariant_of-self c =
+    let e = c.in_err-store.ensures.err in
+    unstored_linked c.self.inside.records c.store.new.records c.self.inside.users c.store.new.users e.0 e.1 c.self.invariant
+
+pub returns-in_err-store-clause-refused : goal.returns-in_err-store-clause-refused
+returns-in_err-store-clause-refused c =
+    let e = c.in_err-store.ensures.err in
+    on_err c.from_residual.result (seen_same c.self.inside.records c.store.new.records e.0.0 e.0.1 c.self.inside.version c.self.invariant.ordered ∙ c.self.view_is)
+
+pub returns-clause-recorded : goal.returns-clause-recorded
+returns-clause-recorded c =
+    stored_seen c.self.inside.records c.self.inside.version c.args.self.now c.self.view_is c.store.new.records c.args.key _ (items_of c.args.groups.items) c.in_ok-store.ensures.ok.sets

@@ -1,0 +1,62 @@
+-- What is written into a record.
+use Rattle.std.specs.Prelude.{◌≡◌, ◌⊎◌, ℕ, List, [], Bool, false, Option, Some, None, if◌then◌else◌, ◌↔◌, not, ◌||◌}
+use Rattle.std.specs.List.{list_all}
+use Rattle.std.specs.Arc.{arc_value}
+use Rattle.std.specs.declared.sync.Arc.{Arc}
+use Rattle.std.specs.declared.alloc.Global.{Global}
+use Rattle.std.specs.declared.vec.Vec.{Vec}
+use Rattle.std.specs.BTreeMap.{Updates, IsOrdered}
+use Rattle.keys.specs.Keys.{key_cmp, key_eq}
+use Rattle.evaluation.specs.Graph.{Record}
+use Rattle.evaluation.specs.Value.{In, IsMember}
+use Rattle.keys.specs.Values.{value_eq}
+use Rattle.keys.specs.declared.key.Key.{Key}
+use Rattle.keys.specs.declared.value.Value.{Value}
+use Rattle.node.specs.declared.kept.Kept.{Kept}
+use Rattle.node.specs.Kept.{Records, Users, kept_at, users_at, items_of}
+
+-- the version at which a value last changed: it is kept where an equal value was there
+abbrev pub change_of : Option (Record Key Value) → Value → ℕ → ℕ
+change_of None value version = version
+change_of (Some r) value version = (if value_eq r.value value then r.changed_at else version)
+
+-- the record of a key that is settled with this value and these groups
+abbrev pub stored : Option (Record Key Value) → Value → List (List Key) → ℕ → Record Key Value
+stored old value groups version = record { value = value; groups = groups; settled_at = version; changed_at = change_of old value version; dirty = false }
+
+-- the members of the groups are the key or have records that are not dirty
+abbrev pub HasReadyMembers : (Key → Option (Record Key Value)) → Key → List (List Key) → Type 0
+HasReadyMembers records key groups = (j : Key) → IsMember j groups → (key ≡ j) ⊎ ((s : Record Key Value) × (records j ≡ Some s) × (s.dirty ≡ false))
+
+-- the record is not dirty
+abbrev pub is_clean : Option (Record Key Value) → Bool
+is_clean None = false
+is_clean (Some r) = not r.dirty
+
+-- the same as a test
+abbrev pub is_ready_group : (Key → Option (Record Key Value)) → Key → List Key → Bool
+is_ready_group records key group = list_all (λ j. key_eq key j || is_clean (records j)) group
+
+abbrev pub are_ready : (Key → Option (Record Key Value)) → Key → List (List Key) → Bool
+are_ready records key groups = list_all (is_ready_group records key) groups
+
+-- what is kept after a write
+abbrev pub written : Kept → Arc Value Global → Vec (Vec Key Global) Global → ℕ → Kept
+written e value groups version = record { value = value; groups = groups; settled_at = version; changed_at = (if value_eq (arc_value e.value) (arc_value value) then e.changed_at else version); dirty = false }
+
+-- the groups of what is kept
+abbrev pub groups_at : Option Kept → List (List Key)
+groups_at None = []
+groups_at (Some e) = items_of e.groups.items
+
+-- each key has the users that it had, in any order
+abbrev pub SameSets : Users → Users → Type 0
+SameSets old new = (j k : Key) → In k (users_at new j) ↔ In k (users_at old j)
+
+-- a record without groups was put at the key
+abbrev pub HasPlaced : Records → Records → Key → Value → ℕ → Type 0
+HasPlaced old new key value version = (e : Kept) × Updates key_cmp old new key (Some e) × (arc_value e.value ≡ value) × (e.groups.items ≡ []) × (e.changed_at ≡ version) × (e.dirty ≡ false)
+
+-- each key has the record that it had
+abbrev pub SameRecords : Records → Records → Type 0
+SameRecords old new = ((k : Key) → kept_at new k ≡ kept_at old k) × IsOrdered key_cmp new

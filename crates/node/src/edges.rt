@@ -1,0 +1,112 @@
+//! Reverse edges, from a key to those whose records have it in a group.
+ghost use Rattle.std.specs.Prelude.{◌≡◌, List, map, OnOk, OnErr, IsTrue, ◌↔◌};
+ghost use Rattle.evaluation.specs.Value.{In, IsMember};
+ghost use Rattle.keys.specs.declared.key.Key.{Key};
+ghost use Rattle.node.specs.Kept.{items_of};
+ghost use Rattle.node.specs.Edges.{IsAdded, IsRemoved, HasLinked, HasUnlinked, SameUsers, HasLinkedSome, HasLinkedAll, HasCut, among};
+
+use crate::kept::Users;
+use keys::Key;
+use std::alloc::Global;
+use std::collections::BTreeSet;
+use texts::Memory;
+
+// Adds a key to a set.
+fn add(set: &mut BTreeSet<Key>, key: Key) -> Result<(), Memory>
+    ensures ok { OnOk result (IsAdded set.old.keys set.new.keys key) }
+    ensures err { OnErr result (set.new.keys ≡ set.old.keys) }
+{
+    set.insert(key)?;
+    Ok(())
+}
+
+// Removes a key from a set.
+fn remove(set: &mut BTreeSet<Key>, key: &Key)
+    ensures { IsRemoved set.old.keys set.new.keys key.now }
+{
+    let _was_there = set.remove(key);
+}
+
+// Makes the key a user of the member.
+fn link(alloc: Global, users: &mut Users, member: &Key, key: &Key) -> Result<(), Memory>
+    ensures ok { OnOk result (HasLinked users.old users.new member.now key.now) }
+    ensures err { OnErr result (SameUsers users.old users.new) }
+{
+    let user = key.share()?;
+    if let Some(set) = users.get_mut(member) {
+        add(set, user)?;
+        return Ok(());
+    }
+    let mut set = BTreeSet::new(alloc);
+    add(&mut set, user)?;
+    users.insert(member.share()?, set)?;
+    Ok(())
+}
+
+// Makes the key no user of the member.
+fn unlink(users: &mut Users, member: &Key, key: &Key)
+    ensures { HasUnlinked users.old users.new member.now key.now }
+{
+    if let Some(set) = users.get_mut(member) {
+        remove(set, key);
+    }
+}
+
+// Makes the key a user of each member of a group.
+fn link_group(alloc: Global, users: &mut Users, group: &[Key], key: &Key) -> Result<(), Memory>
+    ensures some { HasLinkedSome users.old users.new key.now (λ j. In j group.now) }
+    ensures all { OnOk result (HasLinkedAll users.new key.now (λ j. In j group.now)) }
+{
+    for member in group {
+        link(alloc, users, member, key)?;
+    }
+    Ok(())
+}
+
+/// Makes the key a user of each member of the groups.
+pub fn link_groups(
+    alloc: Global,
+    users: &mut Users,
+    groups: &[Vec<Key>],
+    key: &Key,
+) -> Result<(), Memory>
+    ensures some { HasLinkedSome users.old users.new key.now (λ j. IsMember j (items_of groups.now)) }
+    ensures all { OnOk result (HasLinkedAll users.new key.now (λ j. IsMember j (items_of groups.now))) }
+{
+    for group in groups {
+        link_group(alloc, users, group.as_slice(), key)?;
+    }
+    Ok(())
+}
+
+// Whether the key is a member of the groups.
+fn is_among(groups: &[Vec<Key>], key: &Key) -> bool
+    ensures { result ≡ among (items_of groups.now) key.now }
+{
+    for group in groups {
+        if group.as_slice().contains(key) {
+            return true;
+        }
+    }
+    false
+}
+
+// Makes the key no user of the members of a group, but of those among the groups that are kept.
+fn cut_group(users: &mut Users, group: &[Key], keep: &[Vec<Key>], key: &Key)
+    ensures { HasCut users.old users.new key.now (λ j. In j group.now) (λ j. IsMember j (items_of keep.now)) }
+{
+    for member in group {
+        if !is_among(keep, member) {
+            unlink(users, member, key);
+        }
+    }
+}
+
+/// Makes the key no user of the members of the groups, but of those among the groups that are kept.
+pub fn cut(users: &mut Users, groups: &[Vec<Key>], keep: &[Vec<Key>], key: &Key)
+    ensures { HasCut users.old users.new key.now (λ j. IsMember j (items_of groups.now)) (λ j. IsMember j (items_of keep.now)) }
+{
+    for group in groups {
+        cut_group(users, group.as_slice(), keep, key);
+    }
+}
