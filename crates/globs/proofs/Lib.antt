@@ -1,0 +1,5 @@
+pub mod Members
+pub mod Sorted
+pub mod Paths
+pub mod Walk
+pub mod Answer
