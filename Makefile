@@ -23,4 +23,5 @@ allocations: build
 # Times of the program; prints a table. Needs python3.
 bench: build
 	@cd crates/parse_only && rt run < /dev/null > build.log 2>&1 || { tail -n 30 build.log; exit 1; }
+	@cd crates/tree_times && rt run > build.log 2>&1 || { tail -n 30 build.log; exit 1; }
 	python3 bench/bench.py

@@ -13,6 +13,7 @@ import time
 
 HERE = os.path.dirname(os.path.abspath(__file__))
 LOADER = [os.path.join(HERE, "../crates/cli/out/cli"), "run"]
+TREE_TIMES = os.path.join(HERE, "../crates/tree_times/out/tree_times")
 PARSE_ONLY = [os.path.join(HERE, "../crates/parse_only/out/parse_only")]
 
 
@@ -34,7 +35,7 @@ def find(directory):
     return line(op="find", name=f"d{directory // 100}/p{directory % 100}")
 
 
-def seconds(command, file, runs=3):
+def seconds(command, file, runs=7):
     best = None
     for _ in range(runs):
         with open(file) as lines:
@@ -118,8 +119,14 @@ def long_line():
     print(f"a line of 300 MB: refused in {took:.2f} s, at most {int(most) / 1024:.1f} MB of memory")
 
 
+def tree_times():
+    for files in ("1000", "100000"):
+        print(subprocess.run([TREE_TIMES, files], capture_output=True, text=True, check=True).stdout, end="")
+
+
 def main():
     with tempfile.TemporaryDirectory() as folder:
+        tree_times()
         long_line()
         throughput(folder)
         for files in (1_000, 100_000):
