@@ -243,6 +243,11 @@ fn edits_and_requests() -> (&'static str, &'static str) {
     (input, want)
 }
 
+fn lines_in(bytes: &[u8]) -> usize {
+    bytes.iter().filter(|byte| **byte == b'\n').count()
+}
+
+// All that was answered was written before the read that fails: the program waits for no more lines to answer one.
 #[test]
 fn a_read_that_fails_stops_serving(rt: HostRuntime) {
     let (input, want) = edits_and_requests();
