@@ -6,3 +6,4 @@ pub mod Joining
 pub mod Rewriting
 pub mod Storing
 pub mod Readying
+pub mod Lawfulness

@@ -3,3 +3,4 @@ pub mod Marks
 pub mod Graphs
 pub mod Edges
 pub mod Writes
+pub mod Laws

@@ -6,6 +6,7 @@ ghost use Rattle.evaluation.specs.Graph.{Record, Marks};
 ghost use Rattle.keys.specs.declared.key.Key.{Key};
 ghost use Rattle.keys.specs.declared.value.Value.{Value};
 ghost use Rattle.node.specs.Kept.{record_of, items_of};
+ghost use Rattle.node.specs.Laws.{IsAlwaysLawful, TouchKeepsLawful, SettlingKeepsLawful};
 ghost use Rattle.node.specs.Writes.{HasReadyMembers, stored, is_ready_group, are_ready};
 ghost use Rattle.node.specs.Graphs.{record_at, present, IsTouched, HasCleanMembers, Sets};
 
@@ -46,6 +47,7 @@ impl Graph {
     pub fn new(alloc: Global) -> Graph
         ensures version { result.version ≡ 0 }
         ensures records { result.records ≡ [] }
+        ensures lawful { IsAlwaysLawful result }
     {
         Graph::new_at(alloc, 0)
     }
@@ -54,6 +56,7 @@ impl Graph {
     pub fn new_at(alloc: Global, version: u32) -> Graph
         ensures version { result.version ≡ version }
         ensures records { result.records ≡ [] }
+        ensures lawful { IsAlwaysLawful result }
     {
         Graph {
             alloc,
@@ -118,13 +121,15 @@ impl Graph {
     }
 
     /// Takes in an edit of the path: one version more, and each record is marked that reaches a leaf which the edit
-    /// touches. Nothing else changes. That the version is below its last value is the caller's condition. The new
-    /// version, or `Memory` where a growth was refused, and then nothing has changed.
+    /// touches. Nothing else changes. A graph that is lawful for a history of the files is lawful for the history with
+    /// this edit. That the version is below its last value is the caller's condition. The new version, or `Memory` where
+    /// a growth was refused, and then nothing has changed.
     pub fn touch(&mut self, path: &str) -> Result<u32, Memory>
         requires { self.old.version < u32.MAX }
         ensures version { IfOk result (λ v. v ≡ self.old.version + 1) }
         ensures moved { OnOk result (self.new.version ≡ self.old.version + 1) }
         ensures marks { OnOk result (Marks (record_at self.old) (record_at self.new) (IsTouched path.now)) }
+        ensures lawful { OnOk result (TouchKeepsLawful self.old self.new path.now) }
         ensures refused { OnErr result (self.new ≡ self.old) }
     {
         let leaf = Key::File(Text::new(self.alloc, path)?);
@@ -169,7 +174,8 @@ impl Graph {
 
     /// Stores the record of a key that was settled at the present version with this value, after it asked these groups.
     /// The version at which its value last changed is kept where an equal value was there, and is the present one
-    /// otherwise. No other record changes. That each member of the groups is the key or has a record that is not dirty
+    /// otherwise. No other record changes. Where the value and the groups are those of the present files, a lawful graph
+    /// stays lawful. That each member of the groups is the key or has a record that is not dirty
     /// is the caller's condition. `Memory` where a growth was refused, and then nothing has changed.
     pub fn record(
         &mut self,
@@ -180,6 +186,7 @@ impl Graph {
         requires { HasReadyMembers (record_at self.old) key (items_of groups.items) }
         ensures version { self.new.version ≡ self.old.version }
         ensures recorded { OnOk result (Sets (record_at self.old) (record_at self.new) key (stored (record_at self.old key) (arc_value value) (items_of groups.items) self.old.version)) }
+        ensures lawful { OnOk result (SettlingKeepsLawful self.old self.new key (arc_value value) (items_of groups.items)) }
         ensures refused { OnErr result (self.new ≡ self.old) }
     {
         let version = self.version;
@@ -203,6 +210,7 @@ impl Graph {
         requires members { HasCleanMembers (record_at self.old) key.now }
         ensures version { self.new.version ≡ self.old.version }
         ensures confirmed { (r : Record Key Value) → record_at self.old key.now ≡ Some r → Sets (record_at self.old) (record_at self.new) key.now (record r { settled_at = self.old.version; dirty = false }) }
+        ensures lawful { (r : Record Key Value) → record_at self.old key.now ≡ Some r → SettlingKeepsLawful self.old self.new key.now r.value r.groups }
     {
         settle(&mut self.records, key, self.version);
     }

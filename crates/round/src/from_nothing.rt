@@ -111,8 +111,8 @@ fn step<R: Rules>(
 }
 
 /// The value of a key at the files as they are, by at most `budget` turns, each counted by the rules. `Budget` only
-/// where exactly that many turns were made and the key still has no value: so where a key leads into a loop, or asks
-/// for ever new keys, too. `Memory` where a growth was refused.
+/// where exactly that many turns were made and the key is no leaf: a key that leads into a loop, or asks for ever new
+/// keys, spends any budget. `Memory` where a growth was refused.
 pub fn evaluate_from_nothing<R: Rules>(
     alloc: Global,
     tree: &Tree,
@@ -122,6 +122,7 @@ pub fn evaluate_from_nothing<R: Rules>(
 ) -> Result<Arc<Value>, Stop>
     ensures value { IfOk result (λ v. Grounded R.next (read tree.now) root.now (arc_value v)) }
     ensures spent { IfErr result (λ e. e ≡ Budget → R.turns rules.new ≡ R.turns rules.old + budget) }
+    ensures open { IfErr result (λ e. e ≡ Budget → read tree.now root.now ≡ None) }
     ensures at_most { R.turns rules.new ≤ R.turns rules.old + budget }
 {
     let mut table: Table = BTreeMap::new(alloc);

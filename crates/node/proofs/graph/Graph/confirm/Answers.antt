@@ -1,3 +1,6 @@
+use Rattle.std.proofs.Common.{ap}
+use Rattle.node.specs.Graphs.{Recorded, recorded}
+use Rattle.node.proofs.Lawfulness.{confirm_keeps}
 use Rattle.node.proofs.Writing.{settled_linked, settled_sets}
 use Rattle.node.proofs.graph.Graph.confirm.Goals as goal
 
@@ -10,3 +13,9 @@ pub returns-clause-confirmed : goal.returns-clause-confirmed
 returns-clause-confirmed c =
     settled_sets c.self.inside.records c.settle.new.records c.self.inside.users c.args.key.now c.self.inside.version c.self.invariant c.settle.ensures.updates
     c.args.self.now c.self.view_is c.requires.members
+
+pub returns-clause-lawful : goal.returns-clause-lawful
+returns-clause-lawful c = λ r h.
+    confirm_keeps c.args.self.now (recorded c.self.inside.version c.settle.new.records) c.args.key.now r h (ap (λ (g : Recorded). g.version) c.self.view_is)
+    (settled_sets c.self.inside.records c.settle.new.records c.self.inside.users c.args.key.now c.self.inside.version c.self.invariant c.settle.ensures.updates
+    c.args.self.now c.self.view_is c.requires.members r h) c.requires.members

@@ -1,6 +1,8 @@
-use Rattle.std.proofs.Common.{◌∙◌, ◌+◌}
+use Rattle.std.proofs.Common.{◌∙◌, ◌+◌, ap}
 use Rattle.node.proofs.Linking.{touched_linked, touched_marks, linked_same, seen_same}
 use Rattle.node.proofs.Reaching.{undoing}
+use Rattle.node.specs.Graphs.{Recorded, recorded}
+use Rattle.node.proofs.Lawfulness.{touch_keeps}
 use Rattle.node.proofs.graph.Graph.touch.Goals as goal
 
 pub invariant_of-self : goal.invariant_of-self
@@ -22,3 +24,9 @@ pub returns-clause-refused : goal.returns-clause-refused
 returns-clause-refused c =
     seen_same c.self.inside.records c.unmark_all.new.records (c.unmark_all.ensures.undone _ (undoing _ _ _ _ _ c.in-Err.ensures.marked))
     (c.unmark_all.ensures.ordered (c.in-Err.ensures.ordered c.self.invariant.ordered)) c.self.inside.version c.self.invariant.ordered ∙ c.self.view_is
+
+pub returns-in-Ok-clause-lawful : goal.returns-in-Ok-clause-lawful
+returns-in-Ok-clause-lawful c =
+    touch_keeps c.args.self.now (recorded (c.self.inside.version + 1) c.mark_from.new.records) c.args.path.now (ap (λ (g : Recorded). g.version + 1) c.self.view_is)
+    (touched_marks c.self.inside.users c.self.inside.records c.mark_from.new.records c.mark_from.new.marked.items c.in_ok-new.field-0
+    c.self.invariant c.in-Ok.ensures.marked c.in-Ok.ensures.passed c.in-Ok.ensures.begun c.args.path.now c.in_ok-new.ensures c.args.self.now c.self.inside.version (c.self.inside.version + 1) c.self.view_is)

@@ -1,0 +1,71 @@
+-- What the graph's calls do keeps a lawful graph lawful.
+use Rattle.std.proofs.Common.{◌≡◌, ◌≢◌, ◌⊎◌, inl, inr, ℕ, ◌+◌, Bool, true, false, cond, List, Option, Some, None, refl, sym, ◌∙◌, ap, subst}
+use Rattle.evaluation.specs.Reply.{Reply}
+use Rattle.evaluation.specs.Value.{IsMember}
+use Rattle.evaluation.specs.Graph.{Record, Lawful, Marks, IsSettled}
+use Rattle.evaluation.proofs.Touch.{touch_lawful}
+use Rattle.evaluation.proofs.Settle.{settle_lawful}
+use Rattle.keys.specs.Cycles.{cycle}
+use Rattle.keys.specs.Values.{value_eq}
+use Rattle.keys.specs.ValueLaws.{exact_values}
+use Rattle.keys.specs.declared.key.Key.{Key}
+use Rattle.keys.specs.declared.value.Value.{Value}
+use Rattle.keys.proofs.CycleLaws.{turned}
+use Rattle.node.specs.Graphs.{Recorded, record_at, IsTouched, HasCleanMembers, Sets}
+use Rattle.node.specs.Writes.{change_of, stored, HasReadyMembers}
+use Rattle.node.specs.Laws.{IsLawfulFor, TouchKeepsLawful, SettlingKeepsLawful}
+use Rattle.node.proofs.Lists.{some_is, none_some, true_false, decide_key}
+
+pub touch_keeps : (old new : Recorded) (path : List ℕ) → new.version ≡ old.version + 1 → Marks (record_at old) (record_at new) (IsTouched path) → TouchKeepsLawful old new path
+touch_keeps old new path v m next reads edits law e edit stays =
+    subst (λ (n : ℕ). Lawful next cycle reads (record_at new) (λ u k. IsTouched (edits u) k) n) (sym v)
+    (touch_lawful next cycle reads (record_at old) (record_at new) (λ u k. IsTouched (edits u) k) old.version law
+    (subst (λ (p : List ℕ). Marks (record_at old) (record_at new) (IsTouched p)) (sym e) m)
+    (λ k n. edit k (subst (λ (p : List ℕ). IsTouched p k → ⊥) e n)) stays)
+
+-- how the changed version comes about
+abbrev IsChange : Option (Record Key Value) → Value → ℕ → ℕ → Type 0
+IsChange o value version at = ((r : Record Key Value) × (o ≡ Some r) × (r.value ≡ value) × (at ≡ r.changed_at)) ⊎ ((at ≡ version) × ((r : Record Key Value) → o ≡ Some r → r.value ≢ value))
+
+module _ (old new : Recorded) (key : Key) (value : Value) (groups : List (List Key)) (at : ℕ) (same : new.version ≡ old.version)
+    (sets : Sets (record_at old) (record_at new) key (record { value = value; groups = groups; settled_at = old.version; changed_at = at; dirty = false }))
+    (change : IsChange (record_at old key) value old.version at) where
+  pub settling_keeps : ((next : Key → List Value → Reply Key Value) (reads : ℕ → Key → Option Value) (edits : ℕ → List ℕ) → IsLawfulFor next reads edits old → HasReadyMembers (record_at old) key groups) → SettlingKeepsLawful old new key value groups
+  settling_keeps ready next reads edits law holds =
+      subst (λ (n : ℕ). Lawful next cycle reads (record_at new) (λ u k. IsTouched (edits u) k) n) (sym same)
+      (settle_lawful next cycle turned reads (record_at old) (λ u k. IsTouched (edits u) k) old.version law (record_at new) changed)
+    where
+      own : (i : Key) → key ≡ i → (s : Record Key Value) × (record_at new i ≡ Some s) × (s.dirty ≡ false)
+      own i q = (record { value = value; groups = groups; settled_at = old.version; changed_at = at; dirty = false }, ap (record_at new) (sym q) ∙ sets.there, refl)
+
+      members : (i : Key) → IsMember i groups → (s : Record Key Value) × (record_at new i ≡ Some s) × (s.dirty ≡ false)
+      members i m = elim (ready next reads edits law i m) [
+        | inl q ↦ own i q
+        | inr s ↦ elim (decide_key key i) [ inl q ↦ own i q | inr n ↦ (s.0, sets.others i n ∙ s.1, s.2) ]
+      ]
+
+      settled : IsSettled next cycle (reads old.version) old.version (record_at old) (record_at new) key
+      settled = record { value = value; groups = groups; changed_at = at; stored = sets.there; holds = holds; members = members; change = change }
+
+      changed : (j : Key) → IsSettled next cycle (reads old.version) old.version (record_at old) (record_at new) j ⊎ (record_at new j ≡ record_at old j)
+      changed j = elim (decide_key key j) [
+        | inl q ↦ inl (subst (IsSettled next cycle (reads old.version) old.version (record_at old) (record_at new)) q settled)
+        | inr n ↦ inr (sets.others j n)
+      ]
+
+-- a record that is stored
+pub is_change : (o : Option (Record Key Value)) (value : Value) (version : ℕ) → IsChange o value version (change_of o value version)
+is_change None value version = inr (refl, λ r e. absurd (none_some e))
+is_change (Some r) value version = go (value_eq r.value value) refl
+  where
+    go : (b : Bool) → value_eq r.value value ≡ b → IsChange (Some r) value version (cond (value_eq r.value value) r.changed_at version)
+    go true t = inl (r, refl, (exact_values r.value value).0 t, ap (λ b. cond b r.changed_at version) t)
+    go false t = inr (ap (λ b. cond b r.changed_at version) t, λ s e q. true_false ((exact_values r.value value).1 (ap (λ (x : Record Key Value). x.value) (some_is e) ∙ q)) t)
+
+pub record_keeps : (old new : Recorded) (key : Key) (value : Value) (groups : List (List Key)) → new.version ≡ old.version → Sets (record_at old) (record_at new) key (stored (record_at old key) value groups old.version) → HasReadyMembers (record_at old) key groups → SettlingKeepsLawful old new key value groups
+record_keeps old new key value groups v s ready = settling_keeps old new key value groups (change_of (record_at old key) value old.version) v s (is_change (record_at old key) value old.version) (λ next reads edits law. ready)
+
+-- a record that is confirmed
+pub confirm_keeps : (old new : Recorded) (key : Key) (r : Record Key Value) → record_at old key ≡ Some r → new.version ≡ old.version → Sets (record_at old) (record_at new) key (record r { settled_at = old.version; dirty = false }) → HasCleanMembers (record_at old) key → SettlingKeepsLawful old new key r.value r.groups
+confirm_keeps old new key r e v s clean = settling_keeps old new key r.value r.groups r.changed_at v s (inl (r, e, refl, refl))
+    (λ next reads edits law j m. let d = (law.each key r e).depends j m in inr (d.of_j, d.recorded, clean r d.of_j j e m d.recorded))

@@ -1,0 +1,30 @@
+-- A lawful graph stays lawful. `reads u` reads the leaves of the files at version u, and `edits u` is the path that the edit to version u changed.
+use Rattle.std.specs.Prelude.{◌≡◌, ℕ, ◌+◌, List, Option, Some}
+use Rattle.evaluation.specs.Reply.{Reply}
+use Rattle.evaluation.specs.Value.{Settles}
+use Rattle.evaluation.specs.Graph.{Lawful}
+use Rattle.keys.specs.Cycles.{cycle}
+use Rattle.keys.specs.declared.key.Key.{Key}
+use Rattle.keys.specs.declared.value.Value.{Value}
+use Rattle.node.specs.Graphs.{Recorded, record_at, IsTouched}
+
+-- the graph's records are true of this history of the files, under these node functions
+abbrev pub IsLawfulFor : (Key → List Value → Reply Key Value) → (ℕ → Key → Option Value) → (ℕ → List ℕ) → Recorded → Type 0
+IsLawfulFor next reads edits graph = Lawful next cycle reads (record_at graph) (λ u k. IsTouched (edits u) k) graph.version
+
+-- an edit of the path leads from a lawful graph to a lawful one, where it changes no other leaf and no leaf begins or ends to be one
+abbrev pub TouchKeepsLawful : Recorded → Recorded → List ℕ → Type 0
+TouchKeepsLawful old new path = (next : Key → List Value → Reply Key Value) (reads : ℕ → Key → Option Value) (edits : ℕ → List ℕ)
+    → IsLawfulFor next reads edits old → edits (old.version + 1) ≡ path
+    → ((k : Key) → (IsTouched path k → ⊥) → reads (old.version + 1) k ≡ reads old.version k)
+    → ((u w : ℕ) (k : Key) (v : Value) → reads u k ≡ Some v → (x : Value) × (reads w k ≡ Some x))
+    → IsLawfulFor next reads edits new
+
+-- a key that is settled with its present value and groups leads from a lawful graph to a lawful one
+abbrev pub SettlingKeepsLawful : Recorded → Recorded → Key → Value → List (List Key) → Type 0
+SettlingKeepsLawful old new key value groups = (next : Key → List Value → Reply Key Value) (reads : ℕ → Key → Option Value) (edits : ℕ → List ℕ)
+    → IsLawfulFor next reads edits old → Settles next (reads old.version) cycle key groups value → IsLawfulFor next reads edits new
+
+-- the graph is lawful for any history under any node functions
+abbrev pub IsAlwaysLawful : Recorded → Type 0
+IsAlwaysLawful graph = (next : Key → List Value → Reply Key Value) (reads : ℕ → Key → Option Value) (edits : ℕ → List ℕ) → IsLawfulFor next reads edits graph
