@@ -1,5 +1,5 @@
 -- A list of expressions that is not empty.
-use Rattle.std.proofs.Common.{◌≡◌, ℕ, List, [], ◌∷◌, Bool, not, ◌==◌, length, refl, arith}
+use Rattle.std.proofs.Common.{◌≡◌, List, [], ◌∷◌, not, ◌==◌, length, refl, arith}
 use Rattle.std.proofs.lemmas.Bool.Decides.{nat_tests}
 use Rattle.tree.specs.declared.expr.Expr.{Expr}
 use Rattle.tree.specs.View.{trees_of}

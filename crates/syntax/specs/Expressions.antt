@@ -1,6 +1,6 @@
 -- How the tokens of an expression are read. What stands inside brackets, behind a prefix operator or behind `else`
 -- is one level down.
-use Rattle.std.specs.Prelude.{ℕ, ◌+◌, ◌-◌, zero, suc, List, [], ◌∷◌, ◌++◌, map, Bool, true, false, ◌&&◌, ◌||◌, length, if◌then◌else◌, Option, Some, None}
+use Rattle.std.specs.Prelude.{ℕ, zero, suc, List, [], ◌∷◌, ◌++◌, Bool, true, false, ◌&&◌, length, if◌then◌else◌, Option, Some, None}
 use Rattle.tokens.specs.declared.symbol.Symbol.{Symbol}
 use Rattle.tokens.specs.declared.symbol.Symbol.TheVariants as s
 use Rattle.tokens.specs.Token.{Tok, name, int, string, symbol, Lex}
@@ -16,7 +16,7 @@ use Rattle.syntax.specs.declared.grammar.Kind.{Kind}
 use Rattle.syntax.specs.declared.grammar.Kind.TheVariants as k
 use Rattle.syntax.specs.declared.grammar.Rank.{Rank}
 use Rattle.syntax.specs.declared.grammar.Rank.TheVariants as r
-use Rattle.syntax.specs.Front.{Part, Reading, gives, fails, and_then, ◌>>=◌, is_at, is_name_before, tail, skip, expect, name_at, named, a_name}
+use Rattle.syntax.specs.Front.{Reading, gives, fails, and_then, ◌>>=◌, is_at, is_name_before, tail, skip, expect, a_name}
 
 -- the expressions of each kind one level down
 abbrev pub Level : Type 0

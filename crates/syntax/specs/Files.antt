@@ -3,7 +3,7 @@ use Rattle.std.specs.Prelude.{◌≡◌, ℕ, zero, suc, List, [], ◌∷◌, �
 use Rattle.std.specs.Str.{bytes_eq}
 use Rattle.tokens.specs.declared.refused.Refused.{Refused}
 use Rattle.tokens.specs.declared.symbol.Symbol.TheVariants as s
-use Rattle.tokens.specs.Token.{Tok, name, int, string, symbol, Lex}
+use Rattle.tokens.specs.Token.{Lex}
 use Rattle.tokens.specs.Reading.{Fault, fault, tokens_of, Refuses}
 use Rattle.tokens.specs.Strings.{unescaped}
 use Rattle.tokens.specs.Words.{is_name_text}
@@ -13,7 +13,6 @@ use Rattle.tree.specs.Tree.{Bound, St, Pa, Fn, Tp, It, Ld, Fi}
 use Rattle.tree.specs.Statements.{suite_of, file_of}
 use Rattle.syntax.specs.declared.kind.FileKind.{FileKind}
 use Rattle.syntax.specs.declared.kind.FileKind.TheVariants as kinds
-use Rattle.syntax.specs.declared.statement.Within.{Within}
 use Rattle.syntax.specs.Front.{Part, Reading, gives, and_then, ◌>>=◌, is_at, tail, expect, line_at, a_name, text_at, is_end}
 use Rattle.syntax.specs.Statements.{test, simple, suite, stmt}
 

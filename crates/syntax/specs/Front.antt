@@ -1,8 +1,8 @@
 -- Reading what stands at the front of tokens.
-use Rattle.std.specs.Prelude.{ℕ, ℤ, List, [], ◌∷◌, Bool, true, false, ◌==◌, ◌&&◌, if◌then◌else◌, Option, Some, None}
+use Rattle.std.specs.Prelude.{ℕ, List, [], ◌∷◌, Bool, true, false, ◌==◌, ◌&&◌, if◌then◌else◌, Option, Some, None}
 use Rattle.tokens.specs.declared.symbol.Symbol.{Symbol}
 use Rattle.tokens.specs.declared.symbol.Symbol.TheVariants as s
-use Rattle.tokens.specs.Token.{Tok, name, int, string, symbol, Lex}
+use Rattle.tokens.specs.Token.{Tok, name, string, symbol, Lex}
 
 -- what was read, and what is left
 pub record Part (A : Type 0) : Type 0 where

@@ -10,7 +10,7 @@ use Rattle.tree.specs.View.{exs_of}
 use Rattle.tree.specs.Statements.{suite_of, branches_of}
 use Rattle.syntax.specs.declared.grammar.Kind.TheVariants as k
 use Rattle.syntax.specs.declared.statement.Within.{Within}
-use Rattle.syntax.specs.Front.{Part, Reading, gives, and_then, ◌>>=◌, is_at, tail, expect, line_at}
+use Rattle.syntax.specs.Front.{Reading, gives, and_then, ◌>>=◌, is_at, tail, expect, line_at}
 use Rattle.syntax.specs.Expressions.{expr, targets, is_target}
 
 -- ---- expressions of a statement. No text whose tokens are nested at most 64 deep enters more than 64 levels in the first.

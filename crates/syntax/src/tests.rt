@@ -28,14 +28,6 @@ fn literal(value: Literal) -> &'static str {
 }
 
 #[cycle(show)]
-fn add_bound(alloc: Global, out: &mut String, bound: Option<&Expr>) -> Result<(), Fail> {
-    match bound {
-        Some(e) => add_expr(alloc, out, e),
-        None => add(out, "_"),
-    }
-}
-
-#[cycle(show)]
 fn add_all(alloc: Global, out: &mut String, items: &[Expr]) -> Result<(), Fail> {
     for item in items {
         add(out, " ")?;
@@ -135,12 +127,12 @@ fn add_expr(alloc: Global, out: &mut String, e: &Expr) -> Result<(), Fail> {
             add_expr(alloc, out, a)?;
             add(out, " ")?;
             match from {
-                Some(bound) => add_bound(alloc, out, Some(bound))?,
+                Some(bound) => add_expr(alloc, out, bound)?,
                 None => add(out, "_")?,
             }
             add(out, " ")?;
             match to {
-                Some(bound) => add_bound(alloc, out, Some(bound))?,
+                Some(bound) => add_expr(alloc, out, bound)?,
                 None => add(out, "_")?,
             }
             add(out, ")")
@@ -292,8 +284,8 @@ fn shown(alloc: Global, text: &[u8], kind: FileKind) -> Result<String, Fail> {
     }
 }
 
-/// Texts of BUILD files, with their trees.
-const BUILD: [(&str, &str); 104] = [
+/// Texts of files with loads and leading strings, and their trees.
+const LOADS: [(&str, &str); 24] = [
     ("", ""),
     ("pass\n", "1:pass;"),
     ("x = 1", "1:x = 1;"),
@@ -321,6 +313,10 @@ const BUILD: [(&str, &str); 104] = [
     ("load('a', b)\n", "fault 3 0"),
     ("load('a', x = 'b c')\n", "fault 3 0"),
     ("load(a, 'b')\n", "fault 3 0"),
+];
+
+/// Texts with tuples, lists and dictionaries, and their trees.
+const DISPLAYS: [(&str, &str); 25] = [
     (
         "x = [1, 'a\\n', None, True, False]\n",
         "1:x = (list 1 'a\n' None True False);",
@@ -352,6 +348,10 @@ const BUILD: [(&str, &str); 104] = [
     ("x = (a for a in b)\n", "fault 3 0"),
     ("x = [a for a in b if c else d]\n", "fault 3 0"),
     ("1 - 2 - 3\n", "1:(Subtract (Subtract 1 2) 3);"),
+];
+
+/// Texts with operators, and their trees.
+const OPERATORS: [(&str, &str); 22] = [
     (
         "1 - 2 * 3 // 4 % 5\n",
         "1:(Subtract 1 (Remainder (Divide (Multiply 2 3) 4) 5));",
@@ -380,6 +380,10 @@ const BUILD: [(&str, &str); 104] = [
     ("a if b else c if d else e\n", "1:(if b a (if d c e));"),
     ("a if b\n", "fault 3 0"),
     ("f(a, b = c, d = e,)\n", "1:(call f a c e /b /d);"),
+];
+
+/// Texts with calls, indexes and assignments, and their trees.
+const REST: [(&str, &str); 33] = [
     ("f()(a)[b].c(d)\n", "1:(.c (at (call (call f) a) b) d);"),
     ("f(a = b, c)\n", "fault 3 0"),
     ("f(,)\n", "fault 3 0"),
@@ -488,8 +492,35 @@ const BZL: [(&str, &str); 35] = [
 ];
 
 #[test]
-fn build_files_have_these_trees(rt: HostRuntime) -> Result<(), Fail> {
-    for (text, wanted) in BUILD {
+fn loads_have_these_trees(rt: HostRuntime) -> Result<(), Fail> {
+    for (text, wanted) in LOADS {
+        let found = shown(rt.alloc(), text.as_bytes(), FileKind::Build)?;
+        assert_eq!(rt; found.as_str(), wanted, "{text}");
+    }
+    Ok(())
+}
+
+#[test]
+fn displays_have_these_trees(rt: HostRuntime) -> Result<(), Fail> {
+    for (text, wanted) in DISPLAYS {
+        let found = shown(rt.alloc(), text.as_bytes(), FileKind::Build)?;
+        assert_eq!(rt; found.as_str(), wanted, "{text}");
+    }
+    Ok(())
+}
+
+#[test]
+fn operators_have_these_trees(rt: HostRuntime) -> Result<(), Fail> {
+    for (text, wanted) in OPERATORS {
+        let found = shown(rt.alloc(), text.as_bytes(), FileKind::Build)?;
+        assert_eq!(rt; found.as_str(), wanted, "{text}");
+    }
+    Ok(())
+}
+
+#[test]
+fn calls_and_assignments_have_these_trees(rt: HostRuntime) -> Result<(), Fail> {
+    for (text, wanted) in REST {
         let found = shown(rt.alloc(), text.as_bytes(), FileKind::Build)?;
         assert_eq!(rt; found.as_str(), wanted, "{text}");
     }
@@ -589,5 +620,15 @@ fn every_cut_is_parsed(rt: HostRuntime) -> Result<(), Fail> {
     }
     assert!(rt; parse(alloc, READ.as_bytes(), FileKind::Bzl).is_ok());
     assert_eq!(rt; code(alloc, READ), 3);
+    Ok(())
+}
+
+/// Memory that runs out anywhere is answered, and harms nothing.
+#[test]
+fn a_file_is_parsed_or_memory_runs_out(rt: HostRuntime) -> Result<(), Fail> {
+    match parse(rt.alloc(), READ.as_bytes(), FileKind::Bzl) {
+        Ok(file) => assert_eq!(rt; file.loads().len(), 1),
+        Err(found) => assert_eq!(rt; found, Refused::Memory),
+    }
     Ok(())
 }

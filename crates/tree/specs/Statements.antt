@@ -1,7 +1,7 @@
 -- The plain tree that a statement, a function or a file in memory is.
-use Rattle.std.specs.Prelude.{ℕ, List, [], ◌∷◌, Option, Some, None, map}
+use Rattle.std.specs.Prelude.{List, [], ◌∷◌, map}
 use Rattle.std.specs.Arc.{arc_value}
-use Rattle.tree.specs.Tree.{Ex, Bound, St, Suite, Branches, Br, Pa, Fn, Tp, It, Ld, Fi, pass, break, continue, return, eval, assign, augment, if_else, for_each, no_more, next, no_branches, more_branches, branch, stmt, def}
+use Rattle.tree.specs.Tree.{St, Suite, Branches, Br, Pa, Fn, Tp, It, Ld, Fi, pass, break, continue, return, eval, assign, augment, if_else, for_each, no_more, next, no_branches, more_branches, branch, stmt, def}
 use Rattle.tree.specs.View.{tree_of, bound_tree}
 use Rattle.tree.specs.declared.stmt.Branch.{Branch, fold-Branch}
 use Rattle.tree.specs.declared.stmt.Stmt.TheOpen.{Stmt-F, Branch-F}

@@ -1,7 +1,6 @@
 use Rattle.std.proofs.Common.{◌≡◌, drop, map}
-use Rattle.tree.specs.Statements.{param_of, item_of, load_of, top_of}
-use Rattle.syntax.specs.View.{left}
-use Rattle.syntax.specs.Files.{params, params_after, more_items, items_after, loads, loads_after, tops, tops_after, has_name, has_default}
+use Rattle.tree.specs.Statements.{param_of}
+use Rattle.syntax.specs.Files.{has_default}
 use Rattle.syntax.proofs.function.has_default.Given as goal
 
 abbrev pub invariant-loop-p : goal.invariant-loop-p

@@ -1,7 +1,7 @@
 use Rattle.std.proofs.Common.{◌≡◌, ◌-◌, map}
-use Rattle.tree.specs.Statements.{param_of, item_of, load_of, top_of}
+use Rattle.tree.specs.Statements.{param_of}
 use Rattle.syntax.specs.View.{left}
-use Rattle.syntax.specs.Files.{params, params_after, more_items, items_after, loads, loads_after, tops, tops_after, has_name, has_default}
+use Rattle.syntax.specs.Files.{params, params_after}
 use Rattle.syntax.proofs.function.params.Given as goal
 
 abbrev pub invariant-loop-turn : goal.invariant-loop-turn

@@ -1,4 +1,4 @@
-use Rattle.std.proofs.Common.{◌≡◌, suc, ◌-◌, ap, arith}
+use Rattle.std.proofs.Common.{◌≡◌, ap, arith}
 use Rattle.syntax.specs.Expressions.{expr}
 use Rattle.syntax.specs.View.{left}
 use Rattle.syntax.proofs.Turns.{one_level}

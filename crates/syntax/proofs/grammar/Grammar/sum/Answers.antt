@@ -1,10 +1,9 @@
-use Rattle.std.proofs.Common.{map, rules, arith}
+use Rattle.std.proofs.Common.{rules, arith}
 use Rattle.std.proofs.lemmas.Grind.{common_steps}
-use Rattle.tree.specs.View.{tree_of, clause_of}
-use Rattle.syntax.specs.Parts.{pairs_of, arguments_of}
+use Rattle.tree.specs.View.{tree_of}
 use Rattle.syntax.specs.View.{left}
 use Rattle.syntax.specs.declared.grammar.Rank.TheVariants as r
-use Rattle.syntax.specs.Expressions.{expr, items, items_after, more_targets, targets_after, clauses, clauses_after, entries, entries_after, arguments_so_far, arguments_after, postfix_rest, postfix_after, unary, term, sum, not_test, and_test, or_test, chain, chain_after}
+use Rattle.syntax.specs.Expressions.{expr, term, chain_after}
 use Rattle.syntax.proofs.Turns.{in_turn, after_turns}
 use Rattle.syntax.proofs.grammar.Grammar.sum.Goals as goal
 

@@ -1,9 +1,8 @@
 use Rattle.std.proofs.Common.{map, rules, arith}
 use Rattle.std.proofs.lemmas.Grind.{common_steps}
-use Rattle.tree.specs.View.{tree_of}
-use Rattle.tree.specs.Statements.{stmt_of, branch_of}
+use Rattle.tree.specs.Statements.{stmt_of}
 use Rattle.syntax.specs.View.{left}
-use Rattle.syntax.specs.Statements.{test, exprs_after, more_exprs, stmt, stmts, stmts_after, branches_after, more_branches}
+use Rattle.syntax.specs.Statements.{stmt, stmts_after}
 use Rattle.syntax.proofs.Turns.{in_turn, after_turns}
 use Rattle.syntax.proofs.statement.Suites.stmts.Goals as goal
 

@@ -1,8 +1,7 @@
 use Rattle.std.proofs.Common.{◌≡◌, ◌-◌, map}
-use Rattle.tree.specs.View.{tree_of}
-use Rattle.tree.specs.Statements.{stmt_of, branch_of}
+use Rattle.tree.specs.Statements.{stmt_of}
 use Rattle.syntax.specs.View.{left}
-use Rattle.syntax.specs.Statements.{test, exprs_after, more_exprs, stmt, stmts, stmts_after, branches_after, more_branches}
+use Rattle.syntax.specs.Statements.{stmt, stmts, stmts_after}
 use Rattle.syntax.proofs.statement.Suites.stmts.Given as goal
 
 abbrev pub invariant-loop-turn : goal.invariant-loop-turn
