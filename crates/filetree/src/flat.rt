@@ -19,7 +19,7 @@ const TEXT_LIMIT: usize = 262_144;
 /// The plain program behind the clauses of `Tree`: one flat map of paths, which is searched whole for the
 /// directories. `Tree` is compared with it.
 #[derive(Drop)]
-pub struct FlatTree {
+pub(crate) struct FlatTree {
     alloc: Global,
     files: BTreeMap<String, Text>,
 }
@@ -69,7 +69,7 @@ fn some_above(files: &BTreeMap<String, Text>, path: &str) -> bool
 
 impl FlatTree {
     /// No files. The tree grows by the allocator it is made with.
-    pub fn new(alloc: Global) -> FlatTree
+    pub(crate) fn new(alloc: Global) -> FlatTree
         ensures { result ≡ map.empty }
     {
         FlatTree {
@@ -79,14 +79,14 @@ impl FlatTree {
     }
 
     /// The text of the file at the path.
-    pub fn file(&self, path: &str) -> Option<&Text>
+    pub(crate) fn file(&self, path: &str) -> Option<&Text>
         ensures { option_copied result ≡ map.get self.now path.now }
     {
         self.files.get(path)
     }
 
     /// Whether there is a file at the path.
-    pub fn is_file(&self, path: &str) -> bool
+    pub(crate) fn is_file(&self, path: &str) -> bool
         ensures { result ≡ specs.is_file self.now path.now }
     {
         self.files.contains_key(path)
@@ -105,7 +105,7 @@ impl FlatTree {
     }
 
     /// An equal tree; it shares the texts of this one.
-    pub fn copy(&self) -> Result<FlatTree, Memory>
+    pub(crate) fn copy(&self) -> Result<FlatTree, Memory>
         ensures { IfOk result (λ t. t ≡ self.now) }
     {
         let mut files = BTreeMap::new(self.alloc);
@@ -148,14 +148,14 @@ impl FlatTree {
 
     /// The number of the first refusal of a put, or none: 2 for a bad path, 7 for a text over 262,144
     /// bytes, 3 where a proper ancestor of the path is a file or the path is a directory.
-    pub fn put_refusal(&self, path: &str, text: &str) -> Option<u64>
+    pub(crate) fn put_refusal(&self, path: &str, text: &str) -> Option<u64>
         ensures { result ≡ specs.put_refusal self.now path.now text.now }
     {
         refusal_number(self.test_put(path, text))
     }
 
     /// The number of the first refusal of a removal, or none: 2 for a bad path, 4 for no such file.
-    pub fn del_refusal(&self, path: &str) -> Option<u64>
+    pub(crate) fn del_refusal(&self, path: &str) -> Option<u64>
         ensures { result ≡ specs.del_refusal self.now path.now }
     {
         refusal_number(self.test_del(path))
@@ -163,7 +163,7 @@ impl FlatTree {
 
     /// Puts a text at a path, or answers the first refusal and changes nothing; `Memory` comes only
     /// where there is no other refusal.
-    pub fn put(&mut self, path: &str, text: &str) -> Result<(), TreeError>
+    pub(crate) fn put(&mut self, path: &str, text: &str) -> Result<(), TreeError>
         ensures { Edits result (specs.put_refusal self.old path.now text.now)
             self.old (map.insert self.old path.now text.now) self.new }
     {
@@ -175,7 +175,7 @@ impl FlatTree {
     }
 
     /// Removes a file, or answers the first refusal and changes nothing.
-    pub fn del(&mut self, path: &str) -> Result<(), TreeError>
+    pub(crate) fn del(&mut self, path: &str) -> Result<(), TreeError>
         ensures { Edits result (specs.del_refusal self.old path.now)
             self.old (map.remove self.old path.now) self.new }
     {

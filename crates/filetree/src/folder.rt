@@ -115,58 +115,6 @@ impl Folder {
         Ok(Folder { files, folders })
     }
 
-    // Sets a text at a name, in place.
-    fn set_file(&mut self, alloc: Global, name: &str, text: &Arc<Text>) -> Result<(), Memory>
-        requires { levels.has_no_slash name.now ≡ true }
-        ensures ok { OnOk result ((path : List ℕ) → levels.text_at self.new.entries path
-            ≡ (if bytes_eq name.now path then Some text.now.value else levels.text_at self.old.entries path)) }
-        ensures err { OnErr result (self.new ≡ self.old) }
-    {
-        let key = String::from_str(alloc, name)?;
-        let shared = Arc::try_clone(text)?;
-        self.files.insert(key, shared)?;
-        Ok(())
-    }
-
-    // Sets another folder at a name, in place; it differs at one path from the one there.
-    fn set_folder(&mut self, alloc: Global, name: &str, inner: Folder) -> Result<(), Memory>
-        requires plain { levels.has_no_slash name.now ≡ true }
-        requires some { 0 < length inner.entries }
-        ensures ok { OnOk result ((rest : List ℕ) (w : Option (List ℕ)) → levels.Changes name.now rest w self.old.entries inner.entries
-            → (path : List ℕ) → levels.text_at self.new.entries path ≡ (if bytes_eq (name.now ++ 47 ∷ rest) path then w else levels.text_at self.old.entries path)) }
-        ensures err { OnErr result (self.new ≡ self.old) }
-    {
-        let key = String::from_str(alloc, name)?;
-        let shared = Arc::new(alloc, inner)?;
-        self.folders.insert(key, shared)?;
-        Ok(())
-    }
-
-    /// Puts a text at a path in place; a folder on its path that others share is made anew. A refused
-    /// growth changes nothing.
-    #[cycle(putting)]
-    pub(crate) fn put_here(
-        &mut self,
-        alloc: Global,
-        path: &str,
-        text: &Arc<Text>,
-    ) -> Result<(), Memory>
-        ensures ok { OnOk result ((other : List ℕ) → levels.text_at self.new.entries other
-            ≡ (if bytes_eq path.now other then Some text.now.value else levels.text_at self.old.entries other)) }
-        ensures err { OnErr result (self.new ≡ self.old) }
-    {
-        let Some((name, rest)) = split_name(path) else {
-            return self.set_file(alloc, path, text);
-        };
-        match self.folders.get_mut(name) {
-            Some(entry) => put_below(entry, alloc, rest, text),
-            None => {
-                let inner = Folder::new(alloc).put(alloc, rest, text)?;
-                self.set_folder(alloc, name, inner)
-            }
-        }
-    }
-
     // The folder without a file at a name.
     fn without_file(&self, name: &str) -> Result<Folder, Memory>
         requires { levels.has_no_slash name.now ≡ true }
@@ -340,24 +288,45 @@ impl Folder {
             None => Ok(None),
         }
     }
+
+    // Puts a text at a path in place.
+    #[cycle(put_shared)]
+    fn put_here(&mut self, alloc: Global, path: &str, text: &Arc<Text>) -> Result<(), Memory>
+        ensures ok { OnOk result ((other : List ℕ) → levels.text_at self.new.entries other
+            ≡ (if bytes_eq path.now other then Some text.now.value else levels.text_at self.old.entries other)) }
+        ensures err { OnErr result (self.new.entries ≡ self.old.entries) }
+    {
+        let Some((name, rest)) = split_name(path) else {
+            self.files
+                .insert(String::from_str(alloc, path)?, Arc::try_clone(text)?)?;
+            return Ok(());
+        };
+        if let Some(shared) = self.folders.get_mut(name) {
+            return put_shared(shared, alloc, rest, text);
+        }
+        let inner = Folder::new(alloc).put(alloc, rest, text)?;
+        self.folders
+            .insert(String::from_str(alloc, name)?, Arc::new(alloc, inner)?)?;
+        Ok(())
+    }
 }
 
-/// Puts a text at a path of a folder in place, unless others share the folder: then it is made anew.
-#[cycle(putting)]
-pub(crate) fn put_below(
-    entry: &mut Arc<Folder>,
+/// Puts a text at a path: in place where the folders on the way are not shared, and else in copies of them.
+#[cycle(put_shared)]
+pub(crate) fn put_shared(
+    shared: &mut Arc<Folder>,
     alloc: Global,
     path: &str,
     text: &Arc<Text>,
 ) -> Result<(), Memory>
-    ensures ok { OnOk result ((other : List ℕ) → levels.text_at entry.new.value.entries other
-        ≡ (if bytes_eq path.now other then Some text.now.value else levels.text_at entry.old.value.entries other)) }
-    ensures err { OnErr result (entry.new ≡ entry.old) }
+    ensures ok { OnOk result ((other : List ℕ) → levels.text_at shared.new.value.entries other
+        ≡ (if bytes_eq path.now other then Some text.now.value else levels.text_at shared.old.value.entries other)) }
+    ensures err { OnErr result (shared.new.value.entries ≡ shared.old.value.entries) }
 {
-    if let Some(folder) = Arc::get_mut(entry) {
+    if let Some(folder) = Arc::get_mut(shared) {
         return folder.put_here(alloc, path, text);
     }
-    let changed = entry.put(alloc, path, text)?;
-    *entry = Arc::new(alloc, changed)?;
+    let new = shared.put(alloc, path, text)?;
+    *shared = Arc::new(alloc, new)?;
     Ok(())
 }

@@ -1,6 +1,8 @@
 //! Files by their paths.
 #![tactic(auto)]
 
+ghost use Rattle.filetree.specs.Lawful.{EditsKeepPaths};
+
 mod error;
 mod flat;
 mod folder;
@@ -8,6 +10,11 @@ mod listing;
 mod tree;
 
 pub use error::TreeError;
-pub use flat::FlatTree;
 pub use listing::Listing;
 pub use tree::Tree;
+
+/// The law of the names: in no files at first, and after each put that is not refused and each removal,
+/// every file has a path for its name.
+pub fn edits_keep_paths()
+    ensures { EditsKeepPaths }
+{}

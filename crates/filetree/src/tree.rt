@@ -9,7 +9,7 @@ ghost use Rattle.filetree.specs.Listings.{listing};
 ghost use Rattle.filetree.specs.Seen.{names_seen};
 
 use crate::error::{TreeError, refusal_number};
-use crate::folder::{Folder, put_below};
+use crate::folder::{Folder, put_shared};
 use crate::listing::Listing;
 use labels::is_path;
 use std::alloc::Global;
@@ -20,8 +20,8 @@ use texts::{Memory, Text};
 const TEXT_LIMIT: usize = 262_144;
 
 /// The files: texts by their paths. A contract sees a finite map from the bytes of paths to the bytes
-/// of texts. A directory exists exactly when a file lies below it. Copies share their folders: an edit
-/// makes the folders on its path anew and shares all else.
+/// of texts. A directory exists exactly when a file lies below it. Copies share their folders: a put changes
+/// the folders on its path in place where no copy has them, else it makes these anew and shares all else.
 #[derive(Drop)]
 pub struct Tree {
     alloc: Global,
@@ -41,8 +41,8 @@ impl Model for Tree {
     ghost view = { λ t. map.from_entries (entries_of t.root) };
 }
 
-// Puts a text at a path below the first folder, in place where nobody shares it.
-fn put_root(
+// Puts a text at a path below the first folder.
+fn put_below(
     root: &mut Option<Arc<Folder>>,
     alloc: Global,
     path: &str,
@@ -50,17 +50,15 @@ fn put_root(
 ) -> Result<(), Memory>
     ensures ok { OnOk result ((other : List ℕ) → levels.text_at (levels.entries_of root.new) other
         ≡ (if bytes_eq path.now other then Some text.now else levels.text_at (levels.entries_of root.old) other)) }
-    ensures err { OnErr result (root.new ≡ root.old) }
+    ensures err { OnErr result (levels.entries_of root.new ≡ levels.entries_of root.old) }
 {
     let text = Arc::new(alloc, Text::new(alloc, text)?)?;
-    match root {
-        Some(first) => put_below(first, alloc, path, &text),
-        None => {
-            let first = Folder::new(alloc).put(alloc, path, &text)?;
-            *root = Some(Arc::new(alloc, first)?);
-            Ok(())
-        }
+    if let Some(shared) = root {
+        return put_shared(shared, alloc, path, &text);
     }
+    let new = Folder::new(alloc).put(alloc, path, &text)?;
+    *root = Some(Arc::new(alloc, new)?);
+    Ok(())
 }
 
 // The first folder without a text at a path, if anything is left.
@@ -198,7 +196,7 @@ impl Tree {
             self.old (map.insert self.old path.now text.now) self.new }
     {
         self.test_put(path, text)?;
-        put_root(&mut self.root, self.alloc, path, text)?;
+        put_below(&mut self.root, self.alloc, path, text)?;
         Ok(())
     }
 
