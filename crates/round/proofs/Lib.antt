@@ -1,1 +1,6 @@
 pub mod Evaluates
+pub mod Grouping
+pub mod Wanting
+pub mod Looking
+pub mod Confirming
+pub mod Checking

@@ -1,2 +1,6 @@
 pub mod Tables
 pub mod Finds
+pub mod Members
+pub mod Moves
+pub mod Looks
+pub mod Compared

@@ -2,7 +2,11 @@
 #![tactic(auto)]
 
 mod from_nothing;
+mod look;
+mod members;
+mod settle;
 mod stop;
 
 pub use from_nothing::evaluate_from_nothing;
+pub use open_nodes::Run;
 pub use stop::Stop;

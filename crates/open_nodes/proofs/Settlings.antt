@@ -1,0 +1,183 @@
+-- What is true of a round stays true, where one node changes and where one key is settled.
+use Rattle.std.proofs.Common.{◌≡◌, ◌≢◌, ◌⊎◌, inl, inr, ℕ, ◌+◌, ◌<◌, ◌≤◌, suc, true, false, List, [], ◌∷◌, ◌++◌, length, map, Option, Some, None, refl, sym, ◌∙◌, ap, subst}
+use Rattle.std.specs.List.{AllByRecursion}
+use Rattle.std.specs.BTreeMap.{Updates, get}
+use Rattle.evaluation.specs.Reply.{Reply, Ask, Done}
+use Rattle.evaluation.specs.Value.{Grounded, is_leaf, has_run, Turns, ends, asks, AllGrounded, none, one, IsUngrounded, AllDiffer, Settles, leaf, run, closed, In, first, after, IsMember}
+use Rattle.evaluation.specs.Graph.{Record, Lawful}
+use Rattle.evaluation.specs.Journal.{RunIsJustified, never_settled, dependency_differs, ReadIsJustified, never_read, edited}
+use Rattle.evaluation.proofs.Closed.{ungrounded}
+use Rattle.evaluation.proofs.Plain.{of_grounded}
+use Rattle.keys.specs.Cycles.{cycle}
+use Rattle.keys.specs.Keys.{key_cmp}
+use Rattle.keys.specs.Turns.{NoCycle}
+use Rattle.keys.specs.declared.key.Key.{Key}
+use Rattle.keys.specs.declared.value.Value.{Value}
+use Rattle.node.specs.Graphs.{Recorded, record_at, present, Sets, IsTouched}
+use Rattle.node.specs.Laws.{IsLawfulFor}
+use Rattle.node.proofs.Lists.{some_is, none_some, true_false, decide_key, other_key, in_split, in_left, in_one}
+use Rattle.open_nodes.specs.Nodes.{Nodes, node_at, groups_of, IsUnsettled}
+use Rattle.open_nodes.specs.Truths.{IsNext, Past, IsSince, IsAfter, IsDoing, IsRun, IsOpenTruly, IsItem, IsRunOf, run_keys, IsTold, IsTrueOf}
+use Rattle.open_nodes.specs.declared.run.Run.{Run}
+use Rattle.open_nodes.specs.declared.table.Node.{Node}
+use Rattle.open_nodes.proofs.Wholes.{unsettled_not_clean}
+
+-- a key that is none of the list may be put behind it
+pub differ_snoc : {X : Type 0} (xs : List X) (x : X) → AllDiffer xs → ((y : X) → In y xs → y ≢ x) → AllDiffer (xs ++ x ∷ [])
+differ_snoc [] x d n = (tt, tt)
+differ_snoc {X} (y ∷ xs) x d n = (all xs d.0, differ_snoc xs x d.1 (λ z i. n z (after i)))
+  where
+    all : (ys : List X) → AllByRecursion (λ j. y ≢ j) ys → AllByRecursion (λ j. y ≢ j) (ys ++ x ∷ [])
+    all [] a = (n y first, tt)
+    all (z ∷ ys) a = (a.0, all ys a.1)
+
+pub map_snoc : {X Y : Type 0} (f : X → Y) (xs : List X) (x : X) → map f (xs ++ x ∷ []) ≡ map f xs ++ f x ∷ []
+map_snoc f [] x = refl
+map_snoc f (y ∷ xs) x = ap (λ ys. f y ∷ ys) (map_snoc f xs x)
+
+pub in_map : {X Y : Type 0} (f : X → Y) (xs : List X) {y : Y} → In y (map f xs) → (x : X) × In x xs × (f x ≡ y)
+in_map f [] i = elim i [ ]
+in_map {X} {Y} f (x ∷ xs) {y = y} i = go (λ j. in_map f xs j) i refl
+  where
+    go : (In y (map f xs) → (w : X) × In w xs × (f w ≡ y)) → {zs : List Y} → In y zs → zs ≡ f x ∷ map f xs → (w : X) × In w (x ∷ xs) × (f w ≡ y)
+    go below (first {xs = ws}) e = (x, first, (cc))
+    go below (after {xs = ws} j) e = let q : ws ≡ map f xs = cc in let r = below (subst (In y) q j) in (r.0, after r.1, r.2)
+
+pub map_in : {X Y : Type 0} (f : X → Y) {xs : List X} {x : X} → In x xs → In (f x) (map f xs)
+map_in f first = first
+map_in f (after i) = after (map_in f i)
+
+module _ (next : Key → List Value → Reply Key Value) (read : Key → Option Value) (laws : IsNext next) (past : Past read) where
+  pub now_is : past.reads past.entry.version ≡ read
+  now_is = λ i k. past.at_present k i
+
+  -- a grounded value is no cycle
+  pub grounded_plain : (u : ℕ) (k : Key) (v : Value) → Grounded next (past.reads u) k v → NoCycle v
+  grounded_plain u k v g = of_grounded next (past.reads u) NoCycle (past.leaf_plain u) laws.ends_plain g
+
+  pub plain : (u : ℕ) (k : Key) (v : Value) (xs : List Key) → Grounded next (past.reads u) k v → v ≢ cycle xs
+  plain u k v xs g e = subst NoCycle e (grounded_plain u k v g)
+
+  module _ (graph : Recorded) (a : IsAfter next read past graph) where
+    -- an unsettled key has its record of the entry
+    pub same_since : (k : Key) → IsUnsettled (record_at graph) k → record_at graph k ≡ record_at past.entry k
+    same_since k u = elim (a.since k) [
+      | inl e ↦ e
+      | inr s ↦ absurd (unsettled_not_clean (record_at graph k) s.0 u s.1 s.2)
+    ]
+
+    -- what a settled key holds is its value at the present files
+    pub clean_settles : (k : Key) (r : Record Key Value) → record_at graph k ≡ Some r → r.dirty ≡ false → Settles next read cycle k r.groups r.value
+    clean_settles k r e d = subst (λ f. Settles next f cycle k r.groups r.value) (ap past.reads a.version ∙ now_is) ((a.lawful.each k r e).clean d)
+
+    pub plain_grounded : (k : Key) (r : Record Key Value) → record_at graph k ≡ Some r → r.dirty ≡ false → NoCycle r.value → Grounded next read k r.value
+    plain_grounded k r e d n = go (clean_settles k r e d) n
+      where
+        go : {gs : List (List Key)} {v : Value} → Settles next read cycle k gs v → NoCycle v → Grounded next read k v
+        go (leaf h) p = is_leaf h
+        go (run h t) p = has_run h t
+        go (closed h s c) p = absurd (subst NoCycle c.value p)
+
+    pub cycle_ungrounded : (k : Key) (r : Record Key Value) → record_at graph k ≡ Some r → r.dirty ≡ false → (NoCycle r.value → ⊥) → IsUngrounded next read k
+    cycle_ungrounded k r e d n = go (clean_settles k r e d) n
+      where
+        of_now : {v : Value} → Grounded next read k v → NoCycle v
+        of_now {v = v} g = grounded_plain past.entry.version k v (subst (λ f. Grounded next f k v) (sym now_is) g)
+
+        go : {gs : List (List Key)} {v : Value} → Settles next read cycle k gs v → (NoCycle v → ⊥) → IsUngrounded next read k
+        go (leaf h) p = absurd (p (of_now (is_leaf h)))
+        go (run h t) p = absurd (p (of_now (has_run h t)))
+        go (closed h s c) p = ungrounded next read h s
+
+  -- one node is set
+  pub truth_changes : (graph : Recorded) (nodes later : Nodes) (runs : List Run) (k : Key) (n : Node) → Updates key_cmp nodes later k (Some n)
+      → IsTrueOf next read past graph nodes runs → read k ≡ None → record_at graph k ≡ record_at past.entry k → IsDoing next read past k (groups_of n) n.phase
+      → IsTrueOf next read past graph later runs
+  truth_changes graph nodes later runs k n u t no_leaf same doing = record {
+    after = t.after;
+    opened = λ j m e. elim (decide_key k j) [
+      | inl q ↦ let is : n ≡ m = some_is (sym u.1 ∙ ap (node_at later) q ∙ e) in
+          subst (λ (y : Key). IsOpenTruly next read past graph y m) q (subst (λ (y : Node). IsOpenTruly next read past graph k y) is (record { no_leaf = no_leaf; same = same; doing = doing }))
+      | inr d ↦ t.opened j m (sym (other_key nodes later k (Some n) u j d) ∙ e)
+    ];
+    ran = t.ran;
+    differ = t.differ;
+    told = t.told;
+  }
+
+  -- one key is settled, and leaves the open nodes
+  module _ (graph new : Recorded) (nodes left : Nodes) (runs : List Run) (k : Key) (r : Record Key Value)
+      (t : IsTrueOf next read past graph nodes runs) (version : new.version ≡ graph.version)
+      (sets : Sets (record_at graph) (record_at new) k r) (was : IsUnsettled (record_at graph) k)
+      (is_clean : r.dirty ≡ false) (at : r.settled_at ≡ graph.version) (lawful : IsLawfulFor next past.reads past.edits new)
+      (gone : node_at left k ≡ None) (others_stay : (j : Key) → k ≢ j → node_at left j ≡ node_at nodes j) where
+    keeps : (j : Key) (s : Record Key Value) → record_at graph j ≡ Some s → s.dirty ≡ false → record_at new j ≡ Some s
+    keeps j s e d = elim (decide_key k j) [
+      | inl q ↦ absurd (unsettled_not_clean (record_at graph j) s (subst (IsUnsettled (record_at graph)) q was) e d)
+      | inr n ↦ sets.others j n ∙ e
+    ]
+
+    pub settled_after : IsAfter next read past new
+    settled_after = record {
+      version = version ∙ t.after.version;
+      lawful = lawful;
+      since = λ j. elim (decide_key k j) [
+        | inl q ↦ subst (IsSince next read past new) q (inr (r, sets.there, is_clean, at ∙ t.after.version, subst (λ o. present o ≡ None) (same_since graph t.after k was) was))
+        | inr n ↦ elim (t.after.since j) [
+          | inl e ↦ inl (sets.others j n ∙ e)
+          | inr s ↦ inr (s.0, sets.others j n ∙ s.1, s.2, s.3, s.4)
+        ]
+      ];
+    }
+
+    left_nodes : (j : Key) (m : Node) → node_at left j ≡ Some m → IsOpenTruly next read past new j m
+    left_nodes j m e = elim (decide_key k j) [
+      | inl q ↦ absurd (none_some (sym gone ∙ ap (node_at left) q ∙ e))
+      | inr n ↦ let o = t.opened j m (sym (others_stay j n) ∙ e) in record { no_leaf = o.no_leaf; same = sets.others j n ∙ o.same; doing = o.doing }
+    ]
+
+    run_stays : (x : Run) → IsRunOf next read past graph x → IsRunOf next read past new x
+    run_stays x o = record { of_key = o.of_key; recorded = keeps x.key o.of_key o.recorded o.clean; clean = o.clean; version = o.version; item = o.item }
+
+    -- without a run: its value is that of the entry, or that of a cycle
+    pub settles_quietly : (s : Record Key Value) → record_at past.entry k ≡ Some s → (r.value ≡ s.value) ⊎ IsUngrounded next read k → IsTrueOf next read past new left runs
+    settles_quietly s e same = record {
+      after = settled_after;
+      opened = left_nodes;
+      ran = λ x i. run_stays x (t.ran x i);
+      differ = t.differ;
+      told = λ j w f. elim (decide_key k j) [
+        | inl q ↦ subst (λ (y : Key). IsTold next read past runs y w) q (inr (s, e, subst (λ (z : Record Key Value). (z.value ≡ s.value) ⊎ IsUngrounded next read k) (some_is (sym sets.there ∙ ap (record_at new) q ∙ f)) same))
+        | inr n ↦ t.told j w (sym (sets.others j n) ∙ f)
+      ];
+    }
+
+    -- with a run
+    module _ (x : Run) (of_k : x.key ≡ k) (now : x.version ≡ graph.version) (item : IsItem next read past x r) where
+      apart : (y : Key) → In y (run_keys next read past runs) → y ≢ k
+      apart y i q = let w = in_map (λ (z : Run). z.key) runs i in let o = t.ran w.0 w.1 in
+          unsettled_not_clean (record_at graph k) o.of_key was (ap (record_at graph) (sym (w.2 ∙ q)) ∙ o.recorded) o.clean
+
+      more : (j : Key) (w : Record Key Value) → IsTold next read past runs j w → IsTold next read past (runs ++ x ∷ []) j w
+      more j w (inl i) = inl (subst (In j) (sym (map_snoc (λ (z : Run). z.key) runs x)) (in_left (x.key ∷ []) i))
+      more j w (inr o) = inr o
+
+      in_last : (ys : List Key) → In k (ys ++ x.key ∷ [])
+      in_last [] = subst (λ y. In k (y ∷ [])) (sym of_k) first
+      in_last (y ∷ ys) = after (in_last ys)
+
+      pub settles_by_run : IsTrueOf next read past new left (runs ++ x ∷ [])
+      settles_by_run = record {
+        after = settled_after;
+        opened = left_nodes;
+        ran = λ y i. elim (in_split i runs (x ∷ []) refl) [
+          | inl j ↦ run_stays y (t.ran y j)
+          | inr j ↦ subst (IsRunOf next read past new) (sym (in_one j))
+              (record { of_key = r; recorded = ap (record_at new) of_k ∙ sets.there; clean = is_clean; version = now ∙ t.after.version; item = item })
+        ];
+        differ = subst AllDiffer (sym (map_snoc (λ (z : Run). z.key) runs x)) (differ_snoc (run_keys next read past runs) x.key t.differ (λ y i q. apart y i (q ∙ of_k)));
+        told = λ j w f. elim (decide_key k j) [
+          | inl q ↦ inl (subst (λ y. In y (run_keys next read past (runs ++ x ∷ []))) q (subst (In k) (sym (map_snoc (λ (z : Run). z.key) runs x)) (in_last (run_keys next read past runs))))
+          | inr n ↦ more j w (t.told j w (sym (sets.others j n) ∙ f))
+        ];
+      }

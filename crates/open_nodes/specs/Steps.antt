@@ -1,0 +1,62 @@
+-- What one step does to the table.
+use Rattle.std.specs.Prelude.{◌≡◌, ◌⊎◌, ℕ, List, [], ◌∷◌, ◌++◌, Option, Some, None}
+use Rattle.std.specs.BTreeMap.{Updates}
+use Rattle.std.specs.BTreeSet.{BTreeSet}
+use Rattle.keys.specs.Keys.{key_cmp}
+use Rattle.keys.specs.declared.key.Key.{Key}
+use Rattle.node.specs.Edges.{IsAdded, IsRemoved}
+use Rattle.open_nodes.specs.Nodes.{Nodes, node_at, groups_of, pending}
+use Rattle.open_nodes.specs.declared.run.Run.{Run}
+use Rattle.open_nodes.specs.declared.table.Node.{Node}
+use Rattle.open_nodes.specs.declared.table.Phase.{Phase}
+use Rattle.open_nodes.specs.declared.table.Phase.TheVariants as phase
+use Rattle.open_nodes.specs.declared.table.Table.{Table}
+
+-- a node came in that has asked nothing, and for which nothing waits
+abbrev pub HasEntered : Nodes → Nodes → Key → Phase → Type 0
+HasEntered old new key p = (n : Node) × Updates key_cmp old new key (Some n) × (n.groups.items ≡ []) × (n.watchers.items ≡ []) × (n.phase ≡ p)
+
+-- the node does something else
+abbrev pub HasPhase : Nodes → Nodes → Key → Phase → Type 0
+HasPhase old new key p = (n : Node) → node_at old key ≡ Some n → Updates key_cmp old new key (Some (record n { phase = p }))
+
+-- the runs are as they were
+abbrev pub SameRuns : Table → Table → Type 0
+SameRuns old new = new.runs.items ≡ old.runs.items
+
+-- the key is to be looked at after those that were, and the rest is as it was
+pub record Pends (old new : Table) (key : Key) : Type 0 where
+  pub pends : pending new ≡ pending old ++ key ∷ []
+  pub ready : new.ready.keys ≡ old.ready.keys
+  pub runs : SameRuns old new
+
+-- the key came among those that are ready, and the rest is as it was
+pub record Readies (old new : Table) (key : Key) : Type 0 where
+  pub ready : IsAdded old.ready.keys new.ready.keys key
+  pub pends : pending new ≡ pending old
+  pub runs : SameRuns old new
+
+-- the node waits for the member
+abbrev pub HasWatcher : Nodes → Nodes → Key → Key → Type 0
+HasWatcher old new member key = (m : Node) → node_at old member ≡ Some m
+    → (n : Node) × Updates key_cmp old new member (Some n) × (n.groups.items ≡ m.groups.items) × (n.phase ≡ m.phase) × (n.watchers.items ≡ m.watchers.items ++ key ∷ [])
+
+-- the node left, and those that waited for it are to be looked at
+pub record HasLeft (old new : Table) (key : Key) (n : Node) : Type 0 where
+  pub gone : node_at new.nodes key ≡ None
+  pub updates : Updates key_cmp old.nodes new.nodes key None
+  pub pends : pending new ≡ pending old ++ n.watchers.items
+  pub ready : new.ready.keys ≡ old.ready.keys
+  pub runs : SameRuns old new
+
+-- a run was noted
+pub record HasNoted (old new : Table) (run : Run) : Type 0 where
+  pub runs : new.runs.items ≡ old.runs.items ++ run ∷ []
+  pub nodes : new.nodes ≡ old.nodes
+  pub ready : new.ready.keys ≡ old.ready.keys
+  pub pends : pending new ≡ pending old
+
+-- the node's turn asked the group
+abbrev pub HasAsked : Nodes → Nodes → Key → List Key → Type 0
+HasAsked old new key group = (m : Node) → node_at old key ≡ Some m
+    → (n : Node) × Updates key_cmp old new key (Some n) × (groups_of n ≡ groups_of m ++ group ∷ []) × (n.phase ≡ phase.Running) × (n.watchers.items ≡ m.watchers.items)

@@ -1,0 +1,212 @@
+//! One step of the table.
+ghost use Rattle.std.specs.Prelude.{◌≡◌, ◌∷◌, ◌++◌, [], OnOk, IfOk, Some, None};
+ghost use Rattle.keys.specs.declared.key.Key.{Key};
+ghost use Rattle.node.specs.Edges.{IsAdded, IsRemoved};
+ghost use Rattle.node.specs.Kept.{items_of};
+ghost use Rattle.open_nodes.specs.Nodes.{node_at, groups_of, pending};
+ghost use Rattle.open_nodes.specs.Steps.{HasEntered, HasPhase, SameRuns, Pends, Readies, HasWatcher, HasLeft, HasNoted, HasAsked};
+ghost use Rattle.open_nodes.specs.declared.table.Node.{Node};
+ghost use Rattle.open_nodes.specs.declared.table.Phase.TheVariants as phase;
+
+use crate::run::Run;
+use crate::table::{Node, Nodes, Phase, Table};
+use keys::Key;
+use std::alloc::Global;
+use std::collections::{BTreeMap, BTreeSet};
+use texts::Memory;
+
+impl Table {
+    /// Nothing is wanted yet.
+    pub fn new(alloc: Global) -> Table
+        ensures nodes { result.nodes.entries ≡ [] }
+        ensures ready { result.ready.keys ≡ [] }
+        ensures work { pending result ≡ [] }
+        ensures runs { result.runs.items ≡ [] }
+    {
+        Table {
+            nodes: BTreeMap::new(alloc),
+            ready: BTreeSet::new(alloc),
+            work: Vec::new(alloc),
+            looked: 0,
+            runs: Vec::new(alloc),
+        }
+    }
+}
+
+// A node comes in.
+fn enter(alloc: Global, nodes: &mut Nodes, key: Key, phase: Phase) -> Result<(), Memory>
+    ensures { OnOk result (HasEntered nodes.old nodes.new key phase) }
+{
+    let node = Node {
+        groups: Vec::new(alloc),
+        watchers: Vec::new(alloc),
+        phase,
+    };
+    nodes.insert(key, node)?;
+    Ok(())
+}
+
+/// The node is to be looked at, after those that are.
+pub fn look_again(table: &mut Table, key: &Key) -> Result<(), Memory>
+    ensures pends { OnOk result (Pends table.old table.new key.now) }
+    ensures nodes { table.new.nodes ≡ table.old.nodes }
+{
+    table.work.push(key.share()?)?;
+    Ok(())
+}
+
+// The key is put into the set.
+fn put_in(set: &mut BTreeSet<Key>, key: Key) -> Result<(), Memory>
+    ensures { OnOk result (IsAdded set.old.keys set.new.keys key) }
+{
+    set.insert(key)?;
+    Ok(())
+}
+
+/// The node's next turn can be handed out.
+pub fn put_ready(table: &mut Table, key: &Key) -> Result<(), Memory>
+    ensures readies { OnOk result (Readies table.old table.new key.now) }
+    ensures nodes { table.new.nodes ≡ table.old.nodes }
+{
+    put_in(&mut table.ready, key.share()?)
+}
+
+/// A node comes in whose record is to be checked.
+pub fn begin_check(alloc: Global, table: &mut Table, key: &Key) -> Result<(), Memory>
+    ensures pends { OnOk result (Pends table.old table.new key.now) }
+    ensures entered { OnOk result (HasEntered table.old.nodes table.new.nodes key.now (phase.Checking 0)) }
+{
+    look_again(table, key)?;
+    enter(alloc, &mut table.nodes, key.share()?, Phase::Checking(0))?;
+    Ok(())
+}
+
+/// A node comes in that wants its first turn.
+pub fn begin_run(alloc: Global, table: &mut Table, key: &Key) -> Result<(), Memory>
+    ensures readies { OnOk result (Readies table.old table.new key.now) }
+    ensures entered { OnOk result (HasEntered table.old.nodes table.new.nodes key.now phase.Running) }
+{
+    put_ready(table, key)?;
+    enter(alloc, &mut table.nodes, key.share()?, Phase::Running)?;
+    Ok(())
+}
+
+// What a node does from now on.
+fn set_phase(nodes: &mut Nodes, key: &Key, phase: Phase)
+    ensures { HasPhase nodes.old nodes.new key.now phase }
+{
+    if let Some(node) = nodes.get_mut(key) {
+        node.phase = phase;
+    }
+}
+
+/// A check has passed this many groups, and goes on.
+pub fn pass(table: &mut Table, key: &Key, passed: usize) -> Result<(), Memory>
+    ensures pends { OnOk result (Pends table.old table.new key.now) }
+    ensures phase { OnOk result (HasPhase table.old.nodes table.new.nodes key.now (phase.Checking passed)) }
+{
+    look_again(table, key)?;
+    set_phase(&mut table.nodes, key, Phase::Checking(passed));
+    Ok(())
+}
+
+/// A check came to a group with a changed member: the node wants its first turn.
+pub fn run_anew(table: &mut Table, key: &Key) -> Result<(), Memory>
+    ensures readies { OnOk result (Readies table.old table.new key.now) }
+    ensures phase { OnOk result (HasPhase table.old.nodes table.new.nodes key.now phase.Running) }
+{
+    put_ready(table, key)?;
+    set_phase(&mut table.nodes, key, Phase::Running);
+    Ok(())
+}
+
+// The node waits for the member.
+fn add_watcher(nodes: &mut Nodes, member: &Key, key: Key) -> Result<(), Memory>
+    ensures { OnOk result (HasWatcher nodes.old nodes.new member.now key) }
+{
+    if let Some(node) = nodes.get_mut(member) {
+        node.watchers.push(key)?;
+    }
+    Ok(())
+}
+
+/// The node waits for the member.
+pub fn watch(table: &mut Table, member: &Key, key: &Key) -> Result<(), Memory>
+    ensures watches { OnOk result (HasWatcher table.old.nodes table.new.nodes member.now key.now) }
+    ensures pends { OnOk result (pending table.new ≡ pending table.old) }
+    ensures ready { OnOk result (table.new.ready.keys ≡ table.old.ready.keys) }
+    ensures runs { OnOk result (SameRuns table.old table.new) }
+{
+    add_watcher(&mut table.nodes, member, key.share()?)?;
+    Ok(())
+}
+
+/// The node leaves, and those that wait for it are to be looked at. The groups that it asked.
+pub fn leave(alloc: Global, table: &mut Table, key: &Key) -> Result<Vec<Vec<Key>>, Memory>
+    ensures left { OnOk result ((n : Node) → node_at table.old.nodes key.now ≡ Some n → HasLeft table.old table.new key.now n) }
+    ensures groups { IfOk result (λ groups. (n : Node) → node_at table.old.nodes key.now ≡ Some n → items_of groups.items ≡ groups_of n) }
+{
+    match table.nodes.remove(key) {
+        None => Ok(Vec::new(alloc)),
+        Some(node) => {
+            let Node {
+                groups,
+                mut watchers,
+                phase: _,
+            } = node;
+            table.work.append(&mut watchers)?;
+            Ok(groups)
+        }
+    }
+}
+
+/// A run is noted.
+pub fn note(table: &mut Table, key: &Key, version: u32, turns: u64) -> Result<(), Memory>
+    ensures { OnOk result (HasNoted table.old table.new (record { key = key.now; version = version; turns = turns })) }
+{
+    table.runs.push(Run {
+        key: key.share()?,
+        version,
+        turns,
+    })?;
+    Ok(())
+}
+
+// The key is taken out of the set.
+fn take_out(set: &mut BTreeSet<Key>, key: &Key)
+    ensures { IsRemoved set.old.keys set.new.keys key.now }
+{
+    let _was_there = set.remove(key);
+}
+
+/// The node's job is out.
+pub fn set_out(table: &mut Table, key: &Key)
+    ensures phase { HasPhase table.old.nodes table.new.nodes key.now phase.Out }
+    ensures ready { IsRemoved table.old.ready.keys table.new.ready.keys key.now }
+    ensures pends { pending table.new ≡ pending table.old }
+    ensures runs { SameRuns table.old table.new }
+{
+    take_out(&mut table.ready, key);
+    set_phase(&mut table.nodes, key, Phase::Out);
+}
+
+// A group is put behind those that a node asked.
+fn add_group(nodes: &mut Nodes, key: &Key, group: Vec<Key>) -> Result<(), Memory>
+    ensures { OnOk result (HasAsked nodes.old nodes.new key.now group.items) }
+{
+    if let Some(node) = nodes.get_mut(key) {
+        node.groups.push(group)?;
+        node.phase = Phase::Running;
+    }
+    Ok(())
+}
+
+/// The node's turn asked the group.
+pub fn ask(table: &mut Table, key: &Key, group: Vec<Key>) -> Result<(), Memory>
+    ensures pends { OnOk result (Pends table.old table.new key.now) }
+    ensures asked { OnOk result (HasAsked table.old.nodes table.new.nodes key.now group.items) }
+{
+    look_again(table, key)?;
+    add_group(&mut table.nodes, key, group)?;
+    Ok(())
+}

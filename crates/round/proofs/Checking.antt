@@ -1,0 +1,207 @@
+-- A check goes on to the next group, or gives up.
+use Rattle.std.proofs.Common.{◌≡◌, ◌≢◌, ◌⊎◌, inl, inr, ℕ, ◌+◌, ◌<◌, ◌≤◌, zero, suc, Bool, true, false, nat_lt, List, [], ◌∷◌, ◌++◌, length, take, drop, map, Option, Some, None, refl, sym, ◌∙◌, ap, subst, arith, slice_index_or, add-one}
+use Rattle.std.proofs.lemmas.Bool.{ltb-true}
+use Rattle.std.specs.BTreeMap.{Updates}
+use Rattle.std.specs.declared.alloc.Global.{Global}
+use Rattle.std.specs.declared.vec.Vec.{Vec}
+use Rattle.evaluation.specs.Reply.{Reply}
+use Rattle.evaluation.specs.Value.{In, first, after, IsMember}
+use Rattle.evaluation.specs.Graph.{Record, Differs}
+use Rattle.evaluation.specs.Journal.{RunIsJustified, dependency_differs}
+use Rattle.keys.specs.Cycles.{cycle}
+use Rattle.keys.specs.Keys.{key_cmp}
+use Rattle.keys.specs.declared.key.Key.{Key}
+use Rattle.keys.specs.declared.value.Value.{Value}
+use Rattle.node.specs.Graphs.{Recorded, record_at, IsTouched}
+use Rattle.node.specs.Kept.{items_of}
+use Rattle.node.proofs.Lists.{some_is, none_some, true_false, decide_key, other_key, in_left, in_right}
+use Rattle.open_nodes.specs.Nodes.{Nodes, Records, node_at, groups_of, pending, IsUnsettled, IsClean, IsStill, IsPlain, IsCurrent, Stands, IsWhole, AreOut}
+use Rattle.open_nodes.specs.Steps.{Pends, Readies, HasPhase}
+use Rattle.open_nodes.specs.Truths.{IsNext, Past, IsTrueOf, IsRun, Asks, nothing}
+use Rattle.open_nodes.specs.declared.run.Run.{Run}
+use Rattle.open_nodes.specs.declared.table.Node.{Node}
+use Rattle.open_nodes.specs.declared.table.Phase.TheVariants as phase
+use Rattle.open_nodes.specs.declared.table.Table.{Table}
+use Rattle.open_nodes.proofs.Wholes.{node_changes}
+use Rattle.open_nodes.proofs.Settlings.{truth_changes}
+use Rattle.round.specs.Members.{IsMissing, has_changed}
+use Rattle.round.specs.Compared.{IsNextGroup, ComparesGroup, Compares}
+use Rattle.round.specs.declared.look.Compared.{Compared}
+use Rattle.round.specs.declared.look.Compared.TheVariants as compared
+use Rattle.round.specs.Looks.{IsAwaiting, IsChecking, HasPassed}
+use Rattle.round.proofs.Grouping.{split_at, snoc_in}
+use Rattle.round.proofs.Wanting.{StaysTrue}
+use Rattle.round.proofs.Confirming.{standing, passed_members}
+
+items_taken : (i : ℕ) (gs : List (Vec Key Global)) → items_of (take i gs) ≡ take i (items_of gs)
+items_taken zero gs = refl
+items_taken (suc i) [] = refl
+items_taken (suc i) (g ∷ gs) = ap (λ x. g.items ∷ x) (items_taken i gs)
+
+items_joined : (xs ys : List (Vec Key Global)) → items_of (xs ++ ys) ≡ items_of xs ++ items_of ys
+items_joined [] ys = refl
+items_joined (x ∷ xs) ys = ap (λ z. x.items ∷ z) (items_joined xs ys)
+
+-- the group at a place
+pub group_at : (groups : List (Vec Key Global)) (i : ℕ) (g : Vec Key Global) → g ≡ slice_index_or groups i g → i < length groups → (gs : List (List Key)) → items_of groups ≡ gs → (x : List Key) → x ≡ g.items
+    → (rest : List (List Key)) × (gs ≡ take i gs ++ x ∷ rest)
+group_at groups i g e h gs q x f = (
+  items_of (drop (i + 1) groups),
+  sym q ∙ ap items_of (split_at groups i g e h) ∙ items_joined (take i groups) (g ∷ drop (i + 1) groups) ∙ ap (λ ys. ys ++ g.items ∷ items_of (drop (i + 1) groups)) (items_taken i groups ∙ ap (take i) q) ∙ ap (λ y. take i gs ++ y ∷ items_of (drop (i + 1) groups)) (sym f),
+)
+
+-- one group more is taken
+next_taken : (i : ℕ) (gs : List (List Key)) (g : List Key) (rest : List (List Key)) → gs ≡ take i gs ++ g ∷ rest → take (suc i) gs ≡ take i gs ++ g ∷ []
+next_taken zero [] g rest e = cc
+next_taken zero (x ∷ gs) g rest e = let q : x ≡ g = cc in ap (λ y. y ∷ []) q
+next_taken (suc i) [] g rest e = cc
+next_taken (suc i) (x ∷ gs) g rest e = let q : gs ≡ take i gs ++ g ∷ rest = cc in ap (λ y. x ∷ y) (next_taken i gs g rest q)
+
+module _ (graph : Recorded) (before later : Table) (k : Key) (at : ℕ) (c : IsChecking before k at)
+    (w : IsWhole (record_at graph) before.nodes before.ready.keys (k ∷ pending before)) where
+  abbrev n : Node
+  n = c.0
+
+  abbrev stand : Stands (record_at graph) k (groups_of n) (phase.Checking at)
+  stand = standing (record_at graph) before.nodes w.holds k n c.1 at c.2
+
+  abbrev r : Record Key Value
+  r = stand.0
+
+  pub its_record : (r : Record Key Value) × (record_at graph k ≡ Some r)
+  its_record = (stand.0, stand.1)
+
+  -- all groups are passed
+  pub passes_all : (found : Compared) → ((x : Record Key Value) → record_at graph k ≡ Some x → Compares (record_at graph) x at found) → found ≡ compared.Over → HasPassed graph before k
+  passes_all found f e = record { node = n; there = c.1; at = at; checking = c.2; over = λ x h. go x (f x h) }
+    where
+      go : (x : Record Key Value) → Compares (record_at graph) x at found → length x.groups ≤ at
+      go x (inl y) = y.1
+      go x (inr y) = absurd (subst (λ (z : Compared). ComparesGroup (record_at graph) y.0 x.settled_at z) e y.2)
+
+  abbrev Found : Compared → Type 0
+  Found found = (group : List Key) × IsNextGroup r at group × ComparesGroup (record_at graph) group r.settled_at found
+
+  pub found_group : (found : Compared) → ((x : Record Key Value) → record_at graph k ≡ Some x → Compares (record_at graph) x at found) → found ≢ compared.Over → Found found
+  found_group found f o = go (f r stand.1)
+    where
+      go : Compares (record_at graph) r at found → Found found
+      go (inl y) = absurd (o y.0)
+      go (inr y) = y
+
+  -- members of the next group are not settled
+  pub awaits : (missing : List Key) → (group : List Key) × IsNextGroup r at group × IsMissing (record_at graph) group missing → IsAwaiting graph before k missing
+  awaits missing f = record { node = n; there = c.1; group = f.0; current = subst (λ p. IsCurrent (record_at graph) k (groups_of n) p f.0) (sym c.2) (r, f.1.0, stand.1, f.1.1); of_group = f.2 }
+
+  pub awaits_found : (found : Compared) → ((x : Record Key Value) → record_at graph k ≡ Some x → Compares (record_at graph) x at found) → (missing : Vec Key Global) → found ≡ compared.Waits missing → (slice : List Key) → slice ≡ missing.items → IsAwaiting graph before k slice
+  awaits_found found f missing e slice q = let y = found_group found f (λ o. no (sym e ∙ o)) in
+      awaits slice (y.0, y.1, subst (IsMissing (record_at graph) y.0) (sym q) (subst (λ (z : Compared). ComparesGroup (record_at graph) y.0 r.settled_at z) e y.2))
+    where
+      no : compared.Waits missing ≡ compared.Over → ⊥
+      no o = cc
+
+  pub differs_found : (found : Compared) → ((x : Record Key Value) → record_at graph k ≡ Some x → Compares (record_at graph) x at found) → found ≡ compared.Differs → Found compared.Differs
+  differs_found found f e = let y = found_group found f (λ o. no (sym e ∙ o)) in (y.0, y.1, subst (λ (z : Compared). ComparesGroup (record_at graph) y.0 r.settled_at z) e y.2)
+    where
+      no : compared.Differs ≡ compared.Over → ⊥
+      no o = cc
+
+  pub passes_found : (found : Compared) → ((x : Record Key Value) → record_at graph k ≡ Some x → Compares (record_at graph) x at found) → found ≡ compared.Passes → Found compared.Passes
+  passes_found found f e = let y = found_group found f (λ o. no (sym e ∙ o)) in (y.0, y.1, subst (λ (z : Compared). ComparesGroup (record_at graph) y.0 r.settled_at z) e y.2)
+    where
+      no : compared.Passes ≡ compared.Over → ⊥
+      no o = cc
+
+  abbrev u : (p : _) → HasPhase before.nodes later.nodes k p → Updates key_cmp before.nodes later.nodes k (Some (record n { phase = p }))
+  u p h = h n c.1
+
+  apart : (j : Key) → In j before.ready.keys → k ≢ j
+  apart j i q = let y = w.ready_now j i in no (sym c.2 ∙ ap (λ (x : Node). x.phase) (some_is (sym c.1 ∙ ap (node_at before.nodes) q ∙ y.1)) ∙ y.2)
+    where
+      no : phase.Checking at ≡ phase.Running → ⊥
+      no e = cc
+
+  tail_in : {j : Key} {xs : List Key} → In j xs → xs ≡ k ∷ pending before → k ≢ j → In j (pending before)
+  tail_in {j = j} (first {xs = ys}) e d = let q : k ≡ j = cc in absurd (d q)
+  tail_in {j = j} (after {xs = ys} i) e d = let q : ys ≡ pending before = cc in subst (In j) q i
+
+  same_watchers : (m : Node) (x : Key) → node_at before.nodes k ≡ Some m → In x m.watchers.items → In x n.watchers.items
+  same_watchers m x e i = subst (λ (y : Node). In x y.watchers.items) (some_is (sym e ∙ c.1)) i
+
+  out_on : (p : _) → p ≢ phase.Out → HasPhase before.nodes later.nodes k p → (keys : List Key) → AreOut before.nodes keys → AreOut later.nodes keys
+  out_on p d h keys o j m e f = elim (decide_key k j) [
+    | inl q ↦ absurd (d (ap (λ (y : Node). y.phase) (some_is (sym (u p h).1 ∙ ap (node_at later.nodes) q ∙ e)) ∙ f))
+    | inr x ↦ o j m (sym (other_key before.nodes later.nodes k (Some (record n { phase = p })) (u p h) j x) ∙ e) f
+  ]
+
+  -- the next group has not changed
+  module _ (found : (group : List Key) × IsNextGroup r at group × ComparesGroup (record_at graph) group r.settled_at compared.Passes)
+      (pends : Pends before later k) (h : HasPhase before.nodes later.nodes k (phase.Checking (at + 1))) where
+    still_member : (j : Key) → In j found.0 → IsStill (record_at graph) r.settled_at j
+    still_member j i = let s = found.2.0 j i in (s.0, s.1, s.2, early s.0 (sym (ap (λ o. has_changed o r.settled_at) s.1) ∙ found.2.1 j i))
+      where
+        early : (s : Record Key Value) → nat_lt r.settled_at s.changed_at ≡ false → s.changed_at ≤ r.settled_at
+        early s e = grind (arith, e)
+
+    stands_next : Stands (record_at graph) k (groups_of n) (phase.Checking (at + 1))
+    stands_next = (r, stand.1, stand.2, λ j m. split j (subst (IsMember j) (rw add-one (next_taken at r.groups found.0 found.1.0 found.1.1)) m))
+      where
+        split : (j : Key) → IsMember j (take at r.groups ++ found.0 ∷ []) → IsStill (record_at graph) r.settled_at j
+        split j m = elim (snoc_in (take at r.groups) m.1) [ inl a ↦ stand.3 j (m.0, a, m.2) | inr q ↦ still_member j (subst (In j) q m.2) ]
+
+    pub passed_whole : IsWhole (record_at graph) later.nodes later.ready.keys (pending later)
+    passed_whole = subst (λ (xs : List Key). IsWhole (record_at graph) later.nodes xs (pending later)) (sym pends.ready)
+        (node_changes (record_at graph) before.nodes later.nodes k (record n { phase = phase.Checking (at + 1) }) (u (phase.Checking (at + 1)) h) before.ready.keys before.ready.keys (k ∷ pending before) (pending later) w
+        (w.holds k n c.1).0 stands_next same_watchers (λ j i. inl (apart j i, i)) (λ j d i. i)
+        (λ j d i. subst (In j) (sym pends.pends) (in_left (k ∷ []) (tail_in i refl d)))
+        (λ o. inl (subst (In k) (sym pends.pends) (in_right (pending before) first))))
+
+    pub passed_out : (keys : List Key) → AreOut before.nodes keys → AreOut later.nodes keys
+    passed_out = out_on (phase.Checking (at + 1)) (λ e. cc) h
+
+    pub passed_true : (read : Key → Option Value) → StaysTrue read graph graph before later
+    passed_true read = λ next laws past t. let o = t.opened k n c.1 in
+        subst (λ (x : List Run). IsTrueOf next read past graph later.nodes x) (sym pends.runs)
+        (truth_changes next read laws past graph before.nodes later.nodes before.runs.items k (record n { phase = phase.Checking (at + 1) }) (u (phase.Checking (at + 1)) h) t o.no_leaf o.same tt)
+
+  -- a member of the next group has changed
+  module _ (found : (group : List Key) × IsNextGroup r at group × ComparesGroup (record_at graph) group r.settled_at compared.Differs)
+      (readies : Readies before later k) (h : HasPhase before.nodes later.nodes k phase.Running) where
+    no_members : (i : Key) → IsMember i (groups_of n) → ⊥
+    no_members i m = elim (subst (IsMember i) stand.2 m).1 [ ]
+
+    pub rerun_whole : IsWhole (record_at graph) later.nodes later.ready.keys (pending later)
+    rerun_whole = subst (λ (xs : List Key). IsWhole (record_at graph) later.nodes later.ready.keys xs) (sym readies.pends)
+        (node_changes (record_at graph) before.nodes later.nodes k (record n { phase = phase.Running }) (u phase.Running h) before.ready.keys later.ready.keys (k ∷ pending before) (pending before) w
+        (w.holds k n c.1).0 (inl stand.2) same_watchers
+        (λ j i. elim (readies.ready.from j i) [ inl a ↦ inl (apart j a, a) | inr q ↦ inr (q, refl, λ x m. absurd (no_members x m)) ])
+        (λ j d i. readies.ready.keeps j i) (λ j d i. tail_in i refl d) (λ o. inr (inl readies.ready.has)))
+
+    pub rerun_out : (keys : List Key) → AreOut before.nodes keys → AreOut later.nodes keys
+    rerun_out = out_on phase.Running (λ e. cc) h
+
+    in_groups : In found.0 r.groups
+    in_groups = subst (In found.0) (sym found.1.1) (in_right (take at r.groups) first)
+
+    pub rerun_true : (read : Key → Option Value) → StaysTrue read graph graph before later
+    rerun_true read = λ next laws past t. let o = t.opened k n c.1 in
+        let j = found.2.1.0 in
+        let d = (t.after.lawful.each k r stand.1).depends j (found.0, in_groups, found.2.1.1) in
+        let changed : nat_lt r.settled_at d.of_j.changed_at ≡ true = sym (ap (λ x. has_changed x r.settled_at) d.recorded) ∙ found.2.1.2 in
+        subst (λ (x : List Run). IsTrueOf next read past graph later.nodes x) (sym readies.runs)
+        (truth_changes next read laws past graph before.nodes later.nodes before.runs.items k (record n { phase = phase.Running }) (u phase.Running h) t o.no_leaf o.same (record {
+          justified = subst (RunIsJustified next cycle past.reads (λ x y. IsTouched (past.edits x) y) past.entry.version) (sym stand.1 ∙ o.same)
+              (dependency_differs (found.0, in_groups, found.2.1.1) (subst (λ v. Differs next cycle past.reads j r.settled_at v) t.after.version (d.changed (late changed)).0));
+          asks = subst (Asks next read past k []) (sym stand.2) nothing;
+        }))
+      where
+        late : {a b : ℕ} → nat_lt a b ≡ true → a < b
+        late e = grind (arith, e)
+
+-- the next place
+pub next_is : (found : Compared) (at next : ℕ) → (found ≡ compared.Over) ⊎ (next ≡ at + 1) → found ≡ compared.Passes → next ≡ at + 1
+next_is found at next (inl o) e = absurd (no (sym e ∙ o))
+  where
+    no : compared.Passes ≡ compared.Over → ⊥
+    no o = cc
+next_is found at next (inr h) e = h

@@ -1,0 +1,116 @@
+-- A check goes on, ends or gives up.
+use Rattle.std.proofs.Common.{◌≡◌, ◌≢◌, ◌⊎◌, inl, inr, ℕ, ◌+◌, ◌<◌, ◌≤◌, Bool, true, false, List, [], ◌∷◌, ◌++◌, length, take, drop, map, Option, Some, None, refl, sym, ◌∙◌, ap, subst, arith}
+use Rattle.std.proofs.lemmas.List.{take-append-drop, drop_all}
+use Rattle.std.specs.BTreeMap.{Updates}
+use Rattle.std.specs.Prelude.{IsSome}
+use Rattle.evaluation.specs.Reply.{Reply}
+use Rattle.evaluation.specs.Value.{Grounded, Settles, In, first, after, IsMember}
+use Rattle.evaluation.specs.Graph.{Record}
+use Rattle.evaluation.specs.Journal.{RunIsJustified, dependency_differs}
+use Rattle.evaluation.proofs.Settle.{confirm_holds}
+use Rattle.keys.specs.Cycles.{cycle}
+use Rattle.keys.specs.Keys.{key_cmp}
+use Rattle.keys.specs.declared.key.Key.{Key}
+use Rattle.keys.specs.declared.value.Value.{Value}
+use Rattle.keys.proofs.CycleLaws.{turned}
+use Rattle.node.specs.Graphs.{Recorded, record_at, present, Sets, IsTouched, HasCleanMembers}
+use Rattle.node.specs.Laws.{IsLawfulFor, SettlingKeepsLawful}
+use Rattle.node.proofs.Lists.{some_is, none_some, true_false, decide_key, other_key, in_split, in_left, in_right, in_one}
+use Rattle.open_nodes.specs.Nodes.{Nodes, Records, node_at, groups_of, pending, IsOpen, IsUnsettled, IsClean, IsStill, IsPlain, Stands, Holds, IsWhole, AreOut}
+use Rattle.open_nodes.specs.Steps.{Pends, Readies, HasLeft, HasPhase, SameRuns}
+use Rattle.open_nodes.specs.Truths.{IsNext, Past, IsAfter, IsTrueOf, IsOpenTruly, IsDoing, IsRun, nothing}
+use Rattle.open_nodes.specs.declared.run.Run.{Run}
+use Rattle.open_nodes.specs.declared.table.Node.{Node}
+use Rattle.open_nodes.specs.declared.table.Phase.{Phase}
+use Rattle.open_nodes.specs.declared.table.Phase.TheVariants as phase
+use Rattle.open_nodes.specs.declared.table.Table.{Table}
+use Rattle.open_nodes.proofs.Wholes.{unsettled_not_clean, node_changes, node_settles}
+use Rattle.open_nodes.proofs.Settlings.{now_is, plain, same_since, truth_changes, settles_quietly}
+use Rattle.round.specs.Looks.{HasPassed}
+use Rattle.round.proofs.Wanting.{StaysTrue}
+
+-- what a checked node's record and members are
+module _ (records : Records) (nodes : Nodes) (h : Holds records nodes) (k : Key) (n : Node) (there : node_at nodes k ≡ Some n) (at : ℕ) (checking : n.phase ≡ phase.Checking at) where
+  pub standing : Stands records k (groups_of n) (phase.Checking at)
+  standing = subst (λ (p : Phase). Stands records k (groups_of n) p) checking (h k n there).1
+
+  pub passed_members : (r : Record Key Value) → records k ≡ Some r → (j : Key) → IsMember j (take at r.groups) → IsStill records r.settled_at j
+  passed_members r e j m = let s = standing in let same : s.0 ≡ r = some_is (sym s.1 ∙ e) in
+      subst (λ (x : Record Key Value). IsStill records x.settled_at j) same (s.3 j (subst (λ (x : Record Key Value). IsMember j (take at x.groups)) (sym same) m))
+
+-- everything is taken
+take_whole : {X : Type 0} (xs : List X) (i : ℕ) → length xs ≤ i → take i xs ≡ xs
+take_whole {X} xs i h = sym (nil (take i xs)) ∙ ap (λ ys. take i xs ++ ys) (sym (drop_all i xs h)) ∙ take-append-drop i xs
+  where
+    nil : (ys : List X) → ys ++ [] ≡ ys
+    nil [] = refl
+    nil (y ∷ ys) = ap (λ z. y ∷ z) (nil ys)
+
+module _ (graph : Recorded) (table : Table) (k : Key) (p : HasPassed graph table k) (w : IsWhole (record_at graph) table.nodes table.ready.keys (k ∷ pending table)) where
+  pub all_still : (r : Record Key Value) → record_at graph k ≡ Some r → (j : Key) → IsMember j r.groups → IsStill (record_at graph) r.settled_at j
+  all_still r e j m = passed_members (record_at graph) table.nodes w.holds k p.node p.there p.at p.checking r e j (subst (IsMember j) (sym (take_whole r.groups p.at (p.over r e))) m)
+
+  pub recorded : (r : Record Key Value) × (record_at graph k ≡ Some r)
+  recorded = let s = standing (record_at graph) table.nodes w.holds k p.node p.there p.at p.checking in (s.0, s.1)
+
+  pub clean_members : HasCleanMembers (record_at graph) k
+  clean_members r s j e m f = let t = all_still r e j m in ap (λ (x : Record Key Value). x.dirty) (some_is (sym f ∙ t.1)) ∙ t.2
+
+  -- it is settled
+  module _ (new : Recorded) (later : Table) (left : HasLeft table later k p.node) (version : new.version ≡ graph.version)
+      (sets : (r : Record Key Value) → record_at graph k ≡ Some r → Sets (record_at graph) (record_at new) k (record r { settled_at = graph.version; dirty = false })) where
+    r : Record Key Value
+    r = recorded.0
+
+    others_stay : (j : Key) → k ≢ j → node_at later.nodes j ≡ node_at table.nodes j
+    others_stay j n = other_key table.nodes later.nodes k None left.updates j n
+
+    not_ready : In k table.ready.keys → ⊥
+    not_ready i = let y = w.ready_now k i in apart (sym p.checking ∙ ap (λ (x : Node). x.phase) (some_is (sym p.there ∙ y.1)) ∙ y.2)
+      where
+        apart : phase.Checking p.at ≡ phase.Running → ⊥
+        apart e = cc
+
+    tail_in : {j : Key} {xs : List Key} → In j xs → xs ≡ k ∷ pending table → k ≢ j → In j (pending table)
+    tail_in {j = j} (first {xs = ys}) e n = let q : k ≡ j = cc in absurd (n q)
+    tail_in {j = j} (after {xs = ys} i) e n = let q : ys ≡ pending table = cc in subst (In j) q i
+
+    pub confirmed_whole : IsWhole (record_at new) later.nodes later.ready.keys (pending later)
+    confirmed_whole = let s = sets recorded.0 recorded.1 in
+        subst (λ (xs : List Key). IsWhole (record_at new) later.nodes xs (pending later)) (sym left.ready)
+        (node_settles (record_at graph) (record_at new) table.nodes later.nodes k (record recorded.0 { settled_at = graph.version; dirty = false }) s.there refl s.others (w.holds k p.node p.there).0 left.gone others_stay
+        table.ready.keys (k ∷ pending table) (pending later) w not_ready
+        (λ j n i. subst (In j) (sym left.pends) (in_left p.node.watchers.items (tail_in i refl n)))
+        (λ m x e i. subst (In x) (sym left.pends) (in_right (pending table) (subst (λ (y : Node). In x y.watchers.items) (some_is (sym e ∙ p.there)) i))))
+
+    pub confirmed_out : (keys : List Key) → AreOut table.nodes keys → AreOut later.nodes keys
+    confirmed_out keys o j m e f = elim (decide_key k j) [
+      | inl q ↦ absurd (none_some (sym left.gone ∙ ap (node_at later.nodes) q ∙ e))
+      | inr n ↦ o j m (sym (others_stay j n) ∙ e) f
+    ]
+
+    pub confirmed_true : ((r : Record Key Value) → record_at graph k ≡ Some r → SettlingKeepsLawful graph new k r.value r.groups) → (read : Key → Option Value) → StaysTrue read graph new table later
+    confirmed_true keeps read = λ next laws past t.
+        let e = recorded.1 in
+        let r = recorded.0 in
+        let o = t.opened k p.node p.there in
+        let law = t.after.lawful in
+        let none_now : past.reads graph.version k ≡ None = ap (λ u. past.reads u k) t.after.version ∙ past.at_present k ∙ o.no_leaf in
+        let s = sets r e in
+        subst (λ (x : List Run). IsTrueOf next read past new later.nodes x) (sym left.runs)
+        (settles_quietly next read laws past graph new table.nodes later.nodes table.runs.items k (record r { settled_at = graph.version; dirty = false }) t version s (w.holds k p.node p.there).0 refl refl
+        (keeps r e next past.reads past.edits law
+        (confirm_holds next cycle turned past.reads (record_at graph) (λ u j. IsTouched (past.edits u) j) graph.version law (plain next read laws past) k r e
+        (none_now ∙ sym (never_leaf past graph.version r.settled_at none_now))
+        (λ j m x f. let y = all_still r e j m in let same : y.0 ≡ x = some_is (sym y.1 ∙ f) in (ap (λ (z : Record Key Value). z.dirty) (sym same) ∙ y.2, subst (λ (z : Record Key Value). z.changed_at ≤ r.settled_at) same y.3))))
+        left.gone others_stay r (sym o.same ∙ e) (inl refl))
+      where
+        never_leaf : {read : Key → Option Value} (past : Past read) (u v : ℕ) → past.reads u k ≡ None → past.reads v k ≡ None
+        never_leaf past u v e = go (past.reads v k) refl
+          where
+            go : (x : Option Value) → past.reads v k ≡ x → past.reads v k ≡ None
+            go None q = q
+            go (Some y) q = let z = past.leaf_stays v u k y q in absurd (none_some (sym e ∙ z.1))
+
+pub is_recorded : (graph : Recorded) (table : Table) (k : Key) (p : HasPassed graph table k) (w : IsWhole (record_at graph) table.nodes table.ready.keys (k ∷ pending table)) → IsSome (record_at graph k)
+is_recorded graph table k p w = subst (λ o. IsSome o) (sym (recorded graph table k p w).1) refl

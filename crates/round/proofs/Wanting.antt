@@ -1,0 +1,230 @@
+-- Leaves are read, and nodes begin.
+use Rattle.std.proofs.Common.{◌≡◌, ◌≢◌, ◌⊎◌, inl, inr, ℕ, ◌<◌, ◌≤◌, Bool, true, false, List, [], ◌∷◌, ◌++◌, map, Option, Some, None, refl, sym, ◌∙◌, ap, subst}
+use Rattle.std.specs.BTreeMap.{Updates}
+use Rattle.std.specs.Option.{is_some}
+use Rattle.std.specs.declared.alloc.Global.{Global}
+use Rattle.std.specs.declared.vec.Vec.{Vec}
+use Rattle.filetree.specs.Files.{Files}
+use Rattle.functions.specs.Next as leaves
+use Rattle.keys.specs.declared.key.Key.TheVariants as key
+use Rattle.node.specs.Kept.{items_of}
+use Rattle.evaluation.specs.Reply.{Reply}
+use Rattle.evaluation.specs.Value.{Settles, leaf, In, first, after, IsMember}
+use Rattle.evaluation.specs.Graph.{Record}
+use Rattle.evaluation.specs.Journal.{RunIsJustified, never_settled, ReadIsJustified, never_read, edited}
+use Rattle.keys.specs.Cycles.{cycle}
+use Rattle.keys.specs.Keys.{key_cmp}
+use Rattle.keys.specs.declared.key.Key.{Key}
+use Rattle.keys.specs.declared.value.Value.{Value}
+use Rattle.node.specs.Graphs.{Recorded, record_at, present, Sets, IsTouched}
+use Rattle.node.specs.Writes.{stored}
+use Rattle.node.specs.Laws.{IsLawfulFor, SettlingKeepsLawful}
+use Rattle.node.specs.Edges.{IsAdded}
+use Rattle.node.proofs.Lists.{some_is, none_some, true_false, decide_key, other_key, in_split, in_left, in_right, in_one}
+use Rattle.open_nodes.specs.Nodes.{Nodes, Records, node_at, groups_of, pending, IsOpen, IsUnsettled, IsClean, IsPlain, Stands, AreReady, IsWhole, Widens, AreOut}
+use Rattle.open_nodes.specs.Steps.{HasEntered, Pends, Readies, HasNoted, SameRuns}
+use Rattle.open_nodes.specs.Truths.{IsNext, Past, IsAfter, IsTrueOf, IsRun, Asks, nothing, IsDoing, IsItem, Leads}
+use Rattle.open_nodes.specs.declared.run.Run.{Run}
+use Rattle.open_nodes.specs.declared.table.Node.{Node}
+use Rattle.open_nodes.specs.declared.table.Phase.{Phase}
+use Rattle.open_nodes.specs.declared.table.Phase.TheVariants as phase
+use Rattle.open_nodes.specs.declared.table.Table.{Table}
+use Rattle.open_nodes.proofs.Wholes.{unsettled_not_clean, node_changes, open_on, node_settles, keeps_clean, widens_refl, widens_on}
+use Rattle.open_nodes.proofs.Settlings.{now_is, same_since, truth_changes, settled_after, settles_by_run}
+use Rattle.round.specs.Moves.{Wants, IsWanted}
+
+-- what was true of the round is true after a move
+abbrev pub StaysTrue : (Key → Option Value) → Recorded → Recorded → Table → Table → Type 0
+StaysTrue read old new before later = (next : Key → List Value → Reply Key Value) (laws : IsNext next) (past : Past read) → IsTrueOf next read past old before.nodes before.runs.items → IsTrueOf next read past new later.nodes later.runs.items
+
+-- an unsettled record is dirty
+pub unsettled_dirty : (records : Records) (k : Key) (r : Record Key Value) → IsUnsettled records k → records k ≡ Some r → r.dirty ≡ true
+unsettled_dirty records k r u e = go r.dirty refl
+  where
+    go : (b : Bool) → r.dirty ≡ b → r.dirty ≡ true
+    go true t = t
+    go false t = absurd (unsettled_not_clean (records k) r u e t)
+
+-- a leaf is read
+module _ (old new : Recorded) (before after : Table) (k : Key) (v : Value) (turns : Run)
+    (version : new.version ≡ old.version)
+    (sets : Sets (record_at old) (record_at new) k (stored (record_at old k) v [] old.version))
+    (was : IsUnsettled (record_at old) k) (closed : node_at before.nodes k ≡ None)
+    (noted : HasNoted before after turns) where
+  other_nodes : (j : Key) → k ≢ j → node_at before.nodes j ≡ node_at before.nodes j
+  other_nodes j n = refl
+
+  nodes_same : (j : Key) → node_at after.nodes j ≡ node_at before.nodes j
+  nodes_same j = ap (λ x. node_at x j) noted.nodes
+
+  pub read_wants : Wants old new before after
+  read_wants = record {
+    version = version;
+    widens = record {
+      clean = λ j s e d. keeps_clean (record_at old) (record_at new) before.nodes before.nodes k (stored (record_at old k) v [] old.version) sets.there refl sets.others was closed other_nodes j s e d;
+      open_still = λ j m e. nodes_same j ∙ e;
+      same = λ j m e. sets.others j (λ q. none_some (sym closed ∙ ap (node_at before.nodes) q ∙ e));
+    };
+    whole = λ spare w. subst (λ (x : Nodes). IsWhole (record_at new) x after.ready.keys (spare ++ pending after)) (sym noted.nodes)
+        (subst (λ (x : List Key). IsWhole (record_at new) before.nodes x (spare ++ pending after)) (sym noted.ready)
+        (subst (λ (x : List Key). IsWhole (record_at new) before.nodes before.ready.keys (spare ++ x)) (sym noted.pends)
+        (node_settles (record_at old) (record_at new) before.nodes before.nodes k (stored (record_at old k) v [] old.version) sets.there refl sets.others was closed other_nodes
+        before.ready.keys (spare ++ pending before) (spare ++ pending before) w
+        (λ i. let r = w.ready_now k i in none_some (sym closed ∙ r.1)) (λ j n i. i) (λ m x e i. absurd (none_some (sym closed ∙ e))))));
+    out = λ keys o j m e. o j m (sym (nodes_same j) ∙ e);
+  }
+
+  module _ (next : Key → List Value → Reply Key Value) (read : Key → Option Value) (is_leaf : read k ≡ Some v)
+      (lawful : SettlingKeepsLawful old new k v []) (of_k : turns.key ≡ k) (now : turns.version ≡ old.version) (no_turns : turns.turns ≡ 0)
+      (laws : IsNext next) (past : Past read) (t : IsTrueOf next read past old before.nodes before.runs.items) where
+    at_now : (u : ℕ) → u ≡ past.entry.version → past.reads u k ≡ Some v
+    at_now u e = ap (λ n. past.reads n k) e ∙ past.at_present k ∙ is_leaf
+
+    justified : ReadIsJustified next cycle past.reads (λ u j. IsTouched (past.edits u) j) turns.key past.entry.version (record_at past.entry turns.key)
+    justified = subst (λ (x : Key). ReadIsJustified next cycle past.reads (λ u j. IsTouched (past.edits u) j) x past.entry.version (record_at past.entry x)) (sym of_k) (go (record_at past.entry k) refl)
+      where
+        same : record_at old k ≡ record_at past.entry k
+        same = same_since next read laws past old t.after k was
+
+        go : (o : Option (Record Key Value)) → record_at past.entry k ≡ o → ReadIsJustified next cycle past.reads (λ u j. IsTouched (past.edits u) j) k past.entry.version (record_at past.entry k)
+        go None e = subst (ReadIsJustified next cycle past.reads (λ u j. IsTouched (past.edits u) j) k past.entry.version) (sym e) never_read
+        go (Some r) e =
+            let d = t.after.lawful.leaf_dirty k r v (same ∙ e) (at_now old.version t.after.version) (unsettled_dirty (record_at old) k r was (same ∙ e)) in
+            subst (ReadIsJustified next cycle past.reads (λ u j. IsTouched (past.edits u) j) k past.entry.version) (sym e) (edited d.1 (subst (λ (n : ℕ). d.0 ≤ n) t.after.version d.2) d.3)
+
+    pub read_true : IsTrueOf next read past new after.nodes after.runs.items
+    read_true =
+        subst (λ (x : Nodes). IsTrueOf next read past new x after.runs.items) (sym noted.nodes) (subst (λ (x : List Run). IsTrueOf next read past new before.nodes x) (sym noted.runs)
+        (settles_by_run next read laws past old new before.nodes before.nodes before.runs.items k (stored (record_at old k) v [] old.version) t version sets was refl refl
+        (lawful next past.reads past.edits t.after.lawful (leaf (at_now old.version t.after.version))) closed other_nodes turns of_k now
+        (inl (ap read of_k ∙ is_leaf, no_turns, justified))))
+
+-- a node begins
+module _ (graph : Recorded) (before after : Table) (k : Key) (p : Phase) (no_out : p ≢ phase.Out)
+    (closed : node_at before.nodes k ≡ None) (was : IsUnsettled (record_at graph) k)
+    (entered : HasEntered before.nodes after.nodes k p)
+    (stands : Stands (record_at graph) k [] p) where
+  abbrev n : Node
+  n = entered.0
+
+  no_groups : groups_of n ≡ []
+  no_groups = ap (map (λ g. g.items)) entered.2
+
+  pub begin_wants : (ready_more : (j : Key) → In j after.ready.keys → In j before.ready.keys ⊎ ((k ≡ j) × (p ≡ phase.Running)))
+      → ((j : Key) → In j before.ready.keys → In j after.ready.keys)
+      → ((j : Key) → In j (pending before) → In j (pending after))
+      → In k (pending after) ⊎ In k after.ready.keys
+      → Wants graph graph before after
+  begin_wants ready_more ready_on waits own = record {
+    version = refl;
+    widens = record {
+      clean = λ j s e d. e;
+      open_still = λ j m e. other_key before.nodes after.nodes k (Some n) entered.1 j (λ q. none_some (sym closed ∙ ap (node_at before.nodes) q ∙ e)) ∙ e;
+      same = λ j m e. refl;
+    };
+    whole = λ spare w. node_changes (record_at graph) before.nodes after.nodes k n entered.1 before.ready.keys after.ready.keys (spare ++ pending before) (spare ++ pending after) w was
+        (subst (λ (x : Phase). Stands (record_at graph) k (groups_of n) x) (sym entered.4) (subst (λ (x : List (List Key)). Stands (record_at graph) k x p) (sym no_groups) stands))
+        (λ m x e i. absurd (none_some (sym closed ∙ e)))
+        (λ j i. elim (ready_more j i) [
+          | inl a ↦ inl ((λ q. let r = w.ready_now j a in none_some (sym closed ∙ ap (node_at before.nodes) q ∙ r.1)), a)
+          | inr b ↦ inr (b.0, entered.4 ∙ b.1, λ i m. absurd (no_member i (subst (IsMember i) no_groups m)))
+        ])
+        (λ j d i. ready_on j i)
+        (λ j d i. elim (in_split i spare (pending before) refl) [ inl a ↦ in_left (pending after) a | inr b ↦ in_right spare (waits j b) ])
+        (λ o. elim own [ inl a ↦ inl (in_right spare a) | inr b ↦ inr (inl b) ]);
+    out = λ keys o j m e f. elim (decide_key k j) [
+      | inl q ↦ absurd (no_out (sym entered.4 ∙ ap (λ (x : Node). x.phase) (some_is (sym entered.1.1 ∙ ap (node_at after.nodes) q ∙ e)) ∙ f))
+      | inr d ↦ o j m (sym (other_key before.nodes after.nodes k (Some n) entered.1 j d) ∙ e) f
+    ];
+  }
+    where
+      no_member : (i : Key) → IsMember i [] → ⊥
+      no_member i m = elim m.1 [ ]
+
+  pub begin_open : IsOpen after.nodes k
+  begin_open = (n, entered.1.1)
+
+  module _ (next : Key → List Value → Reply Key Value) (read : Key → Option Value) (no_leaf : read k ≡ None)
+      (laws : IsNext next) (past : Past read) (t : IsTrueOf next read past graph before.nodes before.runs.items) (runs : SameRuns before after)
+      (doing : record_at graph k ≡ record_at past.entry k → IsDoing next read past k [] p) where
+    pub begin_true : IsTrueOf next read past graph after.nodes after.runs.items
+    begin_true = subst (λ (x : List Run). IsTrueOf next read past graph after.nodes x) (sym runs)
+        (truth_changes next read laws past graph before.nodes after.nodes before.runs.items k n entered.1 t no_leaf same
+        (subst (λ (x : Phase). IsDoing next read past k (groups_of n) x) (sym entered.4) (subst (λ (x : List (List Key)). IsDoing next read past k x p) (sym no_groups) (doing same))))
+      where
+        same : record_at graph k ≡ record_at past.entry k
+        same = same_since next read laws past graph t.after k was
+
+-- a node without a record may make turns
+pub first_run : (next : Key → List Value → Reply Key Value) (read : Key → Option Value) (past : Past read) (graph : Recorded) (k : Key) → record_at graph k ≡ None → record_at graph k ≡ record_at past.entry k → IsRun next read past k []
+first_run next read past graph k e same = record {
+  justified = subst (RunIsJustified next cycle past.reads (λ u j. IsTouched (past.edits u) j) past.entry.version) (sym e ∙ same) never_settled;
+  asks = nothing;
+}
+
+-- the check of a record begins
+module _ (graph : Recorded) (before after : Table) (k : Key) (closed : node_at before.nodes k ≡ None) (was : IsUnsettled (record_at graph) k)
+    (entered : HasEntered before.nodes after.nodes k (phase.Checking 0)) (pends : Pends before after k) (r : Record Key Value) (there : record_at graph k ≡ Some r) where
+  not_out : phase.Checking 0 ≢ phase.Out
+  not_out e = cc
+
+  stands : Stands (record_at graph) k [] (phase.Checking 0)
+  stands = (r, there, refl, λ j m. elim m.1 [ ])
+
+  pub check_begins : Wants graph graph before after
+  check_begins = begin_wants graph before after k (phase.Checking 0) not_out closed was entered stands
+      (λ j i. inl (subst (In j) pends.ready i)) (λ j i. subst (In j) (sym pends.ready) i)
+      (λ j i. subst (In j) (sym pends.pends) (in_left (k ∷ []) i)) (inl (subst (In k) (sym pends.pends) (in_right (pending before) first)))
+
+  pub check_true : (read : Key → Option Value) → read k ≡ None → StaysTrue read graph graph before after
+  check_true read no_leaf = λ next laws past t. begin_true graph before after k (phase.Checking 0) not_out closed was entered stands next read no_leaf laws past t pends.runs (λ same. tt)
+
+-- the turns of a node without a record begin
+module _ (graph : Recorded) (before after : Table) (k : Key) (closed : node_at before.nodes k ≡ None) (was : IsUnsettled (record_at graph) k)
+    (entered : HasEntered before.nodes after.nodes k phase.Running) (readies : Readies before after k) (none : record_at graph k ≡ None) where
+  running_not_out : phase.Running ≢ phase.Out
+  running_not_out e = cc
+
+  pub run_begins : Wants graph graph before after
+  run_begins = begin_wants graph before after k phase.Running running_not_out closed was entered (inl refl)
+      (λ j i. elim (readies.ready.from j i) [ inl a ↦ inl a | inr q ↦ inr (q, refl) ]) (λ j i. readies.ready.keeps j i)
+      (λ j i. subst (In j) (sym readies.pends) i) (inr readies.ready.has)
+
+  pub run_true : (read : Key → Option Value) → read k ≡ None → StaysTrue read graph graph before after
+  run_true read no_leaf = λ next laws past t. begin_true graph before after k phase.Running running_not_out closed was entered (inl refl) next read no_leaf laws past t readies.runs (λ same. first_run next read past graph k none same)
+
+-- what a call stores for a leaf
+pub read_sets : (old new : Recorded) (a k : Key) (v : Value) (gs : List (Vec Key Global)) → a ≡ k → gs ≡ [] → Sets (record_at old) (record_at new) a (stored (record_at old a) v (items_of gs) old.version) → Sets (record_at old) (record_at new) k (stored (record_at old k) v [] old.version)
+read_sets old new a k v gs e f s = subst (λ (x : Key). Sets (record_at old) (record_at new) x (stored (record_at old x) v [] old.version)) e (subst (λ (xs : List (Vec Key Global)). Sets (record_at old) (record_at new) a (stored (record_at old a) v (items_of xs) old.version)) f s)
+
+pub read_keeps : (old new : Recorded) (a k : Key) (v : Value) (gs : List (Vec Key Global)) → a ≡ k → gs ≡ [] → SettlingKeepsLawful old new a v (items_of gs) → SettlingKeepsLawful old new k v []
+read_keeps old new a k v gs e f s = subst (λ (x : Key). SettlingKeepsLawful old new x v []) e (subst (λ (xs : List (Vec Key Global)). SettlingKeepsLawful old new a v (items_of xs)) f s)
+
+pub wants_refl : (graph : Recorded) (table : Table) → Wants graph graph table table
+wants_refl graph table = record { version = refl; widens = widens_refl (record_at graph) table.nodes; whole = λ spare w. w; out = λ keys o. o }
+
+pub wants_on : (a b c : Recorded) (x y z : Table) → Wants a b x y → Wants b c y z → Wants a c x z
+wants_on a b c x y z f g = record {
+  version = g.version ∙ f.version;
+  widens = widens_on (record_at a) (record_at b) (record_at c) x.nodes y.nodes z.nodes f.widens g.widens;
+  whole = λ spare w. g.whole spare (f.whole spare w);
+  out = λ keys o. g.out keys (f.out keys o);
+}
+
+pub wanted_on : (a b : Recorded) (x y : Table) (k : Key) → Wants a b x y → IsWanted a x k → IsWanted b y k
+wanted_on a b x y k w (inl o) = inl (o.0, w.widens.open_still k o.0 o.1)
+wanted_on a b x y k w (inr c) = inr (c.0, w.widens.clean k c.0 c.1 c.2, c.2)
+
+-- tests
+pub some_there : {X : Type 0} (o : Option X) → is_some o ≡ true → (x : X) × (o ≡ Some x)
+some_there None e = absurd (true_false e refl)
+some_there (Some x) e = (x, refl)
+
+pub none_there : {X : Type 0} (o : Option X) → is_some o ≡ false → o ≡ None
+none_there None e = refl
+none_there (Some x) e = absurd (true_false refl e)
+
+-- a key that is no leaf is read as none
+pub no_leaf : (files : Files) (k : Key) → leaves.is_leaf k ≡ false → leaves.read files k ≡ None
+no_leaf files (key.File path) e = absurd (true_false refl e)
+no_leaf files (key.Lookup directory) e = refl

@@ -1,0 +1,54 @@
+use Rattle.std.proofs.Common.{◌∷◌, []}
+use Rattle.functions.specs.Next as leaves
+use Rattle.round.proofs.Looking.{still_there, still_current, all_wanted, watched_whole, watched_out, watched_true, again_whole, again_out, again_true, wanted_open}
+use Rattle.round.proofs.look.wait_for.Goals as goal
+
+pub returns-in_ok-watch-in-Some-clause-whole : goal.returns-in_ok-watch-in-Some-clause-whole
+returns-in_ok-watch-in-Some-clause-whole c =
+    let a = c.requires.awaiting in
+    let w = c.in_ok-want_all.ensures.wants in
+    let all = c.in_ok-want_all.ensures.wanted in
+    watched_whole c.want_all.new.graph c.want_all.new.table c.watch.new.table c.args.key.now c.in-Some.member.now a.node a.group
+    (w.whole (c.args.key.now ∷ []) c.requires.whole)
+    (still_there c.args.graph.now c.want_all.new.graph c.args.table.now c.want_all.new.table c.args.key.now c.args.missing.now a w all)
+    (still_current c.args.graph.now c.want_all.new.graph c.args.table.now c.want_all.new.table c.args.key.now c.args.missing.now a w all)
+    (all_wanted c.args.graph.now c.want_all.new.graph c.args.table.now c.want_all.new.table c.args.key.now c.args.missing.now a w all)
+    (a.of_group.among c.in-Some.member.now c.in-Some.ensures.0) (wanted_open c.want_all.new.graph c.want_all.new.table c.in-Some.member.now (all c.in-Some.member.now c.in-Some.ensures.0) c.in-Some.ensures.1)
+    c.in_ok-watch-in-Some.ensures.watches c.in_ok-watch-in-Some.ensures.pends c.in_ok-watch-in-Some.ensures.ready
+
+pub returns-in_ok-watch-in-Some-clause-out : goal.returns-in_ok-watch-in-Some-clause-out
+returns-in_ok-watch-in-Some-clause-out c = λ keys o.
+    let a = c.requires.awaiting in
+    let w = c.in_ok-want_all.ensures.wants in
+    let all = c.in_ok-want_all.ensures.wanted in
+    watched_out c.want_all.new.graph c.want_all.new.table c.watch.new.table c.args.key.now c.in-Some.member.now a.node a.group
+    (w.whole (c.args.key.now ∷ []) c.requires.whole)
+    (still_there c.args.graph.now c.want_all.new.graph c.args.table.now c.want_all.new.table c.args.key.now c.args.missing.now a w all)
+    (still_current c.args.graph.now c.want_all.new.graph c.args.table.now c.want_all.new.table c.args.key.now c.args.missing.now a w all)
+    (all_wanted c.args.graph.now c.want_all.new.graph c.args.table.now c.want_all.new.table c.args.key.now c.args.missing.now a w all)
+    (a.of_group.among c.in-Some.member.now c.in-Some.ensures.0) (wanted_open c.want_all.new.graph c.want_all.new.table c.in-Some.member.now (all c.in-Some.member.now c.in-Some.ensures.0) c.in-Some.ensures.1)
+    c.in_ok-watch-in-Some.ensures.watches c.in_ok-watch-in-Some.ensures.pends c.in_ok-watch-in-Some.ensures.ready keys (w.out keys o)
+
+pub returns-in_ok-watch-in-Some-clause-truth : goal.returns-in_ok-watch-in-Some-clause-truth
+returns-in_ok-watch-in-Some-clause-truth c = λ next laws past t.
+    let a = c.requires.awaiting in
+    let w = c.in_ok-want_all.ensures.wants in
+    let all = c.in_ok-want_all.ensures.wanted in
+    watched_true c.want_all.new.graph c.want_all.new.table c.watch.new.table c.args.key.now c.in-Some.member.now a.node a.group
+    (w.whole (c.args.key.now ∷ []) c.requires.whole)
+    (still_there c.args.graph.now c.want_all.new.graph c.args.table.now c.want_all.new.table c.args.key.now c.args.missing.now a w all)
+    (still_current c.args.graph.now c.want_all.new.graph c.args.table.now c.want_all.new.table c.args.key.now c.args.missing.now a w all)
+    (all_wanted c.args.graph.now c.want_all.new.graph c.args.table.now c.want_all.new.table c.args.key.now c.args.missing.now a w all)
+    (a.of_group.among c.in-Some.member.now c.in-Some.ensures.0) (wanted_open c.want_all.new.graph c.want_all.new.table c.in-Some.member.now (all c.in-Some.member.now c.in-Some.ensures.0) c.in-Some.ensures.1)
+    c.in_ok-watch-in-Some.ensures.watches c.in_ok-watch-in-Some.ensures.pends c.in_ok-watch-in-Some.ensures.ready (leaves.read c.args.tree.now) c.in_ok-watch-in-Some.ensures.runs
+    next laws past (c.in_ok-want_all.ensures.truth next laws past t)
+
+pub returns-in_ok-look_again-in-None-clause-whole : goal.returns-in_ok-look_again-in-None-clause-whole
+returns-in_ok-look_again-in-None-clause-whole c =
+    again_whole c.want_all.new.graph c.want_all.new.table c.look_again.new.table c.args.key.now c.in_ok-look_again-in-None.ensures.pends c.look_again.ensures.nodes
+    (c.in_ok-want_all.ensures.wants.whole (c.args.key.now ∷ []) c.requires.whole)
+
+pub returns-in_ok-look_again-in-None-clause-truth : goal.returns-in_ok-look_again-in-None-clause-truth
+returns-in_ok-look_again-in-None-clause-truth c = λ next laws past t.
+    again_true c.want_all.new.graph c.want_all.new.table c.look_again.new.table c.args.key.now c.in_ok-look_again-in-None.ensures.pends c.look_again.ensures.nodes (leaves.read c.args.tree.now)
+    next laws past (c.in_ok-want_all.ensures.truth next laws past t)

@@ -1,0 +1,22 @@
+use Rattle.std.proofs.Common.{sym, ap, Some}
+use Rattle.std.specs.Prelude.{IsSome}
+use Rattle.round.proofs.Confirming.{recorded, clean_members, confirmed_whole, confirmed_out, confirmed_true, is_recorded}
+use Rattle.round.proofs.settle.confirm.Goals as goal
+
+pub confirm-requires-clause-recorded : goal.confirm-requires-clause-recorded
+confirm-requires-clause-recorded c = is_recorded c.args.graph.now c.args.table.now c.args.key.now c.requires.passed c.requires.whole
+
+pub confirm-requires-clause-members : goal.confirm-requires-clause-members
+confirm-requires-clause-members c = clean_members c.args.graph.now c.args.table.now c.args.key.now c.requires.passed c.requires.whole
+
+pub returns-clause-whole : goal.returns-clause-whole
+returns-clause-whole c = confirmed_whole c.args.graph.now c.args.table.now c.args.key.now c.requires.passed c.requires.whole c.confirm.new.self c.leave.new.table
+    (c.in_ok-_groups.ensures.left c.requires.passed.node c.requires.passed.there) c.confirm.ensures.version c.confirm.ensures.confirmed
+
+pub returns-clause-out : goal.returns-clause-out
+returns-clause-out c = confirmed_out c.args.graph.now c.args.table.now c.args.key.now c.requires.passed c.requires.whole c.confirm.new.self c.leave.new.table
+    (c.in_ok-_groups.ensures.left c.requires.passed.node c.requires.passed.there) c.confirm.ensures.version c.confirm.ensures.confirmed
+
+pub returns-clause-truth : goal.returns-clause-truth
+returns-clause-truth c = λ read. confirmed_true c.args.graph.now c.args.table.now c.args.key.now c.requires.passed c.requires.whole c.confirm.new.self c.leave.new.table
+    (c.in_ok-_groups.ensures.left c.requires.passed.node c.requires.passed.there) c.confirm.ensures.version c.confirm.ensures.confirmed c.confirm.ensures.lawful read

@@ -1,0 +1,32 @@
+-- What a look at a node finds.
+use Rattle.std.specs.Prelude.{◌≡◌, ◌≤◌, ℕ, length, List, ◌∷◌, ◌++◌, Some}
+use Rattle.evaluation.specs.Value.{In}
+use Rattle.evaluation.specs.Graph.{Record}
+use Rattle.keys.specs.declared.key.Key.{Key}
+use Rattle.keys.specs.declared.value.Value.{Value}
+use Rattle.open_nodes.specs.declared.table.Phase.TheVariants as phase
+use Rattle.node.specs.Graphs.{Recorded, record_at}
+use Rattle.open_nodes.specs.Nodes.{node_at, groups_of, IsCurrent}
+use Rattle.open_nodes.specs.declared.table.Node.{Node}
+use Rattle.open_nodes.specs.declared.table.Table.{Table}
+use Rattle.round.specs.Members.{IsMissing}
+
+-- an open node, and the members of its group that are not settled
+pub record IsAwaiting (graph : Recorded) (table : Table) (k : Key) (missing : List Key) : Type 0 where
+  pub node : Node
+  pub there : node_at table.nodes k ≡ Some node
+  pub group : List Key
+  pub current : IsCurrent (record_at graph) k (groups_of node) node.phase group
+  pub of_group : IsMissing (record_at graph) group missing
+
+-- an open node whose record is checked, and all its groups are passed
+pub record HasPassed (graph : Recorded) (table : Table) (k : Key) : Type 0 where
+  pub node : Node
+  pub there : node_at table.nodes k ≡ Some node
+  pub at : ℕ
+  pub checking : node.phase ≡ phase.Checking at
+  pub over : (r : Record Key Value) → record_at graph k ≡ Some r → length r.groups ≤ at
+
+-- an open node whose record is checked, and that passed so many groups
+abbrev pub IsChecking : Table → Key → ℕ → Type 0
+IsChecking table k at = (n : Node) × (node_at table.nodes k ≡ Some n) × (n.phase ≡ phase.Checking at)

@@ -1,0 +1,35 @@
+-- What a move of a round does to the graph and the open nodes.
+use Rattle.std.specs.Prelude.{◌≡◌, ◌⊎◌, List, ◌∷◌, ◌++◌, Option, Result}
+use Rattle.evaluation.specs.Reply.{Reply}
+use Rattle.keys.specs.declared.key.Key.{Key}
+use Rattle.keys.specs.declared.value.Value.{Value}
+use Rattle.node.specs.Graphs.{Recorded, record_at}
+use Rattle.open_nodes.specs.Nodes.{node_at, IsOpen, IsClean, IsWhole, Widens, pending, AreOut}
+use Rattle.open_nodes.specs.Truths.{Leads}
+use Rattle.open_nodes.specs.declared.table.Table.{Table}
+
+-- whichever the node functions are, what was true of the round stays true
+abbrev pub KeepsTrue : {X E : Type 0} → (Key → Option Value) → Recorded → Recorded → Table → Table → Result X E → Type 0
+KeepsTrue read old new before after result = (next : Key → List Value → Reply Key Value) → Leads next read old new before after result
+
+-- keys are wanted: more are settled or open, whatever else there is to be looked at
+pub record Wants (old new : Recorded) (before after : Table) : Type 0 where
+  pub version : new.version ≡ old.version
+  pub widens : Widens (record_at old) (record_at new) before.nodes after.nodes
+  pub whole : (spare : List Key) → IsWhole (record_at old) before.nodes before.ready.keys (spare ++ pending before) → IsWhole (record_at new) after.nodes after.ready.keys (spare ++ pending after)
+  pub out : (keys : List Key) → AreOut before.nodes keys → AreOut after.nodes keys
+
+-- the key is settled or open
+abbrev pub IsWanted : Recorded → Table → Key → Type 0
+IsWanted graph table k = IsOpen table.nodes k ⊎ IsClean (record_at graph) k
+
+-- the open nodes stand as they have to, where this key and the pending ones are to be looked at
+abbrev pub IsWholeBut : Key → Recorded → Table → Type 0
+IsWholeBut key graph table = IsWhole (record_at graph) table.nodes table.ready.keys (key ∷ pending table)
+
+abbrev pub IsWholeNow : Recorded → Table → Type 0
+IsWholeNow graph table = IsWhole (record_at graph) table.nodes table.ready.keys (pending table)
+
+-- no other job is out
+abbrev pub KeepsOut : Table → Table → Type 0
+KeepsOut before after = (keys : List Key) → AreOut before.nodes keys → AreOut after.nodes keys

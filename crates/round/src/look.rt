@@ -1,0 +1,162 @@
+//! Looks at nodes that wait.
+ghost use Rattle.std.specs.Prelude.{◌≡◌, ◌⊎◌, ◌+◌, IfOk, OnOk, Some};
+ghost use Rattle.round.specs.declared.look.Compared.TheVariants as compared;
+ghost use Rattle.evaluation.specs.Graph.{Record};
+ghost use Rattle.evaluation.specs.Value.{In};
+ghost use Rattle.open_nodes.specs.Nodes.{IsClean};
+ghost use Rattle.evaluation.specs.Graph.{Record};
+ghost use Rattle.evaluation.specs.Value.{In};
+ghost use Rattle.open_nodes.specs.Nodes.{IsClean};
+ghost use Rattle.functions.specs.Next as leaves;
+ghost use Rattle.keys.specs.declared.key.Key.{Key};
+ghost use Rattle.keys.specs.declared.value.Value.{Value};
+ghost use Rattle.node.specs.Graphs.{record_at};
+ghost use Rattle.node.specs.Kept.{items_of};
+ghost use Rattle.open_nodes.specs.Nodes.{node_at, groups_of, AreOut};
+ghost use Rattle.open_nodes.specs.declared.table.Node.{Node};
+ghost use Rattle.open_nodes.specs.declared.table.Phase.TheVariants as phase;
+ghost use Rattle.round.specs.Compared.{ComparesGroup, Compares};
+ghost use Rattle.round.specs.Looks.{IsAwaiting, IsChecking};
+ghost use Rattle.round.specs.Moves.{KeepsTrue, IsWholeBut, IsWholeNow, KeepsOut};
+
+use crate::members::{any_changed, first_unsettled, unsettled};
+use crate::settle::{confirm, want_all};
+use filetree::Tree;
+use keys::Key;
+use node::Graph;
+use open_nodes::{Table, look_again, pass, run_anew, watch};
+use std::alloc::Global;
+use texts::Memory;
+
+// The members of a group are wanted, and the node waits for the first that is not settled then.
+fn wait_for(
+    alloc: Global,
+    graph: &mut Graph,
+    tree: &Tree,
+    table: &mut Table,
+    key: &Key,
+    missing: &[Key],
+) -> Result<(), Memory>
+    requires whole { IsWholeBut key.now graph.old table.old }
+    requires awaiting { IsAwaiting graph.old table.old key.now missing.now }
+    ensures whole { OnOk result (IsWholeNow graph.new table.new) }
+    ensures out { OnOk result (KeepsOut table.old table.new) }
+    ensures truth { KeepsTrue (leaves.read tree.now) graph.old graph.new table.old table.new result }
+{
+    want_all(alloc, graph, tree, table, missing)?;
+    match first_unsettled(graph, missing) {
+        Some(member) => watch(table, member, key)?,
+        None => look_again(table, key)?,
+    }
+    Ok(())
+}
+
+// How a check goes on.
+#[derive(Drop)]
+enum Compared {
+    // All groups are settled without a change.
+    Over,
+    // These members of the next group are not settled.
+    Waits(Vec<Key>),
+    // A member of the next group has changed.
+    Differs,
+    // The next group is settled without a change.
+    Passes,
+}
+
+// Compares a group whose members are settled.
+fn compare_settled(graph: &Graph, group: &[Key], since: u32) -> Compared
+    requires { (j : Key) → In j group.now → IsClean (record_at graph.now) j }
+    ensures { ComparesGroup (record_at graph.now) group.now since result }
+{
+    if any_changed(graph, group, since) {
+        Compared::Differs
+    } else {
+        Compared::Passes
+    }
+}
+
+// Compares a group with what was recorded at a version.
+fn compare_group(
+    alloc: Global,
+    graph: &Graph,
+    group: &[Key],
+    since: u32,
+) -> Result<Compared, Memory>
+    ensures { IfOk result (ComparesGroup (record_at graph.now) group.now since) }
+{
+    let missing = unsettled(alloc, graph, group)?;
+    if !missing.is_empty() {
+        return Ok(Compared::Waits(missing));
+    }
+    Ok(compare_settled(graph, group, since))
+}
+
+// The groups of a key's record.
+fn recorded_groups<'a>(graph: &'a Graph, key: &Key) -> &'a [Vec<Key>]
+    ensures { (r : Record Key Value) → record_at graph.now key.now ≡ Some r → items_of result.now ≡ r.groups }
+{
+    match graph.groups(key) {
+        None => &[],
+        Some(groups) => groups,
+    }
+}
+
+// The version at which a key's record was settled.
+fn settled_version(graph: &Graph, key: &Key) -> u32
+    ensures { (r : Record Key Value) → record_at graph.now key.now ≡ Some r → result ≡ r.settled_at }
+{
+    match graph.settled_at(key) {
+        None => 0,
+        Some(version) => version,
+    }
+}
+
+// Compares the next recorded group of a node, and how many groups are passed if it has not changed.
+fn compare(
+    alloc: Global,
+    graph: &Graph,
+    key: &Key,
+    passed: usize,
+) -> Result<(Compared, usize), Memory>
+    ensures compares { IfOk result (λ found. (r : Record Key Value) → record_at graph.now key.now ≡ Some r → Compares (record_at graph.now) r passed found.0) }
+    ensures next { IfOk result (λ found. (found.0 ≡ compared.Over) ⊎ (found.1 ≡ passed + 1)) }
+{
+    let groups = recorded_groups(graph, key);
+    let count = groups.len();
+    if passed >= count {
+        return Ok((Compared::Over, passed));
+    }
+    let found = compare_group(
+        alloc,
+        graph,
+        groups[passed].as_slice(),
+        settled_version(graph, key),
+    )?;
+    Ok((found, passed + 1))
+}
+
+// Looks at a node whose record is checked, and that passed so many groups.
+fn check(
+    alloc: Global,
+    graph: &mut Graph,
+    tree: &Tree,
+    table: &mut Table,
+    key: &Key,
+    passed: usize,
+) -> Result<(), Memory>
+    requires whole { IsWholeBut key.now graph.old table.old }
+    requires checking { IsChecking table.old key.now passed }
+    ensures whole { OnOk result (IsWholeNow graph.new table.new) }
+    ensures out { OnOk result (KeepsOut table.old table.new) }
+    ensures truth { KeepsTrue (leaves.read tree.now) graph.old graph.new table.old table.new result }
+{
+    let (found, next) = compare(alloc, graph, key, passed)?;
+    match found {
+        Compared::Over => return confirm(alloc, graph, table, key),
+        Compared::Waits(missing) => wait_for(alloc, graph, tree, table, key, missing.as_slice())?,
+        Compared::Differs => run_anew(table, key)?,
+        Compared::Passes => pass(table, key, next)?,
+    }
+    Ok(())
+}

@@ -1,0 +1,138 @@
+//! What the graph holds of the members of a group.
+ghost use Rattle.std.specs.Prelude.{◌≡◌, IfOk, map};
+ghost use Rattle.std.specs.Option.{option_copied, option_map, is_some};
+ghost use Rattle.std.specs.Arc.{arc_value};
+ghost use Rattle.keys.specs.Turns.{values};
+ghost use Rattle.node.specs.Graphs.{record_at, present};
+ghost use Rattle.node.specs.Kept.{items_of};
+ghost use Rattle.round.specs.Members as specs;
+
+use keys::{Key, Value};
+use node::Graph;
+use std::alloc::Global;
+use std::sync::Arc;
+use texts::Memory;
+
+/// Whether a key is settled.
+pub fn is_settled(graph: &Graph, key: &Key) -> bool
+    ensures { result ≡ is_some (present (record_at graph.now key.now)) }
+{
+    graph.get(key).is_some()
+}
+
+/// The members of a group that are not settled.
+pub fn unsettled(alloc: Global, graph: &Graph, group: &[Key]) -> Result<Vec<Key>, Memory>
+    ensures { IfOk result (λ missing. specs.IsMissing (record_at graph.now) group.now missing.items) }
+{
+    let mut missing = Vec::new(alloc);
+    for key in group {
+        if is_settled(graph, key) {
+            continue;
+        }
+        missing.push(key.share()?)?;
+    }
+    Ok(missing)
+}
+
+/// The first of the keys that is not settled.
+pub fn first_unsettled<'a>(graph: &Graph, keys: &'a [Key]) -> Option<&'a Key>
+    ensures { specs.IsFirst (record_at graph.now) keys.now (option_map (λ k. k.now) result) }
+{
+    for key in keys {
+        if !is_settled(graph, key) {
+            return Some(key);
+        }
+    }
+    None
+}
+
+/// Whether a key has changed after a version.
+fn has_changed(graph: &Graph, key: &Key, since: u32) -> bool
+    ensures { result ≡ specs.has_changed (record_at graph.now key.now) since }
+{
+    match graph.changed_at(key) {
+        None => true,
+        Some(version) => since < version,
+    }
+}
+
+/// Whether a member of a group has changed after a version.
+pub fn any_changed(graph: &Graph, group: &[Key], since: u32) -> bool
+    ensures { specs.AnyChanged (record_at graph.now) group.now since result }
+{
+    for key in group {
+        if has_changed(graph, key, since) {
+            return true;
+        }
+    }
+    false
+}
+
+/// Whether a value is that of a cycle.
+fn is_cycle(value: &Value) -> bool
+    ensures { result ≡ specs.is_cycle value.now }
+{
+    match value {
+        Value::Cycle(_) => true,
+        _ => false,
+    }
+}
+
+// The value of a key that is settled, and not as a cycle.
+fn plain_value<'a>(graph: &'a Graph, key: &Key) -> Option<&'a Arc<Value>>
+    ensures { option_map (λ v. arc_value v.now) result ≡ specs.plain_value (record_at graph.now key.now) }
+{
+    match graph.get(key) {
+        None => None,
+        Some(value) => { if is_cycle(value) { None } else { Some(value) } }
+    }
+}
+
+// Whether a key is settled, and not as a cycle.
+fn is_plain(graph: &Graph, key: &Key) -> bool
+    ensures { result ≡ is_some (specs.plain_value (record_at graph.now key.now)) }
+{
+    plain_value(graph, key).is_some()
+}
+
+/// The first member of a group that is not settled with a value, or that is settled as a cycle.
+pub fn first_stop<'a>(graph: &Graph, group: &'a [Key]) -> Option<&'a Key>
+    ensures { specs.IsStop (record_at graph.now) group.now (option_map (λ k. k.now) result) }
+{
+    for key in group {
+        if !is_plain(graph, key) {
+            return Some(key);
+        }
+    }
+    None
+}
+
+// The values of the members of a group are put behind the answers; false where one has none.
+fn answer_group(graph: &Graph, group: &[Key], answers: &mut Vec<Arc<Value>>) -> Result<bool, Memory>
+    ensures { IfOk result (specs.AnswersGroup (record_at graph.now) group.now (values answers.old.items) (values answers.new.items)) }
+{
+    for key in group {
+        let Some(value) = plain_value(graph, key) else {
+            return Ok(false);
+        };
+        answers.push(Arc::try_clone(value)?)?;
+    }
+    Ok(true)
+}
+
+/// The values of the members of groups, in order. None where a member has none.
+pub fn answers_to(
+    alloc: Global,
+    graph: &Graph,
+    groups: &[Vec<Key>],
+) -> Result<Option<Vec<Arc<Value>>>, Memory>
+    ensures { IfOk result (λ found. specs.Answers (record_at graph.now) (items_of groups.now) (option_map (λ v. values v.items) found)) }
+{
+    let mut answers = Vec::new(alloc);
+    for group in groups {
+        if !answer_group(graph, group.as_slice(), &mut answers)? {
+            return Ok(None);
+        }
+    }
+    Ok(Some(answers))
+}
