@@ -1,6 +1,9 @@
 -- A node is looked at.
 use Rattle.std.proofs.Common.{◌≡◌, ◌≢◌, ◌⊎◌, inl, inr, ℕ, ◌<◌, ◌≤◌, Bool, true, false, List, [], ◌∷◌, ◌++◌, map, Option, Some, None, refl, sym, ◌∙◌, ap, subst}
 use Rattle.std.specs.BTreeMap.{Updates}
+use Rattle.std.specs.Prelude.{vec_len, length, ◌==◌}
+use Rattle.std.specs.declared.alloc.Global.{Global}
+use Rattle.std.specs.declared.vec.Vec.{Vec}
 use Rattle.evaluation.specs.Reply.{Reply}
 use Rattle.evaluation.specs.Value.{In, first, after, IsMember}
 use Rattle.evaluation.specs.Graph.{Record}
@@ -18,12 +21,22 @@ use Rattle.open_nodes.specs.declared.table.Node.{Node}
 use Rattle.open_nodes.specs.declared.table.Phase.{Phase}
 use Rattle.open_nodes.specs.declared.table.Phase.TheVariants as phase
 use Rattle.open_nodes.specs.declared.table.Table.{Table}
-use Rattle.open_nodes.proofs.Wholes.{unsettled_not_clean, node_changes, open_on, keeps_on, blocked_on, looked_at, more_waiting, current_on, clean_on}
+use Rattle.open_nodes.proofs.Wholes.{unsettled_not_clean, node_changes, open_on, keeps_on, blocked_on, looked_at, more_waiting, current_on, clean_on, becomes_ready}
 use Rattle.open_nodes.proofs.Settlings.{truth_changes}
-use Rattle.round.specs.Members.{IsMissing}
+use Rattle.round.specs.Members.{IsMissing, plain_value}
+use Rattle.round.proofs.Grouping.{clean_cycle}
 use Rattle.round.specs.Moves.{Wants, IsWanted}
-use Rattle.round.specs.Looks.{IsAwaiting}
+use Rattle.round.specs.Looks.{IsAwaiting, IsLastGroup, IsRunningAt}
 use Rattle.round.proofs.Wanting.{StaysTrue}
+
+-- the last elements of equal lists
+last_same : {X : Type 0} (xs ys : List X) (x y : X) → xs ++ x ∷ [] ≡ ys ++ y ∷ [] → x ≡ y
+last_same [] [] x y e = cc
+last_same [] (z ∷ []) x y e = cc
+last_same [] (z ∷ w ∷ ys) x y e = cc
+last_same (z ∷ []) [] x y e = cc
+last_same (z ∷ w ∷ xs) [] x y e = cc
+last_same (z ∷ xs) (w ∷ ys) x y e = let q : xs ++ x ∷ [] ≡ ys ++ y ∷ [] = cc in last_same xs ys x y q
 
 -- after the members of its group are wanted, the node has its group still, and its members are open or settled
 module _ (old new : Recorded) (before later : Table) (k : Key) (missing : List Key) (a : IsAwaiting old before k missing) (w : Wants old new before later)
@@ -140,3 +153,82 @@ module _ (graph : Recorded) (before later : Table) (k : Key) (pends : Pends befo
 pub wanted_open : (graph : Recorded) (table : Table) (k : Key) → IsWanted graph table k → IsUnsettled (record_at graph) k → IsOpen table.nodes k
 wanted_open graph table k (inl o) u = o
 wanted_open graph table k (inr c) u = absurd (unsettled_not_clean (record_at graph k) c.0 u c.1 c.2)
+
+-- a node that makes turns, whose last group is settled
+module _ (graph : Recorded) (before : Table) (k : Key) (group : List Key) (run : IsRunningAt before k group)
+    (w : IsWhole (record_at graph) before.nodes before.ready.keys (k ∷ pending before)) (settled : (j : Key) → In j group → IsClean (record_at graph) j) where
+  abbrev node : Node
+  node = run.0
+
+  stand : Stands (record_at graph) k (groups_of node) phase.Running
+  stand = subst (λ (p : Phase). Stands (record_at graph) k (groups_of node) p) run.2 (w.holds k node run.1).1
+
+  -- a member that is settled as a cycle keeps it back
+  pub held_back : (j : Key) → In j group → plain_value (record_at graph j) ≡ None → IsWhole (record_at graph) before.nodes before.ready.keys (pending before)
+  held_back j i e = looked_at (record_at graph) before.nodes before.ready.keys (pending before) k w (λ x f o. inr (inr (blocked x f (current run.3))))
+    where
+      current : IsLastGroup (groups_of node) group → (passed : List (List Key)) × (groups_of node ≡ passed ++ group ∷ [])
+      current (inl n) = elim (subst (In j) n.1 i) [ ]
+      current (inr p) = p
+
+      blocked : (x : Node) → node_at before.nodes k ≡ Some x → (passed : List (List Key)) × (groups_of node ≡ passed ++ group ∷ []) → IsBlocked (record_at graph) before.nodes k x
+      blocked x f p = let same : node ≡ x = some_is (sym run.1 ∙ f) in record {
+        group = group;
+        current = subst (λ (y : Node). IsCurrent (record_at graph) k (groups_of y) y.phase group) same (subst (λ (q : Phase). IsCurrent (record_at graph) k (groups_of node) q group) (sym run.2) p);
+        wanted = λ y m. inr (settled y m);
+        member = j;
+        among = i;
+        keeps_back = inr (ap (λ (y : Node). y.phase) (sym same) ∙ run.2, clean_cycle (record_at graph) j (settled j i) e);
+      }
+
+  -- all members are plain, so its next turn can be handed out
+  pub all_plain : ((j : Key) → In j group → IsPlain (record_at graph) j) → (j : Key) → IsMember j (groups_of node) → IsPlain (record_at graph) j
+  all_plain plain j m = go stand run.3
+    where
+      go : Stands (record_at graph) k (groups_of node) phase.Running → IsLastGroup (groups_of node) group → IsPlain (record_at graph) j
+      go (inl e) l = elim (subst (IsMember j) e m).1 [ ]
+      go (inr s) (inl n) = elim (subst (IsMember j) n.0 m).1 [ ]
+      go (inr s) (inr p) = let q = last_same s.0 p.0 s.1 group (sym s.2 ∙ p.1) in
+          elim (in_split m.1 s.0 (s.1 ∷ []) s.2) [
+            | inl a ↦ s.3 j (m.0, a, m.2)
+            | inr b ↦ plain j (subst (In j) (in_one b ∙ q) m.2)
+          ]
+
+  pub now_ready : (later : Table) → Readies before later k → later.nodes ≡ before.nodes → ((j : Key) → In j group → IsPlain (record_at graph) j) → IsWhole (record_at graph) later.nodes later.ready.keys (pending later)
+  now_ready later readies nodes plain = subst (λ (x : Nodes). IsWhole (record_at graph) x later.ready.keys (pending later)) (sym nodes) (subst (λ (xs : List Key). IsWhole (record_at graph) before.nodes later.ready.keys xs) (sym readies.pends)
+      (becomes_ready (record_at graph) before.nodes before.ready.keys later.ready.keys (pending before) k node run.1 run.2 (all_plain plain) readies.ready w))
+
+pub ready_out : (before later : Table) → later.nodes ≡ before.nodes → (keys : List Key) → AreOut before.nodes keys → AreOut later.nodes keys
+ready_out before later nodes keys out j m e f = out j m (ap (λ x. node_at x j) (sym nodes) ∙ e) f
+
+pub ready_true : (graph : Recorded) (before later : Table) (k : Key) → Readies before later k → later.nodes ≡ before.nodes → (read : Key → Option Value) → StaysTrue read graph graph before later
+ready_true graph before later k readies nodes read = λ next laws past t. subst (λ (x : Nodes). IsTrueOf next read past graph x later.runs.items) (sym nodes) (subst (λ (x : List Run). IsTrueOf next read past graph before.nodes x) (sym readies.runs) t)
+
+-- the members that wait of a node that makes turns
+pub running_awaits : (graph : Recorded) (before : Table) (k : Key) (group missing : List Key) → IsRunningAt before k group → IsMissing (record_at graph) group missing → (missing ≡ [] → ⊥) → IsAwaiting graph before k missing
+running_awaits graph before k group missing run m n = record { node = run.0; there = run.1; group = group; current = subst (λ (p : Phase). IsCurrent (record_at graph) k (groups_of run.0) p group) (sym run.2) (current run.3); of_group = m }
+  where
+    none : (xs : List Key) → ((j : Key) → In j xs → In j group) → group ≡ [] → xs ≡ []
+    none [] f e = refl
+    none (x ∷ xs) f e = elim (subst (In x) e (f x first)) [ ]
+
+    current : IsLastGroup (groups_of run.0) group → (passed : List (List Key)) × (groups_of run.0 ≡ passed ++ group ∷ [])
+    current (inl e) = absurd (n (none missing m.among e.1))
+    current (inr p) = p
+
+-- a node that does neither is looked at for nothing
+pub looked_idle : (graph : Recorded) (table : Table) (k : Key) → IsWhole (record_at graph) table.nodes table.ready.keys (k ∷ pending table)
+    → ((n : Node) (at : ℕ) → node_at table.nodes k ≡ Some n → n.phase ≡ phase.Checking at → ⊥) → ((n : Node) → node_at table.nodes k ≡ Some n → n.phase ≡ phase.Running → ⊥) → IsWhole (record_at graph) table.nodes table.ready.keys (pending table)
+looked_idle graph table k w not_checking not_running = looked_at (record_at graph) table.nodes table.ready.keys (pending table) k w (λ n e o. absurd (go n e n.phase refl o))
+  where
+    go : (n : Node) → node_at table.nodes k ≡ Some n → (p : Phase) → n.phase ≡ p → n.phase ≢ phase.Out → ⊥
+    go n e (phase.Checking at) q o = not_checking n at e q
+    go n e phase.Running q o = not_running n e q
+    go n e phase.Out q o = o q
+
+pub stop_in : (group before rest : List Key) (k : Key) → group ≡ before ++ k ∷ rest → In k group
+stop_in group before rest k e = subst (In k) (sym e) (in_right before first)
+
+-- a list with an element is not empty
+pub some_missing : (missing : Vec Key Global) (slice : List Key) → slice ≡ missing.items → {b : Bool} → b ≡ (vec_len missing == 0) → b ≡ false → slice ≡ [] → ⊥
+some_missing missing slice q {b = b} h f e = let n : vec_len missing ≡ 0 = missing.ok.0 ∙ ap length (sym q ∙ e) in true_false (h ∙ ap (λ x. x == 0) n) f

@@ -1,5 +1,5 @@
 -- What a look at a node finds.
-use Rattle.std.specs.Prelude.{◌≡◌, ◌≤◌, ℕ, length, List, ◌∷◌, ◌++◌, Some}
+use Rattle.std.specs.Prelude.{◌≡◌, ◌⊎◌, ◌≤◌, ℕ, length, List, [], ◌∷◌, ◌++◌, Some}
 use Rattle.evaluation.specs.Value.{In}
 use Rattle.evaluation.specs.Graph.{Record}
 use Rattle.keys.specs.declared.key.Key.{Key}
@@ -30,3 +30,15 @@ pub record HasPassed (graph : Recorded) (table : Table) (k : Key) : Type 0 where
 -- an open node whose record is checked, and that passed so many groups
 abbrev pub IsChecking : Table → Key → ℕ → Type 0
 IsChecking table k at = (n : Node) × (node_at table.nodes k ≡ Some n) × (n.phase ≡ phase.Checking at)
+
+-- the last of the groups, or nothing where there is none
+abbrev pub IsLastGroup : List (List Key) → List Key → Type 0
+IsLastGroup groups group = ((groups ≡ []) × (group ≡ [])) ⊎ ((passed : List (List Key)) × (groups ≡ passed ++ group ∷ []))
+
+-- an open node that makes turns
+abbrev pub IsRunning : Table → Key → Type 0
+IsRunning table k = (n : Node) × (node_at table.nodes k ≡ Some n) × (n.phase ≡ phase.Running)
+
+-- the same, and this is its last group
+abbrev pub IsRunningAt : Table → Key → List Key → Type 0
+IsRunningAt table k group = (n : Node) × (node_at table.nodes k ≡ Some n) × (n.phase ≡ phase.Running) × IsLastGroup (groups_of n) group

@@ -1,5 +1,5 @@
 //! Looks at nodes that wait.
-ghost use Rattle.std.specs.Prelude.{◌≡◌, ◌⊎◌, ◌+◌, IfOk, OnOk, Some};
+ghost use Rattle.std.specs.Prelude.{◌≡◌, ◌⊎◌, ◌+◌, ℕ, IfOk, OnOk, Some, IfSome, IfNone, IsTrue};
 ghost use Rattle.round.specs.declared.look.Compared.TheVariants as compared;
 ghost use Rattle.evaluation.specs.Graph.{Record};
 ghost use Rattle.evaluation.specs.Value.{In};
@@ -15,16 +15,24 @@ ghost use Rattle.node.specs.Kept.{items_of};
 ghost use Rattle.open_nodes.specs.Nodes.{node_at, groups_of, AreOut};
 ghost use Rattle.open_nodes.specs.declared.table.Node.{Node};
 ghost use Rattle.open_nodes.specs.declared.table.Phase.TheVariants as phase;
+ghost use Rattle.keys.specs.declared.key.Key.{Key};
+ghost use Rattle.open_nodes.specs.declared.table.Phase.TheVariants as phase;
 ghost use Rattle.round.specs.Compared.{ComparesGroup, Compares};
-ghost use Rattle.round.specs.Looks.{IsAwaiting, IsChecking};
+ghost use Rattle.std.specs.Prelude.{Option};
+ghost use Rattle.keys.specs.declared.value.Value.{Value};
+ghost use Rattle.open_nodes.specs.Nodes.{node_at, groups_of};
+ghost use Rattle.open_nodes.specs.declared.table.Node.{Node};
+ghost use Rattle.open_nodes.specs.declared.table.Phase.TheVariants as phase;
+ghost use Rattle.keys.specs.declared.key.Key.{Key};
+ghost use Rattle.round.specs.Looks.{IsAwaiting, IsChecking, IsLastGroup, IsRunning, IsRunningAt};
 ghost use Rattle.round.specs.Moves.{KeepsTrue, IsWholeBut, IsWholeNow, KeepsOut};
 
-use crate::members::{any_changed, first_unsettled, unsettled};
+use crate::members::{any_changed, first_stop, first_unsettled, share_all, unsettled};
 use crate::settle::{confirm, want_all};
 use filetree::Tree;
 use keys::Key;
 use node::Graph;
-use open_nodes::{Table, look_again, pass, run_anew, watch};
+use open_nodes::{Nodes, Phase, Table, look_again, pass, put_ready, run_anew, watch};
 use std::alloc::Global;
 use texts::Memory;
 
@@ -157,6 +165,109 @@ fn check(
         Compared::Waits(missing) => wait_for(alloc, graph, tree, table, key, missing.as_slice())?,
         Compared::Differs => run_anew(table, key)?,
         Compared::Passes => pass(table, key, next)?,
+    }
+    Ok(())
+}
+
+// The last group that a node's turns asked.
+fn last_group<'a>(nodes: &'a Nodes, key: &Key) -> &'a [Key]
+    ensures { (n : Node) → node_at nodes.now key.now ≡ Some n → IsLastGroup (groups_of n) result.now }
+{
+    match nodes.get(key) {
+        None => &[],
+        Some(node) => match node.groups.as_slice().last() {
+            None => &[],
+            Some(group) => group.as_slice(),
+        },
+    }
+}
+
+// Looks at a node that makes turns, whose last group is settled.
+fn look_settled(graph: &Graph, table: &mut Table, key: &Key, group: &[Key]) -> Result<(), Memory>
+    requires whole { IsWholeBut key.now graph.now table.old }
+    requires running { IsRunningAt table.old key.now group.now }
+    requires settled { (j : Key) → In j group.now → IsClean (record_at graph.now) j }
+    ensures whole { OnOk result (IsWholeNow graph.now table.new) }
+    ensures out { OnOk result (KeepsOut table.old table.new) }
+    ensures truth { (read : Key → Option Value) → KeepsTrue read graph.now graph.now table.old table.new result }
+{
+    match first_stop(graph, group) {
+        Some(_) => Ok(()),
+        None => {
+            put_ready(table, key)?;
+            Ok(())
+        }
+    }
+}
+
+// Looks at a node that makes turns.
+fn look_running(
+    alloc: Global,
+    graph: &mut Graph,
+    tree: &Tree,
+    table: &mut Table,
+    key: &Key,
+) -> Result<(), Memory>
+    requires whole { IsWholeBut key.now graph.old table.old }
+    requires running { IsRunning table.old key.now }
+    ensures whole { OnOk result (IsWholeNow graph.new table.new) }
+    ensures out { OnOk result (KeepsOut table.old table.new) }
+    ensures truth { KeepsTrue (leaves.read tree.now) graph.old graph.new table.old table.new result }
+{
+    let group = share_all(alloc, last_group(&table.nodes, key))?;
+    let missing = unsettled(alloc, graph, group.as_slice())?;
+    if missing.is_empty() {
+        return look_settled(graph, table, key, group.as_slice());
+    }
+    wait_for(alloc, graph, tree, table, key, missing.as_slice())
+}
+
+// How many groups a check passed, of a node whose record is checked.
+fn passed_of(nodes: &Nodes, key: &Key) -> Option<usize>
+    ensures some { IfSome result (λ at. (n : Node) × (node_at nodes.now key.now ≡ Some n) × (n.phase ≡ phase.Checking at)) }
+    ensures none { IfNone result ((n : Node) (at : ℕ) → node_at nodes.now key.now ≡ Some n → n.phase ≡ phase.Checking at → ⊥) }
+{
+    match nodes.get(key) {
+        None => None,
+        Some(node) => match node.phase {
+            Phase::Checking(passed) => Some(passed),
+            _ => None,
+        },
+    }
+}
+
+// Whether a node makes turns and its job is not out.
+fn is_running(nodes: &Nodes, key: &Key) -> bool
+    ensures yes { IsTrue result → (n : Node) × (node_at nodes.now key.now ≡ Some n) × (n.phase ≡ phase.Running) }
+    ensures no { (n : Node) → node_at nodes.now key.now ≡ Some n → n.phase ≡ phase.Running → IsTrue result }
+{
+    match nodes.get(key) {
+        None => false,
+        Some(node) => match node.phase {
+            Phase::Running => true,
+            _ => false,
+        },
+    }
+}
+
+// Looks at a node.
+fn look(
+    alloc: Global,
+    graph: &mut Graph,
+    tree: &Tree,
+    table: &mut Table,
+    key: &Key,
+) -> Result<(), Memory>
+    requires whole { IsWholeBut key.now graph.old table.old }
+    ensures whole { OnOk result (IsWholeNow graph.new table.new) }
+    ensures out { OnOk result (KeepsOut table.old table.new) }
+    ensures truth { KeepsTrue (leaves.read tree.now) graph.old graph.new table.old table.new result }
+{
+    if let Some(passed) = passed_of(&table.nodes, key) {
+        return check(alloc, graph, tree, table, key, passed);
+    }
+    if is_running(&table.nodes, key) {
+        return look_running(alloc, graph, tree, table, key);
     }
     Ok(())
 }

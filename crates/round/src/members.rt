@@ -13,6 +13,17 @@ use std::alloc::Global;
 use std::sync::Arc;
 use texts::Memory;
 
+/// Shared copies of keys.
+pub fn share_all(alloc: Global, keys: &[Key]) -> Result<Vec<Key>, Memory>
+    ensures { IfOk result (λ shared. shared.items ≡ keys.now) }
+{
+    let mut shared = Vec::new(alloc);
+    for key in keys {
+        shared.push(key.share()?)?;
+    }
+    Ok(shared)
+}
+
 /// Whether a key is settled.
 pub fn is_settled(graph: &Graph, key: &Key) -> bool
     ensures { result ≡ is_some (present (record_at graph.now key.now)) }

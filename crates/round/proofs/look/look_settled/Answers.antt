@@ -1,0 +1,12 @@
+use Rattle.std.proofs.Common.{sym, subst, ◌∷◌}
+use Rattle.evaluation.specs.Value.{In}
+use Rattle.round.proofs.Looking.{held_back, now_ready, stop_in}
+use Rattle.round.proofs.look.look_settled.Goals as goal
+
+pub returns-in-Some-clause-whole : goal.returns-in-Some-clause-whole
+returns-in-Some-clause-whole c = let s = c.in-Some.ensures in
+    held_back c.args.graph.now c.args.table.now c.args.key.now c.args.group.now c.requires.running c.requires.whole c.requires.settled _ (stop_in _ _ _ _ s.2) s.4
+
+pub returns-in_ok-put_ready-in-None-clause-whole : goal.returns-in_ok-put_ready-in-None-clause-whole
+returns-in_ok-put_ready-in-None-clause-whole c =
+    now_ready c.args.graph.now c.args.table.now c.args.key.now c.args.group.now c.requires.running c.requires.whole c.requires.settled c.put_ready.new.table c.in_ok-put_ready-in-None.ensures.readies c.put_ready.ensures.nodes c.in-None.ensures
