@@ -55,6 +55,7 @@ pub record HasNoted (old new : Table) (run : Run) : Type 0 where
   pub nodes : new.nodes ≡ old.nodes
   pub ready : new.ready.keys ≡ old.ready.keys
   pub pends : pending new ≡ pending old
+  pub looked : new.looked ≡ old.looked
 
 -- the node's turn asked the group
 abbrev pub HasAsked : Nodes → Nodes → Key → List Key → Type 0

@@ -50,6 +50,7 @@ fn enter(alloc: Global, nodes: &mut Nodes, key: Key, phase: Phase) -> Result<(),
 pub fn look_again(table: &mut Table, key: &Key) -> Result<(), Memory>
     ensures pends { OnOk result (Pends table.old table.new key.now) }
     ensures nodes { table.new.nodes ≡ table.old.nodes }
+    ensures looked { OnOk result (table.new.looked ≡ table.old.looked) }
 {
     table.work.push(key.share()?)?;
     Ok(())
@@ -67,6 +68,7 @@ fn put_in(set: &mut BTreeSet<Key>, key: Key) -> Result<(), Memory>
 pub fn put_ready(table: &mut Table, key: &Key) -> Result<(), Memory>
     ensures readies { OnOk result (Readies table.old table.new key.now) }
     ensures nodes { table.new.nodes ≡ table.old.nodes }
+    ensures looked { OnOk result (table.new.looked ≡ table.old.looked) }
 {
     put_in(&mut table.ready, key.share()?)
 }
@@ -75,6 +77,7 @@ pub fn put_ready(table: &mut Table, key: &Key) -> Result<(), Memory>
 pub fn begin_check(alloc: Global, table: &mut Table, key: &Key) -> Result<(), Memory>
     ensures pends { OnOk result (Pends table.old table.new key.now) }
     ensures entered { OnOk result (HasEntered table.old.nodes table.new.nodes key.now (phase.Checking 0)) }
+    ensures looked { OnOk result (table.new.looked ≡ table.old.looked) }
 {
     look_again(table, key)?;
     enter(alloc, &mut table.nodes, key.share()?, Phase::Checking(0))?;
@@ -85,6 +88,7 @@ pub fn begin_check(alloc: Global, table: &mut Table, key: &Key) -> Result<(), Me
 pub fn begin_run(alloc: Global, table: &mut Table, key: &Key) -> Result<(), Memory>
     ensures readies { OnOk result (Readies table.old table.new key.now) }
     ensures entered { OnOk result (HasEntered table.old.nodes table.new.nodes key.now phase.Running) }
+    ensures looked { OnOk result (table.new.looked ≡ table.old.looked) }
 {
     put_ready(table, key)?;
     enter(alloc, &mut table.nodes, key.share()?, Phase::Running)?;
@@ -104,6 +108,7 @@ fn set_phase(nodes: &mut Nodes, key: &Key, phase: Phase)
 pub fn pass(table: &mut Table, key: &Key, passed: usize) -> Result<(), Memory>
     ensures pends { OnOk result (Pends table.old table.new key.now) }
     ensures phase { OnOk result (HasPhase table.old.nodes table.new.nodes key.now (phase.Checking passed)) }
+    ensures looked { OnOk result (table.new.looked ≡ table.old.looked) }
 {
     look_again(table, key)?;
     set_phase(&mut table.nodes, key, Phase::Checking(passed));
@@ -114,6 +119,7 @@ pub fn pass(table: &mut Table, key: &Key, passed: usize) -> Result<(), Memory>
 pub fn run_anew(table: &mut Table, key: &Key) -> Result<(), Memory>
     ensures readies { OnOk result (Readies table.old table.new key.now) }
     ensures phase { OnOk result (HasPhase table.old.nodes table.new.nodes key.now phase.Running) }
+    ensures looked { OnOk result (table.new.looked ≡ table.old.looked) }
 {
     put_ready(table, key)?;
     set_phase(&mut table.nodes, key, Phase::Running);
@@ -136,6 +142,7 @@ pub fn watch(table: &mut Table, member: &Key, key: &Key) -> Result<(), Memory>
     ensures pends { OnOk result (pending table.new ≡ pending table.old) }
     ensures ready { OnOk result (table.new.ready.keys ≡ table.old.ready.keys) }
     ensures runs { OnOk result (SameRuns table.old table.new) }
+    ensures looked { OnOk result (table.new.looked ≡ table.old.looked) }
 {
     add_watcher(&mut table.nodes, member, key.share()?)?;
     Ok(())
@@ -145,6 +152,7 @@ pub fn watch(table: &mut Table, member: &Key, key: &Key) -> Result<(), Memory>
 pub fn leave(alloc: Global, table: &mut Table, key: &Key) -> Result<Vec<Vec<Key>>, Memory>
     ensures left { OnOk result ((n : Node) → node_at table.old.nodes key.now ≡ Some n → HasLeft table.old table.new key.now n) }
     ensures groups { IfOk result (λ groups. (n : Node) → node_at table.old.nodes key.now ≡ Some n → items_of groups.items ≡ groups_of n) }
+    ensures looked { OnOk result (table.new.looked ≡ table.old.looked) }
 {
     match table.nodes.remove(key) {
         None => Ok(Vec::new(alloc)),
@@ -185,6 +193,7 @@ pub fn set_out(table: &mut Table, key: &Key)
     ensures ready { IsRemoved table.old.ready.keys table.new.ready.keys key.now }
     ensures pends { pending table.new ≡ pending table.old }
     ensures runs { SameRuns table.old table.new }
+    ensures looked { table.new.looked ≡ table.old.looked }
 {
     take_out(&mut table.ready, key);
     set_phase(&mut table.nodes, key, Phase::Out);
@@ -205,6 +214,7 @@ fn add_group(nodes: &mut Nodes, key: &Key, group: Vec<Key>) -> Result<(), Memory
 pub fn ask(table: &mut Table, key: &Key, group: Vec<Key>) -> Result<(), Memory>
     ensures pends { OnOk result (Pends table.old table.new key.now) }
     ensures asked { OnOk result (HasAsked table.old.nodes table.new.nodes key.now group.items) }
+    ensures looked { OnOk result (table.new.looked ≡ table.old.looked) }
 {
     look_again(table, key)?;
     add_group(&mut table.nodes, key, group)?;

@@ -26,7 +26,7 @@ use Rattle.open_nodes.proofs.Settlings.{truth_changes}
 use Rattle.round.specs.Members.{IsMissing, plain_value}
 use Rattle.round.proofs.Grouping.{clean_cycle}
 use Rattle.round.specs.Moves.{Wants, IsWanted}
-use Rattle.round.specs.Looks.{IsAwaiting, IsLastGroup, IsRunningAt}
+use Rattle.round.specs.Looks.{IsAwaiting, IsLastGroup, IsRunningAt, IsNextKey}
 use Rattle.round.proofs.Wanting.{StaysTrue}
 
 -- the last elements of equal lists
@@ -232,3 +232,15 @@ stop_in group before rest k e = subst (In k) (sym e) (in_right before first)
 -- a list with an element is not empty
 pub some_missing : (missing : Vec Key Global) (slice : List Key) → slice ≡ missing.items → {b : Bool} → b ≡ (vec_len missing == 0) → b ≡ false → slice ≡ [] → ⊥
 some_missing missing slice q {b = b} h f e = let n : vec_len missing ≡ 0 = missing.ok.0 ∙ ap length (sym q ∙ e) in true_false (h ∙ ap (λ x. x == 0) n) f
+
+-- the first of those that are to be looked at is taken off
+module _ (graph : Recorded) (before later : Table) (k : Key) (next_key : IsNextKey before later (Some k)) where
+  pub next_whole : IsWhole (record_at graph) before.nodes before.ready.keys (pending before) → IsWhole (record_at graph) later.nodes later.ready.keys (k ∷ pending later)
+  next_whole w = subst (λ (x : Nodes). IsWhole (record_at graph) x later.ready.keys (k ∷ pending later)) (sym next_key.1) (subst (λ (xs : List Key). IsWhole (record_at graph) before.nodes xs (k ∷ pending later)) (sym next_key.2)
+      (subst (λ (xs : List Key). IsWhole (record_at graph) before.nodes before.ready.keys xs) next_key.0 w))
+
+  pub next_out : (keys : List Key) → AreOut before.nodes keys → AreOut later.nodes keys
+  next_out = ready_out before later next_key.1
+
+  pub next_true : (read : Key → Option Value) → StaysTrue read graph graph before later
+  next_true read = λ next laws past t. subst (λ (x : Nodes). IsTrueOf next read past graph x later.runs.items) (sym next_key.1) (subst (λ (x : List Run). IsTrueOf next read past graph before.nodes x) (sym next_key.3) t)

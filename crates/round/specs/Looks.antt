@@ -1,12 +1,12 @@
 -- What a look at a node finds.
-use Rattle.std.specs.Prelude.{◌≡◌, ◌⊎◌, ◌≤◌, ℕ, length, List, [], ◌∷◌, ◌++◌, Some}
+use Rattle.std.specs.Prelude.{◌≡◌, ◌⊎◌, ◌≤◌, ◌<◌, ◌+◌, ◌^◌, ℕ, length, List, [], ◌∷◌, ◌++◌, Option, Some, None}
 use Rattle.evaluation.specs.Value.{In}
 use Rattle.evaluation.specs.Graph.{Record}
 use Rattle.keys.specs.declared.key.Key.{Key}
 use Rattle.keys.specs.declared.value.Value.{Value}
 use Rattle.open_nodes.specs.declared.table.Phase.TheVariants as phase
 use Rattle.node.specs.Graphs.{Recorded, record_at}
-use Rattle.open_nodes.specs.Nodes.{node_at, groups_of, IsCurrent}
+use Rattle.open_nodes.specs.Nodes.{node_at, groups_of, pending, IsCurrent}
 use Rattle.open_nodes.specs.declared.table.Node.{Node}
 use Rattle.open_nodes.specs.declared.table.Table.{Table}
 use Rattle.round.specs.Members.{IsMissing}
@@ -42,3 +42,9 @@ IsRunning table k = (n : Node) × (node_at table.nodes k ≡ Some n) × (n.phase
 -- the same, and this is its last group
 abbrev pub IsRunningAt : Table → Key → List Key → Type 0
 IsRunningAt table k group = (n : Node) × (node_at table.nodes k ≡ Some n) × (n.phase ≡ phase.Running) × IsLastGroup (groups_of n) group
+
+-- the first of those that are to be looked at is taken off, or there is none
+abbrev pub IsNextKey : Table → Table → Option Key → Type 0
+IsNextKey before later (Some k) = (pending before ≡ k ∷ pending later) × (later.nodes ≡ before.nodes) × (later.ready.keys ≡ before.ready.keys) × (later.runs.items ≡ before.runs.items)
+    × (later.looked ≡ before.looked + 1) × (before.looked < 2 ^ 64)
+IsNextKey before later None = (pending before ≡ []) × (later ≡ before)

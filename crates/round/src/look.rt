@@ -1,5 +1,5 @@
 //! Looks at nodes that wait.
-ghost use Rattle.std.specs.Prelude.{◌≡◌, ◌⊎◌, ◌+◌, ℕ, IfOk, OnOk, Some, IfSome, IfNone, IsTrue};
+ghost use Rattle.std.specs.Prelude.{◌≡◌, ◌⊎◌, ◌+◌, ◌<◌, ◌^◌, [], ℕ, true, false, IfOk, OnOk, Some, IfSome, IfNone, IsTrue};
 ghost use Rattle.round.specs.declared.look.Compared.TheVariants as compared;
 ghost use Rattle.evaluation.specs.Graph.{Record};
 ghost use Rattle.evaluation.specs.Value.{In};
@@ -20,11 +20,11 @@ ghost use Rattle.open_nodes.specs.declared.table.Phase.TheVariants as phase;
 ghost use Rattle.round.specs.Compared.{ComparesGroup, Compares};
 ghost use Rattle.std.specs.Prelude.{Option};
 ghost use Rattle.keys.specs.declared.value.Value.{Value};
-ghost use Rattle.open_nodes.specs.Nodes.{node_at, groups_of};
+ghost use Rattle.open_nodes.specs.Nodes.{node_at, groups_of, pending};
 ghost use Rattle.open_nodes.specs.declared.table.Node.{Node};
 ghost use Rattle.open_nodes.specs.declared.table.Phase.TheVariants as phase;
 ghost use Rattle.keys.specs.declared.key.Key.{Key};
-ghost use Rattle.round.specs.Looks.{IsAwaiting, IsChecking, IsLastGroup, IsRunning, IsRunningAt};
+ghost use Rattle.round.specs.Looks.{IsAwaiting, IsChecking, IsLastGroup, IsRunning, IsRunningAt, IsNextKey};
 ghost use Rattle.round.specs.Moves.{KeepsTrue, IsWholeBut, IsWholeNow, KeepsOut};
 
 use crate::members::{any_changed, first_stop, first_unsettled, share_all, unsettled};
@@ -50,6 +50,7 @@ fn wait_for(
     ensures whole { OnOk result (IsWholeNow graph.new table.new) }
     ensures out { OnOk result (KeepsOut table.old table.new) }
     ensures truth { KeepsTrue (leaves.read tree.now) graph.old graph.new table.old table.new result }
+    ensures looked { OnOk result (table.new.looked ≡ table.old.looked) }
 {
     want_all(alloc, graph, tree, table, missing)?;
     match first_unsettled(graph, missing) {
@@ -158,6 +159,7 @@ fn check(
     ensures whole { OnOk result (IsWholeNow graph.new table.new) }
     ensures out { OnOk result (KeepsOut table.old table.new) }
     ensures truth { KeepsTrue (leaves.read tree.now) graph.old graph.new table.old table.new result }
+    ensures looked { OnOk result (table.new.looked ≡ table.old.looked) }
 {
     let (found, next) = compare(alloc, graph, key, passed)?;
     match found {
@@ -190,6 +192,7 @@ fn look_settled(graph: &Graph, table: &mut Table, key: &Key, group: &[Key]) -> R
     ensures whole { OnOk result (IsWholeNow graph.now table.new) }
     ensures out { OnOk result (KeepsOut table.old table.new) }
     ensures truth { (read : Key → Option Value) → KeepsTrue read graph.now graph.now table.old table.new result }
+    ensures looked { OnOk result (table.new.looked ≡ table.old.looked) }
 {
     match first_stop(graph, group) {
         Some(_) => Ok(()),
@@ -213,6 +216,7 @@ fn look_running(
     ensures whole { OnOk result (IsWholeNow graph.new table.new) }
     ensures out { OnOk result (KeepsOut table.old table.new) }
     ensures truth { KeepsTrue (leaves.read tree.now) graph.old graph.new table.old table.new result }
+    ensures looked { OnOk result (table.new.looked ≡ table.old.looked) }
 {
     let group = share_all(alloc, last_group(&table.nodes, key))?;
     let missing = unsettled(alloc, graph, group.as_slice())?;
@@ -262,6 +266,7 @@ fn look(
     ensures whole { OnOk result (IsWholeNow graph.new table.new) }
     ensures out { OnOk result (KeepsOut table.old table.new) }
     ensures truth { KeepsTrue (leaves.read tree.now) graph.old graph.new table.old table.new result }
+    ensures looked { OnOk result (table.new.looked ≡ table.old.looked) }
 {
     if let Some(passed) = passed_of(&table.nodes, key) {
         return check(alloc, graph, tree, table, key, passed);
@@ -270,4 +275,63 @@ fn look(
         return look_running(alloc, graph, tree, table, key);
     }
     Ok(())
+}
+
+// The next key that is to be looked at.
+fn next_key(table: &mut Table) -> Result<Option<Key>, Memory>
+    ensures { IfOk result (IsNextKey table.old table.new) }
+{
+    if table.looked >= table.work.len() {
+        return Ok(None);
+    }
+    let key = table.work[table.looked].share()?;
+    table.looked += 1;
+    Ok(Some(key))
+}
+
+// Looks at the next node that is to be looked at; false where there is none.
+fn look_next(
+    alloc: Global,
+    graph: &mut Graph,
+    tree: &Tree,
+    table: &mut Table,
+) -> Result<bool, Memory>
+    requires whole { IsWholeNow graph.old table.old }
+    ensures whole { OnOk result (IsWholeNow graph.new table.new) }
+    ensures none { IfOk result (λ more. more ≡ false → pending table.new ≡ []) }
+    ensures forward { IfOk result (λ more. more ≡ true → (table.new.looked ≡ table.old.looked + 1) × (table.old.looked < 2 ^ 64)) }
+    ensures out { OnOk result (KeepsOut table.old table.new) }
+    ensures truth { KeepsTrue (leaves.read tree.now) graph.old graph.new table.old table.new result }
+{
+    let Some(key) = next_key(table)? else {
+        return Ok(false);
+    };
+    let looked = look(alloc, graph, tree, table, &key);
+    drop(key);
+    match looked {
+        Ok(()) => Ok(true),
+        Err(error) => Err(error),
+    }
+}
+
+/// Looks at each node that is to be looked at, until none is left.
+pub fn look_at_all(
+    alloc: Global,
+    graph: &mut Graph,
+    tree: &Tree,
+    table: &mut Table,
+) -> Result<(), Memory>
+    requires whole { IsWholeNow graph.old table.old }
+    ensures whole { OnOk result (IsWholeNow graph.new table.new) }
+    ensures none { OnOk result (pending table.new ≡ []) }
+    ensures out { OnOk result (KeepsOut table.old table.new) }
+    ensures truth { KeepsTrue (leaves.read tree.now) graph.old graph.new table.old table.new result }
+{
+    'looks: loop {
+        match look_next(alloc, graph, tree, table) {
+            Ok(true) => {}
+            Ok(false) => return Ok(()),
+            Err(error) => return Err(error),
+        }
+    }
 }

@@ -36,6 +36,7 @@ fn read(
     ensures wants { OnOk result (Wants graph.old graph.new table.old table.new) }
     ensures wanted { OnOk result (IsWanted graph.new table.new key.now) }
     ensures truth { KeepsTrue (leaves.read tree.now) graph.old graph.new table.old table.new result }
+    ensures looked { OnOk result (table.new.looked ≡ table.old.looked) }
 {
     let value = Arc::new(alloc, read_leaf(alloc, tree, key)?)?;
     note(table, key, graph.version(), 0)?;
@@ -64,6 +65,7 @@ fn begin(alloc: Global, graph: &Graph, table: &mut Table, key: &Key) -> Result<(
     ensures wants { OnOk result (Wants graph.now graph.now table.old table.new) }
     ensures wanted { OnOk result (IsWanted graph.now table.new key.now) }
     ensures truth { (files : Files) → leaves.read files key.now ≡ None → KeepsTrue (leaves.read files) graph.now graph.now table.old table.new result }
+    ensures looked { OnOk result (table.new.looked ≡ table.old.looked) }
 {
     if has_record(graph, key) {
         begin_check(alloc, table, key)?;
@@ -84,6 +86,7 @@ pub fn want(
     ensures wants { OnOk result (Wants graph.old graph.new table.old table.new) }
     ensures wanted { OnOk result (IsWanted graph.new table.new key.now) }
     ensures truth { KeepsTrue (leaves.read tree.now) graph.old graph.new table.old table.new result }
+    ensures looked { OnOk result (table.new.looked ≡ table.old.looked) }
 {
     if is_settled(graph, key) {
         return Ok(());
@@ -110,6 +113,7 @@ pub fn want_all(
     ensures wants { OnOk result (Wants graph.old graph.new table.old table.new) }
     ensures wanted { OnOk result ((k : Key) → In k keys.now → IsWanted graph.new table.new k) }
     ensures truth { KeepsTrue (leaves.read tree.now) graph.old graph.new table.old table.new result }
+    ensures looked { OnOk result (table.new.looked ≡ table.old.looked) }
 {
     for key in keys {
         want(alloc, graph, tree, table, key)?;
@@ -124,6 +128,7 @@ pub fn confirm(alloc: Global, graph: &mut Graph, table: &mut Table, key: &Key) -
     ensures whole { OnOk result (IsWholeNow graph.new table.new) }
     ensures out { OnOk result (KeepsOut table.old table.new) }
     ensures truth { (read : Key → Option Value) → KeepsTrue read graph.old graph.new table.old table.new result }
+    ensures looked { OnOk result (table.new.looked ≡ table.old.looked) }
 {
     let _groups = leave(alloc, table, key)?;
     graph.confirm(key);

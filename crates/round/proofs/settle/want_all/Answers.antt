@@ -1,4 +1,4 @@
-use Rattle.std.proofs.Common.{sym, subst, List}
+use Rattle.std.proofs.Common.{◌∙◌, sym, subst, List}
 use Rattle.evaluation.specs.Value.{In}
 use Rattle.keys.specs.declared.key.Key.{Key}
 use Rattle.round.specs.Moves.{IsWanted}
@@ -11,6 +11,7 @@ loop-key-preserved c = record {
   wants = wants_on c.args.graph.now c.loop-key.graph c.want.new.graph c.args.table.now c.loop-key.table c.want.new.table c.loop-key.invariant.wants c.in_ok-want.ensures.wants;
   wanted = subst (λ (xs : List Key). (k : Key) → In k xs → IsWanted c.want.new.graph c.want.new.table k) (sym (taken_next c.args.keys.now c.loop-key.key-index c.key-item.result c.key-item.is c.loop-key-test.true))
       (snoc_all c.key-item.result (IsWanted c.want.new.graph c.want.new.table) _ (λ k i. wanted_on c.loop-key.graph c.want.new.graph c.loop-key.table c.want.new.table k c.in_ok-want.ensures.wants (c.loop-key.invariant.wanted k i)) c.in_ok-want.ensures.wanted);
+  looked = c.in_ok-want.ensures.looked ∙ c.loop-key.invariant.looked;
   truth = λ next laws past t. c.in_ok-want.ensures.truth next laws past (c.loop-key.invariant.truth next laws past t);
 }
 

@@ -1,4 +1,4 @@
-use Rattle.std.proofs.Common.{take, Ok, Result}
+use Rattle.std.proofs.Common.{◌≡◌, take, Ok, Result}
 use Rattle.texts.specs.declared.Memory.{Memory}
 use Rattle.evaluation.specs.Value.{In}
 use Rattle.functions.specs.Next as leaves
@@ -11,5 +11,6 @@ abbrev pub invariant-loop-key : goal.invariant-loop-key
 invariant-loop-key l = record {
   wants : Wants l.fn.graph l.graph l.fn.table l.table;
   wanted : (k : Key) → In k (take l.key-index l.keys) → IsWanted l.graph l.table k;
+  looked : l.table.looked ≡ l.fn.table.looked;
   truth : StaysTrue (leaves.read l.tree) l.fn.graph l.graph l.fn.table l.table;
 }
