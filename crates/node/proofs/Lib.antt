@@ -7,3 +7,5 @@ pub mod Rewriting
 pub mod Storing
 pub mod Readying
 pub mod Lawfulness
+pub mod Batching
+pub mod Batched

@@ -3,4 +3,5 @@ pub mod Marks
 pub mod Graphs
 pub mod Edges
 pub mod Writes
+pub mod Batches
 pub mod Laws

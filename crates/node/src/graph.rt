@@ -6,10 +6,14 @@ ghost use Rattle.evaluation.specs.Graph.{Record, Marks};
 ghost use Rattle.keys.specs.declared.key.Key.{Key};
 ghost use Rattle.keys.specs.declared.value.Value.{Value};
 ghost use Rattle.node.specs.Kept.{record_of, items_of};
-ghost use Rattle.node.specs.Laws.{IsAlwaysLawful, TouchKeepsLawful, SettlingKeepsLawful};
+ghost use Rattle.evaluation.specs.Value.{AllDiffer};
+ghost use Rattle.node.specs.Batches.{keys_of, HasReadyEntries, SetsAll};
+ghost use Rattle.node.specs.Laws.{IsAlwaysLawful, TouchKeepsLawful, SettlingKeepsLawful, BatchKeepsLawful};
 ghost use Rattle.node.specs.Writes.{HasReadyMembers, stored, is_ready_group, are_ready};
 ghost use Rattle.node.specs.Graphs.{record_at, present, IsTouched, HasCleanMembers, Sets};
 
+use crate::batch::store_all;
+use crate::entry::Entry;
 use crate::kept::{Kept, Records, Users};
 use crate::marks::{mark_from, unmark_all};
 use crate::settling::{settle, store};
@@ -202,6 +206,28 @@ impl Graph {
         Ok(())
     }
 
+    /// Stores the records of several keys that were settled together at the present version, as `record` does each, all
+    /// or none: members of a loop are in one another's groups, so that none of them can be recorded first. That no key
+    /// is among the entries twice, and that each member of their groups is one of their keys or has a record that is
+    /// not dirty, is the caller's condition. `Memory` where a growth was refused, and then nothing has changed.
+    pub fn record_all(&mut self, entries: Vec<Entry>) -> Result<(), Memory>
+        requires differ { AllDiffer (keys_of entries.items) }
+        requires ready { HasReadyEntries (record_at self.old) entries.items }
+        ensures version { self.new.version ≡ self.old.version }
+        ensures recorded { OnOk result (SetsAll (record_at self.old) (record_at self.new) entries.items self.old.version) }
+        ensures lawful { OnOk result (BatchKeepsLawful self.old self.new entries.items) }
+        ensures refused { OnErr result (self.new ≡ self.old) }
+    {
+        store_all(
+            self.alloc,
+            &mut self.records,
+            &mut self.users,
+            entries,
+            self.version,
+        )?;
+        Ok(())
+    }
+
     /// Settles a key's record at the present version: that version is written into it and its mark is taken away.
     /// Nothing else changes, and no memory is taken. That the key has a record, and that no member of its groups has
     /// a dirty one, is the caller's condition.
@@ -259,6 +285,52 @@ mod tests {
         let found = Arc::new(alloc, Value::Lookup(Some(BuildName::Build)))?;
         let third = settle_key(graph, &lookup, found, vec![in alloc; group]?)?;
         Ok(first && second && third)
+    }
+
+    // Records two keys that are in each other's group; false where that can't be.
+    fn settle_pair(
+        alloc: Global,
+        graph: &mut Graph,
+        a: &Key,
+        b: &Key,
+        value: &Arc<Value>,
+    ) -> Result<bool, Memory> {
+        if a == b {
+            return Ok(false);
+        }
+        let first = Entry {
+            key: a.share()?,
+            value: Arc::try_clone(value)?,
+            groups: vec![in alloc; vec![in alloc; b.share()?]?]?,
+        };
+        let second = Entry {
+            key: b.share()?,
+            value: Arc::try_clone(value)?,
+            groups: vec![in alloc; vec![in alloc; a.share()?]?]?,
+        };
+        graph.record_all(vec![in alloc; first, second]?)?;
+        Ok(true)
+    }
+
+    #[test]
+    fn a_loop_is_recorded_at_once(rt: HostRuntime) -> Result<(), Fail> {
+        let alloc = rt.alloc();
+        let mut graph = Graph::new_at(alloc, 6);
+        let a = Key::Lookup(Text::new(alloc, "a")?);
+        let b = Key::Lookup(Text::new(alloc, "b")?);
+        let value = Arc::new(alloc, Value::Lookup(None))?;
+        assert!(rt; settle_lookup(alloc, &mut graph, "x")?);
+        assert!(rt; settle_pair(alloc, &mut graph, &a, &b, &value)?);
+        assert_eq!(rt; graph.version(), 6);
+        assert_eq!(rt; graph.touch("a/BUILD")?, 7);
+        assert!(rt; graph.get(&a).is_some());
+        assert!(rt; graph.get(&b).is_some());
+        assert!(rt; settle_pair(alloc, &mut graph, &b, &a, &value)?);
+        assert_eq!(rt; graph.settled_at(&a), Some(7));
+        assert_eq!(rt; graph.settled_at(&b), Some(7));
+        assert_eq!(rt; graph.changed_at(&b), Some(6));
+        assert!(rt; !settle_pair(alloc, &mut graph, &a, &a, &value)?);
+        Ok(())
     }
 
     #[test]
