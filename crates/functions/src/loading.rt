@@ -66,6 +66,7 @@ impl Rules for Loading {
         self.made.add_one();
         let reply = match &state.key {
             Key::File(_) => Reply::Done(Value::File(None)),
+            Key::Listing(_) => Reply::Done(Value::Listing(None)),
             Key::Lookup(directory) => lookup(self.alloc, directory, answers)?,
         };
         match reply {

@@ -4,4 +4,5 @@ pub mod Graphs
 pub mod Edges
 pub mod Writes
 pub mod Batches
+pub mod Counts
 pub mod Laws

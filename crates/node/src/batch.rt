@@ -69,7 +69,8 @@ fn remove_all(records: &mut Records, mut placed: Vec<Key>)
     ensures ordered { IsOrdered key_cmp records.old → IsOrdered key_cmp records.new }
 {
     while let Some(key) = placed.pop() {
-        let _removed = records.remove(&key);
+        drop(records.remove(&key));
+        drop(key);
     }
 }
 

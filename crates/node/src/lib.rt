@@ -2,12 +2,15 @@
 #![tactic(auto)]
 
 mod batch;
+mod counts;
 mod edges;
 mod entry;
 mod graph;
 mod kept;
+mod leaves;
 mod marks;
 mod settling;
 
+pub use counts::Counts;
 pub use entry::Entry;
 pub use graph::Graph;
