@@ -33,6 +33,7 @@ lookup_group directory = map (λ name. key.File (build_path directory name)) (ca
 abbrev pub is_there : Value → Bool
 is_there (value.File None) = false
 is_there (value.File (Some text)) = true
+is_there (value.Listing names) = false
 is_there (value.Lookup name) = false
 is_there (value.Cycle names) = false
 

@@ -35,6 +35,7 @@ asked_first (k ∷ g) group e = cc
 
 pub groups_differ : (k : Key) (answers : List Value) (group : List Key) → next k answers ≡ Ask group → AllDiffer group
 groups_differ (key.File path) answers group e = cc
+groups_differ (key.Listing directory) answers group e = cc
 groups_differ (key.Lookup p) [] group e = subst AllDiffer (asked_first (lookup_group p) group e) (group_differs p)
 groups_differ (key.Lookup p) (v ∷ vs) group e = cc
 
@@ -50,5 +51,6 @@ plain_first (k ∷ g) v e = cc
 
 pub ends_plain : (k : Key) (answers : List Value) (v : Value) → AllByRecursion NoCycle answers → next k answers ≡ Done v → NoCycle v
 ends_plain (key.File path) answers v p e = plain_at (value.File None) v tt e
+ends_plain (key.Listing directory) answers v p e = plain_at (value.Listing None) v tt e
 ends_plain (key.Lookup name) [] v p e = plain_first (lookup_group name) v e
 ends_plain (key.Lookup name) (w ∷ ws) v p e = plain_at (value.Lookup (first_there (candidates name) (w ∷ ws))) v tt e

@@ -1,9 +1,10 @@
 //! The leaves of the graph.
-ghost use Rattle.std.specs.Prelude.{◌≡◌, IsTrue, IfOk, Some};
+ghost use Rattle.std.specs.Prelude.{◌≡◌, IsTrue, IfOk, Some, option_map};
+ghost use Rattle.filetree.specs.Listings.{listing};
 ghost use Rattle.functions.specs.Next as specs;
 
-use filetree::Tree;
-use keys::{Key, Value};
+use filetree::{Listing, Tree};
+use keys::{DirectoryNames, Key, Value};
 use std::alloc::Global;
 use texts::Memory;
 
@@ -13,12 +14,27 @@ pub fn is_leaf(key: &Key) -> bool
 {
     match key {
         Key::File(_) => true,
+        Key::Listing(_) => true,
         Key::Lookup(_) => false,
     }
 }
 
-/// The value of a leaf in the files: of a file its text, shared, or none where there is no such file. That the key is a
-/// leaf is the caller's condition. `Memory` where a growth was refused.
+// The names in a directory, or none where there is no such directory.
+fn read_listing(tree: &Tree, directory: &str) -> Result<Option<DirectoryNames>, Memory>
+    ensures { IfOk result (λ l. l ≡ option_map specs.listed_of (listing tree.now directory.now)) }
+{
+    match tree.listing(directory)? {
+        None => Ok(None),
+        Some(names) => {
+            let Listing { files, directories } = names;
+            Ok(Some(DirectoryNames::new(files, directories)))
+        }
+    }
+}
+
+/// The value of a leaf in the files: of a file its text, shared, or none where there is no such file, and of a listing
+/// the names in the directory, or none where there is no such directory. That the key is a leaf is the caller's
+/// condition. `Memory` where a growth was refused.
 pub fn read_leaf(_alloc: Global, tree: &Tree, key: &Key) -> Result<Value, Memory>
     requires { IsTrue (specs.is_leaf key.now) }
     ensures { IfOk result (λ v. specs.read tree.now key.now ≡ Some v) }
@@ -28,6 +44,7 @@ pub fn read_leaf(_alloc: Global, tree: &Tree, key: &Key) -> Result<Value, Memory
             None => Ok(Value::File(None)),
             Some(text) => Ok(Value::File(Some(text.share()?))),
         },
+        Key::Listing(directory) => Ok(Value::Listing(read_listing(tree, directory.as_str())?)),
         Key::Lookup(_) => unreachable!(),
     }
 }

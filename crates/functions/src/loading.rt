@@ -66,6 +66,7 @@ impl Rules for Loading {
         self.made.add_one();
         let reply = match &state.key {
             Key::File(_) => Reply::Done(Value::File(None)),
+            Key::Listing(_) => Reply::Done(Value::Listing(None)),
             Key::Lookup(directory) => lookup(self.alloc, directory, answers)?,
         };
         match reply {
@@ -86,7 +87,7 @@ mod tests {
     use super::*;
     use crate::leaf::{is_leaf, read_leaf};
     use filetree::Tree;
-    use keys::{BuildName, Job, Step};
+    use keys::{BuildName, DirectoryNames, Job, Step};
     use std::test::Fail;
     use texts::Text;
 
@@ -141,6 +142,23 @@ mod tests {
             assert_eq!(rt; look_up(alloc, &tree, name)?.0, asked);
             assert!(rt; look_up(alloc, &tree, name)?.1 == Value::Lookup(found));
         }
+        Ok(())
+    }
+
+    #[test]
+    fn a_listing_has_the_names_in_its_directory(rt: HostRuntime) -> Result<(), Fail> {
+        let alloc = rt.alloc();
+        let mut tree = Tree::new(alloc);
+        for path in ["a/x", "a/b/y", "c"] {
+            tree.put(path, "")?;
+        }
+        let files = vec![in alloc; Text::new(alloc, "x")?]?;
+        let directories = vec![in alloc; Text::new(alloc, "b")?]?;
+        let names = Value::Listing(Some(DirectoryNames::new(files, directories)));
+        let there = Key::Listing(Text::new(alloc, "a")?);
+        assert!(rt; read_leaf(alloc, &tree, &there)? == names);
+        let absent = Key::Listing(Text::new(alloc, "c")?);
+        assert!(rt; read_leaf(alloc, &tree, &absent)? == Value::Listing(None));
         Ok(())
     }
 }

@@ -3,13 +3,14 @@ use Rattle.std.proofs.Common.{◌≡◌, ℕ, List, [], ◌∷◌, ◌++◌, Som
 use Rattle.evaluation.specs.Value.{AllDiffer}
 use Rattle.evaluation.proofs.Rotating.{loop_labels_turned}
 use Rattle.keys.specs.declared.key.Key.{Key}
-use Rattle.keys.specs.declared.key.Key.TheVariants.{File, Lookup}
+use Rattle.keys.specs.declared.key.Key.TheVariants.{File, Listing, Lookup}
 use Rattle.keys.specs.declared.value.Value.TheVariants as value
 use Rattle.keys.specs.Cycles.{label_of, cycle}
 
 -- no two keys have one label
 labels_injective : (j k : Key) (t : List ℕ) → label_of j ≡ Some t → label_of k ≡ Some t → j ≡ k
 labels_injective (File p) k t e f = cc
+labels_injective (Listing p) k t e f = cc
 labels_injective (Lookup p) k t e f = cc
 
 pub turned : (x : Key) (xs : List Key) → AllDiffer (x ∷ xs) → cycle (x ∷ xs) ≡ cycle (xs ++ x ∷ [])

@@ -8,7 +8,7 @@ use lib.Pointwise.{pointwise_decides}
 use Rattle.std.proofs.lemmas.Cmp.{then_total, on_total}
 use Rattle.std.proofs.lemmas.Map.Lookups.{CmpEqualImpliesEq, exact_bytes, exact_pairs, exact_unsigned}
 use Rattle.keys.specs.declared.key.Key.{Key}
-use Rattle.keys.specs.declared.key.Key.TheVariants.{File, Lookup}
+use Rattle.keys.specs.declared.key.Key.TheVariants.{File, Listing, Lookup}
 use Rattle.keys.specs.Keys.{kind, name_of, key_cmp, key_eq}
 
 pub keys_total : IsTotalOrder key_cmp
@@ -16,8 +16,13 @@ keys_total = then_total (on_total kind nat_cmp_total) (on_total name_of nat_list
 
 same_parts : (a b : Key) → kind a ≡ kind b → name_of a ≡ name_of b → a ≡ b
 same_parts (File p) (File q) h e = ap File e
+same_parts (File p) (Listing q) h e = cc
 same_parts (File p) (Lookup q) h e = cc
+same_parts (Listing p) (File q) h e = cc
+same_parts (Listing p) (Listing q) h e = ap Listing e
+same_parts (Listing p) (Lookup q) h e = cc
 same_parts (Lookup p) (File q) h e = cc
+same_parts (Lookup p) (Listing q) h e = cc
 same_parts (Lookup p) (Lookup q) h e = ap Lookup e
 
 pub exact_keys : CmpEqualImpliesEq key_cmp

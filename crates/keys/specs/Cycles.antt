@@ -2,13 +2,14 @@
 use Rattle.std.specs.Prelude.{ℕ, List, Option, None}
 use Rattle.evaluation.specs.Rotated.{loop_labels}
 use Rattle.keys.specs.declared.key.Key.{Key}
-use Rattle.keys.specs.declared.key.Key.TheVariants.{File, Lookup}
+use Rattle.keys.specs.declared.key.Key.TheVariants.{File, Listing, Lookup}
 use Rattle.keys.specs.declared.value.Value.{Value}
 use Rattle.keys.specs.declared.value.Value.TheVariants as value
 
 -- the label by which a loop names the key, and none where it does not name it
 abbrev pub label_of : Key → Option (List ℕ)
 label_of (File path) = None
+label_of (Listing directory) = None
 label_of (Lookup name) = None
 
 -- the labels of the loop's members, turned so that the least by bytes stands first

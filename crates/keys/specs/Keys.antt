@@ -4,21 +4,24 @@ use Rattle.std.specs.declared.cmp.Ordering.{Ordering}
 use Rattle.std.specs.Ordering.{nat_cmp, on, then_cmp, eq_of_both}
 use Rattle.std.specs.Cmp.Lexicographic.{slice_cmp, pointwise}
 use Rattle.keys.specs.declared.key.Key.{Key}
-use Rattle.keys.specs.declared.key.Key.TheVariants.{File, Lookup}
+use Rattle.keys.specs.declared.key.Key.TheVariants.{File, Listing, Lookup}
 
 -- the place of its kind in the order
 abbrev pub kind : Key → ℕ
 kind (File path) = 0
-kind (Lookup name) = 1
+kind (Listing directory) = 1
+kind (Lookup name) = 2
 
--- the path or the package's name
+-- the path, or the name of the directory or the package
 abbrev pub name_of : Key → List ℕ
 name_of (File path) = path
+name_of (Listing directory) = directory
 name_of (Lookup name) = name
 
 -- the kind's word, and what stands before the name
 abbrev pub prefix : Key → List ℕ
 prefix (File path) = codes "file "
+prefix (Listing directory) = codes "listing //"
 prefix (Lookup name) = codes "lookup //"
 
 -- the key as it is written

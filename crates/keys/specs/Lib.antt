@@ -1,4 +1,5 @@
 pub mod Keys
+pub mod Listed
 pub mod Values
 pub mod ValueLaws
 pub mod Turns
@@ -6,3 +7,4 @@ pub mod Jobs
 pub mod Answers
 pub mod Steps
 pub mod Cycles
+pub mod Touched

@@ -26,5 +26,6 @@ IsTurn fits next key answers (turn.Done v) = next key answers ≡ Done v
 -- the value is no cycle
 abbrev pub NoCycle : Value → Type 0
 NoCycle (value.File t) = ⊤
+NoCycle (value.Listing l) = ⊤
 NoCycle (value.Lookup b) = ⊤
 NoCycle (value.Cycle names) = ⊥

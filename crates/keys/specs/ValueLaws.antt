@@ -1,5 +1,5 @@
 -- Two values are equal exactly where they are one value, so equality is an equivalence.
-use Rattle.std.proofs.Common.{◌≡◌, ℕ, List, Bool, Option, Some, None, refl, sym, ap}
+use Rattle.std.proofs.Common.{◌≡◌, ℕ, List, Bool, true, false, ◌&&◌, Option, Some, None, refl, sym, ◌∙◌, ap}
 use Rattle.std.specs.Bool.{Decides}
 use Rattle.std.specs.Option.{option_eq}
 use Rattle.std.specs.Cmp.{IsEquivalence, both_ways, unsigned_Decides}
@@ -8,8 +8,9 @@ use lib.Pointwise.{pointwise_decides}
 use Rattle.keys.specs.declared.value.BuildName.{BuildName}
 use Rattle.keys.specs.declared.value.BuildName.TheVariants.{BuildBazel, Build}
 use Rattle.keys.specs.declared.value.Value.{Value}
-use Rattle.keys.specs.declared.value.Value.TheVariants.{File, Lookup, Cycle}
-use Rattle.keys.specs.Values.{text_eq, build_eq, value_eq}
+use Rattle.keys.specs.declared.value.Value.TheVariants.{File, Listing, Lookup, Cycle}
+use Rattle.keys.specs.Listed.{Listed}
+use Rattle.keys.specs.Values.{text_eq, build_eq, listed_eq, value_eq}
 
 -- a test that holds exactly of a value and itself
 module _ {X : Type 0} (E : X → X → Bool) (exact : (x y : X) → Decides (E x y) (x ≡ y)) where
@@ -38,15 +39,38 @@ exact_builds Build Build = (λ h. refl, λ e. refl)
 pub exact_names : (ss ts : List (List ℕ)) → Decides (pointwise text_eq ss ts) (ss ≡ ts)
 exact_names = pointwise_decides exact_texts
 
+both : (a b : Bool) → a && b ≡ true → (a ≡ true) × (b ≡ true)
+both true true e = (refl, refl)
+both true false e = cc
+both false b e = cc
+
+join : (a b : Bool) → a ≡ true → b ≡ true → a && b ≡ true
+join a b h g = ap (λ x. x && b) h ∙ g
+
+pub exact_listed : (l m : Listed) → Decides (listed_eq l m) (l ≡ m)
+exact_listed l m =
+    let d = exact_names l.files m.files in
+    let e = exact_names l.directories m.directories in (
+      λ h. let p = both (pointwise text_eq l.files m.files) (pointwise text_eq l.directories m.directories) h in λ i. record { files = d.0 p.0 i; directories = e.0 p.1 i },
+      λ q. join (pointwise text_eq l.files m.files) (pointwise text_eq l.directories m.directories) (d.1 (ap (λ (x : Listed). x.files) q)) (e.1 (ap (λ (x : Listed). x.directories) q)),
+    )
+
 -- equal values are one value
 pub exact_values : (v w : Value) → Decides (value_eq v w) (v ≡ w)
 exact_values (File s) (File t) = let d = exact_option text_eq exact_texts s t in (λ h. ap File (d.0 h), λ e. d.1 (cc))
+exact_values (File s) (Listing m) = (λ h. cc, λ e. cc)
 exact_values (File s) (Lookup b) = (λ h. cc, λ e. cc)
 exact_values (File s) (Cycle ts) = (λ h. cc, λ e. cc)
+exact_values (Listing l) (File t) = (λ h. cc, λ e. cc)
+exact_values (Listing l) (Listing m) = let d = exact_option listed_eq exact_listed l m in (λ h. ap Listing (d.0 h), λ e. d.1 (cc))
+exact_values (Listing l) (Lookup b) = (λ h. cc, λ e. cc)
+exact_values (Listing l) (Cycle ts) = (λ h. cc, λ e. cc)
 exact_values (Lookup a) (File t) = (λ h. cc, λ e. cc)
+exact_values (Lookup a) (Listing m) = (λ h. cc, λ e. cc)
 exact_values (Lookup a) (Lookup b) = let d = exact_option build_eq exact_builds a b in (λ h. ap Lookup (d.0 h), λ e. d.1 (cc))
 exact_values (Lookup a) (Cycle ts) = (λ h. cc, λ e. cc)
 exact_values (Cycle ss) (File t) = (λ h. cc, λ e. cc)
+exact_values (Cycle ss) (Listing m) = (λ h. cc, λ e. cc)
 exact_values (Cycle ss) (Lookup b) = (λ h. cc, λ e. cc)
 exact_values (Cycle ss) (Cycle ts) = let d = exact_names ss ts in (λ h. ap Cycle (d.0 h), λ e. d.1 (cc))
 
@@ -55,6 +79,9 @@ builds_equiv = equiv_from_exact build_eq exact_builds
 
 pub names_equiv : IsEquivalence (pointwise text_eq)
 names_equiv = equiv_from_exact (pointwise text_eq) exact_names
+
+pub listed_equiv : IsEquivalence listed_eq
+listed_equiv = equiv_from_exact listed_eq exact_listed
 
 pub values_equiv : IsEquivalence value_eq
 values_equiv = equiv_from_exact value_eq exact_values

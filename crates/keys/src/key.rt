@@ -18,6 +18,8 @@ use texts::{Memory, Text};
 pub enum Key {
     /// A file, by its path. It is a leaf: its value is read from the files.
     File(Text),
+    /// The names in a directory, by the directory's name, which is empty for the root. It is a leaf too.
+    Listing(Text),
     /// Which BUILD file a package has, by the package's name, which is empty for the root.
     Lookup(Text),
 }
@@ -29,6 +31,7 @@ impl Key {
     {
         match self {
             Key::File(path) => Ok(Key::File(path.share()?)),
+            Key::Listing(directory) => Ok(Key::Listing(directory.share()?)),
             Key::Lookup(package) => Ok(Key::Lookup(package.share()?)),
         }
     }
@@ -39,7 +42,8 @@ impl Key {
     {
         match self {
             Key::File(_) => 0,
-            Key::Lookup(_) => 1,
+            Key::Listing(_) => 1,
+            Key::Lookup(_) => 2,
         }
     }
 
@@ -49,21 +53,23 @@ impl Key {
     {
         match self {
             Key::File(_) => "file ",
+            Key::Listing(_) => "listing //",
             Key::Lookup(_) => "lookup //",
         }
     }
 
-    /// The path or the package's name.
+    /// The path, or the name of the directory or the package.
     pub fn name(&self) -> &Text
         ensures { result.now ≡ name_of self.now }
     {
         match self {
             Key::File(path) => path,
+            Key::Listing(directory) => directory,
             Key::Lookup(package) => package,
         }
     }
 
-    /// The key as it is written: `file PATH` or `lookup //PACKAGE`.
+    /// The key as it is written: `file PATH`, `listing //DIRECTORY` or `lookup //PACKAGE`.
     pub fn text(&self, alloc: Global) -> Result<String, Memory>
         ensures { IfOk result (λ t. string_bytes t ≡ key_text self.now) }
     {
@@ -135,6 +141,8 @@ mod tests {
         let rows = [
             (Key::File(Text::new(alloc, "a-b")?), "file a-b"),
             (Key::File(Text::new(alloc, "a/b")?), "file a/b"),
+            (Key::Listing(Text::new(alloc, "")?), "listing //"),
+            (Key::Listing(Text::new(alloc, "a/b")?), "listing //a/b"),
             (Key::Lookup(Text::new(alloc, "")?), "lookup //"),
             (Key::Lookup(Text::new(alloc, "a")?), "lookup //a"),
         ];

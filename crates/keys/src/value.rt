@@ -2,8 +2,8 @@
 ghost use Rattle.std.specs.Prelude.{◌≡◌};
 ghost use Rattle.std.specs.Cmp.{partial_equiv_from_equiv};
 ghost use Rattle.std.specs.Cmp.Lexicographic.{pointwise};
-ghost use Rattle.keys.specs.Values.{text_eq, build_eq, value_eq};
-ghost use Rattle.keys.specs.ValueLaws.{builds_equiv, names_equiv, values_equiv};
+ghost use Rattle.keys.specs.Values.{text_eq, build_eq, listed_eq, value_eq};
+ghost use Rattle.keys.specs.ValueLaws.{builds_equiv, names_equiv, listed_equiv, values_equiv};
 
 use std::marker::Model;
 use texts::Text;
@@ -79,12 +79,70 @@ impl Eq for Names {
     ghost laws = { names_equiv };
 }
 
+/// The names in a directory: of its files, and of its subdirectories, each in byte order.
+#[derive(Drop)]
+pub struct DirectoryNames {
+    files: Names,
+    directories: Names,
+}
+
+impl Model for DirectoryNames {
+    ghost use Rattle.keys.specs.Listed.{Listed};
+
+    ghost Value = { Listed };
+
+    ghost view = { λ d. record { files = d.files; directories = d.directories } };
+}
+
+impl DirectoryNames {
+    /// The names of files and of subdirectories.
+    pub fn new(files: Vec<Text>, directories: Vec<Text>) -> DirectoryNames
+        ensures files { result.files ≡ files.items }
+        ensures directories { result.directories ≡ directories.items }
+    {
+        DirectoryNames {
+            files: Names::new(files),
+            directories: Names::new(directories),
+        }
+    }
+
+    /// The names of the files.
+    pub fn files(&self) -> &[Text]
+        ensures { result.now ≡ self.now.files }
+    {
+        self.files.as_slice()
+    }
+
+    /// The names of the subdirectories.
+    pub fn directories(&self) -> &[Text]
+        ensures { result.now ≡ self.now.directories }
+    {
+        self.directories.as_slice()
+    }
+}
+
+impl PartialEq for DirectoryNames {
+    ghost eq = { listed_eq };
+
+    ghost laws = { partial_equiv_from_equiv listed_equiv };
+
+    fn eq(&self, other: &DirectoryNames) -> bool {
+        self.files == other.files && self.directories == other.directories
+    }
+}
+
+impl Eq for DirectoryNames {
+    ghost laws = { listed_equiv };
+}
+
 /// What a node holds. Two values are equal exactly where a contract sees one value: a node whose new value is equal
 /// to the recorded one did not change.
 #[derive(Drop)]
 pub enum Value {
     /// Of a file: none, or its text.
     File(Option<Text>),
+    /// Of a listing: none, or the names in the directory.
+    Listing(Option<DirectoryNames>),
     /// Of a look-up: no BUILD file, or which.
     Lookup(Option<BuildName>),
     /// Of a node that can't be evaluated since it leads into a loop: the labels of the loop's members, of those that
@@ -100,6 +158,7 @@ impl PartialEq for Value {
     fn eq(&self, other: &Value) -> bool {
         match (self, other) {
             (Value::File(a), Value::File(b)) => a == b,
+            (Value::Listing(a), Value::Listing(b)) => a == b,
             (Value::Lookup(a), Value::Lookup(b)) => a == b,
             (Value::Cycle(a), Value::Cycle(b)) => a == b,
             _ => false,
@@ -114,7 +173,22 @@ impl Eq for Value {
 #[cfg(test)]
 mod tests {
     use super::*;
+    use std::alloc::Global;
     use std::test::Fail;
+    use texts::Memory;
+
+    // A directory with a file and a subdirectory, of those whose name is not empty.
+    fn names_in(alloc: Global, file: &str, directory: &str) -> Result<DirectoryNames, Memory> {
+        let mut files = Vec::new(alloc);
+        if !file.is_empty() {
+            files.push(Text::new(alloc, file)?)?;
+        }
+        let mut directories = Vec::new(alloc);
+        if !directory.is_empty() {
+            directories.push(Text::new(alloc, directory)?)?;
+        }
+        Ok(DirectoryNames::new(files, directories))
+    }
 
     #[test]
     fn values_differ_by_kind_and_by_what_they_hold(rt: HostRuntime) -> Result<(), Fail> {
@@ -124,6 +198,10 @@ mod tests {
             Value::File(None),
             Value::File(Some(Text::new(alloc, "")?)),
             Value::File(Some(Text::new(alloc, "x")?)),
+            Value::Listing(None),
+            Value::Listing(Some(names_in(alloc, "", "")?)),
+            Value::Listing(Some(names_in(alloc, "x", "")?)),
+            Value::Listing(Some(names_in(alloc, "", "x")?)),
             Value::Lookup(None),
             Value::Lookup(Some(BuildName::BuildBazel)),
             Value::Lookup(Some(BuildName::Build)),

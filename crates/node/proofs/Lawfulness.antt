@@ -1,7 +1,8 @@
 -- What the graph's calls do keeps a lawful graph lawful.
 use Rattle.std.proofs.Common.{◌≡◌, ◌≢◌, ◌⊎◌, inl, inr, ℕ, ◌+◌, Bool, true, false, cond, List, Option, Some, None, refl, sym, ◌∙◌, ap, subst}
 use Rattle.evaluation.specs.Reply.{Reply}
-use Rattle.evaluation.specs.Value.{IsMember}
+use Rattle.evaluation.specs.Value.{In, IsMember}
+use Rattle.std.specs.Arc.{arc_value}
 use Rattle.evaluation.specs.Graph.{Record, Lawful, Marks, IsSettled}
 use Rattle.evaluation.proofs.Touch.{touch_lawful}
 use Rattle.evaluation.proofs.Settle.{settle_lawful}
@@ -13,8 +14,11 @@ use Rattle.keys.specs.declared.value.Value.{Value}
 use Rattle.keys.proofs.CycleLaws.{turned}
 use Rattle.node.specs.Graphs.{Recorded, record_at, IsTouched, HasCleanMembers, Sets}
 use Rattle.node.specs.Writes.{change_of, stored, HasReadyMembers}
-use Rattle.node.specs.Laws.{IsLawfulFor, TouchKeepsLawful, SettlingKeepsLawful}
+use Rattle.node.specs.declared.entry.Entry.{Entry}
+use Rattle.node.specs.Batches.{asked, keys_of, HasReadyEntries, SetsAll}
+use Rattle.node.specs.Laws.{IsLawfulFor, TouchKeepsLawful, SettlingKeepsLawful, BatchKeepsLawful}
 use Rattle.node.proofs.Lists.{some_is, none_some, true_false, decide_key}
+use Rattle.node.proofs.Batching.{decide_in, entry_of}
 
 pub touch_keeps : (old new : Recorded) (path : List ℕ) → new.version ≡ old.version + 1 → Marks (record_at old) (record_at new) (IsTouched path) → TouchKeepsLawful old new path
 touch_keeps old new path v m next reads edits law e edit stays =
@@ -69,3 +73,34 @@ record_keeps old new key value groups v s ready = settling_keeps old new key val
 pub confirm_keeps : (old new : Recorded) (key : Key) (r : Record Key Value) → record_at old key ≡ Some r → new.version ≡ old.version → Sets (record_at old) (record_at new) key (record r { settled_at = old.version; dirty = false }) → HasCleanMembers (record_at old) key → SettlingKeepsLawful old new key r.value r.groups
 confirm_keeps old new key r e v s clean = settling_keeps old new key r.value r.groups r.changed_at v s (inl (r, e, refl, refl))
     (λ next reads edits law j m. let d = (law.each key r e).depends j m in inr (d.of_j, d.recorded, clean r d.of_j j e m d.recorded))
+
+-- records that are stored together
+pub batch_keeps : (old new : Recorded) (entries : List Entry) → new.version ≡ old.version → SetsAll (record_at old) (record_at new) entries old.version → HasReadyEntries (record_at old) entries → BatchKeepsLawful old new entries
+batch_keeps old new entries same sets ready next reads edits law holds =
+    subst (λ (n : ℕ). Lawful next cycle reads (record_at new) (λ u k. IsTouched (edits u) k) n) (sym same)
+    (settle_lawful next cycle turned reads (record_at old) (λ u k. IsTouched (edits u) k) old.version law (record_at new) changed)
+  where
+    member : (e : Entry) → In e entries → (i : Key) → IsMember i (asked e) → (s : Record Key Value) × (record_at new i ≡ Some s) × (s.dirty ≡ false)
+    member e m i a = elim (decide_in (keys_of entries) i) [
+      | inl b ↦
+          let p = entry_of entries b in
+          (stored (record_at old p.0.key) (arc_value p.0.value) (asked p.0) old.version, ap (record_at new) (sym p.2) ∙ sets.there p.0 p.1, refl)
+      | inr f ↦ elim (ready e m i a) [ inl b ↦ absurd (f b) | inr s ↦ (s.0, sets.others i f ∙ s.1, s.2) ]
+    ]
+
+    settled : (e : Entry) → In e entries → IsSettled next cycle (reads old.version) old.version (record_at old) (record_at new) e.key
+    settled e m = record {
+      value = arc_value e.value;
+      groups = asked e;
+      changed_at = change_of (record_at old e.key) (arc_value e.value) old.version;
+      stored = sets.there e m;
+      holds = holds e m;
+      members = member e m;
+      change = is_change (record_at old e.key) (arc_value e.value) old.version;
+    }
+
+    changed : (j : Key) → IsSettled next cycle (reads old.version) old.version (record_at old) (record_at new) j ⊎ (record_at new j ≡ record_at old j)
+    changed j = elim (decide_in (keys_of entries) j) [
+      | inl b ↦ let p = entry_of entries b in inl (subst (IsSettled next cycle (reads old.version) old.version (record_at old) (record_at new)) p.2 (settled p.0 p.1))
+      | inr f ↦ inr (sets.others j f)
+    ]

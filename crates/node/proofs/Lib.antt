@@ -7,3 +7,6 @@ pub mod Rewriting
 pub mod Storing
 pub mod Readying
 pub mod Lawfulness
+pub mod Touching
+pub mod Batching
+pub mod Batched

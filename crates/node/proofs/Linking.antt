@@ -8,15 +8,14 @@ use Rattle.evaluation.specs.Value.{In, IsMember}
 use Rattle.evaluation.proofs.Marking.{reached_marked}
 use Rattle.keys.specs.Keys.{key_cmp}
 use Rattle.keys.specs.declared.key.Key.{Key}
-use Rattle.keys.specs.declared.key.Key.TheVariants as key
 use Rattle.keys.specs.declared.value.Value.{Value}
 use Rattle.node.specs.declared.kept.Kept.{Kept}
 use Rattle.node.specs.Kept.{Records, Users, kept_at, record_of}
 use Rattle.node.specs.Marks.{IsDirty, IsReached, at_leaf, by_user, Marked, HasPassed}
-use Rattle.node.specs.Graphs.{Recorded, recorded, record_at, seen, groups_of, IsTouched, IsLinked}
+use Rattle.node.specs.Graphs.{Recorded, recorded, record_at, seen, groups_of, touched_leaves, IsTouched, IsLinked}
 use Rattle.std.proofs.lemmas.Map.Lookups.{btree_map_from_get}
 use Rattle.keys.proofs.KeyLaws.{keys_total, exact_keys}
-use Rattle.node.proofs.Lists.{in_one, some_is, none_some}
+use Rattle.node.proofs.Lists.{some_is, none_some}
 
 pub seen_is : (records : Records) (version : ℕ) (k : Key) → record_at (recorded version records) k ≡ seen records k
 seen_is records version k = go records.entries
@@ -142,17 +141,11 @@ module _ (old new : Records) (same : (k : Key) → kept_at new k ≡ kept_at old
   pub seen_same : (version : ℕ) → IsOrdered key_cmp old → recorded version new ≡ recorded version old
   seen_same version o = ap (λ es. record { version = version; records = map (λ e. (e.0, record_of e.1)) es }) (btree_map_from_get keys_total new old ordered o same exact_keys)
 
--- marks from one leaf
-module _ (users : Users) (old new : Records) (marked : List Key) (text : List ℕ) (linked : IsLinked old users) (m : Marked users (key.File text ∷ []) old new marked) (passed : HasPassed users new marked) (dirty : IsDirty new (key.File text)) where
-  begins : (k : Key) → In k (key.File text ∷ []) → IsDirty new k
-  begins k i = subst (IsDirty new) (sym (in_one i)) dirty
-
-  pub touched_linked : IsOrdered key_cmp new → IsLinked new users
-  touched_linked = still_linked users (key.File text ∷ []) old new marked linked m passed begins
-
-  pub touched_marks : (path : List ℕ) → text ≡ path → (before : Recorded) (version later_version : ℕ) → recorded version old ≡ before → Marks (record_at before) (record_at (recorded later_version new)) (IsTouched path)
+-- marks from the leaves that an edit touches
+module _ (users : Users) (leaves : List Key) (old new : Records) (marked : List Key) (linked : IsLinked old users) (m : Marked users leaves old new marked) (passed : HasPassed users new marked) (begins : (k : Key) → In k leaves → IsDirty new k) where
+  pub touched_marks : (path : List ℕ) → leaves ≡ touched_leaves path → (before : Recorded) (version later_version : ℕ) → recorded version old ≡ before → Marks (record_at before) (record_at (recorded later_version new)) (IsTouched path)
   touched_marks path e before version later_version b =
-      subst (λ (p : List ℕ). Marks (record_at before) (record_at (recorded later_version new)) (IsTouched p)) e
-      (subst (λ (r : Recorded). Marks (record_at r) (record_at (recorded later_version new)) (IsTouched text)) b
-      (subst (λ (f : Key → Option (Record Key Value)). Marks f (record_at (recorded later_version new)) (IsTouched text)) (sym (seen_all old version))
-      (subst (λ (f : Key → Option (Record Key Value)). Marks (seen old) f (IsTouched text)) (sym (seen_all new later_version)) (edit_marks users (key.File text ∷ []) old new marked linked m passed begins))))
+      subst (λ (ls : List Key). Marks (record_at before) (record_at (recorded later_version new)) (λ k. In k ls)) e
+      (subst (λ (r : Recorded). Marks (record_at r) (record_at (recorded later_version new)) (λ k. In k leaves)) b
+      (subst (λ (f : Key → Option (Record Key Value)). Marks f (record_at (recorded later_version new)) (λ k. In k leaves)) (sym (seen_all old version))
+      (subst (λ (f : Key → Option (Record Key Value)). Marks (seen old) f (λ k. In k leaves)) (sym (seen_all new later_version)) (edit_marks users leaves old new marked linked m passed begins))))

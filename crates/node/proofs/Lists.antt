@@ -1,6 +1,6 @@
 -- Elements of lists, and what a record of a table is after a change at one key.
 use Rattle.std.specs.Result.{OnErr}
-use Rattle.std.proofs.Common.{Result, Ok, Err, ◌≡◌, ◌≢◌, ◌⊎◌, inl, inr, Bool, true, false, List, [], ◌∷◌, ◌++◌, Option, Some, None, refl, ap, subst}
+use Rattle.std.proofs.Common.{length, arith, Result, Ok, Err, ◌≡◌, ◌≢◌, ◌⊎◌, inl, inr, Bool, true, false, List, [], ◌∷◌, ◌++◌, Option, Some, None, refl, ap, subst}
 use Rattle.std.specs.BTreeMap.{BTreeMap, get, Updates, is_at}
 use Rattle.std.proofs.lemmas.Map.Views.{tells_apart}
 use Rattle.evaluation.specs.Value.{In, first, after}
@@ -36,6 +36,10 @@ module _ {X : Type 0} where
       go : {zs : List X} → In k zs → zs ≡ y ∷ [] → k ≡ y
       go first e = cc
       go (after {xs = ws} j) e = let q : ws ≡ [] = cc in absurd (not_in j q)
+
+pub none_of : {X : Type 0} (xs : List X) → length xs ≡ 0 → xs ≡ []
+none_of [] e = refl
+none_of (x ∷ xs) e = absurd (omega arith)
 
 pub some_is : {X : Type 0} {x y : X} → Some x ≡ Some y → x ≡ y
 some_is h = cc

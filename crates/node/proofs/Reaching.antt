@@ -198,10 +198,16 @@ undo_popped original records newer marked rest key e u h =
 pub in_at_is : {X : Type 0} (xs : List X) (n : ℕ) (d x : X) → x ≡ slice_index_or xs n d → n < length xs → In x xs
 in_at_is xs n d x e h = subst (λ y. In y xs) (sym e) (in_at xs n d h)
 
--- from a leaf on, with nothing listed before
-pub from_leaf : (users : Users) (old middle new : Records) (none listed now : List Key) (leaf : Key) → none ≡ [] → HasReached old middle none listed leaf → HasSpread users middle new listed now → Marked users (leaf ∷ []) old new now
-from_leaf users old middle new none listed now leaf e h s =
-    s.marks (leaf ∷ []) old (reached_marked old middle none listed leaf h users (leaf ∷ []) old start (at_leaf first))
+-- from the leaves on, with nothing listed before
+pub from_leaves : (users : Users) (old middle : Records) (none listed leaves : List Key) → none ≡ [] → HasReachedSome old middle none listed leaves → Marked users leaves old middle listed
+from_leaves users old middle none listed leaves e h = h.marks users leaves old start (λ k i. at_leaf i)
   where
-    start : Marked users (leaf ∷ []) old old none
+    start : Marked users leaves old old none
     start = record { each = λ k i. absurd (not_in i e); rest = λ k. inr refl }
+
+-- one more leaf
+pub leaf_taken : (old new : Records) (before now leaves : List Key) (n : ℕ) (d leaf : Key) → leaf ≡ slice_index_or leaves n d → n < length leaves → HasReached old new before now leaf → HasReachedAll old (take n leaves) → HasReachedAll new (take (n + 1) leaves)
+leaf_taken old new before now leaves n d leaf e l h a k i = elim (in_split i (take n leaves) (leaf ∷ []) (one_more leaves n d l ∙ ap (λ y. take n leaves ++ y ∷ []) (sym e))) [
+  | inl x ↦ reached_still old new before now leaf h k (a k x)
+  | inr x ↦ subst (IsDirty new) (sym (in_one x)) (reached_dirty old new before now leaf h)
+]

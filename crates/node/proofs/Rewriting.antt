@@ -16,7 +16,7 @@ some_kept None h = absurd (true_false h refl)
 some_kept (Some e) h = (e, refl)
 
 -- a key is a member of the groups, or is none
-decide_member : (groups : List (List Key)) (j : Key) → IsMember j groups ⊎ (IsMember j groups → ⊥)
+pub decide_member : (groups : List (List Key)) (j : Key) → IsMember j groups ⊎ (IsMember j groups → ⊥)
 decide_member groups j = go (among groups j) refl
   where
     go : (b : Bool) → among groups j ≡ b → IsMember j groups ⊎ (IsMember j groups → ⊥)

@@ -105,7 +105,7 @@ unstored_linked old new old_users users r s l = linked_sets new old_users users 
 
 -- what a contract of the graph sees of it
 module _ (old : Records) (version : ℕ) (was : Recorded) (b : recorded version old ≡ was) where
-  seen_was : record_at was ≡ seen old
+  pub seen_was : record_at was ≡ seen old
   seen_was = ap record_at (sym b) ∙ seen_all old version
 
   pub ready_seen : (key : Key) (groups : List (List Key)) → HasReadyMembers (record_at was) key groups → HasReadyMembers (seen old) key groups

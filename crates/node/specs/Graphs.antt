@@ -1,5 +1,5 @@
 -- What a contract sees of a graph, and what is true of its parts.
-use Rattle.std.specs.Prelude.{◌≡◌, ◌≢◌, ℕ, List, [], ◌∷◌, map, Option, Some, None, true, false, if◌then◌else◌}
+use Rattle.std.specs.Prelude.{◌≡◌, ◌≢◌, ℕ, List, map, Option, Some, None, true, false, if◌then◌else◌}
 use Rattle.std.specs.Option.{option_map}
 use Rattle.std.specs.Map.{lookup}
 use Rattle.std.specs.BTreeMap.{is_at, IsOrdered}
@@ -7,8 +7,8 @@ use Rattle.evaluation.specs.Graph.{Record}
 use Rattle.evaluation.specs.Value.{In, IsMember}
 use Rattle.keys.specs.Keys.{key_cmp}
 use Rattle.keys.specs.declared.key.Key.{Key}
-use Rattle.keys.specs.declared.key.Key.TheVariants as key
 use Rattle.keys.specs.declared.value.Value.{Value}
+pub use Rattle.keys.specs.Touched.{touched_leaves, IsTouched}
 use Rattle.node.specs.declared.kept.Kept.{Kept}
 use Rattle.node.specs.Kept.{Records, Users, kept_at, users_at, record_of}
 
@@ -32,13 +32,6 @@ seen records k = option_map record_of (kept_at records k)
 abbrev pub present : Option (Record Key Value) → Option Value
 present None = None
 present (Some r) = (if r.dirty then None else Some r.value)
-
--- the leaves that an edit of the path touches
-abbrev pub touched_leaves : List ℕ → List Key
-touched_leaves path = key.File path ∷ []
-
-abbrev pub IsTouched : List ℕ → Key → Type 0
-IsTouched path k = In k (touched_leaves path)
 
 abbrev pub groups_of : Kept → List (List Key)
 groups_of e = map (λ g. g.items) e.groups.items

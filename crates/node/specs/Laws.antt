@@ -1,11 +1,14 @@
 -- A lawful graph stays lawful. `reads u` reads the leaves of the files at version u, and `edits u` is the path that the edit to version u changed.
 use Rattle.std.specs.Prelude.{◌≡◌, ℕ, ◌+◌, List, Option, Some}
 use Rattle.evaluation.specs.Reply.{Reply}
-use Rattle.evaluation.specs.Value.{Settles}
+use Rattle.std.specs.Arc.{arc_value}
+use Rattle.evaluation.specs.Value.{Settles, In}
 use Rattle.evaluation.specs.Graph.{Lawful}
 use Rattle.keys.specs.Cycles.{cycle}
 use Rattle.keys.specs.declared.key.Key.{Key}
 use Rattle.keys.specs.declared.value.Value.{Value}
+use Rattle.node.specs.declared.entry.Entry.{Entry}
+use Rattle.node.specs.Batches.{asked}
 use Rattle.node.specs.Graphs.{Recorded, record_at, IsTouched}
 
 -- the graph's records are true of this history of the files, under these node functions
@@ -24,6 +27,11 @@ TouchKeepsLawful old new path = (next : Key → List Value → Reply Key Value) 
 abbrev pub SettlingKeepsLawful : Recorded → Recorded → Key → Value → List (List Key) → Type 0
 SettlingKeepsLawful old new key value groups = (next : Key → List Value → Reply Key Value) (reads : ℕ → Key → Option Value) (edits : ℕ → List ℕ)
     → IsLawfulFor next reads edits old → Settles next (reads old.version) cycle key groups value → IsLawfulFor next reads edits new
+
+-- the same where several keys are settled at once
+abbrev pub BatchKeepsLawful : Recorded → Recorded → List Entry → Type 0
+BatchKeepsLawful old new entries = (next : Key → List Value → Reply Key Value) (reads : ℕ → Key → Option Value) (edits : ℕ → List ℕ)
+    → IsLawfulFor next reads edits old → ((e : Entry) → In e entries → Settles next (reads old.version) cycle e.key (asked e) (arc_value e.value)) → IsLawfulFor next reads edits new
 
 -- the graph is lawful for any history under any node functions
 abbrev pub IsAlwaysLawful : Recorded → Type 0

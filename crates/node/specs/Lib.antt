@@ -3,4 +3,6 @@ pub mod Marks
 pub mod Graphs
 pub mod Edges
 pub mod Writes
+pub mod Batches
+pub mod Counts
 pub mod Laws

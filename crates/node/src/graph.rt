@@ -1,16 +1,23 @@
 //! The graph of records.
-ghost use Rattle.std.specs.Prelude.{◌≡◌, ◌+◌, ◌<◌, [], IfOk, OnOk, OnErr, map, IsSome, IsTrue, Some, false};
+ghost use Rattle.std.specs.Prelude.{◌≡◌, ◌+◌, ◌<◌, [], length, IfSome, IfNone, IfOk, OnOk, OnErr, map, IsSome, IsTrue, Some, false};
 ghost use Rattle.std.specs.Option.{option_map};
 ghost use Rattle.std.specs.Arc.{arc_value};
 ghost use Rattle.evaluation.specs.Graph.{Record, Marks};
 ghost use Rattle.keys.specs.declared.key.Key.{Key};
 ghost use Rattle.keys.specs.declared.value.Value.{Value};
 ghost use Rattle.node.specs.Kept.{record_of, items_of};
-ghost use Rattle.node.specs.Laws.{IsAlwaysLawful, TouchKeepsLawful, SettlingKeepsLawful};
+ghost use Rattle.evaluation.specs.Value.{AllDiffer};
+ghost use Rattle.node.specs.Counts.{edges_of};
+ghost use Rattle.node.specs.Batches.{keys_of, HasReadyEntries, SetsAll};
+ghost use Rattle.node.specs.Laws.{IsAlwaysLawful, TouchKeepsLawful, SettlingKeepsLawful, BatchKeepsLawful};
 ghost use Rattle.node.specs.Writes.{HasReadyMembers, stored, is_ready_group, are_ready};
 ghost use Rattle.node.specs.Graphs.{record_at, present, IsTouched, HasCleanMembers, Sets};
 
+use crate::batch::store_all;
+use crate::counts::{Counts, edges};
+use crate::entry::Entry;
 use crate::kept::{Kept, Records, Users};
+use crate::leaves::touched;
 use crate::marks::{mark_from, unmark_all};
 use crate::settling::{settle, store};
 use keys::{Key, Value};
@@ -18,7 +25,7 @@ use std::alloc::Global;
 use std::collections::BTreeMap;
 use std::marker::Model;
 use std::sync::Arc;
-use texts::{Memory, Text};
+use texts::Memory;
 
 /// What was recorded of the nodes that were settled: of each its value, the groups that it asked, the version at which
 /// it was last settled, the version at which its value last changed, and whether an edit since then may have changed
@@ -120,8 +127,21 @@ impl Graph {
         }
     }
 
+    /// How many records and recorded edges there are: an edge for each member of the recorded groups. It goes over all
+    /// records, and takes no memory.
+    pub fn counts(&self) -> Counts
+        ensures records { result.records ≡ length self.now.records }
+        ensures edges { IfSome result.edges (λ n. n ≡ edges_of self.now) }
+        ensures past { IfNone result.edges (u64.MAX < edges_of self.now) }
+    {
+        Counts {
+            records: self.records.len() as u64,
+            edges: edges(&self.records),
+        }
+    }
+
     /// Takes in an edit of the path: one version more, and each record is marked that reaches a leaf which the edit
-    /// touches. Nothing else changes. A graph that is lawful for a history of the files is lawful for the history with
+    /// touches: the path's file, and the listing of each directory that it lies below, the root among them. Nothing else changes. A graph that is lawful for a history of the files is lawful for the history with
     /// this edit. That the version is below its last value is the caller's condition. The new version, or `Memory` where
     /// a growth was refused, and then nothing has changed.
     pub fn touch(&mut self, path: &str) -> Result<u32, Memory>
@@ -132,9 +152,14 @@ impl Graph {
         ensures lawful { OnOk result (TouchKeepsLawful self.old self.new path.now) }
         ensures refused { OnErr result (self.new ≡ self.old) }
     {
-        let leaf = Key::File(Text::new(self.alloc, path)?);
+        let leaves = touched(self.alloc, path)?;
         let mut marked = Vec::new(self.alloc);
-        match mark_from(&mut self.records, &self.users, &mut marked, &leaf) {
+        match mark_from(
+            &mut self.records,
+            &self.users,
+            &mut marked,
+            leaves.as_slice(),
+        ) {
             Ok(()) => {
                 self.version += 1;
                 Ok(self.version)
@@ -202,6 +227,28 @@ impl Graph {
         Ok(())
     }
 
+    /// Stores the records of several keys that were settled together at the present version, as `record` does each, all
+    /// or none: members of a loop are in one another's groups, so that none of them can be recorded first. That no key
+    /// is among the entries twice, and that each member of their groups is one of their keys or has a record that is
+    /// not dirty, is the caller's condition. `Memory` where a growth was refused, and then nothing has changed.
+    pub fn record_all(&mut self, entries: Vec<Entry>) -> Result<(), Memory>
+        requires differ { AllDiffer (keys_of entries.items) }
+        requires ready { HasReadyEntries (record_at self.old) entries.items }
+        ensures version { self.new.version ≡ self.old.version }
+        ensures recorded { OnOk result (SetsAll (record_at self.old) (record_at self.new) entries.items self.old.version) }
+        ensures lawful { OnOk result (BatchKeepsLawful self.old self.new entries.items) }
+        ensures refused { OnErr result (self.new ≡ self.old) }
+    {
+        store_all(
+            self.alloc,
+            &mut self.records,
+            &mut self.users,
+            entries,
+            self.version,
+        )?;
+        Ok(())
+    }
+
     /// Settles a key's record at the present version: that version is written into it and its mark is taken away.
     /// Nothing else changes, and no memory is taken. That the key has a record, and that no member of its groups has
     /// a dirty one, is the caller's condition.
@@ -221,6 +268,7 @@ mod tests {
     use super::*;
     use keys::BuildName;
     use std::test::Fail;
+    use texts::Text;
 
     fn file(alloc: Global, path: &str) -> Result<Key, Memory> {
         Ok(Key::File(Text::new(alloc, path)?))
@@ -261,6 +309,54 @@ mod tests {
         Ok(first && second && third)
     }
 
+    // Records two keys that are in each other's group; false where that can't be.
+    fn settle_pair(
+        alloc: Global,
+        graph: &mut Graph,
+        a: &Key,
+        b: &Key,
+        value: &Arc<Value>,
+    ) -> Result<bool, Memory> {
+        if a == b {
+            return Ok(false);
+        }
+        let first = Entry {
+            key: a.share()?,
+            value: Arc::try_clone(value)?,
+            groups: vec![in alloc; vec![in alloc; b.share()?]?]?,
+        };
+        let second = Entry {
+            key: b.share()?,
+            value: Arc::try_clone(value)?,
+            groups: vec![in alloc; vec![in alloc; a.share()?]?]?,
+        };
+        graph.record_all(vec![in alloc; first, second]?)?;
+        Ok(true)
+    }
+
+    #[test]
+    fn a_loop_is_recorded_at_once(rt: HostRuntime) -> Result<(), Fail> {
+        let alloc = rt.alloc();
+        let mut graph = Graph::new_at(alloc, 6);
+        let a = Key::Lookup(Text::new(alloc, "a")?);
+        let b = Key::Lookup(Text::new(alloc, "b")?);
+        let value = Arc::new(alloc, Value::Lookup(None))?;
+        assert!(rt; settle_lookup(alloc, &mut graph, "x")?);
+        assert!(rt; settle_pair(alloc, &mut graph, &a, &b, &value)?);
+        assert_eq!(rt; graph.version(), 6);
+        assert_eq!(rt; graph.touch("a/BUILD")?, 7);
+        assert!(rt; graph.get(&a).is_some());
+        assert!(rt; graph.get(&b).is_some());
+        assert!(rt; settle_pair(alloc, &mut graph, &b, &a, &value)?);
+        assert_eq!(rt; graph.counts().records, 4);
+        assert_eq!(rt; graph.counts().edges, Some(2));
+        assert_eq!(rt; graph.settled_at(&a), Some(7));
+        assert_eq!(rt; graph.settled_at(&b), Some(7));
+        assert_eq!(rt; graph.changed_at(&b), Some(6));
+        assert!(rt; !settle_pair(alloc, &mut graph, &a, &a, &value)?);
+        Ok(())
+    }
+
     #[test]
     fn an_edit_marks_what_reaches_its_file(rt: HostRuntime) -> Result<(), Fail> {
         let alloc = rt.alloc();
@@ -272,6 +368,8 @@ mod tests {
         assert_eq!(rt; graph.version(), 6);
         assert_eq!(rt; graph.touch("b/BUILD")?, 7);
         assert!(rt; graph.get(&lookup).is_some());
+        assert_eq!(rt; graph.counts().records, 3);
+        assert_eq!(rt; graph.counts().edges, Some(2));
         assert_eq!(rt; graph.touch("a/BUILD")?, 8);
         assert_eq!(rt; graph.version(), 8);
         assert!(rt; graph.get(&lookup).is_none());
@@ -284,6 +382,37 @@ mod tests {
         assert_eq!(rt; graph.changed_at(&build), Some(8));
         assert_eq!(rt; graph.changed_at(&absent), Some(6));
         assert!(rt; graph.get(&lookup).is_some());
+        Ok(())
+    }
+
+    // Whether each of the listings has a record that is not dirty.
+    fn are_clean(alloc: Global, graph: &Graph, directories: &[&str]) -> Result<bool, Memory> {
+        for directory in directories {
+            if graph
+                .get(&Key::Listing(Text::new(alloc, *directory)?))
+                .is_none()
+            {
+                return Ok(false);
+            }
+        }
+        Ok(true)
+    }
+
+    #[test]
+    fn an_edit_marks_the_listings_above_its_path(rt: HostRuntime) -> Result<(), Fail> {
+        let alloc = rt.alloc();
+        let mut graph = Graph::new(alloc);
+        for directory in ["", "a", "a/b", "a/b/c", "ab", "b"] {
+            let key = Key::Listing(Text::new(alloc, directory)?);
+            let value = Arc::new(alloc, Value::Listing(None))?;
+            assert!(rt; settle_key(&mut graph, &key, value, Vec::new(alloc))?);
+        }
+        assert_eq!(rt; graph.version(), 0);
+        assert_eq!(rt; graph.touch("a/b/c")?, 1);
+        assert!(rt; are_clean(alloc, &graph, &["a/b/c", "ab", "b"])?);
+        for directory in ["", "a", "a/b"] {
+            assert!(rt; !are_clean(alloc, &graph, &[directory])?);
+        }
         Ok(())
     }
 }

@@ -1,10 +1,16 @@
 //! The graph of what was recorded of nodes.
 #![tactic(auto)]
 
+mod batch;
+mod counts;
 mod edges;
+mod entry;
 mod graph;
 mod kept;
+mod leaves;
 mod marks;
 mod settling;
 
+pub use counts::Counts;
+pub use entry::Entry;
 pub use graph::Graph;

@@ -79,7 +79,9 @@ fn spread(records: &mut Records, users: &Users, marked: &mut Vec<Key>) -> Result
     let mut at = 0;
     while at < marked.len() {
         let key = marked[at].share()?;
-        reach_users(records, users, marked, &key)?;
+        let reached = reach_users(records, users, marked, &key);
+        drop(key);
+        reached?;
         at += 1;
     }
     Ok(())
@@ -92,22 +94,35 @@ pub fn unmark_all(records: &mut Records, mut marked: Vec<Key>)
 {
     while let Some(key) = marked.pop() {
         clear(records, &key);
+        drop(key);
     }
 }
 
-/// Marks what is reached from the leaf and not dirty yet, and lists it.
+// Marks the records of the leaves.
+fn reach_leaves(records: &mut Records, marked: &mut Vec<Key>, leaves: &[Key]) -> Result<(), Memory>
+    ensures some { HasReachedSome records.old records.new marked.old.items marked.new.items leaves.now }
+    ensures all { OnOk result (HasReachedAll records.new leaves.now) }
+{
+    for leaf in leaves {
+        reach(records, marked, leaf)?;
+    }
+    Ok(())
+}
+
+/// Marks what is reached from the leaves and not dirty yet, and lists it.
 pub fn mark_from(
     records: &mut Records,
     users: &Users,
     marked: &mut Vec<Key>,
-    leaf: &Key,
+    leaves: &[Key],
 ) -> Result<(), Memory>
     requires { marked.old.items ≡ [] }
-    ensures marked { Marked users.now (leaf.now ∷ []) records.old records.new marked.new.items }
+    ensures marked { Marked users.now leaves.now records.old records.new marked.new.items }
     ensures ordered { IsOrdered key_cmp records.old → IsOrdered key_cmp records.new }
     ensures passed { OnOk result (HasPassed users.now records.new marked.new.items) }
-    ensures begun { OnOk result (IsDirty records.new leaf.now) }
+    ensures begun { OnOk result (HasReachedAll records.new leaves.now) }
 {
-    reach(records, marked, leaf)?;
-    spread(records, users, marked)
+    reach_leaves(records, marked, leaves)?;
+    spread(records, users, marked)?;
+    Ok(())
 }

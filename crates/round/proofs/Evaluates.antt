@@ -21,6 +21,7 @@ use Rattle.round.specs.Tables.{Table, value_at, known_at, HoldsValues, ComesTo, 
 -- a key without a known value is no leaf
 pub unknown_no_leaf : (files : Files) (table : Table) (k : Key) → known_at files table k ≡ None → read files k ≡ None
 unknown_no_leaf files table (key.File path) e = cc
+unknown_no_leaf files table (key.Listing directory) e = cc
 unknown_no_leaf files table (key.Lookup directory) e = refl
 
 module _ (next : Key → List Value → Reply Key Value) where
@@ -28,6 +29,7 @@ module _ (next : Key → List Value → Reply Key Value) where
     -- a known value is the key's value
     pub known_grounded : (k : Key) (v : Value) → known_at files table k ≡ Some v → Grounded next (read files) k v
     known_grounded (key.File path) v e = is_leaf e
+    known_grounded (key.Listing directory) v e = is_leaf e
     known_grounded (key.Lookup directory) v e = h.each (key.Lookup directory) v e
 
     pub group_grounded : (group : List Key) (vs : List Value) → map (known_at files table) group ≡ map (λ v. Some v) vs → AllGrounded next (read files) group vs

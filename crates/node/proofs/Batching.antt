@@ -1,0 +1,311 @@
+-- Records that are put at the keys of several entries, and their edges.
+use Rattle.std.proofs.Common.{◌≡◌, ◌≢◌, ◌⊎◌, inl, inr, ℕ, ◌+◌, ◌<◌, List, [], ◌∷◌, ◌++◌, length, take, drop, add-one, slice_index_or, Option, Some, None, refl, sym, ◌∙◌, ap, subst}
+use Rattle.std.specs.List.{AllByRecursion}
+use Rattle.std.specs.Map.{lookup}
+use Rattle.std.specs.BTreeMap.{is_at, IsOrdered, Updates}
+use Rattle.std.proofs.lemmas.List.{map-append}
+use Rattle.std.proofs.Math.ListN.{take-append-drop}
+use Rattle.std.proofs.Math.Seq.{take-suc}
+use Rattle.evaluation.specs.Graph.{Record}
+use Rattle.evaluation.specs.Value.{AllDiffer, In, first, after, IsMember}
+use Rattle.keys.specs.Keys.{key_cmp}
+use Rattle.keys.specs.declared.key.Key.{Key}
+use Rattle.keys.specs.declared.value.Value.{Value}
+use Rattle.node.specs.declared.kept.Kept.{Kept}
+use Rattle.node.specs.declared.entry.Entry.{Entry}
+use Rattle.node.specs.Kept.{Records, Users, kept_at, users_at}
+use Rattle.node.specs.Edges.{HasLinkedSome, HasLinkedAll, HasCut, HasUsers}
+use Rattle.node.specs.Writes.{written, groups_at}
+use Rattle.node.specs.Graphs.{groups_of}
+use Rattle.node.specs.Batches.{asked, keys_of, HasReadyEntries, HasPlacedSome, IsThere, HasPlacedAll, HasLinkedEntries, HasLinkedEach, kept_members, HasCutAll, IsToWrite, IsWritten, IsWriting}
+use Rattle.node.proofs.Lists.{in_split, in_left, in_right, in_one, not_in, decide_key, other_key}
+use Rattle.node.proofs.Joining.{in_taken, is_in}
+use Rattle.node.proofs.Rewriting.{decide_member}
+
+-- keys that differ
+all_left : (P : Key → Type 0) (xs ys : List Key) → AllByRecursion P (xs ++ ys) → AllByRecursion P xs
+all_left P [] ys a = tt
+all_left P (x ∷ xs) ys a = (a.0, all_left P xs ys a.1)
+
+all_right : (P : Key → Type 0) (xs ys : List Key) → AllByRecursion P (xs ++ ys) → AllByRecursion P ys
+all_right P [] ys a = a
+all_right P (x ∷ xs) ys a = all_right P xs ys a.1
+
+pub differ_left : (xs ys : List Key) → AllDiffer (xs ++ ys) → AllDiffer xs
+differ_left [] ys d = tt
+differ_left (x ∷ xs) ys d = (all_left (λ j. x ≢ j) xs ys d.0, differ_left xs ys d.1)
+
+pub differ_apart : {k : Key} (xs : List Key) (x : Key) (ys : List Key) → AllDiffer (xs ++ x ∷ ys) → In k xs → k ≢ x
+differ_apart [] x ys d i = elim i [ ]
+differ_apart (y ∷ xs) x ys d first = (all_right (λ j. y ≢ j) xs (x ∷ ys) d.0).0
+differ_apart (y ∷ xs) x ys d (after i) = differ_apart xs x ys d.1 i
+
+-- an entry by its key
+in_cons : {X : Type 0} {k x : X} {xs : List X} → In k (x ∷ xs) → (x ≡ k) ⊎ In k xs
+in_cons first = inl refl
+in_cons (after i) = inr i
+
+pub entry_of : {k : Key} (entries : List Entry) → In k (keys_of entries) → (e : Entry) × In e entries × (e.key ≡ k)
+entry_of [] i = elim i [ ]
+entry_of (e ∷ entries) i = elim (in_cons i) [
+  | inl q ↦ (e, first, q)
+  | inr a ↦ let p = entry_of entries a in (p.0, after p.1, p.2)
+]
+
+pub key_in : {e : Entry} {entries : List Entry} → In e entries → In e.key (keys_of entries)
+key_in first = first
+key_in (after i) = after (key_in i)
+
+pub decide_in : (keys : List Key) (k : Key) → In k keys ⊎ (In k keys → ⊥)
+decide_in [] k = inr (λ i. not_in i refl)
+decide_in (x ∷ keys) k = elim (decide_key x k) [
+  | inl q ↦ inl (subst (λ y. In y (x ∷ keys)) q first)
+  | inr n ↦ elim (decide_in keys k) [ inl i ↦ inl (after i) | inr f ↦ inr (λ i. elim (in_cons i) [ inl q ↦ n q | inr a ↦ f a ]) ]
+]
+
+all_in : (P : Key → Type 0) {k : Key} {keys : List Key} → AllByRecursion P keys → In k keys → P k
+all_in P a first = a.0
+all_in P a (after i) = all_in P a.1 i
+
+-- no two entries have one key
+pub same_entry : {x y : Entry} (entries : List Entry) → AllDiffer (keys_of entries) → In x entries → In y entries → x.key ≡ y.key → x ≡ y
+same_entry [] d i j q = elim i [ ]
+same_entry (e ∷ entries) d i j q = elim (in_cons i) [
+  | inl a ↦ elim (in_cons j) [
+    | inl b ↦ sym a ∙ b
+    | inr b ↦ absurd (all_in (λ k. e.key ≢ k) d.0 (key_in b) (ap (λ (z : Entry). z.key) a ∙ q))
+  ]
+  | inr a ↦ elim (in_cons j) [
+    | inl b ↦ absurd (all_in (λ k. e.key ≢ k) d.0 (key_in a) (ap (λ (z : Entry). z.key) b ∙ sym q))
+    | inr b ↦ same_entry entries d.1 a b q
+  ]
+]
+
+-- one more entry of a list
+module _ (entries : List Entry) (n : ℕ) (x : Entry) (e : x ≡ slice_index_or entries n x) (h : n < length entries) where
+  these : take (n + 1) entries ≡ take n entries ++ x ∷ []
+  these = rw add-one (take-suc entries n x h) ∙ ap (λ y. take n entries ++ y ∷ []) (sym e)
+
+  keys_taken : keys_of (take (n + 1) entries) ≡ keys_of (take n entries) ++ x.key ∷ []
+  keys_taken = ap keys_of these ∙ map-append (λ (y : Entry). y.key) (take n entries) (x ∷ [])
+
+  taken_differ : AllDiffer (keys_of entries) → AllDiffer (keys_of (take n entries) ++ x.key ∷ [])
+  taken_differ d =
+      let split : keys_of entries ≡ keys_of (take (n + 1) entries) ++ keys_of (drop (n + 1) entries) =
+      ap keys_of (sym (take-append-drop (n + 1) entries)) ∙ map-append (λ (y : Entry). y.key) (take (n + 1) entries) (drop (n + 1) entries) in
+      subst AllDiffer keys_taken (differ_left (keys_of (take (n + 1) entries)) (keys_of (drop (n + 1) entries)) (subst AllDiffer split d))
+
+  pub taken_apart : AllDiffer (keys_of entries) → {k : Key} → In k (keys_of (take n entries)) → k ≢ x.key
+  taken_apart d i = differ_apart (keys_of (take n entries)) x.key [] (taken_differ d) i
+
+  pub key_before : {k : Key} → In k (keys_of (take n entries)) → In k (keys_of (take (n + 1) entries))
+  key_before {k} i = subst (In k) (sym keys_taken) (in_left (x.key ∷ []) i)
+
+  pub key_now : In x.key (keys_of (take (n + 1) entries))
+  key_now = subst (In x.key) (sym keys_taken) (in_right (keys_of (take n entries)) first)
+
+-- a record is put at a key that has none
+pub placed_more : (original old new : Records) (before now : List Key) (key listed : Key) → now ≡ before ++ listed ∷ [] → listed ≡ key → kept_at old key ≡ None → ((k : Key) → key ≢ k → kept_at new k ≡ kept_at old k)
+    → HasPlacedSome original old before → HasPlacedSome original new now
+placed_more original old new before now key listed e same none others h = record {
+  each = λ k i. elim (in_split i before (key ∷ []) is) [
+    | inl a ↦ h.each k a
+    | inr b ↦ subst (λ y. kept_at original y ≡ None) (sym (in_one b)) was
+  ];
+  rest = λ k. elim (decide_key key k) [
+    | inl q ↦ inl (subst (In k) (sym is) (in_right before (subst (λ y. In y (key ∷ [])) q first)))
+    | inr n ↦ elim (h.rest k) [ inl a ↦ inl (subst (In k) (sym is) (in_left (key ∷ []) a)) | inr q ↦ inr (others k n ∙ q) ]
+  ];
+}
+  where
+    is : now ≡ before ++ key ∷ []
+    is = e ∙ ap (λ k. before ++ k ∷ []) same
+
+    was : kept_at original key ≡ None
+    was = elim (h.rest key) [ inl a ↦ h.each key a | inr q ↦ sym q ∙ none ]
+
+pub placed_none : (records : Records) (placed : List Key) → placed ≡ [] → HasPlacedSome records records placed
+placed_none records placed e = record { each = λ k i. absurd (not_in i e); rest = λ k. inr refl }
+
+-- nothing was put after all
+pub placed_listed : (original old new : Records) (before now : List Key) (key listed : Key) → now ≡ before ++ listed ∷ [] → listed ≡ key → kept_at old key ≡ None → new.entries ≡ old.entries
+    → HasPlacedSome original old before → HasPlacedSome original new now
+placed_listed original old new before now key listed e same none entries h = placed_more original old new before now key listed e same none (λ k n. ap (lookup (is_at (key_cmp k))) entries) h
+
+pub nothing_placed : (records : Records) (version : ℕ) → HasPlacedAll records records [] version
+nothing_placed records version = record { there = λ e i. elim i [ ]; others = λ k f. refl }
+
+there_later : (start old new : Records) (e : Entry) (version : ℕ) → kept_at new e.key ≡ kept_at old e.key → IsThere start old e version → IsThere start new e version
+there_later start old new e version q (inl t) = inl (t.0, t.1, q ∙ t.2)
+there_later start old new e version q (inr t) = inr (t.0, t.1, q ∙ t.2, t.3, t.4, t.5, t.6)
+
+there_since : (start old new : Records) (e : Entry) (version : ℕ) → kept_at old e.key ≡ kept_at start e.key → IsThere old new e version → IsThere start new e version
+there_since start old new e version q (inl t) = inl (t.0, sym q ∙ t.1, t.2)
+there_since start old new e version q (inr t) = inr (t.0, sym q ∙ t.1, t.2, t.3, t.4, t.5, t.6)
+
+pub placed_step : (start old new : Records) (entries : List Entry) (n : ℕ) (x : Entry) (version : ℕ) → x ≡ slice_index_or entries n x → n < length entries → AllDiffer (keys_of entries)
+    → HasPlacedAll start old (take n entries) version → IsThere old new x version → ((k : Key) → x.key ≢ k → kept_at new k ≡ kept_at old k) → HasPlacedAll start new (take (n + 1) entries) version
+placed_step start old new entries n x version e h d all there others = record {
+  there = λ y i. elim (in_taken entries n x y e h i) [
+    | inl a ↦ there_later start old new y version (others y.key (λ q. taken_apart entries n x e h d (key_in a) (sym q))) (all.there y a)
+    | inr q ↦ subst (λ (z : Entry). IsThere start new z version) q (there_since start old new x version (all.others x.key (λ i. taken_apart entries n x e h d i refl)) there)
+  ];
+  others = λ k f. others k (λ q. f (subst (λ z. In z (keys_of (take (n + 1) entries))) q (key_now entries n x e h))) ∙ all.others k (λ i. f (key_before entries n x e h i));
+}
+
+-- a listed record is removed
+pub removed_popped : (original old new : Records) (placed rest : List Key) (key : Key) → placed ≡ rest ++ key ∷ [] → Updates key_cmp old new key None → HasPlacedSome original old placed → HasPlacedSome original new rest
+removed_popped original old new placed rest key e u h = record {
+  each = λ k i. h.each k (subst (In k) (sym e) (in_left (key ∷ []) i));
+  rest = λ k. elim (decide_key key k) [
+    | inl q ↦ inr (subst (λ y. kept_at new y ≡ kept_at original y) q (u.1 ∙ sym (h.each key (subst (In key) (sym e) (in_right rest first)))))
+    | inr n ↦ elim (h.rest k) [
+      | inl i ↦ elim (in_split i rest (key ∷ []) e) [ inl a ↦ inl a | inr b ↦ absurd (n (sym (in_one b))) ]
+      | inr q ↦ inr (other_key old new key None u k n ∙ q)
+    ]
+  ];
+}
+
+pub all_removed : (original records : Records) (rest : List Key) → rest ≡ [] → HasPlacedSome original records rest → (k : Key) → kept_at records k ≡ kept_at original k
+all_removed original records rest e h k = elim (h.rest k) [ inl i ↦ absurd (not_in i e) | inr q ↦ q ]
+
+-- edges of one more entry
+pub entries_none : (users : Users) (entries : List Entry) → HasLinkedEntries users users entries
+entries_none users entries = record { from = λ j k i. inl i; keeps = λ j k i. i }
+
+module _ (start old new : Users) (entries : List Entry) (n : ℕ) (x : Entry) (e : x ≡ slice_index_or entries n x) (h : n < length entries)
+    (groups : List (List Key)) (g : groups ≡ asked x) (some : HasLinkedSome old new x.key (λ j. IsMember j groups)) where
+  pub entries_linked : HasLinkedEntries start old entries → HasLinkedEntries start new entries
+  entries_linked l = record {
+    from = λ j k i. elim (some.from j k i) [
+      | inl a ↦ l.from j k a
+      | inr p ↦ inr (x, is_in entries n x e h, p.1, subst (IsMember j) g p.0)
+    ];
+    keeps = λ j k i. some.keeps j k (l.keeps j k i);
+  }
+
+  pub entries_each : HasLinkedAll new x.key (λ j. IsMember j groups) → HasLinkedEach old (take n entries) → HasLinkedEach new (take (n + 1) entries)
+  entries_each all each y i j m = elim (in_taken entries n x y e h i) [
+    | inl a ↦ some.keeps j y.key (each y a j m)
+    | inr q ↦ subst (λ (z : Entry). In z.key (users_at new j)) q (all j (subst (IsMember j) (sym g) (subst (λ (z : Entry). IsMember j (asked z)) (sym q) m)))
+  ]
+
+-- the members of a key's record
+members_at : (records : Records) (k j : Key) (o : Option Kept) → kept_at records k ≡ o → IsMember j (groups_at o) → kept_members records k j
+members_at records k j None h m = absurd (not_in m.1 refl)
+members_at records k j (Some w) h m = (w, h, m)
+
+pub kept_member : (records : Records) (k j : Key) → IsMember j (groups_at (kept_at records k)) → kept_members records k j
+kept_member records k j m = members_at records k j (kept_at records k) refl m
+
+pub member_kept : (records : Records) (k j : Key) → kept_members records k j → IsMember j (groups_at (kept_at records k))
+member_kept records k j p = subst (λ o. IsMember j (groups_at o)) (sym p.1) p.2
+
+pub nothing_cut : (records : Records) (users : Users) → HasCutAll records users users []
+nothing_cut records users = record { from = λ j k i. i; gone = λ e i. elim i [ ]; kept = λ j k i m. i }
+
+pub cut_step : (records : Records) (start old new : Users) (entries : List Entry) (n : ℕ) (x : Entry) → x ≡ slice_index_or entries n x → n < length entries
+    → (groups keep : List (List Key)) → groups ≡ asked x → keep ≡ groups_at (kept_at records x.key) → HasCut old new x.key (λ j. IsMember j groups) (λ j. IsMember j keep)
+    → HasCutAll records start old (take n entries) → HasCutAll records start new (take (n + 1) entries)
+cut_step records start old new entries n x e h groups keep g p cut all = record {
+  from = λ j k i. all.from j k (cut.from j k i);
+  gone = λ y i j m f u. elim (in_taken entries n x y e h i) [
+    | inl a ↦ all.gone y a j m f (cut.from j y.key u)
+    | inr q ↦ cut.gone j (subst (IsMember j) (sym g) (subst (λ (z : Entry). IsMember j (asked z)) (sym q) m))
+        (λ t. f (subst (λ (z : Entry). kept_members records z.key j) q (kept_member records x.key j (subst (IsMember j) p t)))) (subst (λ (z : Entry). In z.key (users_at new j)) (sym q) u)
+  ];
+  kept = λ j k i m. elim (decide_key x.key k) [
+    | inl q ↦ subst (λ z. In z (users_at new j)) q (cut.kept j (subst (IsMember j) (sym p) (member_kept records x.key j (subst (λ z. kept_members records z j) (sym q) m))) (subst (λ z. In z (users_at old j)) (sym q) (all.kept j k i m)))
+    | inr d ↦ cut.others j k d (all.kept j k i m)
+  ];
+}
+
+-- the users of an entry that is written
+pub written_users : (records : Records) (old new : Users) (e : Entry) (w : Kept) → IsToWrite records old e w → (cut_groups keep : List (List Key)) → cut_groups ≡ groups_of w → keep ≡ asked e
+    → HasCut old new e.key (λ j. IsMember j cut_groups) (λ j. IsMember j keep) → HasUsers old new e.key (asked e)
+written_users records old new e w t cut_groups keep g p cut = record {
+  own = λ j i. elim (t.own j (cut.from j e.key i)) [
+    | inl m ↦ elim (decide_member (asked e) j) [
+      | inl a ↦ a
+      | inr n ↦ absurd (cut.gone j (subst (IsMember j) (sym g) m) (λ a. n (subst (IsMember j) p a)) i)
+    ]
+    | inr m ↦ m
+  ];
+  has = λ j m. cut.kept j (subst (IsMember j) (sym p) m) (t.has j m);
+  others = λ j k n i. cut.from j k i;
+  kept = λ j k n i. cut.others j k n i;
+}
+
+-- one more entry is written
+module _ (start old new : Records) (start_users old_users users : Users) (entries now rest : List Entry) (x : Entry) (version : ℕ) (e : now ≡ rest ++ x ∷ [])
+    (s : IsWriting start old start_users old_users entries now version)
+    (updates : (w : Kept) → kept_at old x.key ≡ Some w → Updates key_cmp old new x.key (Some (written w x.value x.groups version)))
+    (uses : HasUsers old_users users x.key (asked x)) (ordered : IsOrdered key_cmp new) where
+  keys_split : keys_of now ≡ keys_of rest ++ x.key ∷ []
+  keys_split = ap keys_of e ∙ map-append (λ (y : Entry). y.key) rest (x ∷ [])
+
+  x_left : In x now
+  x_left = subst (In x) (sym e) (in_right rest first)
+
+  had : (w : Kept) × (kept_at start x.key ≡ Some w) × IsToWrite old old_users x w
+  had = s.left x x_left
+
+  changed : Updates key_cmp old new x.key (Some (written had.0 x.value x.groups version))
+  changed = updates had.0 had.2.there
+
+  other : (k : Key) → x.key ≢ k → kept_at new k ≡ kept_at old k
+  other k n = other_key old new x.key _ changed k n
+
+  apart : {y : Entry} → In y rest → x.key ≢ y.key
+  apart i q = differ_apart (keys_of rest) x.key [] (subst AllDiffer keys_split s.differ) (key_in i) (sym q)
+
+  still_left : (y : Entry) → In y rest → (w : Kept) × (kept_at start y.key ≡ Some w) × IsToWrite new users y w
+  still_left y i =
+      let p = s.left y (subst (In y) (sym e) (in_left (x ∷ []) i)) in
+      let t = p.2 in (
+        p.0,
+        p.1,
+        record {
+          there = other y.key (apart i) ∙ t.there;
+          own = λ j u. t.own j (uses.others j y.key (apart i) u);
+          old_has = λ j m. uses.kept j y.key (apart i) (t.old_has j m);
+          has = λ j m. uses.kept j y.key (apart i) (t.has j m);
+        },
+      )
+
+  is_written : (w : Kept) × (kept_at start x.key ≡ Some w) × IsWritten new users x version w
+  is_written = (had.0, had.1, record { there = changed.1; own = uses.own; has = uses.has })
+
+  still_written : (y : Entry) → x.key ≢ y.key → (w : Kept) × (kept_at start y.key ≡ Some w) × IsWritten old old_users y version w → (w : Kept) × (kept_at start y.key ≡ Some w) × IsWritten new users y version w
+  still_written y n p = let t = p.2 in
+      (p.0, p.1, record { there = other y.key n ∙ t.there; own = λ j u. t.own j (uses.others j y.key n u); has = λ j m. uses.kept j y.key n (t.has j m) })
+
+  pub write_step : AllDiffer (keys_of entries) → IsWriting start new start_users users entries rest version
+  write_step d = record {
+    differ = differ_left (keys_of rest) (x.key ∷ []) (subst AllDiffer keys_split s.differ);
+    within = λ y i. s.within y (subst (In y) (sym e) (in_left (x ∷ []) i));
+    left = still_left;
+    done = λ y i. elim (decide_key x.key y.key) [
+      | inl q ↦ inr (subst (λ (z : Entry). (w : Kept) × (kept_at start z.key ≡ Some w) × IsWritten new users z version w) (same_entry entries d (s.within x x_left) i q) is_written)
+      | inr n ↦ elim (s.done y i) [
+        | inl a ↦ elim (in_split a rest (x ∷ []) e) [ inl b ↦ inl b | inr b ↦ absurd (n (ap (λ (z : Entry). z.key) (sym (in_one b)))) ]
+        | inr p ↦ inr (still_written y n p)
+      ]
+    ];
+    others = λ k f. let t = s.others k f in let n : x.key ≢ k = λ q. f (subst (λ z. In z (keys_of entries)) q (key_in (s.within x x_left))) in
+        record { record_same = other k n ∙ t.record_same; from = λ j u. t.from j (uses.others j k n u); keeps = λ j u. uses.kept j k n (t.keeps j u) };
+    ordered = ordered;
+  }
+
+-- two entries that ask for one another
+pub pair_ready : (records : Key → Option (Record Key Value)) (entries : List Entry) (x y : Entry) → entries ≡ x ∷ y ∷ [] → asked x ≡ (y.key ∷ []) ∷ [] → asked y ≡ (x.key ∷ []) ∷ [] → HasReadyEntries records entries
+pair_ready records entries x y is a b = subst (HasReadyEntries records) (sym is) ready
+  where
+    only : {k j : Key} {gs : List (List Key)} → gs ≡ (k ∷ []) ∷ [] → IsMember j gs → k ≡ j
+    only {j = j} e m = sym (in_one (subst (In j) (in_one (subst (In m.0) e m.1)) m.2))
+
+    ready : HasReadyEntries records (x ∷ y ∷ [])
+    ready e i j m = elim (in_cons i) [
+      | inl q ↦ inl (subst (λ k. In k (keys_of (x ∷ y ∷ []))) (only a (subst (λ (z : Entry). IsMember j (asked z)) (sym q) m)) (after first))
+      | inr n ↦ inl (subst (λ k. In k (keys_of (x ∷ y ∷ []))) (only b (subst (λ (z : Entry). IsMember j (asked z)) (in_one n) m)) first)
+    ]
