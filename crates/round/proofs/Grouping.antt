@@ -38,11 +38,13 @@ present_clean records k v e = go (records k) refl e
 
 pub no_cycle_is : (v : Value) → is_cycle v ≡ false → NoCycle v
 no_cycle_is (value.File t) e = tt
+no_cycle_is (value.Listing l) e = tt
 no_cycle_is (value.Lookup b) e = tt
 no_cycle_is (value.Cycle names) e = cc
 
 pub cycle_is : (v : Value) → is_cycle v ≡ true → NoCycle v → ⊥
 cycle_is (value.File t) e p = cc
+cycle_is (value.Listing l) e p = cc
 cycle_is (value.Lookup b) e p = cc
 cycle_is (value.Cycle names) e p = p
 

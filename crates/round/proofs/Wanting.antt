@@ -227,4 +227,5 @@ none_there (Some x) e = absurd (true_false refl e)
 -- a key that is no leaf is read as none
 pub no_leaf : (files : Files) (k : Key) → leaves.is_leaf k ≡ false → leaves.read files k ≡ None
 no_leaf files (key.File path) e = absurd (true_false refl e)
+no_leaf files (key.Listing directory) e = absurd (true_false refl e)
 no_leaf files (key.Lookup directory) e = refl

@@ -31,6 +31,7 @@ AnyChanged records group since false = (j : Key) → In j group → has_changed 
 
 abbrev pub is_cycle : Value → Bool
 is_cycle (value.File t) = false
+is_cycle (value.Listing l) = false
 is_cycle (value.Lookup b) = false
 is_cycle (value.Cycle names) = true
 
