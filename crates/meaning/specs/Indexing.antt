@@ -1,0 +1,121 @@
+-- Index, slice, change and iteration.
+use Rattle.std.specs.Prelude.{ℕ, suc, ℤ, pos, negsuc, ◌-◌, Bool, false, List, [], ◌∷◌, length, take, drop, min, Option, Some, None, if◌then◌else◌, nat_lt, ◌==◌, slice_get, slice_set, option_map, map}
+use Rattle.std.specs.List.{list_any}
+use Rattle.meaning.specs.declared.key.Part.{Part}
+use Rattle.meaning.specs.declared.val.Val.{Val}
+use Rattle.meaning.specs.declared.val.Val.TheVariants as v
+use Rattle.meaning.specs.declared.val.Entry.{Entry}
+use Rattle.meaning.specs.Keys.{same_key}
+use Rattle.meaning.specs.Outcome.{gives, faults, Does, ◌>>=◌, ◌>>◌, fault, or_fault}
+use Rattle.meaning.specs.Heap.{Entries, Obj, text, list, tuple, dict, Store, at, walks, makes_text, makes_list, makes_tuple, puts, is_sized}
+use Rattle.meaning.specs.Hashing.{key}
+use Rattle.meaning.specs.Comparing.{found}
+
+-- hashing begins outside of all containers
+abbrev pub hash : Val → Does Store (List Part)
+hash x = walks λ heap. key 64 heap x
+
+-- the place that an index names among so many: negative from the end
+abbrev pub place : ℤ → ℕ → Option ℕ
+place (pos i) n = if nat_lt i n then Some i else None
+place (negsuc i) n = if nat_lt i n then Some (n - suc i) else None
+
+abbrev pub at_place : {A : Type 0} → List A → Option ℕ → Option A
+at_place xs None = None
+at_place xs (Some i) = slice_get xs i
+
+-- what is at an index
+abbrev pub member : {A : Type 0} → List A → ℤ → Option A
+member xs i = at_place xs (place i (length xs))
+
+abbrev pub letter : Option ℕ → Does Store Val
+letter None = fault 8
+letter (Some byte) = makes_text (byte ∷ [])
+
+abbrev pub value_of : Option Entry → Option Val
+value_of = option_map (λ e. e.value)
+
+abbrev pub index_object : Option Obj → Val → Does Store Val
+index_object (Some (text bytes)) (v.Int i) = letter (member bytes i)
+index_object (Some (list members f)) (v.Int i) = or_fault 8 (member members i)
+index_object (Some (tuple members)) (v.Int i) = or_fault 8 (member members i)
+index_object (Some (dict entries f)) x = hash x >>= λ k. or_fault 8 (value_of (found k entries))
+index_object object i = fault 5
+
+-- strings, lists and tuples by an int, dictionaries by a key; what is absent is fault 8
+abbrev pub index : Val → Val → Does Store Val
+index (v.At a) i = λ s. index_object (at a s) i s
+index a i = fault 5
+
+-- where a bound cuts so many: from the end when negative, and within the range
+abbrev pub bound : ℤ → ℕ → ℕ
+bound (pos i) n = min i n
+bound (negsuc i) n = n - suc i
+
+-- a bound is an int, or None for the one that is not given
+abbrev pub bound_or : ℕ → Val → ℕ → Option ℕ
+bound_or other v.Nothing n = Some other
+bound_or other (v.Int i) n = Some (bound i n)
+bound_or other x n = None
+
+abbrev pub between : {A : Type 0} → List A → ℕ → ℕ → List A
+between xs from to = drop from (take to xs)
+
+abbrev pub cut_at : {A : Type 0} → List A → Option ℕ → Option ℕ → Option (List A)
+cut_at xs (Some from) (Some to) = Some (between xs from to)
+cut_at xs from to = None
+
+-- the part between two bounds
+abbrev pub cut : {A : Type 0} → List A → Val → Val → Option (List A)
+cut xs from to = cut_at xs (bound_or 0 from (length xs)) (bound_or (length xs) to (length xs))
+
+abbrev pub slice_object : Option Obj → Val → Val → Does Store Val
+slice_object (Some (text bytes)) i j = or_fault 5 (cut bytes i j) >>= makes_text
+slice_object (Some (list members f)) i j = or_fault 5 (cut members i j) >>= makes_list
+slice_object (Some (tuple members)) i j = or_fault 5 (cut members i j) >>= makes_tuple
+slice_object object i j = fault 5
+
+-- a new string, list or tuple
+abbrev pub slice : Val → Val → Val → Does Store Val
+slice (v.At a) i j = λ s. slice_object (at a s) i j s
+slice a i j = fault 5
+
+abbrev pub is_iterated : ℕ → Store → Bool
+is_iterated a s = list_any (λ b. a == b) s.iterated
+
+-- what is frozen is not changed (6), nor what is iterated (7)
+abbrev pub may_change : ℕ → Bool → Does Store (Unit {0})
+may_change a frozen s = if frozen then faults 6 else (if is_iterated a s then faults 7 else gives tt s)
+
+abbrev pub set_place : ℕ → List Val → Val → Option ℕ → Does Store (Unit {0})
+set_place a members x None = fault 8
+set_place a members x (Some i) = puts a (list (slice_set members i x) false)
+
+-- a key set again keeps its place
+abbrev pub with_key : List Part → Entry → Entries → Entries
+with_key k e [] = (k, e) ∷ []
+with_key k e (x ∷ xs) = if same_key k x.0 then (x.0, e) ∷ xs else x ∷ with_key k e xs
+
+abbrev pub puts_sized : ℕ → Entries → Does Store (Unit {0})
+puts_sized a entries = if is_sized (length entries) then puts a (dict entries false) else fault 13
+
+abbrev pub set_object : ℕ → Option Obj → Val → Val → Does Store (Unit {0})
+set_object a (Some (list members f)) (v.Int i) x = may_change a f >> set_place a members x (place i (length members))
+set_object a (Some (dict entries f)) i x = hash i >>= λ k. may_change a f >> puts_sized a (with_key k (record { key = i; value = x }) entries)
+set_object a object i x = fault 5
+
+-- a[i] = x, tested in order: type (5), frozen (6), iterated (7), index (8), size (13)
+abbrev pub set_index : Val → Val → Val → Does Store (Unit {0})
+set_index (v.At a) i x = λ s. set_object a (at a s) i x s
+set_index a i x = fault 5
+
+abbrev pub items_of : Option Obj → Option (List Val)
+items_of (Some (list members f)) = Some members
+items_of (Some (tuple members)) = Some members
+items_of (Some (dict entries f)) = Some (map (λ e. e.1.key) entries)
+items_of object = None
+
+-- iteration is over lists, tuples and the keys of dictionaries
+abbrev pub items : Val → Does Store (List Val)
+items (v.At a) = λ s. or_fault 5 (items_of (at a s)) s
+items a = fault 5

@@ -1,0 +1,11 @@
+pub mod Outcome
+pub mod Keys
+pub mod Fed
+pub mod KeyLaws
+pub mod Heap
+pub mod Numbers
+pub mod Operators
+pub mod Builtins
+pub mod Hashing
+pub mod Comparing
+pub mod Indexing

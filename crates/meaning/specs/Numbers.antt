@@ -1,0 +1,30 @@
+-- Whole numbers of 64 bits with a sign.
+use Rattle.std.specs.Prelude.{ℕ, ℤ, pos, negsuc, suc, ◌/◌, ◌&&◌, ◌-ℤ◌, ◌*ℤ◌, neg_ℤ, int_le, Bool, if◌then◌else◌}
+use Rattle.std.specs.Ordering.{int_eq}
+use Rattle.meaning.specs.declared.val.Val.{Val}
+use Rattle.meaning.specs.declared.val.Val.TheVariants as v
+use Rattle.meaning.specs.Outcome.{Does, pure, fault}
+
+abbrev pub fits : ℤ → Bool
+fits z = int_le (negsuc 9223372036854775807) z && int_le z (pos 9223372036854775807)
+
+-- a result outside of 64 bits is fault 9
+abbrev pub whole : {S : Type 0} → ℤ → Does S Val
+whole z = if fits z then pure (v.Int z) else fault 9
+
+-- the greatest whole number that is not above x / n, for n over 0
+abbrev pub floor_over : ℤ → ℕ → ℤ
+floor_over (pos x) n = pos (x / n)
+floor_over (negsuc x) n = negsuc (x / n)
+
+-- `//` rounds towards negative infinity
+abbrev pub floor_div : ℤ → ℤ → ℤ
+floor_div x (pos n) = floor_over x n
+floor_div x (negsuc n) = floor_over (neg_ℤ x) (suc n)
+
+-- `%` is what `//` leaves, and has the divisor's sign
+abbrev pub floor_rem : ℤ → ℤ → ℤ
+floor_rem x y = x -ℤ (y *ℤ floor_div x y)
+
+abbrev pub unless_zero : {S : Type 0} → ℤ → ℤ → Does S Val
+unless_zero y z = if int_eq y (pos 0) then fault 10 else whole z
