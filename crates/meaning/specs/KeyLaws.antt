@@ -1,13 +1,13 @@
 -- Equal parts are one part, and equal keys are one key.
-use Rattle.std.proofs.Common.{◌≡◌, List, Bool, true, false, refl, ap}
+use Rattle.std.proofs.Common.{◌==◌, ◌≡◌, List, Bool, true, false, refl, ap}
 use Rattle.std.specs.Bool.{Decides, beq}
 use Rattle.std.specs.Cmp.{IsEquivalence, decided, signed_Decides, unsigned_Decides}
 use Rattle.std.specs.Hash as fed
-use lib.Pointwise.{pointwise_decides, bytes_decides}
+use lib.Pointwise.{pointwise, pointwise_decides, bytes_decides}
 use Rattle.meaning.specs.declared.key.Part.{Part}
 use Rattle.meaning.specs.declared.key.Part.TheVariants as p
 use Rattle.meaning.specs.Keys.{same_part, same_key}
-use Rattle.meaning.specs.Fed.{part_fed}
+use Rattle.meaning.specs.Fed.{text_fed, part_fed}
 
 beq_Decides : (a b : Bool) → Decides (beq a b) (a ≡ b)
 beq_Decides true true = (λ h. refl, λ h. refl)
@@ -37,3 +37,6 @@ parts_alike = fed.same_Alike part_fed parts_decide
 
 pub keys_alike : fed.Alike same_key (fed.slice part_fed)
 keys_alike = fed.items_Alike parts_alike
+
+pub texts_alike : fed.Alike (pointwise ◌==◌) text_fed
+texts_alike = fed.same_Alike text_fed bytes_decides

@@ -1,4 +1,5 @@
 pub mod Outcome
+pub mod Texts
 pub mod Keys
 pub mod Fed
 pub mod KeyLaws

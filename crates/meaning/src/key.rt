@@ -8,7 +8,7 @@ ghost use Rattle.meaning.specs.KeyLaws.{parts_equiv, parts_alike, keys_equiv, ke
 
 use std::hash::{Hash, Hasher};
 use std::marker::Model;
-use texts::Text;
+use crate::bytes::Bytes;
 
 /// A part of a key.
 #[derive(Drop)]
@@ -17,7 +17,7 @@ pub enum Part {
     Nothing,
     Bool(bool),
     Int(i64),
-    Text(Text),
+    Text(Bytes),
     /// A tuple of so many members, whose parts follow.
     Tuple(usize),
 }

@@ -4,8 +4,10 @@
 //! language specification, and where this repository's profile takes less or decides more, the definition says so.
 #![tactic(auto)]
 
+mod bytes;
 mod key;
 mod val;
 
+pub use bytes::Bytes;
 pub use key::{Key, Part};
 pub use val::{Builtin, Entry, Val};

@@ -1,0 +1,11 @@
+//! Values on a heap: what each operator and walk does with them, step by step as the language means it.
+#![tactic(auto)]
+
+mod halt;
+mod heap;
+mod lists;
+mod operators;
+
+pub use halt::Halt;
+pub use heap::{Heap, Object};
+pub use meaning::{Builtin, Bytes, Entry, Key, Part, Val};
