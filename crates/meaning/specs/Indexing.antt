@@ -59,7 +59,7 @@ bound_or other (v.Int i) n = Some (bound i n)
 bound_or other x n = None
 
 abbrev pub between : {A : Type 0} → List A → ℕ → ℕ → List A
-between xs from to = drop from (take to xs)
+between xs from to = take (to - from) (drop from xs)
 
 abbrev pub cut_at : {A : Type 0} → List A → Option ℕ → Option ℕ → Option (List A)
 cut_at xs (Some from) (Some to) = Some (between xs from to)

@@ -1,5 +1,5 @@
 -- Whole numbers of 64 bits with a sign.
-use Rattle.std.specs.Prelude.{ℕ, ℤ, pos, negsuc, suc, ◌/◌, ◌&&◌, ◌-ℤ◌, ◌*ℤ◌, neg_ℤ, int_le, Bool, if◌then◌else◌}
+use Rattle.std.specs.Prelude.{ℕ, ℤ, pos, negsuc, suc, ◌-◌, ◌/◌, ◌%◌, ◌&&◌, neg_ℤ, int_le, Bool, if◌then◌else◌}
 use Rattle.std.specs.Ordering.{int_eq}
 use Rattle.meaning.specs.declared.val.Val.{Val}
 use Rattle.meaning.specs.declared.val.Val.TheVariants as v
@@ -22,9 +22,15 @@ abbrev pub floor_div : ℤ → ℤ → ℤ
 floor_div x (pos n) = floor_over x n
 floor_div x (negsuc n) = floor_over (neg_ℤ x) (suc n)
 
--- `%` is what `//` leaves, and has the divisor's sign
+-- what is left of x over n, from 0 to below n
+abbrev pub left_over : ℤ → ℕ → ℕ
+left_over (pos x) n = x % n
+left_over (negsuc x) n = n - suc (x % n)
+
+-- `%` has the divisor's sign: x is y * (x // y) + x % y
 abbrev pub floor_rem : ℤ → ℤ → ℤ
-floor_rem x y = x -ℤ (y *ℤ floor_div x y)
+floor_rem x (pos n) = pos (left_over x n)
+floor_rem x (negsuc n) = neg_ℤ (pos (left_over (neg_ℤ x) (suc n)))
 
 abbrev pub unless_zero : {S : Type 0} → ℤ → ℤ → Does S Val
 unless_zero y z = if int_eq y (pos 0) then fault 10 else whole z

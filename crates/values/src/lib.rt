@@ -4,6 +4,7 @@
 mod halt;
 mod heap;
 mod lists;
+mod numbers;
 mod operators;
 
 pub use halt::Halt;
