@@ -30,9 +30,12 @@ abbrev pub along : (Val → Does ℕ (List Part)) → List Val → Does ℕ (Lis
 along key [] = pure []
 along key (x ∷ xs) = key x >>= λ ps. along key xs >>= λ qs. pure (ps ++ qs)
 
+abbrev pub part_key : Part → Does ℕ (List Part)
+part_key p = tick >> pure (p ∷ [])
+
 -- one visit, where the members of a tuple may be entered only with a walk for them
 abbrev pub visit_key : Option (Val → Does ℕ (List Part)) → AsKey → Does ℕ (List Part)
-visit_key inner (part p) = tick >> pure (p ∷ [])
+visit_key inner (part p) = part_key p
 visit_key inner no_key = tick >> fault 5
 visit_key None (parts members) = fault 12
 visit_key (Some key) (parts members) = tick >> (along key members >>= λ ps. pure (p.Tuple (length members) ∷ ps))
@@ -42,3 +45,8 @@ visit_key (Some key) (parts members) = tick >> (along key members >>= λ ps. pur
 unfoldable pub key : ℕ → List Obj → Val → Does ℕ (List Part)
 key zero heap x = visit_key None (as_key heap x)
 key (suc n) heap x = visit_key (Some (key n heap)) (as_key heap x)
+
+-- the walk for the members of a tuple, if one more container may be entered
+unfoldable pub inner_key : ℕ → List Obj → Option (Val → Does ℕ (List Part))
+inner_key zero heap = None
+inner_key (suc n) heap = Some (key n heap)

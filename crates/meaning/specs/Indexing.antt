@@ -6,7 +6,7 @@ use Rattle.meaning.specs.declared.val.Val.{Val}
 use Rattle.meaning.specs.declared.val.Val.TheVariants as v
 use Rattle.meaning.specs.declared.val.Entry.{Entry}
 use Rattle.meaning.specs.Keys.{same_key}
-use Rattle.meaning.specs.Outcome.{gives, faults, Does, ◌>>=◌, ◌>>◌, fault, or_fault}
+use Rattle.meaning.specs.Outcome.{Out, gives, faults, Does, and_then, ◌>>=◌, ◌>>◌, pure, fault, or_fault, Checked, good, bad, then_checked, or_bad, checked}
 use Rattle.meaning.specs.Heap.{Entries, Obj, text, list, tuple, dict, Store, at, walks, makes_text, makes_list, makes_tuple, puts, is_sized}
 use Rattle.meaning.specs.Hashing.{key}
 use Rattle.meaning.specs.Comparing.{found}
@@ -28,18 +28,30 @@ at_place xs (Some i) = slice_get xs i
 abbrev pub member : {A : Type 0} → List A → ℤ → Option A
 member xs i = at_place xs (place i (length xs))
 
-abbrev pub letter : Option ℕ → Does Store Val
-letter None = fault 8
-letter (Some byte) = makes_text (byte ∷ [])
+-- an int, and not a bool
+abbrev pub int_of : Val → Checked ℤ
+int_of (v.Int n) = good n
+int_of x = bad 5
+
+-- what is at an index of a list, or fault 8
+abbrev pub found_at : {A : Type 0} → List A → Val → Checked A
+found_at xs i = then_checked (int_of i) (λ n. or_bad 8 (member xs n))
 
 abbrev pub value_of : Option Entry → Option Val
 value_of = option_map (λ e. e.value)
 
+abbrev pub at_key : Option Obj → List Part → Does Store Val
+at_key (Some (dict entries f)) k = or_fault 8 (value_of (found k entries))
+at_key object k = fault 5
+
+unfoldable pub found_key : Option Obj → Val → Does Store Val
+found_key object i = hash i >>= at_key object
+
 abbrev pub index_object : Option Obj → Val → Does Store Val
-index_object (Some (text bytes)) (v.Int i) = letter (member bytes i)
-index_object (Some (list members f)) (v.Int i) = or_fault 8 (member members i)
-index_object (Some (tuple members)) (v.Int i) = or_fault 8 (member members i)
-index_object (Some (dict entries f)) x = hash x >>= λ k. or_fault 8 (value_of (found k entries))
+index_object (Some (text bytes)) i = checked (found_at bytes i) >>= λ byte. makes_text (byte ∷ [])
+index_object (Some (list members f)) i = checked (found_at members i)
+index_object (Some (tuple members)) i = checked (found_at members i)
+index_object (Some (dict entries f)) i = found_key (Some (dict entries f)) i
 index_object object i = fault 5
 
 -- strings, lists and tuples by an int, dictionaries by a key; what is absent is fault 8
@@ -91,6 +103,10 @@ abbrev pub set_place : ℕ → List Val → Val → Option ℕ → Does Store (U
 set_place a members x None = fault 8
 set_place a members x (Some i) = puts a (list (slice_set members i x) false)
 
+abbrev pub set_member : ℕ → Option Obj → ℤ → Val → Does Store (Unit {0})
+set_member a (Some (list members f)) i x = set_place a members x (place i (length members))
+set_member a object i x = fault 5
+
 -- a key set again keeps its place
 abbrev pub with_key : List Part → Entry → Entries → Entries
 with_key k e [] = (k, e) ∷ []
@@ -99,9 +115,13 @@ with_key k e (x ∷ xs) = if same_key k x.0 then (x.0, e) ∷ xs else x ∷ with
 abbrev pub puts_sized : ℕ → Entries → Does Store (Unit {0})
 puts_sized a entries = if is_sized (length entries) then puts a (dict entries false) else fault 13
 
+abbrev pub set_key : ℕ → Option Obj → List Part → Entry → Does Store (Unit {0})
+set_key a (Some (dict entries f)) k e = puts_sized a (with_key k e entries)
+set_key a object k e = fault 5
+
 abbrev pub set_object : ℕ → Option Obj → Val → Val → Does Store (Unit {0})
-set_object a (Some (list members f)) (v.Int i) x = may_change a f >> set_place a members x (place i (length members))
-set_object a (Some (dict entries f)) i x = hash i >>= λ k. may_change a f >> puts_sized a (with_key k (record { key = i; value = x }) entries)
+set_object a (Some (list members f)) i x = checked (int_of i) >>= λ n. may_change a f >> set_member a (Some (list members f)) n x
+set_object a (Some (dict entries f)) i x = hash i >>= λ k. may_change a f >> set_key a (Some (dict entries f)) k (record { key = i; value = x })
 set_object a object i x = fault 5
 
 -- a[i] = x, tested in order: type (5), frozen (6), iterated (7), index (8), size (13)

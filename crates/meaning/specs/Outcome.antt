@@ -40,3 +40,20 @@ tick steps = if steps == 0 then faults 11 else gives tt (steps - 1)
 -- so many steps
 abbrev pub spend : ℕ → Does ℕ (Unit {0})
 spend n steps = if nat_lt steps n then faults 11 else gives tt (steps - n)
+
+-- a result that needs no state: a value, or the code of a fault
+pub data Checked (A : Type 0) : Type 0 where
+  good : A → Checked A
+  bad : ℕ → Checked A
+
+abbrev pub then_checked : {A B : Type 0} → Checked A → (A → Checked B) → Checked B
+then_checked (good a) k = k a
+then_checked (bad c) k = bad c
+
+abbrev pub or_bad : {A : Type 0} → ℕ → Option A → Checked A
+or_bad code None = bad code
+or_bad code (Some a) = good a
+
+abbrev pub checked : {S A : Type 0} → Checked A → Does S A
+checked (good a) = pure a
+checked (bad c) = fault c

@@ -1,2 +1,4 @@
 pub mod Times
 pub mod Quotients
+pub mod Hashed
+pub mod Keyed

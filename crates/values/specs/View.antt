@@ -1,7 +1,12 @@
 -- What the heap in memory is to the definitions, and what a call that takes a step of them ensures.
-use Rattle.std.specs.Prelude.{◌≡◌, map, Result, Ok, Err}
-use Rattle.meaning.specs.Outcome.{Out, gives, faults}
+use Rattle.std.specs.Prelude.{◌≡◌, List, map, Result, Ok, Err}
+use Rattle.std.specs.declared.vec.Vec.{Vec}
+use Rattle.std.specs.declared.alloc.Global.{Global}
+use Rattle.meaning.specs.Outcome.{Out, gives, faults, Checked, good, bad}
 use Rattle.meaning.specs.Heap.{Obj, text, list, tuple, dict, function, Store}
+use Rattle.meaning.specs.Hashing as h
+use Rattle.values.specs.declared.hashing.AsKey.{AsKey}
+use Rattle.values.specs.declared.hashing.AsKey.TheVariants as k
 use Rattle.values.specs.declared.heap.Object.{Object}
 use Rattle.values.specs.declared.heap.Object.TheVariants as o
 use Rattle.values.specs.declared.heap.Heap.{Heap}
@@ -24,3 +29,20 @@ abbrev pub Says : {S A : Type 0} → Out S A → Result A Halt → S → Type 0
 Says out (Ok a) s = out ≡ gives a s
 Says out (Err (Code c)) s = out ≡ faults c
 Says out (Err Memory) s = Unit {0}
+
+-- the same, of a list
+abbrev pub SaysItems : {S A : Type 0} → Out S (List A) → Result (Vec A Global) Halt → S → Type 0
+SaysItems out (Ok v) s = out ≡ gives v.items s
+SaysItems out (Err (Code c)) s = out ≡ faults c
+SaysItems out (Err Memory) s = Unit {0}
+
+-- the same, where there is no state
+abbrev pub Checks : {A : Type 0} → Checked A → Result A Halt → Type 0
+Checks out (Ok a) = out ≡ good a
+Checks out (Err (Code c)) = out ≡ bad c
+Checks out (Err Memory) = Unit {0}
+
+abbrev pub key_seen : AsKey → h.AsKey
+key_seen (k.Part p) = h.part p
+key_seen (k.Parts members) = h.parts members.now
+key_seen k.NoKey = h.no_key

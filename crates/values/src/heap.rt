@@ -1,6 +1,6 @@
 //! The heap.
-ghost use Rattle.std.specs.Prelude.{◌≡◌, [], length, OnOk, IfOk};
-ghost use Rattle.meaning.specs.Heap.{Obj, makes, makes_sized, makes_text, makes_list, makes_tuple, is_sized};
+ghost use Rattle.std.specs.Prelude.{◌≡◌, [], option_map};
+ghost use Rattle.meaning.specs.Heap.{at, makes, makes_text, makes_list, makes_tuple};
 ghost use Rattle.values.specs.View.{object_of, store_of, Says};
 
 use crate::halt::Halt;
@@ -43,6 +43,13 @@ impl Heap {
             iterated: Vec::new(alloc),
             steps,
         }
+    }
+
+    /// The object at a place.
+    pub fn object(&self, place: usize) -> Option<&Object>
+        ensures { at place (store_of self.now) ≡ option_map (λ o. object_of o.now) result }
+    {
+        self.objects.get(place)
     }
 
     /// A new object.

@@ -3,9 +3,12 @@
 
 mod halt;
 mod heap;
+mod hashing;
+mod index;
 mod lists;
 mod numbers;
 mod operators;
+mod steps;
 
 pub use halt::Halt;
 pub use heap::{Heap, Object};
