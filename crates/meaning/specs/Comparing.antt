@@ -57,10 +57,14 @@ abbrev pub equal_found : (Val → Val → Does ℕ Bool) → Val → Option Entr
 equal_found equal x None = pure false
 equal_found equal x (Some e) = equal x e.value
 
--- each key of the left in its order is hashed and looked up in the right; the order of the right does not count
+-- the key is hashed and looked up in the right
+abbrev pub equal_entry : (Val → Val → Does ℕ Bool) → List Part → Val → Entries → Does ℕ Bool
+equal_entry equal k x ys = spend (length k) >> equal_found equal x (found k ys)
+
+-- each key of the left in its order; the order of the right does not count
 abbrev pub equal_entries : (Val → Val → Does ℕ Bool) → Entries → Entries → Does ℕ Bool
 equal_entries equal [] ys = pure true
-equal_entries equal (x ∷ xs) ys = spend (length x.0) >> (equal_found equal x.1.value (found x.0 ys) >>= λ same. if same then equal_entries equal xs ys else pure false)
+equal_entries equal (x ∷ xs) ys = equal_entry equal x.0 x.1.value ys >>= λ same. if same then equal_entries equal xs ys else pure false
 
 -- one visit of a pair, where containers may be entered only with a walk for their members
 abbrev pub visit_pair : Option (Val → Val → Does ℕ Bool) → Pair → Does ℕ Bool
@@ -73,6 +77,11 @@ visit_pair (Some equal) (entries xs ys) = tick >> equal_entries equal xs ys
 unfoldable pub equal : ℕ → List Obj → Val → Val → Does ℕ Bool
 equal zero heap a b = visit_pair None (pair heap a b)
 equal (suc n) heap a b = visit_pair (Some (equal n heap)) (pair heap a b)
+
+-- the walk for the members of two containers, if one more may be entered
+unfoldable pub inner_equal : ℕ → List Obj → Option (Val → Val → Does ℕ Bool)
+inner_equal zero heap = None
+inner_equal (suc n) heap = Some (equal n heap)
 
 -- what is left to order of two values
 pub data Sides : Type 0 where

@@ -93,18 +93,18 @@ slice (v.At a) i j = λ s. slice_object (at a s) i j s
 slice a i j = fault 5
 
 abbrev pub is_iterated : ℕ → Store → Bool
-is_iterated a s = list_any (λ b. a == b) s.iterated
+is_iterated a s = list_any (λ b. b == a) s.iterated
 
 -- what is frozen is not changed (6), nor what is iterated (7)
 abbrev pub may_change : ℕ → Bool → Does Store (Unit {0})
 may_change a frozen s = if frozen then faults 6 else (if is_iterated a s then faults 7 else gives tt s)
 
-abbrev pub set_place : ℕ → List Val → Val → Option ℕ → Does Store (Unit {0})
-set_place a members x None = fault 8
-set_place a members x (Some i) = puts a (list (slice_set members i x) false)
+abbrev pub set_place : ℕ → List Val → Bool → Val → Option ℕ → Does Store (Unit {0})
+set_place a members f x None = fault 8
+set_place a members f x (Some i) = puts a (list (slice_set members i x) f)
 
 abbrev pub set_member : ℕ → Option Obj → ℤ → Val → Does Store (Unit {0})
-set_member a (Some (list members f)) i x = set_place a members x (place i (length members))
+set_member a (Some (list members f)) i x = set_place a members f x (place i (length members))
 set_member a object i x = fault 5
 
 -- a key set again keeps its place
@@ -112,11 +112,11 @@ abbrev pub with_key : List Part → Entry → Entries → Entries
 with_key k e [] = (k, e) ∷ []
 with_key k e (x ∷ xs) = if same_key k x.0 then (x.0, e) ∷ xs else x ∷ with_key k e xs
 
-abbrev pub puts_sized : ℕ → Entries → Does Store (Unit {0})
-puts_sized a entries = if is_sized (length entries) then puts a (dict entries false) else fault 13
+abbrev pub puts_sized : ℕ → Entries → Bool → Does Store (Unit {0})
+puts_sized a entries f = if is_sized (length entries) then puts a (dict entries f) else fault 13
 
 abbrev pub set_key : ℕ → Option Obj → List Part → Entry → Does Store (Unit {0})
-set_key a (Some (dict entries f)) k e = puts_sized a (with_key k e entries)
+set_key a (Some (dict entries f)) k e = puts_sized a (with_key k e entries) f
 set_key a object k e = fault 5
 
 abbrev pub set_object : ℕ → Option Obj → Val → Val → Does Store (Unit {0})
@@ -129,13 +129,17 @@ abbrev pub set_index : Val → Val → Val → Does Store (Unit {0})
 set_index (v.At a) i x = λ s. set_object a (at a s) i x s
 set_index a i x = fault 5
 
-abbrev pub items_of : Option Obj → Option (List Val)
-items_of (Some (list members f)) = Some members
-items_of (Some (tuple members)) = Some members
-items_of (Some (dict entries f)) = Some (map (λ e. e.1.key) entries)
-items_of object = None
+-- the keys, in order
+abbrev pub keys_of : Entries → List Val
+keys_of entries = map (λ e. e.key) (map (λ e. e.1) entries)
+
+abbrev pub items_of : Option Obj → Checked (List Val)
+items_of (Some (list members f)) = good members
+items_of (Some (tuple members)) = good members
+items_of (Some (dict entries f)) = good (keys_of entries)
+items_of object = bad 5
 
 -- iteration is over lists, tuples and the keys of dictionaries
-abbrev pub items : Val → Does Store (List Val)
-items (v.At a) = λ s. or_fault 5 (items_of (at a s)) s
-items a = fault 5
+abbrev pub items : Val → Store → Checked (List Val)
+items (v.At a) s = items_of (at a s)
+items a s = bad 5

@@ -10,3 +10,5 @@ pub mod Builtins
 pub mod Hashing
 pub mod Comparing
 pub mod Indexing
+pub mod Printing
+pub mod Freezing

@@ -3,12 +3,15 @@ use Rattle.std.specs.Prelude.{ℕ, ℤ, pos, negsuc, suc, ◌-◌, ◌/◌, ◌%
 use Rattle.std.specs.Ordering.{int_eq}
 use Rattle.meaning.specs.declared.val.Val.{Val}
 use Rattle.meaning.specs.declared.val.Val.TheVariants as v
-use Rattle.meaning.specs.Outcome.{Does, pure, fault}
+use Rattle.meaning.specs.Outcome.{Does, pure, fault, Checked, good, bad}
 
 abbrev pub fits : ℤ → Bool
 fits z = int_le (negsuc 9223372036854775807) z && int_le z (pos 9223372036854775807)
 
 -- a result outside of 64 bits is fault 9
+abbrev pub fitting : ℤ → Checked Val
+fitting z = if fits z then good (v.Int z) else bad 9
+
 abbrev pub whole : {S : Type 0} → ℤ → Does S Val
 whole z = if fits z then pure (v.Int z) else fault 9
 
@@ -32,5 +35,6 @@ abbrev pub floor_rem : ℤ → ℤ → ℤ
 floor_rem x (pos n) = pos (left_over x n)
 floor_rem x (negsuc n) = neg_ℤ (pos (left_over (neg_ℤ x) (suc n)))
 
-abbrev pub unless_zero : {S : Type 0} → ℤ → ℤ → Does S Val
-unless_zero y z = if int_eq y (pos 0) then fault 10 else whole z
+-- by 0 it is fault 10
+abbrev pub unless_zero : ℤ → ℤ → Checked Val
+unless_zero y z = if int_eq y (pos 0) then bad 10 else fitting z

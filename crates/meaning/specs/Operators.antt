@@ -3,7 +3,7 @@ use Rattle.std.specs.Prelude.{ℕ, zero, suc, ℤ, pos, negsuc, ◌+ℤ◌, ◌-
 use Rattle.std.specs.Ordering.{int_eq}
 use Rattle.meaning.specs.declared.val.Val.{Val}
 use Rattle.meaning.specs.declared.val.Val.TheVariants as v
-use Rattle.meaning.specs.Outcome.{Does, pure, fault}
+use Rattle.meaning.specs.Outcome.{Does, pure, fault, checked}
 use Rattle.meaning.specs.Heap.{Obj, text, list, tuple, dict, function, Store, at, makes_text, makes_list, makes_tuple}
 use Rattle.meaning.specs.Numbers.{whole, floor_div, floor_rem, unless_zero}
 
@@ -47,11 +47,11 @@ multiply (v.Int n) (v.At a) = λ s. repeats (at a s) n s
 multiply a b = fault 5
 
 abbrev pub divide : Val → Val → Does Store Val
-divide (v.Int x) (v.Int y) = unless_zero y (floor_div x y)
+divide (v.Int x) (v.Int y) = checked (unless_zero y (floor_div x y))
 divide a b = fault 5
 
 abbrev pub remainder : Val → Val → Does Store Val
-remainder (v.Int x) (v.Int y) = unless_zero y (floor_rem x y)
+remainder (v.Int x) (v.Int y) = checked (unless_zero y (floor_rem x y))
 remainder a b = fault 5
 
 -- `-x` and `+x` are of ints alone

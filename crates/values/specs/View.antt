@@ -7,6 +7,9 @@ use Rattle.meaning.specs.Heap.{Obj, text, list, tuple, dict, function, Store}
 use Rattle.meaning.specs.Hashing as h
 use Rattle.values.specs.declared.hashing.AsKey.{AsKey}
 use Rattle.values.specs.declared.hashing.AsKey.TheVariants as k
+use Rattle.meaning.specs.Comparing as e
+use Rattle.values.specs.declared.equal.Pair.{Pair}
+use Rattle.values.specs.declared.equal.Pair.TheVariants as p
 use Rattle.values.specs.declared.heap.Object.{Object}
 use Rattle.values.specs.declared.heap.Object.TheVariants as o
 use Rattle.values.specs.declared.heap.Heap.{Heap}
@@ -42,7 +45,17 @@ Checks out (Ok a) = out ≡ good a
 Checks out (Err (Code c)) = out ≡ bad c
 Checks out (Err Memory) = Unit {0}
 
+abbrev pub ChecksItems : {A : Type 0} → Checked (List A) → Result (Vec A Global) Halt → Type 0
+ChecksItems out (Ok v) = out ≡ good v.items
+ChecksItems out (Err (Code c)) = out ≡ bad c
+ChecksItems out (Err Memory) = Unit {0}
+
 abbrev pub key_seen : AsKey → h.AsKey
 key_seen (k.Part p) = h.part p
 key_seen (k.Parts members) = h.parts members.now
 key_seen k.NoKey = h.no_key
+
+abbrev pub pair_seen : Pair → e.Pair
+pair_seen (p.Settled same) = e.settled same
+pair_seen (p.Members xs ys) = e.members xs.now ys.now
+pair_seen (p.Entries xs ys) = e.entries xs.now.entries ys.now.entries

@@ -1,5 +1,5 @@
 //! The heap.
-ghost use Rattle.std.specs.Prelude.{◌≡◌, [], option_map};
+ghost use Rattle.std.specs.Prelude.{◌≡◌, [], map, option_map, slice_get};
 ghost use Rattle.meaning.specs.Heap.{at, makes, makes_text, makes_list, makes_tuple};
 ghost use Rattle.values.specs.View.{object_of, store_of, Says};
 
@@ -94,4 +94,11 @@ impl Heap {
         let made = self.make(Object::Tuple(members))?;
         Ok(made)
     }
+}
+
+/// The object at a place.
+pub fn object_at(objects: &[Object], place: usize) -> Option<&Object>
+    ensures { slice_get (map object_of objects.now) place ≡ option_map (λ o. object_of o.now) result }
+{
+    objects.get(place)
 }

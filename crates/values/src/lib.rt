@@ -1,6 +1,7 @@
 //! Values on a heap: what each operator and walk does with them, step by step as the language means it.
 #![tactic(auto)]
 
+mod equal;
 mod halt;
 mod heap;
 mod hashing;

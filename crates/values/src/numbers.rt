@@ -1,9 +1,8 @@
 //! Whole numbers, with room for the negation of the least of 64 bits.
 ghost use Rattle.std.specs.Prelude.{◌≡◌, ◌<◌, ◌^◌, neg_ℤ, pos};
-ghost use Rattle.meaning.specs.Numbers.{floor_over, floor_div, left_over, floor_rem, unless_zero, whole};
+ghost use Rattle.meaning.specs.Numbers.{floor_over, floor_div, left_over, floor_rem, unless_zero, fitting};
 ghost use Rattle.values.specs.Wide.{wide_value, IsNarrow, IsNonzero};
-ghost use Rattle.values.specs.View.{Says};
-ghost use Rattle.meaning.specs.Heap.{Store};
+ghost use Rattle.values.specs.View.{Checks};
 
 use crate::halt::Halt;
 use meaning::Val;
@@ -40,7 +39,7 @@ fn widen_negated(x: i64) -> Wide
 
 // The number in 64 bits, or fault 9.
 fn narrow(x: Wide) -> Result<Val, Halt>
-    ensures { (s : Store) → Says (whole (wide_value x) s) result s }
+    ensures { Checks (fitting (wide_value x)) result }
 {
     match x {
         Wide::Up(n) => {
@@ -84,7 +83,7 @@ fn left_over(x: Wide, n: u64) -> u64
 /// `x // y`: the quotient, rounded towards negative infinity, or fault 10, or 9.
 #[tactic(auto, using(crate::proofs::Quotients::divided))]
 pub fn divide(x: i64, y: i64) -> Result<Val, Halt>
-    ensures { (s : Store) → Says (unless_zero y (floor_div x y) s) result s }
+    ensures { Checks (unless_zero y (floor_div x y)) result }
 {
     if y == 0 {
         return Err(Halt::Code(10));
@@ -107,7 +106,7 @@ fn quotient(x: i64, y: Wide) -> Wide
 /// `x % y`: what is left, with the sign of y, or fault 10.
 #[tactic(auto, using(crate::proofs::Quotients::divided))]
 pub fn remainder(x: i64, y: i64) -> Result<Val, Halt>
-    ensures { (s : Store) → Says (unless_zero y (floor_rem x y) s) result s }
+    ensures { Checks (unless_zero y (floor_rem x y)) result }
 {
     if y == 0 {
         return Err(Halt::Code(10));

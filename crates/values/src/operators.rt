@@ -1,12 +1,13 @@
 //! Arithmetic, joining and repeating.
 ghost use Rattle.std.specs.Prelude.{◌≡◌};
 ghost use Rattle.meaning.specs.Heap.{at};
-ghost use Rattle.meaning.specs.Operators.{add, subtract, joins, negate, plus, is_true, object_is_true};
+ghost use Rattle.meaning.specs.Operators.{add, subtract, multiply, divide, remainder, joins, repeats, negate, plus, is_true, object_is_true};
 ghost use Rattle.values.specs.View.{store_of, Says};
 
 use crate::halt::Halt;
 use crate::heap::{Heap, Object};
-use crate::lists::joined;
+use crate::lists::{joined, repeated};
+use crate::numbers;
 use meaning::Val;
 
 impl Heap {
@@ -54,6 +55,76 @@ impl Heap {
     {
         match (a, b) {
             (Val::Int(x), Val::Int(y)) => x.checked_sub(y).map(Val::Int).ok_or(Halt::Code(9)),
+            _ => Err(Halt::Code(5)),
+        }
+    }
+
+    /// `a * b`
+    pub fn multiply(&mut self, a: Val, b: Val) -> Result<Val, Halt>
+        ensures { Says (multiply a b (store_of self.old)) result (store_of self.new) }
+    {
+        match (a, b) {
+            (Val::Int(x), Val::Int(y)) => x.checked_mul(y).map(Val::Int).ok_or(Halt::Code(9)),
+            (Val::At(x), Val::Int(n)) => {
+                let made = self.repeat(x, n)?;
+                Ok(made)
+            }
+            (Val::Int(n), Val::At(x)) => {
+                let made = self.repeat(x, n)?;
+                Ok(made)
+            }
+            _ => Err(Halt::Code(5)),
+        }
+    }
+
+    // A string, list or tuple so many times over.
+    fn repeat(&mut self, a: usize, n: i64) -> Result<Val, Halt>
+        ensures { Says (repeats (at a (store_of self.old)) n (store_of self.old)) result (store_of self.new) }
+    {
+        match self.object(a) {
+            Some(Object::Text(x)) => {
+                let bytes = repeated(self.alloc, x.as_slice(), n)?;
+                let made = self.make_text(bytes)?;
+                Ok(made)
+            }
+            Some(Object::List(x, _)) => {
+                let members = repeated(self.alloc, x.as_slice(), n)?;
+                let made = self.make_list(members)?;
+                Ok(made)
+            }
+            Some(Object::Tuple(x)) => {
+                let members = repeated(self.alloc, x.as_slice(), n)?;
+                let made = self.make_tuple(members)?;
+                Ok(made)
+            }
+            Some(Object::Dict(_, _)) => Err(Halt::Code(5)),
+            Some(Object::Function(_, _)) => Err(Halt::Code(5)),
+            None => Err(Halt::Code(5)),
+        }
+    }
+
+    /// `a // b`
+    pub fn divide(&mut self, a: Val, b: Val) -> Result<Val, Halt>
+        ensures { Says (divide a b (store_of self.old)) result (store_of self.new) }
+    {
+        match (a, b) {
+            (Val::Int(x), Val::Int(y)) => {
+                let made = numbers::divide(x, y)?;
+                Ok(made)
+            }
+            _ => Err(Halt::Code(5)),
+        }
+    }
+
+    /// `a % b`
+    pub fn remainder(&mut self, a: Val, b: Val) -> Result<Val, Halt>
+        ensures { Says (remainder a b (store_of self.old)) result (store_of self.new) }
+    {
+        match (a, b) {
+            (Val::Int(x), Val::Int(y)) => {
+                let made = numbers::remainder(x, y)?;
+                Ok(made)
+            }
             _ => Err(Halt::Code(5)),
         }
     }

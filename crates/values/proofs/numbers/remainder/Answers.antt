@@ -10,4 +10,4 @@ returns c =
     let x = to_z-of_z w64 c.args.x c.ranges.x in
     let y = c.widen.ensures.value ∙ to_z-of_z w64 c.args.y c.ranges.y in
     let e : wide_value c.rest.result ≡ floor_rem c.args.x c.args.y = c.rest.ensures ∙ (λ i. floor_rem (x i) (y i)) in
-    λ s. divided c.args.y (floor_rem c.args.x c.args.y) _ s _ (λ z. c.if-y-eq0.false (ap (of_z w64) z)) e (c.narrow.ensures s)
+    divided c.args.y (floor_rem c.args.x c.args.y) _ _ (λ z. c.if-y-eq0.false (ap (of_z w64) z)) e c.narrow.ensures
