@@ -13,7 +13,7 @@ use Rattle.meaning.specs.declared.val.Val.TheVariants as v
 use Rattle.meaning.specs.declared.val.Entry.{Entry}
 use Rattle.meaning.specs.Keys.{same_key}
 use Rattle.meaning.specs.Outcome.{Does, ◌>>=◌, ◌>>◌, pure, fault, tick, spend}
-use Rattle.meaning.specs.Heap.{Entries, Obj, text, list, tuple, dict, function}
+use Rattle.meaning.specs.Heap.{Entries, Obj, text, list, tuple, dict, function, Store, walks}
 use Rattle.meaning.specs.Builtins.{same_builtin}
 
 -- the value at a key, by the first entry that has it
@@ -101,19 +101,40 @@ sides heap (v.Int a) (v.Int b) = ordered (int_cmp a b)
 sides heap (v.At a) (v.At b) = side_objects (slice_get heap a) (slice_get heap b)
 sides heap a b = no_order
 
--- by the first unequal members, then by length
-abbrev pub order_members : (Val → Val → Does ℕ Bool) → (Val → Val → Does ℕ Ordering) → List Val → List Val → Does ℕ Ordering
-order_members equal order [] [] = pure Equal
-order_members equal order [] (y ∷ ys) = pure Less
-order_members equal order (x ∷ xs) [] = pure Greater
-order_members equal order (x ∷ xs) (y ∷ ys) = equal x y >>= λ same. if same then order_members equal order xs ys else order x y
+-- where two lists part: at two members that are unequal, or with no more to compare
+pub data Parting : Type 0 where
+  settled_as : Ordering → Parting
+  unequal : Val → Val → Parting
+
+-- members are compared by `==`, in order; then the lengths decide
+abbrev pub parting : (Val → Val → Does ℕ Bool) → List Val → List Val → Does ℕ Parting
+parting equal [] [] = pure (settled_as Equal)
+parting equal [] (y ∷ ys) = pure (settled_as Less)
+parting equal (x ∷ xs) [] = pure (settled_as Greater)
+parting equal (x ∷ xs) (y ∷ ys) = equal x y >>= λ same. if same then parting equal xs ys else pure (unequal x y)
+
+abbrev pub order_parted : (Val → Val → Does ℕ Ordering) → Parting → Does ℕ Ordering
+order_parted order (settled_as o) = pure o
+order_parted order (unequal x y) = order x y
 
 abbrev pub visit_sides : Option ((Val → Val → Does ℕ Bool) × (Val → Val → Does ℕ Ordering)) → Sides → Does ℕ Ordering
 visit_sides inner (ordered o) = tick >> pure o
 visit_sides inner no_order = tick >> fault 5
 visit_sides None (listed xs ys) = fault 12
-visit_sides (Some walks) (listed xs ys) = tick >> order_members walks.0 walks.1 xs ys
+visit_sides (Some walks) (listed xs ys) = tick >> (parting walks.0 xs ys >>= order_parted walks.1)
 
+-- the order of two values is one walk: that of the first unequal members, then that of the lengths
 unfoldable pub order : ℕ → List Obj → Val → Val → Does ℕ Ordering
 order zero heap a b = visit_sides None (sides heap a b)
 order (suc n) heap a b = visit_sides (Some (equal n heap, order n heap)) (sides heap a b)
+
+unfoldable pub inner_order : ℕ → List Obj → Option ((Val → Val → Does ℕ Bool) × (Val → Val → Does ℕ Ordering))
+inner_order zero heap = None
+inner_order (suc n) heap = Some (equal n heap, order n heap)
+
+-- comparing begins outside of all containers
+abbrev pub equals : Val → Val → Does Store Bool
+equals a b = walks λ heap. equal 64 heap a b
+
+abbrev pub compares : Val → Val → Does Store Ordering
+compares a b = walks λ heap. order 64 heap a b

@@ -12,3 +12,5 @@ pub mod Comparing
 pub mod Indexing
 pub mod Printing
 pub mod Freezing
+pub mod Membership
+pub mod Binary

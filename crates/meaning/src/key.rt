@@ -6,9 +6,9 @@ ghost use Rattle.meaning.specs.Keys.{same_part, same_key};
 ghost use Rattle.meaning.specs.Fed.{part_fed};
 ghost use Rattle.meaning.specs.KeyLaws.{parts_equiv, parts_alike, keys_equiv, keys_alike};
 
+use crate::bytes::Bytes;
 use std::hash::{Hash, Hasher};
 use std::marker::Model;
-use crate::bytes::Bytes;
 
 /// A part of a key.
 #[derive(Drop)]

@@ -10,4 +10,4 @@ mod val;
 
 pub use bytes::Bytes;
 pub use key::{Key, Part};
-pub use val::{Builtin, Entry, Val};
+pub use val::{Builtin, Entry, Operator, Val};

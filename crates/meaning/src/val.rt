@@ -47,3 +47,23 @@ pub struct Entry {
     pub key: Val,
     pub value: Val,
 }
+
+/// An operator between two values that are both evaluated.
+#[derive(Clone, Copy, Debug, PartialEq, Eq)]
+pub enum Operator {
+    Equal,
+    NotEqual,
+    Less,
+    LessEqual,
+    Greater,
+    GreaterEqual,
+    In,
+    NotIn,
+    Add,
+    Subtract,
+    Multiply,
+    /// `//`
+    Divide,
+    /// `%`
+    Remainder,
+}

@@ -7,10 +7,12 @@ use Rattle.meaning.specs.declared.val.Val.{Val}
 use Rattle.meaning.specs.declared.val.Entry.{Entry}
 use Rattle.meaning.specs.Outcome.{Out, gives, faults, Does, and_then, ◌>>=◌, ◌>>◌, pure, tick, spend}
 use Rattle.meaning.specs.Heap.{Obj, Entries}
-use Rattle.meaning.specs.Comparing.{equal, inner_equal, pair, visit_pair, equal_members, equal_entries, equal_entry, members, entries}
+use Rattle.meaning.specs.Comparing.{equal, inner_equal, pair, visit_pair, equal_members, equal_entries, equal_entry, members, entries, order, inner_order, sides, visit_sides, listed, parting, order_parted, Parting, settled_as, unequal}
+use Rattle.std.specs.declared.cmp.Ordering.TheVariants.{Less, Equal, Greater}
 use Rattle.values.specs.declared.halt.Halt.{Halt}
 use Rattle.values.specs.declared.halt.Halt.TheVariants.{Code, Memory}
-use Rattle.values.specs.View.{Says}
+use Rattle.values.specs.Ended.{ended}
+use Rattle.values.specs.View.{Says, SaysParting}
 
 pub equal_is : (n : ℕ) (heap : List Obj) (a b : Val) (s : ℕ) → equal n heap a b s ≡ visit_pair (inner_equal n heap) (pair heap a b) s
 unfolding equal inner_equal
@@ -95,3 +97,54 @@ module _ (eq : Val → Val → Does ℕ Bool) (xs ys : Entries) (i : ℕ) (s : �
 
   pub entries_fault : (halt : Halt) (t : ℕ) → Says (equal_entry eq k e.value ys s) (Err halt) t → Says all (Err halt) t
   entries_fault halt t said = fault_stays (equal_entry eq k e.value ys s) _ all halt t entries_now said
+
+pub order_is : (n : ℕ) (heap : List Obj) (a b : Val) (s : ℕ) → order n heap a b s ≡ visit_sides (inner_order n heap) (sides heap a b) s
+unfolding order inner_order
+order_is zero heap a b s = refl
+order_is (suc n) heap a b s = refl
+
+module _ (heap : List Obj) (s : ℕ) (xs ys : List Val) where
+  pub sides_deep : (n : ℕ) → n ≡ 0 → visit_sides (inner_order n heap) (listed xs ys) s ≡ faults 12
+  unfolding inner_order
+  sides_deep zero h = refl
+  sides_deep (suc n) h = absurd (omega arith)
+
+  pub sides_more : (n : ℕ) → ¬ (n ≡ 0) → visit_sides (inner_order n heap) (listed xs ys) s ≡ (tick >> (parting (equal (n - 1) heap) xs ys >>= order_parted (order (n - 1) heap))) s
+  unfolding inner_order
+  sides_more zero h = absurd (h refl)
+  sides_more (suc n) h = let e : suc n - 1 ≡ n = omega arith in rw e refl
+
+fault_parts : (out : Out ℕ Bool) (k : Bool → Does ℕ Parting) (all : Out ℕ Parting) (e : Halt) (t : ℕ) → and_then out k ≡ all → Says out (Err e) t → SaysParting all (Err e) t
+fault_parts out k all (Code c) t h said = sym h ∙ ap (λ o. and_then o k) said
+fault_parts out k all Memory t h said = tt
+
+past_all : (xs : List Val) → None ≡ slice_get xs (length xs)
+past_all [] = refl
+past_all (x ∷ xs) = past_all xs
+
+module _ (eq : Val → Val → Does ℕ Bool) (xs ys : List Val) (i : ℕ) (s : ℕ) (all : Out ℕ Parting) (inv : parting eq (drop i xs) (drop i ys) s ≡ all) where
+  pub parts_end : None ≡ slice_get xs i → all ≡ gives (settled_as (ended (slice_get ys i))) s
+  parts_end h = sym inv ∙ rw (drop_past xs i (sym h)) (by_other (slice_get ys i) refl)
+    where
+      by_other : (o : Option Val) → slice_get ys i ≡ o → parting eq [] (drop i ys) s ≡ gives (settled_as (ended o)) s
+      by_other None g = rw (drop_past ys i g) refl
+      by_other (Some y) g = rw (drop_there ys i y g) refl
+
+  pub parts_greater : (x : Val) → Some x ≡ slice_get xs i → None ≡ slice_get ys i → all ≡ gives (settled_as Greater) s
+  parts_greater x h g = sym (rw (drop_there xs i x (sym h), drop_past ys i (sym g)) at inv)
+
+pub parts_last : (eq : Val → Val → Does ℕ Bool) (xs ys : List Val) (i : ℕ) (s : ℕ) (all : Out ℕ Parting) → parting eq (drop i xs) (drop i ys) s ≡ all → i ≡ length xs → all ≡ gives (settled_as (ended (slice_get ys (length xs)))) s
+parts_last eq xs ys i s all inv h = rw (← h) (parts_end eq xs ys i s all inv (rw h (past_all xs)))
+
+module _ (eq : Val → Val → Does ℕ Bool) (xs ys : List Val) (i : ℕ) (s : ℕ) (all : Out ℕ Parting) (x y : Val) (inv : parting eq (drop i xs) (drop i ys) s ≡ all) (h : Some x ≡ slice_get xs i) (g : Some y ≡ slice_get ys i) where
+  parts_now : and_then (eq x y s) (λ same. if same then parting eq (drop (i + 1) xs) (drop (i + 1) ys) else pure (unequal x y)) ≡ all
+  parts_now = rw (drop_there xs i x (sym h), drop_there ys i y (sym g)) at inv
+
+  pub parts_same : (t : ℕ) → eq x y s ≡ gives true t → parting eq (drop (i + 1) xs) (drop (i + 1) ys) t ≡ all
+  parts_same t e = rw e at parts_now
+
+  pub parts_differ : (t : ℕ) → eq x y s ≡ gives false t → all ≡ gives (unequal x y) t
+  parts_differ t e = sym (rw e at parts_now)
+
+  pub parts_fault : (e : Halt) (t : ℕ) → Says (eq x y s) (Err e) t → SaysParting all (Err e) t
+  parts_fault e t said = fault_parts (eq x y s) _ all e t parts_now said

@@ -1,5 +1,5 @@
 -- What the heap in memory is to the definitions, and what a call that takes a step of them ensures.
-use Rattle.std.specs.Prelude.{◌≡◌, List, map, Result, Ok, Err}
+use Rattle.std.specs.Prelude.{◌≡◌, ℕ, List, map, Result, Ok, Err}
 use Rattle.std.specs.declared.vec.Vec.{Vec}
 use Rattle.std.specs.declared.alloc.Global.{Global}
 use Rattle.meaning.specs.Outcome.{Out, gives, faults, Checked, good, bad}
@@ -9,6 +9,10 @@ use Rattle.values.specs.declared.hashing.AsKey.{AsKey}
 use Rattle.values.specs.declared.hashing.AsKey.TheVariants as k
 use Rattle.meaning.specs.Comparing as e
 use Rattle.values.specs.declared.equal.Pair.{Pair}
+use Rattle.values.specs.declared.order.Sides.{Sides}
+use Rattle.values.specs.declared.order.Sides.TheVariants as s
+use Rattle.values.specs.declared.order.Parting.{Parting}
+use Rattle.values.specs.declared.order.Parting.TheVariants as t
 use Rattle.values.specs.declared.equal.Pair.TheVariants as p
 use Rattle.values.specs.declared.heap.Object.{Object}
 use Rattle.values.specs.declared.heap.Object.TheVariants as o
@@ -59,3 +63,18 @@ abbrev pub pair_seen : Pair → e.Pair
 pair_seen (p.Settled same) = e.settled same
 pair_seen (p.Members xs ys) = e.members xs.now ys.now
 pair_seen (p.Entries xs ys) = e.entries xs.now.entries ys.now.entries
+
+abbrev pub sides_seen : Sides → e.Sides
+sides_seen (s.Ordered o) = e.ordered o
+sides_seen (s.Listed xs ys) = e.listed xs.now ys.now
+sides_seen s.NoOrder = e.no_order
+
+abbrev pub parting_seen : Parting → e.Parting
+parting_seen (t.SettledAs o) = e.settled_as o
+parting_seen (t.Unequal x y) = e.unequal x y
+
+-- as `Says`, of where two lists part
+abbrev pub SaysParting : Out ℕ e.Parting → Result Parting Halt → ℕ → Type 0
+SaysParting out (Ok p) s = out ≡ gives (parting_seen p) s
+SaysParting out (Err (Code c)) s = out ≡ faults c
+SaysParting out (Err Memory) s = Unit {0}

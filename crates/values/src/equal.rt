@@ -91,7 +91,9 @@ fn pair_objects<'a>(objects: &'a [Object], a: usize, b: usize) -> Pair<'a>
                 Pair::Settled(false)
             }
         }
-        (Some(Object::Function(l, f)), Some(Object::Function(m, g))) => Pair::Settled(l == m && f == g),
+        (Some(Object::Function(l, f)), Some(Object::Function(m, g))) => Pair::Settled(
+            l == m && f == g,
+        ),
         _ => Pair::Settled(false),
     }
 }
@@ -100,13 +102,7 @@ fn pair_objects<'a>(objects: &'a [Object], a: usize, b: usize) -> Pair<'a>
 /// 12.
 #[cycle(comparing)]
 #[tactic(auto, using(crate::proofs::Compared::equal_is))]
-pub fn equal(
-    objects: &[Object],
-    steps: &mut u64,
-    a: Val,
-    b: Val,
-    left: u32,
-) -> Result<bool, Halt>
+pub fn equal(objects: &[Object], steps: &mut u64, a: Val, b: Val, left: u32) -> Result<bool, Halt>
     ensures { Says (equal left (map object_of objects.now) a b steps.old) result steps.new }
 {
     match make_pair(objects, a, b) {
@@ -173,8 +169,8 @@ fn equal_members(
     Ok(true)
 }
 
-// A member.
-fn val_at(xs: &[Val], i: usize) -> Option<Val>
+/// A member.
+pub fn val_at(xs: &[Val], i: usize) -> Option<Val>
     ensures { result ≡ slice_get xs.now i }
 {
     xs.get(i).copied()

@@ -44,7 +44,13 @@ impl Heap {
         ensures says { Says (hash x (store_of self.old)) result (store_of self.new) }
         ensures kept { self.new.objects ≡ self.old.objects }
     {
-        let parts = key(self.alloc, self.objects.as_slice(), &mut self.steps, x, DEEPEST)?;
+        let parts = key(
+            self.alloc,
+            self.objects.as_slice(),
+            &mut self.steps,
+            x,
+            DEEPEST,
+        )?;
         Ok(Key { parts })
     }
 

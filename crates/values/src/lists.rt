@@ -80,7 +80,11 @@ pub fn place(i: i64, len: usize) -> Option<usize>
         if at < len { Some(at) } else { None }
     } else {
         let back = (-(i + 1)) as usize;
-        if back < len { Some(len - 1 - back) } else { None }
+        if back < len {
+            Some(len - 1 - back)
+        } else {
+            None
+        }
     }
 }
 
