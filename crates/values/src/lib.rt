@@ -16,3 +16,6 @@ mod steps;
 pub use halt::Halt;
 pub use heap::{Heap, Object};
 pub use meaning::{Builtin, Bytes, Entry, Key, Operator, Part, Val};
+
+#[cfg(test)]
+mod tests;
