@@ -1,5 +1,5 @@
 -- Values of the definitions, computed.
-use Rattle.std.proofs.Common.{◌≡◌, ℕ, pos, negsuc, List, [], ◌∷◌, true, false, Some, None, refl}
+use Rattle.std.proofs.Common.{◌≡◌, ℕ, pos, negsuc, List, [], ◌∷◌, true, false, Some, None, refl, codes}
 use Rattle.std.specs.declared.cmp.Ordering.TheVariants.{Less}
 use Rattle.meaning.specs.declared.key.Part.TheVariants as p
 use Rattle.meaning.specs.declared.val.Val.TheVariants as v
@@ -8,6 +8,10 @@ use Rattle.meaning.specs.Heap.{Obj, Store, text, list, tuple}
 use Rattle.meaning.specs.Numbers.{floor_div, floor_rem}
 use Rattle.meaning.specs.Operators.{add, divide, remainder}
 use Rattle.meaning.specs.Hashing.{key}
+use Rattle.meaning.specs.Printing.{print, decimal}
+use Rattle.meaning.specs.Freezing.{freeze}
+use Rattle.meaning.specs.Functions.{range_count, range, zipped}
+use Rattle.meaning.specs.Methods.{split_by, with_between, stripped}
 use Rattle.meaning.specs.Comparing.{equal, order}
 use Rattle.meaning.specs.Indexing.{place, bound, between}
 
@@ -95,3 +99,62 @@ pair_key = refl
 list_key : key 64 pair_heap (v.At 2) 3 ≡ faults 5
 unfolding pair_heap key
 list_key = refl
+
+-- "a,,b".split(",") has three parts, and "aaa".replace("aa", "x") is "xa"
+splitted : split_by (codes ",") (codes "a,,b") ≡ codes "a" ∷ [] ∷ codes "b" ∷ []
+splitted = refl
+
+replaced : with_between (codes "x") (split_by (codes "aa") (codes "aaa")) ≡ codes "xa"
+replaced = refl
+
+bare : stripped (codes " \n a b\t") ≡ codes "a b"
+bare = refl
+
+-- repr([1, "a\n"]) is [1, "a\n"] with the newline escaped, and takes three steps
+mixed : List Obj
+mixed = text (97 ∷ 10 ∷ []) ∷ list (v.Int (pos 1) ∷ v.At 0 ∷ []) false ∷ tuple (v.Int (negsuc 6) ∷ []) ∷ []
+
+mixed_text : print 64 mixed (v.At 1) 10 ≡ gives (codes "[1, \"a\\n\"]") 7
+unfolding mixed print
+mixed_text = refl
+
+-- repr((-7,)) is (-7,)
+tuple_of_one : print 64 mixed (v.At 2) 10 ≡ gives (codes "(-7,)") 8
+unfolding mixed print
+tuple_of_one = refl
+
+least_text : decimal (negsuc 9223372036854775807) ≡ codes "-9223372036854775808"
+least_text = refl
+
+-- a list that has itself as its member is not printed or frozen to its end
+endless_text : print 64 endless (v.At 0) 1000 ≡ faults 12
+unfolding endless print
+endless_text = refl
+
+endless_frozen : freeze 64 endless (v.At 0) 1000 ≡ faults 12
+unfolding endless freeze
+endless_frozen = refl
+
+-- range(0, 10, 3) and range(10, 0, -3) have four members, range(1, 1) none
+upwards : range_count (pos 0) (pos 10) (pos 3) ≡ 4
+upwards = refl
+
+downwards : range_count (pos 10) (pos 0) (negsuc 2) ≡ 4
+downwards = refl
+
+none_between : range_count (pos 1) (pos 1) (pos 1) ≡ 0
+none_between = refl
+
+-- range(1, 2, 0) is fault 25, and so is range("a", 1, 0); range(1, 2, False) is fault 5
+no_step : range (v.Int (pos 1) ∷ v.Int (pos 2) ∷ v.Int (pos 0) ∷ []) empty ≡ faults 25
+no_step = refl
+
+no_int_and_no_step : range (v.Nothing ∷ v.Int (pos 2) ∷ v.Int (pos 0) ∷ []) empty ≡ faults 25
+no_int_and_no_step = refl
+
+bool_step : range (v.Int (pos 1) ∷ v.Int (pos 2) ∷ v.Bool false ∷ []) empty ≡ faults 5
+bool_step = refl
+
+-- zip of [1, 2] and [3] has one row, and zip() none
+short_rows : zipped ((v.Int (pos 1) ∷ v.Int (pos 2) ∷ []) ∷ (v.Int (pos 3) ∷ []) ∷ []) ≡ (v.Int (pos 1) ∷ v.Int (pos 3) ∷ []) ∷ []
+short_rows = refl

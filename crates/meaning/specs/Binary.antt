@@ -1,12 +1,12 @@
 -- The operators between two values that are both evaluated.
-use Rattle.std.specs.Prelude.{Bool, true, false, not}
+use Rattle.std.specs.Prelude.{Bool, not}
 use Rattle.std.specs.declared.cmp.Ordering.{Ordering}
 use Rattle.std.specs.Ordering.{is_lt, is_le, is_gt, is_ge}
 use Rattle.meaning.specs.declared.val.Val.{Val}
 use Rattle.meaning.specs.declared.val.Val.TheVariants as v
 use Rattle.meaning.specs.declared.val.Operator.{Operator}
 use Rattle.meaning.specs.declared.val.Operator.TheVariants as o
-use Rattle.meaning.specs.Outcome.{Out, Does, and_then, ◌>>=◌, pure}
+use Rattle.meaning.specs.Outcome.{Does, ◌>>=◌, pure}
 use Rattle.meaning.specs.Heap.{Store}
 use Rattle.meaning.specs.Operators.{add, subtract, multiply, divide, remainder}
 use Rattle.meaning.specs.Comparing.{equals, compares}

@@ -1,12 +1,11 @@
 -- Frozen values: what a file's evaluation leaves, apart from any heap.
-use Rattle.std.specs.Prelude.{ℕ, zero, suc, ℤ, Bool, true, List, [], ◌∷◌, ◌++◌, length, Option, Some, None, slice_get}
+use Rattle.std.specs.Prelude.{ℕ, zero, suc, ℤ, Bool, true, List, [], ◌∷◌, ◌++◌, Option, Some, None, slice_get}
 use Rattle.meaning.specs.declared.key.Part.{Part}
 use Rattle.meaning.specs.declared.key.Part.TheVariants as p
 use Rattle.meaning.specs.declared.val.Builtin.{Builtin}
 use Rattle.meaning.specs.declared.val.Val.{Val}
 use Rattle.meaning.specs.declared.val.Val.TheVariants as v
-use Rattle.meaning.specs.declared.val.Entry.{Entry}
-use Rattle.meaning.specs.Outcome.{Out, gives, faults, Does, and_then, ◌>>=◌, ◌>>◌, pure, fault, tick}
+use Rattle.meaning.specs.Outcome.{Does, ◌>>=◌, ◌>>◌, pure, fault, tick}
 use Rattle.meaning.specs.Heap as h
 use Rattle.meaning.specs.Heap.{Entries, Obj, Store, walks, makes}
 

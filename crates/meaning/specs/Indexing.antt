@@ -1,12 +1,12 @@
 -- Index, slice, change and iteration.
-use Rattle.std.specs.Prelude.{ℕ, suc, ℤ, pos, negsuc, ◌-◌, Bool, false, List, [], ◌∷◌, length, take, drop, min, Option, Some, None, if◌then◌else◌, nat_lt, ◌==◌, slice_get, slice_set, option_map, map}
+use Rattle.std.specs.Prelude.{ℕ, suc, ℤ, pos, negsuc, ◌-◌, Bool, List, [], ◌∷◌, length, take, drop, min, Option, Some, None, if◌then◌else◌, nat_lt, ◌==◌, slice_get, slice_set, option_map, map}
 use Rattle.std.specs.List.{list_any}
 use Rattle.meaning.specs.declared.key.Part.{Part}
 use Rattle.meaning.specs.declared.val.Val.{Val}
 use Rattle.meaning.specs.declared.val.Val.TheVariants as v
 use Rattle.meaning.specs.declared.val.Entry.{Entry}
 use Rattle.meaning.specs.Keys.{same_key}
-use Rattle.meaning.specs.Outcome.{Out, gives, faults, Does, and_then, ◌>>=◌, ◌>>◌, pure, fault, or_fault, Checked, good, bad, then_checked, or_bad, checked}
+use Rattle.meaning.specs.Outcome.{gives, faults, Does, ◌>>=◌, ◌>>◌, fault, or_fault, Checked, good, bad, then_checked, or_bad, checked}
 use Rattle.meaning.specs.Heap.{Entries, Obj, text, list, tuple, dict, Store, at, walks, makes_text, makes_list, makes_tuple, puts, is_sized}
 use Rattle.meaning.specs.Hashing.{key}
 use Rattle.meaning.specs.Comparing.{found}

@@ -14,3 +14,6 @@ pub mod Printing
 pub mod Freezing
 pub mod Membership
 pub mod Binary
+pub mod Functions
+pub mod Methods
+pub mod World

@@ -1,9 +1,9 @@
 -- `in`.
-use Rattle.std.specs.Prelude.{ℕ, Bool, true, false, not, List, [], ◌∷◌, length, Option, Some, None, if◌then◌else◌, nat_lt, take, drop, is_some}
+use Rattle.std.specs.Prelude.{ℕ, Bool, true, false, List, [], ◌∷◌, length, Option, Some, if◌then◌else◌, take, is_some}
 use Rattle.meaning.specs.declared.val.Val.{Val}
 use Rattle.meaning.specs.declared.val.Val.TheVariants as v
-use Rattle.meaning.specs.Outcome.{Out, Does, and_then, ◌>>=◌, pure, fault}
-use Rattle.meaning.specs.Heap.{Obj, text, list, tuple, dict, function, Store, at, walks}
+use Rattle.meaning.specs.Outcome.{Does, ◌>>=◌, pure, fault}
+use Rattle.meaning.specs.Heap.{Obj, text, list, tuple, dict, Store, at, walks}
 use Rattle.meaning.specs.Comparing.{equal, found, same_text}
 use Rattle.meaning.specs.Indexing.{hash}
 

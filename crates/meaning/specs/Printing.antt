@@ -1,12 +1,10 @@
 -- The texts of values.
 --
 -- Each value entered is a step, keys and values of dictionaries too. A 65th container inside one another is fault 12.
-use Rattle.std.specs.Prelude.{ℕ, zero, suc, ℤ, pos, negsuc, ◌+◌, ◌/◌, ◌%◌, ◌==◌, nat_lt, Bool, true, false, List, [], ◌∷◌, ◌++◌, length, Option, Some, None, if◌then◌else◌, slice_get, codes, map}
-use Rattle.meaning.specs.declared.key.Part.{Part}
+use Rattle.std.specs.Prelude.{ℕ, zero, suc, ℤ, pos, negsuc, ◌+◌, ◌/◌, ◌%◌, ◌==◌, nat_lt, Bool, true, false, List, [], ◌∷◌, ◌++◌, Option, Some, None, if◌then◌else◌, slice_get, codes}
 use Rattle.meaning.specs.declared.val.Val.{Val}
 use Rattle.meaning.specs.declared.val.Val.TheVariants as v
-use Rattle.meaning.specs.declared.val.Entry.{Entry}
-use Rattle.meaning.specs.Outcome.{Out, gives, faults, Does, and_then, ◌>>=◌, ◌>>◌, pure, fault, tick}
+use Rattle.meaning.specs.Outcome.{Does, ◌>>=◌, ◌>>◌, pure, fault, tick}
 use Rattle.meaning.specs.Heap.{Entries, Obj, text, list, tuple, dict, function, Store, at, walks, makes_text}
 use Rattle.meaning.specs.Builtins.{builtin_name}
 
