@@ -1,14 +1,14 @@
 -- Comparing, by how many containers more may be entered and member by member.
-use Rattle.std.proofs.Common.{◌≡◌, ℕ, zero, suc, ◌+◌, ◌-◌, ◌≤◌, List, [], ◌∷◌, length, drop, Bool, true, false, Option, Some, None, if◌then◌else◌, Err, refl, sym, ap, ◌∙◌, arith, add-one}
+use Rattle.std.proofs.Common.{◌≡◌, ℕ, zero, suc, ◌+◌, ◌-◌, List, [], ◌∷◌, length, drop, Bool, true, false, Option, Some, None, if◌then◌else◌, Err, refl, sym, ap, ◌∙◌, arith, add-one}
 use Rattle.std.specs.Prelude.{slice_get}
 use Rattle.std.specs.Option.{unwrap_or}
 use Rattle.meaning.specs.declared.key.Part.{Part}
 use Rattle.meaning.specs.declared.val.Val.{Val}
 use Rattle.meaning.specs.declared.val.Entry.{Entry}
-use Rattle.meaning.specs.Outcome.{Out, gives, faults, Does, and_then, ◌>>=◌, ◌>>◌, pure, tick, spend}
+use Rattle.meaning.specs.Outcome.{Out, gives, faults, Does, and_then, ◌>>=◌, ◌>>◌, pure, tick}
 use Rattle.meaning.specs.Heap.{Obj, Entries}
 use Rattle.meaning.specs.Comparing.{equal, inner_equal, pair, visit_pair, equal_members, equal_entries, equal_entry, members, entries, order, inner_order, sides, visit_sides, listed, parting, order_parted, Parting, settled_as, unequal}
-use Rattle.std.specs.declared.cmp.Ordering.TheVariants.{Less, Equal, Greater}
+use Rattle.std.specs.declared.cmp.Ordering.TheVariants.{Greater}
 use Rattle.values.specs.declared.halt.Halt.{Halt}
 use Rattle.values.specs.declared.halt.Halt.TheVariants.{Code, Memory}
 use Rattle.values.specs.Ended.{ended}

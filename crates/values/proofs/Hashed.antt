@@ -2,7 +2,7 @@
 use Rattle.std.proofs.Common.{◌≡◌, ℕ, zero, suc, ◌-◌, List, ◌∷◌, length, refl, arith}
 use Rattle.meaning.specs.declared.val.Val.{Val}
 use Rattle.meaning.specs.declared.key.Part.TheVariants as p
-use Rattle.meaning.specs.Outcome.{Out, faults, ◌>>=◌, ◌>>◌, pure, tick}
+use Rattle.meaning.specs.Outcome.{faults, ◌>>=◌, ◌>>◌, pure, tick}
 use Rattle.meaning.specs.Heap.{Obj}
 use Rattle.meaning.specs.Hashing.{key, inner_key, visit_key, as_key, along, parts}
 

@@ -1,4 +1,4 @@
-use Rattle.std.proofs.Common.{◌≡◌, ap, ◌∙◌, w64, of_z, to_z}
+use Rattle.std.proofs.Common.{◌≡◌, ap, ◌∙◌, w64, of_z}
 use Rattle.std.proofs.lemmas.Int.{to_z-of_z}
 use Rattle.meaning.specs.Numbers.{floor_div}
 use Rattle.values.specs.Wide.{wide_value}
