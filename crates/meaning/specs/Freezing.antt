@@ -1,0 +1,119 @@
+-- Frozen values: what a file's evaluation leaves, apart from any heap.
+use Rattle.std.specs.Prelude.{ℕ, zero, suc, ℤ, Bool, true, List, [], ◌∷◌, ◌++◌, Option, Some, None, slice_get}
+use Rattle.meaning.specs.declared.key.Part.{Part}
+use Rattle.meaning.specs.declared.key.Part.TheVariants as p
+use Rattle.meaning.specs.declared.val.Builtin.{Builtin}
+use Rattle.meaning.specs.declared.val.Val.{Val}
+use Rattle.meaning.specs.declared.val.Val.TheVariants as v
+use Rattle.meaning.specs.Outcome.{Does, ◌>>=◌, ◌>>◌, pure, fault, tick}
+use Rattle.meaning.specs.Heap as h
+use Rattle.meaning.specs.Heap.{Entries, Obj, Store, walks, makes}
+
+mutual
+  -- a function is its file's label and its name
+  pub data Fz : Type 0 where
+    nothing : Fz
+    boolean : Bool → Fz
+    whole : ℤ → Fz
+    built_in : Builtin → Fz
+    text : List ℕ → Fz
+    list : Fzs → Fz
+    tuple : Fzs → Fz
+    dict : Pairs → Fz
+    function : (label name : List ℕ) → Fz
+
+  pub data Fzs : Type 0 where
+    no_members : Fzs
+    member : Fz → Fzs → Fzs
+
+  -- keys and values in the dictionary's order
+  pub data Pairs : Type 0 where
+    no_pairs : Pairs
+    pair : (key value : Fz) → Pairs → Pairs
+
+-- what a value is to freezing: a frozen value at once, or one of what it holds; a place that is not there is fault 5
+pub data Held : Type 0 where
+  settled : Fz → Held
+  listed : List Val → Held
+  tupled : List Val → Held
+  mapped : Entries → Held
+  absent : Held
+
+abbrev pub held_object : Option Obj → Held
+held_object (Some (h.text bytes)) = settled (text bytes)
+held_object (Some (h.list members f)) = listed members
+held_object (Some (h.tuple members)) = tupled members
+held_object (Some (h.dict entries f)) = mapped entries
+held_object (Some (h.function label name)) = settled (function label name)
+held_object None = absent
+
+abbrev pub held : List Obj → Val → Held
+held heap v.Nothing = settled nothing
+held heap (v.Bool b) = settled (boolean b)
+held heap (v.Int n) = settled (whole n)
+held heap (v.Builtin b) = settled (built_in b)
+held heap (v.At place) = held_object (slice_get heap place)
+
+abbrev pub freeze_members : (Val → Does ℕ Fz) → List Val → Does ℕ Fzs
+freeze_members freeze [] = pure no_members
+freeze_members freeze (x ∷ xs) = freeze x >>= λ f. freeze_members freeze xs >>= λ fs. pure (member f fs)
+
+abbrev pub freeze_entries : (Val → Does ℕ Fz) → Entries → Does ℕ Pairs
+freeze_entries freeze [] = pure no_pairs
+freeze_entries freeze (e ∷ es) = freeze e.1.key >>= λ k. freeze e.1.value >>= λ x. freeze_entries freeze es >>= λ ps. pure (pair k x ps)
+
+abbrev pub visit_held : Option (Val → Does ℕ Fz) → Held → Does ℕ Fz
+visit_held inner (settled f) = tick >> pure f
+visit_held inner absent = tick >> fault 5
+visit_held None (listed xs) = fault 12
+visit_held None (tupled xs) = fault 12
+visit_held None (mapped es) = fault 12
+visit_held (Some freeze) (listed xs) = tick >> (freeze_members freeze xs >>= λ fs. pure (list fs))
+visit_held (Some freeze) (tupled xs) = tick >> (freeze_members freeze xs >>= λ fs. pure (tuple fs))
+visit_held (Some freeze) (mapped es) = tick >> (freeze_entries freeze es >>= λ ps. pure (dict ps))
+
+-- the tree of a value, at most 64 containers deep; each value visited is a step, also where it was frozen before
+unfoldable pub freeze : ℕ → List Obj → Val → Does ℕ Fz
+freeze zero heap x = visit_held None (held heap x)
+freeze (suc n) heap x = visit_held (Some (freeze n heap)) (held heap x)
+
+abbrev mutual
+  pub frozen_key : Fz → List Part
+  frozen_key nothing = p.Nothing ∷ []
+  frozen_key (boolean b) = p.Bool b ∷ []
+  frozen_key (whole n) = p.Int n ∷ []
+  frozen_key (built_in b) = []
+  frozen_key (text bytes) = p.Text bytes ∷ []
+  frozen_key (list fs) = []
+  frozen_key (tuple fs) = p.Tuple (how_many fs) ∷ frozen_keys fs
+  frozen_key (dict ps) = []
+  frozen_key (function label name) = []
+
+  pub frozen_keys : Fzs → List Part
+  frozen_keys no_members = []
+  frozen_keys (member f fs) = frozen_key f ++ frozen_keys fs
+
+  pub how_many : Fzs → ℕ
+  how_many no_members = 0
+  how_many (member f fs) = suc (how_many fs)
+
+-- a frozen value on a heap: its lists and dictionaries can't be changed. It takes no steps
+abbrev mutual
+  pub thaw : Fz → Does Store Val
+  thaw nothing = pure v.Nothing
+  thaw (boolean b) = pure (v.Bool b)
+  thaw (whole n) = pure (v.Int n)
+  thaw (built_in b) = pure (v.Builtin b)
+  thaw (text bytes) = makes (h.text bytes)
+  thaw (list fs) = thaw_members fs >>= λ xs. makes (h.list xs true)
+  thaw (tuple fs) = thaw_members fs >>= λ xs. makes (h.tuple xs)
+  thaw (dict ps) = thaw_pairs ps >>= λ es. makes (h.dict es true)
+  thaw (function label name) = makes (h.function label name)
+
+  pub thaw_members : Fzs → Does Store (List Val)
+  thaw_members no_members = pure []
+  thaw_members (member f fs) = thaw f >>= λ x. thaw_members fs >>= λ xs. pure (x ∷ xs)
+
+  pub thaw_pairs : Pairs → Does Store Entries
+  thaw_pairs no_pairs = pure []
+  thaw_pairs (pair k f ps) = thaw k >>= λ x. thaw f >>= λ y. thaw_pairs ps >>= λ es. pure ((frozen_key k, record { key = x; value = y }) ∷ es)

@@ -1,0 +1,99 @@
+//! Keys of dictionaries.
+ghost use Rattle.std.specs.Prelude.{◌≡◌};
+ghost use Rattle.std.specs.Hash as fed;
+ghost use Rattle.std.specs.Cmp.{partial_equiv_from_equiv};
+ghost use Rattle.meaning.specs.Keys.{same_part, same_key};
+ghost use Rattle.meaning.specs.Fed.{part_fed};
+ghost use Rattle.meaning.specs.KeyLaws.{parts_equiv, parts_alike, keys_equiv, keys_alike};
+
+use crate::bytes::Bytes;
+use std::hash::{Hash, Hasher};
+use std::marker::Model;
+
+/// A part of a key.
+#[derive(Drop)]
+pub enum Part {
+    /// `None`
+    Nothing,
+    Bool(bool),
+    Int(i64),
+    Text(Bytes),
+    /// A tuple of so many members, whose parts follow.
+    Tuple(usize),
+}
+
+impl PartialEq for Part {
+    ghost eq = { same_part };
+
+    ghost laws = { partial_equiv_from_equiv parts_equiv };
+
+    fn eq(&self, other: &Part) -> bool {
+        match (self, other) {
+            (Part::Nothing, Part::Nothing) => true,
+            (Part::Bool(a), Part::Bool(b)) => *a == *b,
+            (Part::Int(a), Part::Int(b)) => *a == *b,
+            (Part::Text(a), Part::Text(b)) => a == b,
+            (Part::Tuple(a), Part::Tuple(b)) => *a == *b,
+            _ => false,
+        }
+    }
+}
+
+impl Eq for Part {
+    ghost laws = { parts_equiv };
+}
+
+impl Hash for Part {
+    ghost hash_input = { part_fed };
+
+    ghost respects_eq = { parts_alike.fed };
+
+    fn hash<H: Hasher>(&self, state: &mut H) {
+        match self {
+            Part::Nothing => 0u8.hash(state),
+            Part::Bool(a) => a.hash(state),
+            Part::Int(a) => a.hash(state),
+            Part::Text(a) => a.hash(state),
+            Part::Tuple(a) => a.hash(state),
+        }
+    }
+}
+
+/// A key: the parts of a value without pointers, a tuple's members after their number. A contract sees the parts.
+#[derive(Drop)]
+pub struct Key {
+    pub parts: Vec<Part>,
+}
+
+impl Model for Key {
+    ghost use Rattle.std.specs.Prelude.{List};
+    ghost use Rattle.meaning.specs.declared.key.Part.{Part};
+
+    ghost Value = { List Part };
+
+    ghost view = { λ k. k.parts.items };
+}
+
+impl PartialEq for Key {
+    ghost eq = { same_key };
+
+    ghost laws = { partial_equiv_from_equiv keys_equiv };
+
+    fn eq(&self, other: &Key) -> bool {
+        self.parts.as_slice() == other.parts.as_slice()
+    }
+}
+
+impl Eq for Key {
+    ghost laws = { keys_equiv };
+}
+
+impl Hash for Key {
+    ghost hash_input = { λ k. fed.slice part_fed k };
+
+    ghost respects_eq = { keys_alike.fed };
+
+    fn hash<H: Hasher>(&self, state: &mut H) {
+        self.parts.as_slice().hash(state);
+    }
+}

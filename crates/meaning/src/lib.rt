@@ -1,0 +1,13 @@
+//! The meaning of the language: what values are, and what each operator, walk and built-in function does with them.
+//!
+//! The definitions stand in `specs/`; the types that they share with the code stand here. They follow the Starlark
+//! language specification, and where this repository's profile takes less or decides more, the definition says so.
+#![tactic(auto)]
+
+mod bytes;
+mod key;
+mod val;
+
+pub use bytes::Bytes;
+pub use key::{Key, Part};
+pub use val::{Builtin, Entry, Operator, Val};

@@ -1,0 +1,69 @@
+//! Values.
+
+/// A function that every file has.
+#[derive(Clone, Copy, Debug, PartialEq, Eq)]
+pub enum Builtin {
+    Len,
+    Range,
+    Str,
+    Repr,
+    Type,
+    Sorted,
+    Reversed,
+    Enumerate,
+    Zip,
+    List,
+    Tuple,
+    Dict,
+    Bool,
+    Any,
+    All,
+    Min,
+    Max,
+    Fail,
+    Glob,
+    Filegroup,
+    Genrule,
+    Alias,
+    TestSuite,
+    PackageName,
+}
+
+/// A value. A string, a list, a tuple, a dictionary or a function of a file is named by its place in the heap.
+#[derive(Clone, Copy, Debug, PartialEq, Eq)]
+pub enum Val {
+    /// `None`
+    Nothing,
+    Bool(bool),
+    Int(i64),
+    Builtin(Builtin),
+    /// An object, by its place in the heap.
+    At(usize),
+}
+
+/// What a dictionary has at a key: the key's value, and the value.
+#[derive(Clone, Copy, Debug, PartialEq, Eq)]
+pub struct Entry {
+    pub key: Val,
+    pub value: Val,
+}
+
+/// An operator between two values that are both evaluated.
+#[derive(Clone, Copy, Debug, PartialEq, Eq)]
+pub enum Operator {
+    Equal,
+    NotEqual,
+    Less,
+    LessEqual,
+    Greater,
+    GreaterEqual,
+    In,
+    NotIn,
+    Add,
+    Subtract,
+    Multiply,
+    /// `//`
+    Divide,
+    /// `%`
+    Remainder,
+}

@@ -1,0 +1,4 @@
+pub mod View
+pub mod Sized
+pub mod Wide
+pub mod Ended
