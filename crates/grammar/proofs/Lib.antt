@@ -1,0 +1,11 @@
+pub mod Fits
+pub mod Moves
+pub mod Stops
+pub mod Steps
+pub mod Rooms
+pub mod Lists
+pub mod Starts
+pub mod Complete
+pub mod Lines
+pub mod StmtSteps
+pub mod CompleteStmts

@@ -1,0 +1,6 @@
+pub mod Front
+pub mod Targets
+pub mod Expressions
+pub mod Statements
+pub mod Files
+pub mod Grammar
