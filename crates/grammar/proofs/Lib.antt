@@ -9,3 +9,9 @@ pub mod Complete
 pub mod Lines
 pub mod StmtSteps
 pub mod CompleteStmts
+pub mod FileSteps
+pub mod CompleteFiles
+pub mod Sound
+pub mod SoundStmts
+pub mod SoundFiles
+pub mod Laws

@@ -4,3 +4,4 @@ pub mod Expressions
 pub mod Statements
 pub mod Files
 pub mod Grammar
+pub mod Texts
