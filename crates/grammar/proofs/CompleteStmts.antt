@@ -76,7 +76,7 @@ targets_tests : {ts rest : List Lex} {es : List Ex} → IsSomeTargets ts es rest
 targets_tests (g.first_target d) = g.one_test (target_test d)
 targets_tests (g.more_targets d is e) = g.more_tests (targets_tests d) is (target_test e)
 
-all_more : (es : List Ex) (e : Ex) → all_targets (exs_of es) ≡ true → is_target e ≡ true → all_targets (exs_of (es ++ e ∷ [])) ≡ true
+pub all_more : (es : List Ex) (e : Ex) → all_targets (exs_of es) ≡ true → is_target e ≡ true → all_targets (exs_of (es ++ e ∷ [])) ≡ true
 all_more [] e h i = and_from (is_target e) true i refl
 all_more (x ∷ es) e h i =
     let both = and_parts (is_target x) (all_targets (exs_of es)) h in

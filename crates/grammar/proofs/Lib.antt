@@ -15,3 +15,4 @@ pub mod Sound
 pub mod SoundStmts
 pub mod SoundFiles
 pub mod Laws
+pub mod TargetRules

@@ -89,11 +89,11 @@ test_target : {ts rest : List Lex} {e : Ex} → IsTest ts e rest → is_target e
 test_target (g.test_or d) h = g.target (or_postfix d h) h
 test_target (g.choice d if_is c else_is e) h = absurd (false≢true h)
 
-record Parts (es : List Ex) (e : Ex) : Type 0 where
-  all : all_targets (exs_of es) ≡ true
-  last : is_target e ≡ true
+pub record Parts (es : List Ex) (e : Ex) : Type 0 where
+  pub all : all_targets (exs_of es) ≡ true
+  pub last : is_target e ≡ true
 
-all_parts : (es : List Ex) (e : Ex) → all_targets (exs_of (es ++ e ∷ [])) ≡ true → Parts es e
+pub all_parts : (es : List Ex) (e : Ex) → all_targets (exs_of (es ++ e ∷ [])) ≡ true → Parts es e
 all_parts [] e h = record { all = refl; last = (and_parts (is_target e) true h).0 }
 all_parts (x ∷ es) e h =
     let both = and_parts (is_target x) (all_targets (exs_of (es ++ e ∷ []))) h in

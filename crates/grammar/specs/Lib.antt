@@ -5,3 +5,4 @@ pub mod Statements
 pub mod Files
 pub mod Grammar
 pub mod Texts
+pub mod TargetRules

@@ -5,6 +5,7 @@
 //! the parser does; `proofs/` shows that both are one.
 #![tactic(auto)]
 
+ghost use Rattle.grammar.specs.TargetRules.{TargetsAreByTheirRules};
 ghost use Rattle.grammar.specs.Texts.{NoTextHasTwoTrees, NoTreeIsRefused};
 
 mod kind;
@@ -19,4 +20,10 @@ pub fn no_text_has_two_trees()
 /// The law that no text with a tree is refused, for both kinds of files.
 pub fn no_tree_is_refused()
     ensures { NoTreeIsRefused }
+{}
+
+/// The law of targets: the postfix expressions that can be assigned to are those that the production of targets relates
+/// to the same trees.
+pub fn targets_are_by_their_rules()
+    ensures { TargetsAreByTheirRules }
 {}
