@@ -14,6 +14,7 @@ import time
 HERE = os.path.dirname(os.path.abspath(__file__))
 LOADER = [os.path.join(HERE, "../crates/cli/out/cli"), "run"]
 TREE_TIMES = os.path.join(HERE, "../crates/tree_times/out/tree_times")
+PARSE_TIMES = os.path.join(HERE, "../crates/parse_times/out/parse_times")
 PARSE_ONLY = [os.path.join(HERE, "../crates/parse_only/out/parse_only")]
 
 
@@ -124,8 +125,61 @@ def tree_times():
         print(subprocess.run([TREE_TIMES, files], capture_output=True, text=True, check=True).stdout, end="")
 
 
+def function(n):
+    """A function of some ten lines, with most of the forms."""
+    return f'''def rule_{n}(name, srcs = [], deps = None):
+    """Makes target number {n}."""
+    labels = [":%s_%d" % (name, i) for i in range({n % 7 + 1}) if i % 2 == 0]
+    for i, src in enumerate(srcs):
+        if src.endswith(".c") and not src in labels:
+            labels.append(src)
+        elif deps:
+            labels += [d for d in deps if d != name]
+        else:
+            continue
+    attrs = {{"name": name, "size": {n} + len(labels), "on": True}}
+    return attrs.get("name", labels[0:-1]) if labels else None
+
+'''
+
+
+def package(n):
+    return f'''load("//tools:rules.bzl", "library", binary = "program")
+
+# Package number {n}.
+library(
+    name = "lib{n}",
+    srcs = glob(["*.c", "src/**/*.c"], exclude = ["src/test_*.c"]),
+    deps = ["//base:core", ":headers", "//p{n % 10}:lib"],
+)
+
+filegroup(name = "headers", srcs = ["h%d.h" % i for i in range({n % 5 + 2})], visibility = ["//visibility:public"])
+
+binary(name = "main{n}", srcs = ["main.c"], deps = [":lib{n}"])
+'''
+
+
+def parse_times(folder):
+    module = os.path.join(folder, "module.bzl")
+    with open(module, "w") as out:
+        size = n = 0
+        while size < 250_000:
+            size += out.write(function(n))
+            n += 1
+    packages = []
+    for n in range(1_000):
+        packages.append(os.path.join(folder, f"BUILD{n}"))
+        with open(packages[-1], "w") as out:
+            out.write(package(n))
+    for kind, rounds, files in ("bzl", 30, [module]), ("build", 30, packages):
+        said = subprocess.run([PARSE_TIMES, kind, str(rounds)] + files, capture_output=True, text=True, check=True).stdout.splitlines()
+        size = sum(os.path.getsize(file) for file in files)
+        print(f"parsed: {said[0]}: {size / int(said[1]) * 1e3:.1f} MB/s (the best of {rounds} rounds)")
+
+
 def main():
     with tempfile.TemporaryDirectory() as folder:
+        parse_times(folder)
         tree_times()
         long_line()
         throughput(folder)

@@ -4,11 +4,11 @@ use Rattle.std.specs.declared.alloc.Global.{Global}
 use denote.Ref.{MutBor}
 use Rattle.tree.specs.declared.stmt.Stmt.{Stmt}
 use Rattle.tree.specs.Statements.{stmt_of}
-use Rattle.syntax.specs.declared.front.Stop.{Stop}
-use Rattle.syntax.specs.declared.front.Tokens.{Tokens}
-use Rattle.syntax.specs.declared.statement.Within.{Within}
-use Rattle.syntax.specs.Statements.{stmt}
-use Rattle.syntax.specs.View.{left, Reads}
+use Rattle.expressions.specs.declared.front.Stop.{Stop}
+use Rattle.expressions.specs.declared.front.Tokens.{Tokens}
+use Rattle.grammar.specs.declared.kind.Within.{Within}
+use Rattle.grammar.specs.Statements.{stmt}
+use Rattle.expressions.specs.View.{left, Reads}
 
 pub record Holds (depth : ℕ) (pre : Global → MutBor Tokens → ℕ → Within → Type 0)
     (post : Global → MutBor Tokens → ℕ → Within → Result Stmt Stop → MutBor Tokens → Type 0) : Type 0 where

@@ -1,8 +1,2 @@
-pub mod Front
-pub mod Expressions
-pub mod View
-pub mod Nests
-pub mod Parts
-pub mod Statements
 pub mod Inners
-pub mod Files
+pub mod Answers

@@ -1,16 +1,17 @@
 //! Files.
 ghost use Rattle.std.specs.Prelude.{◌≡◌, ◌&&◌, [], length, map};
-ghost use Rattle.syntax.specs.Files as spec;
-ghost use Rattle.syntax.specs.Files.{Parses, parse_of};
-ghost use Rattle.syntax.specs.Front.{gives};
-ghost use Rattle.syntax.specs.View.{left, Reads};
+ghost use Rattle.grammar.specs.Files as spec;
+ghost use Rattle.grammar.specs.Files.{parse_of};
+ghost use Rattle.syntax.specs.Answers.{Gives, Parses};
+ghost use Rattle.grammar.specs.Front.{gives};
+ghost use Rattle.expressions.specs.View.{left, Reads};
 ghost use Rattle.tree.specs.Statements.{top_of, file_of};
 
-use crate::front::{Stop, Tokens};
 use crate::function::def_rest;
-use crate::kind::FileKind;
 use crate::load::loads;
-use crate::statement::{Within, simple};
+use crate::statement::simple;
+use expressions::{Stop, Tokens};
+use grammar::{FileKind, Within};
 use std::alloc::Global;
 use tokens::{Refused, Symbol, read_tokens};
 use tree::{File, Top};
@@ -26,7 +27,7 @@ fn has_defs(kind: FileKind) -> bool
 }
 
 /// Reads a statement or a function of a file.
-#[tactic(auto, unfolding(crate::specs::Files::top))]
+#[tactic(auto, unfolding(grammar::specs::Files::top))]
 fn top(alloc: Global, t: &mut Tokens<'_, '_>, kind: FileKind) -> Result<Top, Stop>
     ensures { Reads top_of (spec.top kind (left t.old)) result (left t.new) }
 {
@@ -47,7 +48,7 @@ fn top(alloc: Global, t: &mut Tokens<'_, '_>, kind: FileKind) -> Result<Top, Sto
 }
 
 /// Reads the statements and functions of a file.
-#[tactic(auto, unfolding(crate::specs::Files::tops))]
+#[tactic(auto, unfolding(grammar::specs::Files::tops))]
 fn tops(alloc: Global, t: &mut Tokens<'_, '_>, kind: FileKind) -> Result<Vec<Top>, Stop>
     ensures { Reads (λ v. map top_of v.items) (spec.tops kind (left t.old)) result (left t.new) }
 {
@@ -63,7 +64,7 @@ fn tops(alloc: Global, t: &mut Tokens<'_, '_>, kind: FileKind) -> Result<Vec<Top
 }
 
 /// Takes a first statement that is one string alone, as its line.
-#[tactic(auto, unfolding(crate::specs::Files::leading))]
+#[tactic(auto, unfolding(grammar::specs::Files::leading))]
 fn leading(t: &mut Tokens<'_, '_>) -> Option<usize>
     ensures { spec.leading (left t.old) ≡ gives result (left t.new) }
 {
@@ -78,7 +79,7 @@ fn leading(t: &mut Tokens<'_, '_>) -> Option<usize>
 }
 
 /// Reads a file.
-#[tactic(auto, unfolding(crate::specs::Files::file))]
+#[tactic(auto, unfolding(grammar::specs::Files::file))]
 fn file(alloc: Global, t: &mut Tokens<'_, '_>, kind: FileKind) -> Result<File, Stop>
     ensures { Reads file_of (spec.file kind (left t.old)) result (left t.new) }
 {
@@ -95,12 +96,10 @@ fn file(alloc: Global, t: &mut Tokens<'_, '_>, kind: FileKind) -> Result<File, S
     })
 }
 
-/// Parses a file. The first that applies is answered: fault 2 with the line of the first byte over 127; fault 3 where
-/// the tokens are malformed; fault 12 where a token is nested deeper than 64; fault 3 where the tokens are no file of
-/// the grammar; the tree. Memory is answered only where a growth was refused.
-#[tactic(auto, unfolding(crate::specs::Files::parse_of))]
-pub fn parse(alloc: Global, text: &[u8], kind: FileKind) -> Result<File, Refused>
-    ensures { Parses (parse_of kind text.now) result }
+/// Reads a text as the functions of the definitions do.
+#[tactic(auto, unfolding(grammar::specs::Files::parse_of))]
+fn parsed(alloc: Global, text: &[u8], kind: FileKind) -> Result<File, Refused>
+    ensures { Gives (parse_of kind text.now) result }
 {
     match read_tokens(alloc, text) {
         Ok(found) => {
@@ -115,4 +114,13 @@ pub fn parse(alloc: Global, text: &[u8], kind: FileKind) -> Result<File, Refused
         }
         Err(refused) => Err(refused),
     }
+}
+
+/// Parses a file: the tree is the one that the grammar relates to the text, with its lines. The first fault that applies
+/// is answered: 2 with the line of the first byte over 127; 3 where the tokens are malformed; 12 where a token is nested
+/// deeper than 64; 3 where the grammar relates the tokens to no tree. Memory is answered only where a growth was refused.
+pub fn parse(alloc: Global, text: &[u8], kind: FileKind) -> Result<File, Refused>
+    ensures { Parses kind text.now result }
+{
+    parsed(alloc, text, kind)
 }

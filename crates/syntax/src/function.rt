@@ -1,11 +1,13 @@
 //! Functions.
 ghost use Rattle.std.specs.Prelude.{◌≡◌, [], length, map};
-ghost use Rattle.syntax.specs.Files as spec;
-ghost use Rattle.syntax.specs.View.{left, Reads};
+ghost use Rattle.grammar.specs.Files as spec;
+ghost use Rattle.grammar.specs.Targets.{has_name, has_default};
+ghost use Rattle.expressions.specs.View.{left, Reads};
 ghost use Rattle.tree.specs.Statements.{stmt_of, param_of, fn_of};
 
-use crate::front::{Stop, Tokens};
-use crate::statement::{LEVELS, Suites, Within, stmt, test};
+use crate::statement::{LEVELS, Suites, stmt, test};
+use expressions::{Stop, Tokens};
+use grammar::Within;
 use std::alloc::Global;
 use std::sync::Arc;
 use texts::Text;
@@ -14,7 +16,7 @@ use tree::{Def, Param, Stmt};
 
 /// A parameter has that name.
 fn has_name(params: &[Param], name: &Text) -> bool
-    ensures { result ≡ spec.has_name (map param_of params.now) name.now }
+    ensures { result ≡ has_name (map param_of params.now) name.now }
 {
     for p in params {
         if p.name == *name {
@@ -26,7 +28,7 @@ fn has_name(params: &[Param], name: &Text) -> bool
 
 /// A parameter has a default.
 fn has_default(params: &[Param]) -> bool
-    ensures { result ≡ spec.has_default (map param_of params.now) }
+    ensures { result ≡ has_default (map param_of params.now) }
 {
     for p in params {
         if p.default.is_some() {
@@ -37,7 +39,7 @@ fn has_default(params: &[Param]) -> bool
 }
 
 /// Reads what stands behind the name of a parameter.
-#[tactic(auto, unfolding(crate::specs::Files::param_rest))]
+#[tactic(auto, unfolding(grammar::specs::Files::param_rest))]
 fn param_rest(
     alloc: Global,
     t: &mut Tokens<'_, '_>,
@@ -63,7 +65,7 @@ fn param_rest(
 }
 
 /// Reads a parameter.
-#[tactic(auto, unfolding(crate::specs::Files::param))]
+#[tactic(auto, unfolding(grammar::specs::Files::param))]
 fn param(alloc: Global, t: &mut Tokens<'_, '_>, params: &[Param]) -> Result<Param, Stop>
     ensures { Reads param_of (spec.param (map param_of params.now) (left t.old)) result (left t.new) }
 {
@@ -76,7 +78,7 @@ fn param(alloc: Global, t: &mut Tokens<'_, '_>, params: &[Param]) -> Result<Para
 }
 
 /// Reads parameters up to their closing bracket.
-#[tactic(auto, unfolding(crate::specs::Files::params))]
+#[tactic(auto, unfolding(grammar::specs::Files::params))]
 fn params(alloc: Global, t: &mut Tokens<'_, '_>) -> Result<Vec<Param>, Stop>
     ensures { Reads (λ v. map param_of v.items) (spec.params (left t.old)) result (left t.new) }
 {
@@ -95,7 +97,7 @@ fn params(alloc: Global, t: &mut Tokens<'_, '_>) -> Result<Vec<Param>, Stop>
 }
 
 /// Reads the suite of a function.
-#[tactic(auto, unfolding(crate::specs::Files::body))]
+#[tactic(auto, unfolding(grammar::specs::Files::body))]
 fn body(alloc: Global, t: &mut Tokens<'_, '_>) -> Result<Vec<Stmt>, Stop>
     ensures { Reads (λ v. map stmt_of v.items) (spec.body (left t.old)) result (left t.new) }
 {
@@ -112,7 +114,7 @@ fn body(alloc: Global, t: &mut Tokens<'_, '_>) -> Result<Vec<Stmt>, Stop>
 }
 
 /// Reads a function behind its `def`.
-#[tactic(auto, unfolding(crate::specs::Files::def_rest))]
+#[tactic(auto, unfolding(grammar::specs::Files::def_rest))]
 pub(crate) fn def_rest(alloc: Global, t: &mut Tokens<'_, '_>, line: usize) -> Result<Def, Stop>
     ensures { Reads fn_of (spec.def_rest line (left t.old)) result (left t.new) }
 {

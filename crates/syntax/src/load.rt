@@ -1,17 +1,17 @@
 //! Load statements.
 ghost use Rattle.std.specs.Prelude.{◌≡◌, ◌∷◌, [], length, map};
-ghost use Rattle.syntax.specs.Files as spec;
-ghost use Rattle.syntax.specs.View.{left, Reads};
+ghost use Rattle.grammar.specs.Files as spec;
+ghost use Rattle.expressions.specs.View.{left, Reads};
 ghost use Rattle.tree.specs.Statements.{item_of, load_of};
 
-use crate::front::{Stop, Tokens};
+use expressions::{Stop, Tokens};
 use std::alloc::Global;
 use texts::Text;
 use tokens::{Symbol, is_name, string_text};
 use tree::{LoadItem, LoadStmt};
 
 /// Reads a string, as the text that it stands for.
-#[tactic(auto, unfolding(crate::specs::Files::a_string))]
+#[tactic(auto, unfolding(grammar::specs::Files::a_string))]
 fn a_string(alloc: Global, t: &mut Tokens<'_, '_>) -> Result<Text, Stop>
     ensures { Reads (λ x. x) (spec.a_string (left t.old)) result (left t.new) }
 {
@@ -26,7 +26,7 @@ fn a_string(alloc: Global, t: &mut Tokens<'_, '_>) -> Result<Text, Stop>
 }
 
 /// Reads a string that is a name.
-#[tactic(auto, unfolding(crate::specs::Files::a_name_string))]
+#[tactic(auto, unfolding(grammar::specs::Files::a_name_string))]
 fn a_name_string(alloc: Global, t: &mut Tokens<'_, '_>) -> Result<Text, Stop>
     ensures { Reads (λ x. x) (spec.a_name_string (left t.old)) result (left t.new) }
 {
@@ -44,7 +44,7 @@ fn a_name_string(alloc: Global, t: &mut Tokens<'_, '_>) -> Result<Text, Stop>
 }
 
 /// Reads an item of a load.
-#[tactic(auto, unfolding(crate::specs::Files::item))]
+#[tactic(auto, unfolding(grammar::specs::Files::item))]
 fn item(alloc: Global, t: &mut Tokens<'_, '_>) -> Result<LoadItem, Stop>
     ensures { Reads item_of (spec.item (left t.old)) result (left t.new) }
 {
@@ -60,7 +60,7 @@ fn item(alloc: Global, t: &mut Tokens<'_, '_>) -> Result<LoadItem, Stop>
 }
 
 /// Reads the rest of the items of a load.
-#[tactic(auto, unfolding(crate::specs::Files::more_items))]
+#[tactic(auto, unfolding(grammar::specs::Files::more_items))]
 fn more_items(alloc: Global, t: &mut Tokens<'_, '_>, first: LoadItem) -> Result<Vec<LoadItem>, Stop>
     ensures { Reads (λ v. map item_of v.items) (spec.more_items (item_of first) (left t.old)) result (left t.new) }
 {
@@ -80,7 +80,7 @@ fn more_items(alloc: Global, t: &mut Tokens<'_, '_>, first: LoadItem) -> Result<
 }
 
 /// Reads a load statement behind its `load`.
-#[tactic(auto, unfolding(crate::specs::Files::load_rest))]
+#[tactic(auto, unfolding(grammar::specs::Files::load_rest))]
 fn load_rest(alloc: Global, t: &mut Tokens<'_, '_>, line: usize) -> Result<LoadStmt, Stop>
     ensures { Reads load_of (spec.load_rest line (left t.old)) result (left t.new) }
 {
@@ -95,7 +95,7 @@ fn load_rest(alloc: Global, t: &mut Tokens<'_, '_>, line: usize) -> Result<LoadS
 }
 
 /// Reads the load statements.
-#[tactic(auto, unfolding(crate::specs::Files::loads))]
+#[tactic(auto, unfolding(grammar::specs::Files::loads))]
 pub(crate) fn loads(alloc: Global, t: &mut Tokens<'_, '_>) -> Result<Vec<LoadStmt>, Stop>
     ensures { Reads (λ v. map load_of v.items) (spec.loads (left t.old)) result (left t.new) }
 {

@@ -2,14 +2,14 @@
 //! is proved by itself.
 ghost use Rattle.std.specs.Prelude.{◌≡◌, ◌∷◌, ◌++◌, [], length, map};
 ghost use Rattle.syntax.specs.Inners.{Holds};
-ghost use Rattle.syntax.specs.Statements as spec;
-ghost use Rattle.syntax.specs.View.{left, Reads};
+ghost use Rattle.grammar.specs.Statements as spec;
+ghost use Rattle.grammar.specs.Targets.{can_augment};
+ghost use Rattle.expressions.specs.View.{left, Reads};
 ghost use Rattle.tree.specs.View.{tree_of};
 ghost use Rattle.tree.specs.Statements.{stmt_of, branch_of};
 
-use crate::front::{Stop, Tokens};
-use crate::grammar::{Grammar, Kind, expr};
-use crate::target::is_target;
+use expressions::{Stop, Tokens, expr, is_target, targets};
+use grammar::{Kind, Within};
 use std::alloc::Global;
 use tokens::Symbol;
 use tree::{BinaryOp, Branch, Expr, Stmt};
@@ -17,15 +17,8 @@ use tree::{BinaryOp, Branch, Expr, Stmt};
 /// How many levels an expression has: one more than brackets, signs and the like can be nested.
 pub(crate) const LEVELS: usize = 65;
 
-/// What a statement stands in.
-#[derive(Clone, Copy, Drop)]
-pub(crate) struct Within {
-    pub(crate) in_def: bool,
-    pub(crate) in_for: bool,
-}
-
 /// Reads an expression.
-#[tactic(auto, unfolding(crate::specs::Statements::test))]
+#[tactic(auto, unfolding(grammar::specs::Statements::test))]
 pub(crate) fn test(alloc: Global, t: &mut Tokens<'_, '_>) -> Result<Expr, Stop>
     ensures { Reads tree_of (spec.test (left t.old)) result (left t.new) }
 {
@@ -33,20 +26,15 @@ pub(crate) fn test(alloc: Global, t: &mut Tokens<'_, '_>) -> Result<Expr, Stop>
 }
 
 /// Reads the targets of a `for`.
-#[tactic(auto, unfolding(crate::specs::Statements::loop_targets))]
+#[tactic(auto, unfolding(grammar::specs::Statements::loop_targets))]
 fn loop_targets(alloc: Global, t: &mut Tokens<'_, '_>) -> Result<Expr, Stop>
     ensures { Reads tree_of (spec.loop_targets (left t.old)) result (left t.new) }
 {
-    let levels = Grammar {
-        alloc,
-        depth: LEVELS - 1,
-        expr,
-    };
-    levels.targets(t)
+    targets(alloc, t, LEVELS - 1)
 }
 
 /// Reads the rest of several expressions.
-#[tactic(auto, unfolding(crate::specs::Statements::more_exprs))]
+#[tactic(auto, unfolding(grammar::specs::Statements::more_exprs))]
 fn more_exprs(alloc: Global, t: &mut Tokens<'_, '_>, first: Expr) -> Result<Vec<Expr>, Stop>
     ensures { Reads (λ v. map tree_of v.items) (spec.more_exprs (tree_of first) (left t.old)) result (left t.new) }
 {
@@ -63,7 +51,7 @@ fn more_exprs(alloc: Global, t: &mut Tokens<'_, '_>, first: Expr) -> Result<Vec<
 }
 
 /// Reads expressions: a tuple if a comma.
-#[tactic(auto, unfolding(crate::specs::Statements::exprs))]
+#[tactic(auto, unfolding(grammar::specs::Statements::exprs))]
 fn exprs(alloc: Global, t: &mut Tokens<'_, '_>) -> Result<Expr, Stop>
     ensures { Reads tree_of (spec.exprs (left t.old)) result (left t.new) }
 {
@@ -77,7 +65,7 @@ fn exprs(alloc: Global, t: &mut Tokens<'_, '_>) -> Result<Expr, Stop>
 }
 
 /// The operator of an augmented assignment that the next token is.
-#[tactic(auto, unfolding(crate::specs::Statements::augment_at))]
+#[tactic(auto, unfolding(grammar::specs::Statements::augment_at))]
 fn augment_at(t: &Tokens<'_, '_>) -> Option<BinaryOp>
     ensures { result ≡ spec.augment_at (left t.now) }
 {
@@ -98,7 +86,7 @@ fn augment_at(t: &Tokens<'_, '_>) -> Option<BinaryOp>
 
 /// An expression can be the target of an augmented assignment.
 fn can_augment(e: &Expr, in_def: bool) -> bool
-    ensures { result ≡ spec.can_augment in_def (tree_of e.now) }
+    ensures { result ≡ can_augment in_def (tree_of e.now) }
 {
     match e {
         Expr::Name(_) => in_def,
@@ -121,7 +109,7 @@ fn can_augment(e: &Expr, in_def: bool) -> bool
 }
 
 /// Reads what stands behind `return`.
-#[tactic(auto, unfolding(crate::specs::Statements::return_rest))]
+#[tactic(auto, unfolding(grammar::specs::Statements::return_rest))]
 fn return_rest(alloc: Global, t: &mut Tokens<'_, '_>, line: usize) -> Result<Stmt, Stop>
     ensures { Reads stmt_of (spec.return_rest line (left t.old)) result (left t.new) }
 {
@@ -133,7 +121,7 @@ fn return_rest(alloc: Global, t: &mut Tokens<'_, '_>, line: usize) -> Result<Stm
 }
 
 /// Reads what stands behind the first expressions of a statement.
-#[tactic(auto, unfolding(crate::specs::Statements::expr_rest))]
+#[tactic(auto, unfolding(grammar::specs::Statements::expr_rest))]
 fn expr_rest(
     alloc: Global,
     t: &mut Tokens<'_, '_>,
@@ -162,7 +150,7 @@ fn expr_rest(
 }
 
 /// Reads a small statement.
-#[tactic(auto, unfolding(crate::specs::Statements::small))]
+#[tactic(auto, unfolding(grammar::specs::Statements::small))]
 fn small(alloc: Global, t: &mut Tokens<'_, '_>, within: Within) -> Result<Stmt, Stop>
     ensures { Reads stmt_of (spec.small within (left t.old)) result (left t.new) }
 {
@@ -195,7 +183,7 @@ fn small(alloc: Global, t: &mut Tokens<'_, '_>, within: Within) -> Result<Stmt, 
 }
 
 /// Reads a small statement and the end of its line.
-#[tactic(auto, unfolding(crate::specs::Statements::simple))]
+#[tactic(auto, unfolding(grammar::specs::Statements::simple))]
 pub(crate) fn simple(alloc: Global, t: &mut Tokens<'_, '_>, within: Within) -> Result<Stmt, Stop>
     ensures { Reads stmt_of (spec.simple within (left t.old)) result (left t.new) }
 {
@@ -223,7 +211,7 @@ impl<F: Fn(Global, &mut Tokens<'_, '_>, usize, Within) -> Result<Stmt, Stop>> Su
     }
 
     /// Reads the statements of a block.
-    #[tactic(auto, unfolding(crate::specs::Statements::stmts))]
+    #[tactic(auto, unfolding(grammar::specs::Statements::stmts))]
     fn stmts(&self, t: &mut Tokens<'_, '_>, within: Within) -> Result<Vec<Stmt>, Stop>
         requires { Holds self.now.depth (F.pre self.now.stmt) (F.post self.now.stmt) }
         ensures { Reads (λ v. map stmt_of v.items) (spec.stmts (spec.stmt self.now.depth) within (left t.old)) result (left t.new) }
@@ -240,7 +228,7 @@ impl<F: Fn(Global, &mut Tokens<'_, '_>, usize, Within) -> Result<Stmt, Stop>> Su
     }
 
     /// Reads a block.
-    #[tactic(auto, unfolding(crate::specs::Statements::block))]
+    #[tactic(auto, unfolding(grammar::specs::Statements::block))]
     fn block(&self, t: &mut Tokens<'_, '_>, within: Within) -> Result<Vec<Stmt>, Stop>
         requires { Holds self.now.depth (F.pre self.now.stmt) (F.post self.now.stmt) }
         ensures { Reads (λ v. map stmt_of v.items) (spec.block (spec.stmt self.now.depth) within (left t.old)) result (left t.new) }
@@ -255,7 +243,7 @@ impl<F: Fn(Global, &mut Tokens<'_, '_>, usize, Within) -> Result<Stmt, Stop>> Su
     }
 
     /// Reads a suite.
-    #[tactic(auto, unfolding(crate::specs::Statements::suite))]
+    #[tactic(auto, unfolding(grammar::specs::Statements::suite))]
     pub(crate) fn suite(&self, t: &mut Tokens<'_, '_>, within: Within) -> Result<Vec<Stmt>, Stop>
         requires { Holds self.now.depth (F.pre self.now.stmt) (F.post self.now.stmt) }
         ensures { Reads (λ v. map stmt_of v.items) (spec.suite (spec.stmt self.now.depth) within (left t.old)) result (left t.new) }
@@ -271,7 +259,7 @@ impl<F: Fn(Global, &mut Tokens<'_, '_>, usize, Within) -> Result<Stmt, Stop>> Su
     }
 
     /// Reads a branch behind its word.
-    #[tactic(auto, unfolding(crate::specs::Statements::branch))]
+    #[tactic(auto, unfolding(grammar::specs::Statements::branch))]
     fn branch(&self, t: &mut Tokens<'_, '_>, within: Within, line: usize) -> Result<Branch, Stop>
         requires { Holds self.now.depth (F.pre self.now.stmt) (F.post self.now.stmt) }
         ensures { Reads branch_of (spec.branch (spec.stmt self.now.depth) within line (left t.old)) result (left t.new) }
@@ -284,7 +272,7 @@ impl<F: Fn(Global, &mut Tokens<'_, '_>, usize, Within) -> Result<Stmt, Stop>> Su
     }
 
     /// Reads the `elif` branches.
-    #[tactic(auto, unfolding(crate::specs::Statements::more_branches))]
+    #[tactic(auto, unfolding(grammar::specs::Statements::more_branches))]
     fn more_branches(
         &self,
         t: &mut Tokens<'_, '_>,
@@ -308,7 +296,7 @@ impl<F: Fn(Global, &mut Tokens<'_, '_>, usize, Within) -> Result<Stmt, Stop>> Su
     }
 
     /// Reads the `else` branch.
-    #[tactic(auto, unfolding(crate::specs::Statements::other))]
+    #[tactic(auto, unfolding(grammar::specs::Statements::other))]
     fn other(&self, t: &mut Tokens<'_, '_>, within: Within) -> Result<Vec<Stmt>, Stop>
         requires { Holds self.now.depth (F.pre self.now.stmt) (F.post self.now.stmt) }
         ensures { Reads (λ v. map stmt_of v.items) (spec.other (spec.stmt self.now.depth) within (left t.old)) result (left t.new) }
@@ -322,7 +310,7 @@ impl<F: Fn(Global, &mut Tokens<'_, '_>, usize, Within) -> Result<Stmt, Stop>> Su
     }
 
     /// Reads what stands behind `if`.
-    #[tactic(auto, unfolding(crate::specs::Statements::if_rest))]
+    #[tactic(auto, unfolding(grammar::specs::Statements::if_rest))]
     fn if_rest(&self, t: &mut Tokens<'_, '_>, within: Within, line: usize) -> Result<Stmt, Stop>
         requires { Holds self.now.depth (F.pre self.now.stmt) (F.post self.now.stmt) }
         ensures { Reads stmt_of (spec.if_rest (spec.stmt self.now.depth) within line (left t.old)) result (left t.new) }
@@ -335,7 +323,7 @@ impl<F: Fn(Global, &mut Tokens<'_, '_>, usize, Within) -> Result<Stmt, Stop>> Su
     }
 
     /// Reads what stands behind `for`.
-    #[tactic(auto, unfolding(crate::specs::Statements::for_rest))]
+    #[tactic(auto, unfolding(grammar::specs::Statements::for_rest))]
     fn for_rest(&self, t: &mut Tokens<'_, '_>, within: Within, line: usize) -> Result<Stmt, Stop>
         requires { Holds self.now.depth (F.pre self.now.stmt) (F.post self.now.stmt) }
         ensures { Reads stmt_of (spec.for_rest (spec.stmt self.now.depth) within line (left t.old)) result (left t.new) }
@@ -354,7 +342,7 @@ impl<F: Fn(Global, &mut Tokens<'_, '_>, usize, Within) -> Result<Stmt, Stop>> Su
     }
 
     /// Reads a statement.
-    #[tactic(auto, unfolding(crate::specs::Statements::statement))]
+    #[tactic(auto, unfolding(grammar::specs::Statements::statement))]
     pub(crate) fn statement(&self, t: &mut Tokens<'_, '_>, within: Within) -> Result<Stmt, Stop>
         requires { Holds self.now.depth (F.pre self.now.stmt) (F.post self.now.stmt) }
         ensures { Reads stmt_of (spec.statement (spec.stmt self.now.depth) within (left t.old)) result (left t.new) }

@@ -9,3 +9,4 @@ pub mod View
 pub mod Nesting
 pub mod Reading
 pub mod Counts
+pub mod Escapes

@@ -1,5 +1,7 @@
 //! The text that a string stands for.
 ghost use Rattle.std.specs.Prelude.{◌≡◌, ◌<◌, IfOk};
+ghost use Rattle.std.specs.Str.{IsAscii};
+ghost use Rattle.tokens.specs.Escapes.{has_escape};
 ghost use Rattle.tokens.specs.Strings.{meant, unescaped};
 
 use crate::token::Ascii;
@@ -19,12 +21,37 @@ fn meant(b: u8) -> u8
     }
 }
 
+/// A backslash stands in what is written.
+fn has_escape(written: &[u8]) -> bool
+    ensures { result ≡ has_escape written.now }
+{
+    for b in written {
+        if *b == b'\\' {
+            return true;
+        }
+    }
+    false
+}
+
 /// The text that a string stands for, from what is written between its quotes: each backslash and the byte behind it
 /// stand for one byte.
+#[tactic(auto, using(crate::proofs::Unescaped::as_written))]
 pub fn string_text(alloc: Global, written: Ascii<'_>) -> Result<Text, Memory>
     ensures { IfOk result (λ t. t ≡ unescaped written.entry.bytes.now) }
 {
-    let bytes = written.bytes;
+    if !has_escape(written.bytes) {
+        let text = Text::new(alloc, written.as_str())?;
+        return Ok(text);
+    }
+    let text = without_escapes(alloc, written.bytes)?;
+    Ok(text)
+}
+
+/// The same where a backslash may stand.
+fn without_escapes(alloc: Global, bytes: &[u8]) -> Result<Text, Memory>
+    requires { IsAscii bytes.now }
+    ensures { IfOk result (λ t. t ≡ unescaped bytes.now) }
+{
     let mut out = String::new(alloc);
     let mut escaped = false;
     for b in bytes {

@@ -1,6 +1,6 @@
 use Rattle.std.proofs.Common.{◌≡◌, drop, map}
 use Rattle.tree.specs.Statements.{param_of}
-use Rattle.syntax.specs.Files.{has_default}
+use Rattle.grammar.specs.Targets.{has_default}
 use Rattle.syntax.proofs.function.has_default.Given as goal
 
 abbrev pub invariant-loop-p : goal.invariant-loop-p

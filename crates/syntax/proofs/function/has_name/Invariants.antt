@@ -1,6 +1,6 @@
 use Rattle.std.proofs.Common.{◌≡◌, drop, map}
 use Rattle.tree.specs.Statements.{param_of}
-use Rattle.syntax.specs.Files.{has_name}
+use Rattle.grammar.specs.Targets.{has_name}
 use Rattle.syntax.proofs.function.has_name.Given as goal
 
 abbrev pub invariant-loop-p : goal.invariant-loop-p

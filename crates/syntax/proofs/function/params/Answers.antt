@@ -1,8 +1,8 @@
 use Rattle.std.proofs.Common.{map, rules, arith}
 use Rattle.std.proofs.lemmas.Grind.{common_steps}
 use Rattle.tree.specs.Statements.{param_of}
-use Rattle.syntax.specs.View.{left}
-use Rattle.syntax.specs.Files.{params_after}
+use Rattle.expressions.specs.View.{left}
+use Rattle.grammar.specs.Files.{params_after}
 use Rattle.syntax.proofs.Turns.{in_turn, after_turns}
 use Rattle.syntax.proofs.function.params.Goals as goal
 

@@ -1,7 +1,7 @@
 use Rattle.std.proofs.Common.{◌≡◌, ◌-◌, map}
 use Rattle.tree.specs.Statements.{param_of}
-use Rattle.syntax.specs.View.{left}
-use Rattle.syntax.specs.Files.{params, params_after}
+use Rattle.expressions.specs.View.{left}
+use Rattle.grammar.specs.Files.{params, params_after}
 use Rattle.syntax.proofs.function.params.Given as goal
 
 abbrev pub invariant-loop-turn : goal.invariant-loop-turn

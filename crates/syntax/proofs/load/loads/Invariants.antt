@@ -1,7 +1,7 @@
 use Rattle.std.proofs.Common.{◌≡◌, ◌-◌, map}
 use Rattle.tree.specs.Statements.{load_of}
-use Rattle.syntax.specs.View.{left}
-use Rattle.syntax.specs.Files.{loads, loads_after}
+use Rattle.expressions.specs.View.{left}
+use Rattle.grammar.specs.Files.{loads, loads_after}
 use Rattle.syntax.proofs.load.loads.Given as goal
 
 abbrev pub invariant-loop-turn : goal.invariant-loop-turn

@@ -1,7 +1,7 @@
 use Rattle.std.proofs.Common.{◌≡◌, ◌-◌, map}
 use Rattle.tree.specs.Statements.{item_of}
-use Rattle.syntax.specs.View.{left}
-use Rattle.syntax.specs.Files.{more_items, items_after}
+use Rattle.expressions.specs.View.{left}
+use Rattle.grammar.specs.Files.{more_items, items_after}
 use Rattle.syntax.proofs.load.more_items.Given as goal
 
 abbrev pub invariant-loop-turn : goal.invariant-loop-turn

@@ -1,6 +1,6 @@
 use Rattle.std.proofs.Common.{◌≡◌, ap, arith}
-use Rattle.syntax.specs.Statements.{stmt}
-use Rattle.syntax.specs.View.{left}
+use Rattle.grammar.specs.Statements.{stmt}
+use Rattle.expressions.specs.View.{left}
 use Rattle.syntax.proofs.Turns.{one_level}
 use Rattle.syntax.proofs.statement.+stmt.Goals as goal
 

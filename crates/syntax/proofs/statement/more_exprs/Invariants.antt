@@ -1,7 +1,7 @@
 use Rattle.std.proofs.Common.{◌≡◌, ◌-◌, map}
 use Rattle.tree.specs.View.{tree_of}
-use Rattle.syntax.specs.View.{left}
-use Rattle.syntax.specs.Statements.{exprs_after, more_exprs}
+use Rattle.expressions.specs.View.{left}
+use Rattle.grammar.specs.Statements.{exprs_after, more_exprs}
 use Rattle.syntax.proofs.statement.more_exprs.Given as goal
 
 abbrev pub invariant-loop-turn : goal.invariant-loop-turn

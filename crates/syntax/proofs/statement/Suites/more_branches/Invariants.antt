@@ -1,7 +1,7 @@
 use Rattle.std.proofs.Common.{◌≡◌, ◌-◌, map}
 use Rattle.tree.specs.Statements.{branch_of}
-use Rattle.syntax.specs.View.{left}
-use Rattle.syntax.specs.Statements.{stmt, branches_after, more_branches}
+use Rattle.expressions.specs.View.{left}
+use Rattle.grammar.specs.Statements.{stmt, branches_after, more_branches}
 use Rattle.syntax.proofs.statement.Suites.more_branches.Given as goal
 
 abbrev pub invariant-loop-turn : goal.invariant-loop-turn

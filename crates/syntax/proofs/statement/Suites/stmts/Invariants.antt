@@ -1,7 +1,7 @@
 use Rattle.std.proofs.Common.{◌≡◌, ◌-◌, map}
 use Rattle.tree.specs.Statements.{stmt_of}
-use Rattle.syntax.specs.View.{left}
-use Rattle.syntax.specs.Statements.{stmt, stmts, stmts_after}
+use Rattle.expressions.specs.View.{left}
+use Rattle.grammar.specs.Statements.{stmt, stmts, stmts_after}
 use Rattle.syntax.proofs.statement.Suites.stmts.Given as goal
 
 abbrev pub invariant-loop-turn : goal.invariant-loop-turn

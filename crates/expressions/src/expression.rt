@@ -1,0 +1,751 @@
+//! Expressions. What holds an expression one level down takes the parser of those as a parameter, so that each
+//! function is proved by itself.
+ghost use Rattle.std.specs.Prelude.{◌≡◌, ◌∷◌, ◌++◌, [], length, map, IfOk, IsOkUnless};
+ghost use Rattle.std.specs.Option.{option_map};
+ghost use Rattle.grammar.specs.Expressions as spec;
+ghost use Rattle.expressions.specs.Nests.{Nests};
+ghost use Rattle.expressions.specs.Parts.{pairs_of, arguments_of, Compares};
+ghost use Rattle.expressions.specs.View.{left, Reads};
+ghost use Rattle.tree.specs.View.{tree_of, clause_of, bound_tree};
+ghost use Rattle.expressions.specs.declared.front.Stop.TheVariants.{Memory};
+
+use crate::front::{Stop, Tokens};
+use crate::target::is_target;
+use grammar::{Kind, Rank};
+use std::alloc::Global;
+use texts::Text;
+use tokens::{Symbol, Token, string_text};
+use tree::{BinaryOp, Clause, Expr, Literal, UnaryOp};
+
+/// The entries of a dictionary so far: keys, and as many values.
+#[derive(Drop)]
+pub(crate) struct EntriesSoFar {
+    keys: Vec<Expr>,
+    values: Vec<Expr>,
+}
+
+/// The arguments of a call so far, and the names of the last ones.
+#[derive(Drop)]
+pub(crate) struct ArgumentsSoFar {
+    values: Vec<Expr>,
+    names: Vec<Text>,
+}
+
+/// Reads expressions that hold others one level down.
+#[derive(Clone, Copy)]
+pub(crate) struct Grammar<F> {
+    alloc: Global,
+    /// How many levels may still be entered.
+    depth: usize,
+    expr: F,
+}
+
+impl<F: Fn(Global, &mut Tokens<'_, '_>, usize, Kind) -> Result<Expr, Stop>> Grammar<F> {
+    /// Reads an expression one level down.
+    fn expr(&self, t: &mut Tokens<'_, '_>, kind: Kind) -> Result<Expr, Stop>
+        requires { Nests self.now.depth (F.pre self.now.expr) (F.post self.now.expr) }
+        ensures { Reads tree_of (spec.expr self.now.depth kind (left t.old)) result (left t.new) }
+    {
+        (self.expr)(self.alloc, t, self.depth, kind)
+    }
+
+    /// Reads the rest of a list of expressions up to a closing bracket, which stays.
+    #[tactic(auto, unfolding(grammar::specs::Expressions::items))]
+    fn items(&self, t: &mut Tokens<'_, '_>, closer: Symbol, first: Expr) -> Result<Vec<Expr>, Stop>
+        requires { Nests self.now.depth (F.pre self.now.expr) (F.post self.now.expr) }
+        ensures { Reads (λ v. map tree_of v.items) (spec.items (spec.expr self.now.depth) closer (tree_of first) (left t.old)) result (left t.new) }
+    {
+        let mut found = Vec::new(self.alloc);
+        found.push(first)?;
+        for _turn in 0..t.len() {
+            if !t.eat(Symbol::Comma) {
+                return Ok(found);
+            }
+            if t.is_at(closer) {
+                return Ok(found);
+            }
+            let next = self.expr(t, Kind::Test)?;
+            found.push(next)?;
+        }
+        Ok(found)
+    }
+
+    /// Reads a target.
+    #[tactic(auto, unfolding(grammar::specs::Expressions::target))]
+    fn target(&self, t: &mut Tokens<'_, '_>) -> Result<Expr, Stop>
+        requires { Nests self.now.depth (F.pre self.now.expr) (F.post self.now.expr) }
+        ensures { Reads tree_of (spec.target (spec.expr self.now.depth) (left t.old)) result (left t.new) }
+    {
+        let found = self.expr(t, Kind::Postfix)?;
+        if is_target(&found) {
+            Ok(found)
+        } else {
+            Err(Stop::Malformed)
+        }
+    }
+
+    /// Reads the rest of several targets.
+    #[tactic(auto, unfolding(grammar::specs::Expressions::more_targets))]
+    fn more_targets(&self, t: &mut Tokens<'_, '_>, first: Expr) -> Result<Vec<Expr>, Stop>
+        requires { Nests self.now.depth (F.pre self.now.expr) (F.post self.now.expr) }
+        ensures { Reads (λ v. map tree_of v.items) (spec.more_targets (spec.expr self.now.depth) (tree_of first) (left t.old)) result (left t.new) }
+    {
+        let mut found = Vec::new(self.alloc);
+        found.push(first)?;
+        for _turn in 0..t.len() {
+            if !t.eat(Symbol::Comma) {
+                return Ok(found);
+            }
+            let next = self.target(t)?;
+            found.push(next)?;
+        }
+        Ok(found)
+    }
+
+    /// Reads targets: a tuple if a comma.
+    #[tactic(auto, unfolding(grammar::specs::Expressions::targets))]
+    fn targets(&self, t: &mut Tokens<'_, '_>) -> Result<Expr, Stop>
+        requires { Nests self.now.depth (F.pre self.now.expr) (F.post self.now.expr) }
+        ensures { Reads tree_of (spec.targets (spec.expr self.now.depth) (left t.old)) result (left t.new) }
+    {
+        let first = self.target(t)?;
+        if !t.is_at(Symbol::Comma) {
+            return Ok(first);
+        }
+        let found = self.more_targets(t, first)?;
+        let whole = Expr::tuple(self.alloc, found)?;
+        Ok(whole)
+    }
+
+    /// Reads a `for` clause behind its `for`.
+    #[tactic(auto, unfolding(grammar::specs::Expressions::for_clause))]
+    fn for_clause(&self, t: &mut Tokens<'_, '_>) -> Result<Clause, Stop>
+        requires { Nests self.now.depth (F.pre self.now.expr) (F.post self.now.expr) }
+        ensures { Reads clause_of (spec.for_clause (spec.expr self.now.depth) (left t.old)) result (left t.new) }
+    {
+        let target = self.targets(t)?;
+        t.expect(Symbol::In)?;
+        let sequence = self.expr(t, Kind::Or)?;
+        Ok(Clause::for_in(target, sequence))
+    }
+
+    /// Reads the clauses of a comprehension.
+    #[tactic(auto, unfolding(grammar::specs::Expressions::clauses))]
+    fn clauses(&self, t: &mut Tokens<'_, '_>) -> Result<Vec<Clause>, Stop>
+        requires { Nests self.now.depth (F.pre self.now.expr) (F.post self.now.expr) }
+        ensures { Reads (λ v. map clause_of v.items) (spec.clauses (spec.expr self.now.depth) (left t.old)) result (left t.new) }
+    {
+        let mut found = Vec::new(self.alloc);
+        for _turn in 0..t.len() {
+            if t.eat(Symbol::For) {
+                let next = self.for_clause(t)?;
+                found.push(next)?;
+                continue;
+            }
+            if t.eat(Symbol::If) {
+                let condition = self.expr(t, Kind::Or)?;
+                found.push(Clause::only_if(condition))?;
+                continue;
+            }
+            return Ok(found);
+        }
+        Ok(found)
+    }
+
+    /// Reads what stands behind an opening parenthesis.
+    #[tactic(auto, unfolding(grammar::specs::Expressions::in_parens))]
+    fn in_parens(&self, t: &mut Tokens<'_, '_>) -> Result<Expr, Stop>
+        requires { Nests self.now.depth (F.pre self.now.expr) (F.post self.now.expr) }
+        ensures { Reads tree_of (spec.in_parens (spec.expr self.now.depth) (left t.old)) result (left t.new) }
+    {
+        if t.eat(Symbol::RightParen) {
+            let none = Expr::tuple(self.alloc, Vec::new(self.alloc))?;
+            return Ok(none);
+        }
+        let first = self.expr(t, Kind::Test)?;
+        if !t.is_at(Symbol::Comma) {
+            t.expect(Symbol::RightParen)?;
+            return Ok(first);
+        }
+        let found = self.items(t, Symbol::RightParen, first)?;
+        t.expect(Symbol::RightParen)?;
+        let whole = Expr::tuple(self.alloc, found)?;
+        Ok(whole)
+    }
+
+    /// Reads what stands behind the opening bracket of a list.
+    #[tactic(auto, unfolding(grammar::specs::Expressions::in_brackets))]
+    fn in_brackets(&self, t: &mut Tokens<'_, '_>) -> Result<Expr, Stop>
+        requires { Nests self.now.depth (F.pre self.now.expr) (F.post self.now.expr) }
+        ensures { Reads tree_of (spec.in_brackets (spec.expr self.now.depth) (left t.old)) result (left t.new) }
+    {
+        if t.eat(Symbol::RightBracket) {
+            let none = Expr::list(self.alloc, Vec::new(self.alloc))?;
+            return Ok(none);
+        }
+        let first = self.expr(t, Kind::Test)?;
+        if t.is_at(Symbol::For) {
+            let clauses = self.clauses(t)?;
+            t.expect(Symbol::RightBracket)?;
+            let whole = Expr::list_of(self.alloc, first, clauses)?;
+            return Ok(whole);
+        }
+        let found = self.items(t, Symbol::RightBracket, first)?;
+        t.expect(Symbol::RightBracket)?;
+        let whole = Expr::list(self.alloc, found)?;
+        Ok(whole)
+    }
+
+    /// Reads an entry of a dictionary.
+    #[tactic(auto, unfolding(grammar::specs::Expressions::entry))]
+    fn entry(&self, t: &mut Tokens<'_, '_>, entries: &mut EntriesSoFar) -> Result<(), Stop>
+        requires { Nests self.now.depth (F.pre self.now.expr) (F.post self.now.expr) }
+        ensures { Reads (λ _. pairs_of entries.new) (spec.entry (spec.expr self.now.depth) (pairs_of entries.old) (left t.old)) result (left t.new) }
+    {
+        let key = self.expr(t, Kind::Test)?;
+        t.expect(Symbol::Colon)?;
+        let value = self.expr(t, Kind::Test)?;
+        entries.keys.push(key)?;
+        entries.values.push(value)?;
+        Ok(())
+    }
+
+    /// Reads the rest of the entries of a dictionary.
+    #[tactic(auto, unfolding(grammar::specs::Expressions::entries))]
+    fn entries(&self, t: &mut Tokens<'_, '_>, first: EntriesSoFar) -> Result<EntriesSoFar, Stop>
+        requires { Nests self.now.depth (F.pre self.now.expr) (F.post self.now.expr) }
+        ensures { Reads pairs_of (spec.entries (spec.expr self.now.depth) (pairs_of first) (left t.old)) result (left t.new) }
+    {
+        let mut found = first;
+        for _turn in 0..t.len() {
+            if !t.eat(Symbol::Comma) {
+                return Ok(found);
+            }
+            if t.is_at(Symbol::RightBrace) {
+                return Ok(found);
+            }
+            self.entry(t, &mut found)?;
+        }
+        Ok(found)
+    }
+
+    /// Reads a dictionary behind its first entry.
+    #[tactic(auto, unfolding(grammar::specs::Expressions::dict_after))]
+    fn dict_after(&self, t: &mut Tokens<'_, '_>, key: Expr, value: Expr) -> Result<Expr, Stop>
+        requires { Nests self.now.depth (F.pre self.now.expr) (F.post self.now.expr) }
+        ensures { Reads tree_of (spec.dict_after (spec.expr self.now.depth) (tree_of key) (tree_of value) (left t.old)) result (left t.new) }
+    {
+        if t.is_at(Symbol::For) {
+            let clauses = self.clauses(t)?;
+            t.expect(Symbol::RightBrace)?;
+            let whole = Expr::dict_of(self.alloc, key, value, clauses)?;
+            return Ok(whole);
+        }
+        let first = one_entry(self.alloc, key, value)?;
+        let found = self.entries(t, first)?;
+        t.expect(Symbol::RightBrace)?;
+        let EntriesSoFar { keys, values } = found;
+        let whole = Expr::dict(self.alloc, keys, values)?;
+        Ok(whole)
+    }
+
+    /// Reads what stands behind an opening brace.
+    #[tactic(auto, unfolding(grammar::specs::Expressions::in_braces))]
+    fn in_braces(&self, t: &mut Tokens<'_, '_>) -> Result<Expr, Stop>
+        requires { Nests self.now.depth (F.pre self.now.expr) (F.post self.now.expr) }
+        ensures { Reads tree_of (spec.in_braces (spec.expr self.now.depth) (left t.old)) result (left t.new) }
+    {
+        if t.eat(Symbol::RightBrace) {
+            let none = Expr::dict(self.alloc, Vec::new(self.alloc), Vec::new(self.alloc))?;
+            return Ok(none);
+        }
+        let key = self.expr(t, Kind::Test)?;
+        t.expect(Symbol::Colon)?;
+        let value = self.expr(t, Kind::Test)?;
+        let whole = self.dict_after(t, key, value)?;
+        Ok(whole)
+    }
+
+    /// Reads an argument of a call.
+    #[tactic(auto, unfolding(grammar::specs::Expressions::argument))]
+    fn argument(&self, t: &mut Tokens<'_, '_>, found: &mut ArgumentsSoFar) -> Result<(), Stop>
+        requires { Nests self.now.depth (F.pre self.now.expr) (F.post self.now.expr) }
+        ensures { Reads (λ _. arguments_of found.new) (spec.argument (spec.expr self.now.depth) (arguments_of found.old) (left t.old)) result (left t.new) }
+    {
+        if t.is_name_before(Symbol::Equal) {
+            let name = t.take_name(self.alloc)?;
+            t.skip();
+            let value = self.expr(t, Kind::Test)?;
+            found.values.push(value)?;
+            found.names.push(name)?;
+            return Ok(());
+        }
+        if !found.names.is_empty() {
+            return Err(Stop::Malformed);
+        }
+        let value = self.expr(t, Kind::Test)?;
+        found.values.push(value)?;
+        Ok(())
+    }
+
+    /// Reads the arguments of a call up to its closing bracket.
+    #[tactic(auto, unfolding(grammar::specs::Expressions::arguments_so_far))]
+    fn arguments_so_far(&self, t: &mut Tokens<'_, '_>) -> Result<ArgumentsSoFar, Stop>
+        requires { Nests self.now.depth (F.pre self.now.expr) (F.post self.now.expr) }
+        ensures { Reads arguments_of (spec.arguments_so_far (spec.expr self.now.depth) (left t.old)) result (left t.new) }
+    {
+        let mut found = ArgumentsSoFar {
+            values: Vec::new(self.alloc),
+            names: Vec::new(self.alloc),
+        };
+        for _turn in 0..t.len() {
+            if t.is_at(Symbol::RightParen) {
+                return Ok(found);
+            }
+            self.argument(t, &mut found)?;
+            if !t.eat(Symbol::Comma) {
+                return Ok(found);
+            }
+        }
+        Ok(found)
+    }
+
+    /// Reads the arguments of a call, and its closing bracket.
+    #[tactic(auto, unfolding(grammar::specs::Expressions::arguments))]
+    fn arguments(&self, t: &mut Tokens<'_, '_>) -> Result<ArgumentsSoFar, Stop>
+        requires { Nests self.now.depth (F.pre self.now.expr) (F.post self.now.expr) }
+        ensures { Reads arguments_of (spec.arguments (spec.expr self.now.depth) (left t.old)) result (left t.new) }
+    {
+        let found = self.arguments_so_far(t)?;
+        t.expect(Symbol::RightParen)?;
+        Ok(found)
+    }
+
+    /// Reads the upper bound of a slice.
+    #[tactic(auto, unfolding(grammar::specs::Expressions::upper_bound))]
+    fn upper_bound(&self, t: &mut Tokens<'_, '_>) -> Result<Option<Expr>, Stop>
+        requires { Nests self.now.depth (F.pre self.now.expr) (F.post self.now.expr) }
+        ensures { Reads bound_tree (spec.upper_bound (spec.expr self.now.depth) (left t.old)) result (left t.new) }
+    {
+        if t.is_at(Symbol::RightBracket) {
+            return Ok(None);
+        }
+        let bound = self.expr(t, Kind::Test)?;
+        Ok(Some(bound))
+    }
+
+    /// Reads a slice behind its colon.
+    #[tactic(auto, unfolding(grammar::specs::Expressions::slice_from))]
+    fn slice_from(
+        &self,
+        t: &mut Tokens<'_, '_>,
+        value: Expr,
+        from: Option<Expr>,
+    ) -> Result<Expr, Stop>
+        requires { Nests self.now.depth (F.pre self.now.expr) (F.post self.now.expr) }
+        ensures { Reads tree_of (spec.slice_from (spec.expr self.now.depth) (tree_of value) (bound_tree from) (left t.old)) result (left t.new) }
+    {
+        let to = self.upper_bound(t)?;
+        t.expect(Symbol::RightBracket)?;
+        let whole = Expr::slice(self.alloc, value, from, to)?;
+        Ok(whole)
+    }
+
+    /// Reads an index or a slice behind its opening bracket.
+    #[tactic(auto, unfolding(grammar::specs::Expressions::subscript))]
+    fn subscript(&self, t: &mut Tokens<'_, '_>, value: Expr) -> Result<Expr, Stop>
+        requires { Nests self.now.depth (F.pre self.now.expr) (F.post self.now.expr) }
+        ensures { Reads tree_of (spec.subscript (spec.expr self.now.depth) (tree_of value) (left t.old)) result (left t.new) }
+    {
+        if t.eat(Symbol::Colon) {
+            let whole = self.slice_from(t, value, None)?;
+            return Ok(whole);
+        }
+        let at = self.expr(t, Kind::Test)?;
+        if t.eat(Symbol::Colon) {
+            let whole = self.slice_from(t, value, Some(at))?;
+            return Ok(whole);
+        }
+        t.expect(Symbol::RightBracket)?;
+        let whole = Expr::index(self.alloc, value, at)?;
+        Ok(whole)
+    }
+
+    /// Reads a call of a method behind its dot.
+    #[tactic(auto, unfolding(grammar::specs::Expressions::method_call))]
+    fn method_call(&self, t: &mut Tokens<'_, '_>, value: Expr) -> Result<Expr, Stop>
+        requires { Nests self.now.depth (F.pre self.now.expr) (F.post self.now.expr) }
+        ensures { Reads tree_of (spec.method_call (spec.expr self.now.depth) (tree_of value) (left t.old)) result (left t.new) }
+    {
+        let name = t.take_name(self.alloc)?;
+        t.expect(Symbol::LeftParen)?;
+        let found = self.arguments(t)?;
+        let ArgumentsSoFar { values, names } = found;
+        let whole = Expr::method(self.alloc, value, name, values, names)?;
+        Ok(whole)
+    }
+
+    /// Reads a call behind its opening bracket.
+    #[tactic(auto, unfolding(grammar::specs::Expressions::call))]
+    fn call(&self, t: &mut Tokens<'_, '_>, value: Expr) -> Result<Expr, Stop>
+        requires { Nests self.now.depth (F.pre self.now.expr) (F.post self.now.expr) }
+        ensures { Reads tree_of (spec.call (spec.expr self.now.depth) (tree_of value) (left t.old)) result (left t.new) }
+    {
+        let found = self.arguments(t)?;
+        let ArgumentsSoFar { values, names } = found;
+        let whole = Expr::call(self.alloc, value, values, names)?;
+        Ok(whole)
+    }
+
+    /// Reads calls, indexes and slices behind an operand.
+    #[tactic(auto, unfolding(grammar::specs::Expressions::postfix_rest))]
+    fn postfix_rest(&self, t: &mut Tokens<'_, '_>, first: Expr) -> Result<Expr, Stop>
+        requires { Nests self.now.depth (F.pre self.now.expr) (F.post self.now.expr) }
+        ensures { Reads tree_of (spec.postfix_rest (spec.expr self.now.depth) (tree_of first) (left t.old)) result (left t.new) }
+    {
+        let mut whole = first;
+        for _turn in 0..t.len() {
+            if t.eat(Symbol::Dot) {
+                whole = self.method_call(t, whole)?;
+                continue;
+            }
+            if t.eat(Symbol::LeftParen) {
+                whole = self.call(t, whole)?;
+                continue;
+            }
+            if t.eat(Symbol::LeftBracket) {
+                whole = self.subscript(t, whole)?;
+                continue;
+            }
+            return Ok(whole);
+        }
+        Ok(whole)
+    }
+
+    /// Reads an atom behind its first token, a symbol.
+    #[tactic(auto, unfolding(grammar::specs::Expressions::symbol_atom))]
+    fn symbol_atom(&self, t: &mut Tokens<'_, '_>, first: Symbol) -> Result<Expr, Stop>
+        requires { Nests self.now.depth (F.pre self.now.expr) (F.post self.now.expr) }
+        ensures { Reads tree_of (spec.symbol_atom (spec.expr self.now.depth) first (left t.old)) result (left t.new) }
+    {
+        match first {
+            Symbol::NoneValue => Ok(Expr::literal(Literal::NoneValue)),
+            Symbol::TrueValue => Ok(Expr::literal(Literal::TrueValue)),
+            Symbol::FalseValue => Ok(Expr::literal(Literal::FalseValue)),
+            Symbol::LeftParen => {
+                let whole = self.in_parens(t)?;
+                Ok(whole)
+            }
+            Symbol::LeftBracket => {
+                let whole = self.in_brackets(t)?;
+                Ok(whole)
+            }
+            Symbol::LeftBrace => {
+                let whole = self.in_braces(t)?;
+                Ok(whole)
+            }
+            _ => Err(Stop::Malformed),
+        }
+    }
+
+    /// Reads an atom.
+    #[tactic(auto, unfolding(grammar::specs::Expressions::atom))]
+    fn atom(&self, t: &mut Tokens<'_, '_>) -> Result<Expr, Stop>
+        requires { Nests self.now.depth (F.pre self.now.expr) (F.post self.now.expr) }
+        ensures { Reads tree_of (spec.atom (spec.expr self.now.depth) (left t.old)) result (left t.new) }
+    {
+        match t.take() {
+            Some(Token::Name(name)) => {
+                let text = Text::new(self.alloc, name.as_str())?;
+                Ok(Expr::name(text))
+            }
+            Some(Token::Int(n)) => Ok(Expr::int(n)),
+            Some(Token::Text(written)) => {
+                let text = string_text(self.alloc, written)?;
+                Ok(Expr::string(text))
+            }
+            Some(Token::Symbol(first)) => {
+                let whole = self.symbol_atom(t, first)?;
+                Ok(whole)
+            }
+            None => Err(Stop::Malformed),
+        }
+    }
+
+    /// Reads an atom with calls, indexes and slices.
+    #[tactic(auto, unfolding(grammar::specs::Expressions::postfix))]
+    fn postfix(&self, t: &mut Tokens<'_, '_>) -> Result<Expr, Stop>
+        requires { Nests self.now.depth (F.pre self.now.expr) (F.post self.now.expr) }
+        ensures { Reads tree_of (spec.postfix (spec.expr self.now.depth) (left t.old)) result (left t.new) }
+    {
+        let first = self.atom(t)?;
+        let whole = self.postfix_rest(t, first)?;
+        Ok(whole)
+    }
+
+    /// Reads an operand with its signs.
+    #[tactic(auto, unfolding(grammar::specs::Expressions::unary))]
+    fn unary(&self, t: &mut Tokens<'_, '_>) -> Result<Expr, Stop>
+        requires { Nests self.now.depth (F.pre self.now.expr) (F.post self.now.expr) }
+        ensures { Reads tree_of (spec.unary (spec.expr self.now.depth) (left t.old)) result (left t.new) }
+    {
+        if t.eat(Symbol::Plus) {
+            let operand = self.expr(t, Kind::Unary)?;
+            let whole = Expr::unary(self.alloc, UnaryOp::Plus, operand)?;
+            return Ok(whole);
+        }
+        if t.eat(Symbol::Minus) {
+            let operand = self.expr(t, Kind::Unary)?;
+            let whole = Expr::unary(self.alloc, UnaryOp::Minus, operand)?;
+            return Ok(whole);
+        }
+        let whole = self.postfix(t)?;
+        Ok(whole)
+    }
+
+    /// Reads a product.
+    #[tactic(auto, unfolding(grammar::specs::Expressions::term, grammar::specs::Expressions::chain))]
+    fn term(&self, t: &mut Tokens<'_, '_>) -> Result<Expr, Stop>
+        requires { Nests self.now.depth (F.pre self.now.expr) (F.post self.now.expr) }
+        ensures { Reads tree_of (spec.term (spec.expr self.now.depth) (left t.old)) result (left t.new) }
+    {
+        let mut whole = self.unary(t)?;
+        for _turn in 0..t.len() {
+            let Some(op) = operator_at(t, Rank::Term) else {
+                return Ok(whole);
+            };
+            t.skip();
+            let right = self.unary(t)?;
+            whole = Expr::binary(self.alloc, op, whole, right)?;
+        }
+        Ok(whole)
+    }
+
+    /// Reads a sum.
+    #[tactic(auto, unfolding(grammar::specs::Expressions::sum, grammar::specs::Expressions::chain))]
+    fn sum(&self, t: &mut Tokens<'_, '_>) -> Result<Expr, Stop>
+        requires { Nests self.now.depth (F.pre self.now.expr) (F.post self.now.expr) }
+        ensures { Reads tree_of (spec.sum (spec.expr self.now.depth) (left t.old)) result (left t.new) }
+    {
+        let mut whole = self.term(t)?;
+        for _turn in 0..t.len() {
+            let Some(op) = operator_at(t, Rank::Sum) else {
+                return Ok(whole);
+            };
+            t.skip();
+            let right = self.term(t)?;
+            whole = Expr::binary(self.alloc, op, whole, right)?;
+        }
+        Ok(whole)
+    }
+
+    /// Reads a comparison; comparisons do not chain.
+    #[tactic(auto, unfolding(grammar::specs::Expressions::comparison))]
+    fn comparison(&self, t: &mut Tokens<'_, '_>) -> Result<Expr, Stop>
+        requires { Nests self.now.depth (F.pre self.now.expr) (F.post self.now.expr) }
+        ensures { Reads tree_of (spec.comparison (spec.sum (spec.expr self.now.depth)) (left t.old)) result (left t.new) }
+    {
+        let first = self.sum(t)?;
+        let Some(op) = take_comparison(t) else {
+            return Ok(first);
+        };
+        let right = self.sum(t)?;
+        let whole = Expr::binary(self.alloc, op, first, right)?;
+        Ok(whole)
+    }
+
+    /// Reads a comparison, or the negation of one.
+    #[tactic(auto, unfolding(grammar::specs::Expressions::not_test))]
+    fn not_test(&self, t: &mut Tokens<'_, '_>) -> Result<Expr, Stop>
+        requires { Nests self.now.depth (F.pre self.now.expr) (F.post self.now.expr) }
+        ensures { Reads tree_of (spec.not_test (spec.expr self.now.depth) (left t.old)) result (left t.new) }
+    {
+        if t.eat(Symbol::Not) {
+            let operand = self.expr(t, Kind::Not)?;
+            let whole = Expr::unary(self.alloc, UnaryOp::Not, operand)?;
+            return Ok(whole);
+        }
+        let whole = self.comparison(t)?;
+        Ok(whole)
+    }
+
+    /// Reads a conjunction.
+    #[tactic(auto, unfolding(grammar::specs::Expressions::and_test, grammar::specs::Expressions::chain))]
+    fn and_test(&self, t: &mut Tokens<'_, '_>) -> Result<Expr, Stop>
+        requires { Nests self.now.depth (F.pre self.now.expr) (F.post self.now.expr) }
+        ensures { Reads tree_of (spec.and_test (spec.expr self.now.depth) (left t.old)) result (left t.new) }
+    {
+        let mut whole = self.not_test(t)?;
+        for _turn in 0..t.len() {
+            let Some(op) = operator_at(t, Rank::And) else {
+                return Ok(whole);
+            };
+            t.skip();
+            let right = self.not_test(t)?;
+            whole = Expr::binary(self.alloc, op, whole, right)?;
+        }
+        Ok(whole)
+    }
+
+    /// Reads a disjunction.
+    #[tactic(auto, unfolding(grammar::specs::Expressions::or_test, grammar::specs::Expressions::chain))]
+    fn or_test(&self, t: &mut Tokens<'_, '_>) -> Result<Expr, Stop>
+        requires { Nests self.now.depth (F.pre self.now.expr) (F.post self.now.expr) }
+        ensures { Reads tree_of (spec.or_test (spec.expr self.now.depth) (left t.old)) result (left t.new) }
+    {
+        let mut whole = self.and_test(t)?;
+        for _turn in 0..t.len() {
+            let Some(op) = operator_at(t, Rank::Or) else {
+                return Ok(whole);
+            };
+            t.skip();
+            let right = self.and_test(t)?;
+            whole = Expr::binary(self.alloc, op, whole, right)?;
+        }
+        Ok(whole)
+    }
+
+    /// Reads an expression that may be a choice.
+    #[tactic(auto, unfolding(grammar::specs::Expressions::test))]
+    fn test(&self, t: &mut Tokens<'_, '_>) -> Result<Expr, Stop>
+        requires { Nests self.now.depth (F.pre self.now.expr) (F.post self.now.expr) }
+        ensures { Reads tree_of (spec.test (spec.expr self.now.depth) (left t.old)) result (left t.new) }
+    {
+        let first = self.or_test(t)?;
+        if !t.eat(Symbol::If) {
+            return Ok(first);
+        }
+        let condition = self.or_test(t)?;
+        t.expect(Symbol::Else)?;
+        let other = self.expr(t, Kind::Test)?;
+        let whole = Expr::choice(self.alloc, first, condition, other)?;
+        Ok(whole)
+    }
+
+    /// Reads an expression of a kind.
+    fn of_kind(&self, t: &mut Tokens<'_, '_>, kind: Kind) -> Result<Expr, Stop>
+        requires { Nests self.now.depth (F.pre self.now.expr) (F.post self.now.expr) }
+        ensures { Reads tree_of (spec.of_kind kind (spec.expr self.now.depth) (left t.old)) result (left t.new) }
+    {
+        match kind {
+            Kind::Test => self.test(t),
+            Kind::Or => self.or_test(t),
+            Kind::Not => self.not_test(t),
+            Kind::Unary => self.unary(t),
+            Kind::Postfix => self.postfix(t),
+        }
+    }
+}
+
+/// The first entry of a dictionary.
+fn one_entry(alloc: Global, key: Expr, value: Expr) -> Result<EntriesSoFar, Stop>
+    ensures ok { IfOk result (λ e. pairs_of e ≡ record { keys = tree_of key ∷ []; values = tree_of value ∷ [] }) }
+    ensures err { IsOkUnless result Memory }
+{
+    let mut keys = Vec::new(alloc);
+    keys.push(key)?;
+    let mut values = Vec::new(alloc);
+    values.push(value)?;
+    Ok(EntriesSoFar { keys, values })
+}
+
+/// The operator of a rank that the next token is.
+#[tactic(auto, unfolding(grammar::specs::Expressions::operator_at))]
+fn operator_at(t: &Tokens<'_, '_>, rank: Rank) -> Option<BinaryOp>
+    ensures { result ≡ spec.operator_at rank (left t.now) }
+{
+    match rank {
+        Rank::Or => {
+            if t.is_at(Symbol::Or) {
+                Some(BinaryOp::Or)
+            } else {
+                None
+            }
+        }
+        Rank::And => {
+            if t.is_at(Symbol::And) {
+                Some(BinaryOp::And)
+            } else {
+                None
+            }
+        }
+        Rank::Sum => {
+            if t.is_at(Symbol::Plus) {
+                Some(BinaryOp::Add)
+            } else if t.is_at(Symbol::Minus) {
+                Some(BinaryOp::Subtract)
+            } else {
+                None
+            }
+        }
+        Rank::Term => {
+            if t.is_at(Symbol::Star) {
+                Some(BinaryOp::Multiply)
+            } else if t.is_at(Symbol::SlashSlash) {
+                Some(BinaryOp::Divide)
+            } else if t.is_at(Symbol::Percent) {
+                Some(BinaryOp::Remainder)
+            } else {
+                None
+            }
+        }
+    }
+}
+
+/// Takes the operator of a comparison.
+#[tactic(auto, unfolding(grammar::specs::Expressions::comparison_at))]
+fn take_comparison(t: &mut Tokens<'_, '_>) -> Option<BinaryOp>
+    ensures { Compares (spec.comparison_at (left t.old)) result (left t.old) (left t.new) }
+{
+    if t.eat(Symbol::EqualEqual) {
+        return Some(BinaryOp::Equal);
+    }
+    if t.eat(Symbol::NotEqual) {
+        return Some(BinaryOp::NotEqual);
+    }
+    if t.eat(Symbol::Less) {
+        return Some(BinaryOp::Less);
+    }
+    if t.eat(Symbol::LessEqual) {
+        return Some(BinaryOp::LessEqual);
+    }
+    if t.eat(Symbol::Greater) {
+        return Some(BinaryOp::Greater);
+    }
+    if t.eat(Symbol::GreaterEqual) {
+        return Some(BinaryOp::GreaterEqual);
+    }
+    if t.eat(Symbol::In) {
+        return Some(BinaryOp::In);
+    }
+    if t.are_at(Symbol::Not, Symbol::In) {
+        t.skip();
+        t.skip();
+        return Some(BinaryOp::NotIn);
+    }
+    None
+}
+
+/// Reads an expression of a kind, with so many levels. Memory is answered only where a growth was refused.
+pub fn expr(alloc: Global, t: &mut Tokens<'_, '_>, depth: usize, kind: Kind) -> Result<Expr, Stop>
+    ensures { Reads tree_of (spec.expr depth kind (left t.old)) result (left t.new) }
+{
+    if depth == 0 {
+        return Err(Stop::Malformed);
+    }
+    Grammar {
+        alloc,
+        depth: depth - 1,
+        expr,
+    }
+    .of_kind(t, kind)
+}
+
+/// Reads the targets of a `for`, which are a tuple if there is a comma, with so many levels. Memory is answered only
+/// where a growth was refused.
+pub fn targets(alloc: Global, t: &mut Tokens<'_, '_>, depth: usize) -> Result<Expr, Stop>
+    ensures { Reads tree_of (spec.targets (spec.expr depth) (left t.old)) result (left t.new) }
+{
+    let levels = Grammar { alloc, depth, expr };
+    levels.targets(t)
+}

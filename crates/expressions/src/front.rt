@@ -1,0 +1,288 @@
+//! What stands at the front of the tokens that are left.
+ghost use Rattle.std.specs.Prelude.{◌≡◌, ◌&&◌, length, if◌then◌else◌};
+ghost use Rattle.std.specs.Option.{option_map};
+ghost use Rattle.grammar.specs.Front.{code, same, is_at, tail, line_at, name_at, is_name_before, text_at, is_end, expect, a_name};
+ghost use Rattle.expressions.specs.View.{left, Reads, Takes};
+ghost use Rattle.expressions.specs.declared.front.Stop.TheVariants.{Memory};
+
+use std::alloc::{AllocError, AllocFailed, Global};
+use texts::Text;
+use tokens::{Ascii, Lexed, Symbol, Token};
+
+/// Why nothing was read.
+#[derive(Clone, Copy, Drop)]
+pub enum Stop {
+    /// The tokens don't begin so.
+    Malformed,
+    /// A growth was refused.
+    Memory,
+}
+
+impl From<AllocError> for Stop {
+    ghost from_gives = { λ _ e. e ≡ Memory };
+
+    fn from(_error: AllocError) -> Stop {
+        Stop::Memory
+    }
+}
+
+impl<T: Drop> From<AllocFailed<T>> for Stop {
+    ghost from_gives = { λ _ e. e ≡ Memory };
+
+    fn from(_error: AllocFailed<T>) -> Stop {
+        Stop::Memory
+    }
+}
+
+impl From<texts::Memory> for Stop {
+    ghost from_gives = { λ _ e. e ≡ Memory };
+
+    fn from(_error: texts::Memory) -> Stop {
+        Stop::Memory
+    }
+}
+
+/// A number for each symbol.
+fn code(symbol: Symbol) -> u8
+    ensures { result ≡ code symbol }
+{
+    match symbol {
+        Symbol::NewLine => 0,
+        Symbol::Indent => 1,
+        Symbol::Dedent => 2,
+        Symbol::And => 3,
+        Symbol::Break => 4,
+        Symbol::Continue => 5,
+        Symbol::Def => 6,
+        Symbol::Elif => 7,
+        Symbol::Else => 8,
+        Symbol::For => 9,
+        Symbol::If => 10,
+        Symbol::In => 11,
+        Symbol::Load => 12,
+        Symbol::Not => 13,
+        Symbol::Or => 14,
+        Symbol::Pass => 15,
+        Symbol::Return => 16,
+        Symbol::NoneValue => 17,
+        Symbol::TrueValue => 18,
+        Symbol::FalseValue => 19,
+        Symbol::Plus => 20,
+        Symbol::Minus => 21,
+        Symbol::Star => 22,
+        Symbol::SlashSlash => 23,
+        Symbol::Percent => 24,
+        Symbol::Equal => 25,
+        Symbol::PlusEqual => 26,
+        Symbol::MinusEqual => 27,
+        Symbol::StarEqual => 28,
+        Symbol::SlashSlashEqual => 29,
+        Symbol::PercentEqual => 30,
+        Symbol::EqualEqual => 31,
+        Symbol::NotEqual => 32,
+        Symbol::Less => 33,
+        Symbol::LessEqual => 34,
+        Symbol::Greater => 35,
+        Symbol::GreaterEqual => 36,
+        Symbol::Dot => 37,
+        Symbol::Comma => 38,
+        Symbol::Colon => 39,
+        Symbol::LeftParen => 40,
+        Symbol::RightParen => 41,
+        Symbol::LeftBracket => 42,
+        Symbol::RightBracket => 43,
+        Symbol::LeftBrace => 44,
+        Symbol::RightBrace => 45,
+    }
+}
+
+#[tactic(auto, unfolding(grammar::specs::Front::same))]
+fn same(a: Symbol, b: Symbol) -> bool
+    ensures { result ≡ same a b }
+{
+    code(a) == code(b)
+}
+
+/// The tokens that are left.
+#[derive(Drop)]
+pub struct Tokens<'a, 't> {
+    /// All of them, in the order of the text.
+    pub left: &'a [Lexed<'t>],
+}
+
+impl<'a, 't> Tokens<'a, 't> {
+    /// How many tokens are left.
+    pub fn len(&self) -> usize
+        ensures { result ≡ length (left self.now) }
+    {
+        self.left.len()
+    }
+
+    /// That symbol is the next token.
+    #[tactic(auto, unfolding(grammar::specs::Front::is_at))]
+    pub fn is_at(&self, wanted: Symbol) -> bool
+        ensures { result ≡ is_at wanted (left self.now) }
+    {
+        match self.left.split_first() {
+            Some((first, _)) => match first.token {
+                Token::Symbol(found) => same(found, wanted),
+                Token::Name(_) => false,
+                Token::Int(_) => false,
+                Token::Text(_) => false,
+            },
+            None => false,
+        }
+    }
+
+    /// Takes the next token, whatever it is.
+    #[tactic(auto, unfolding(grammar::specs::Front::tail))]
+    pub fn skip(&mut self)
+        ensures { left self.new ≡ tail (left self.old) }
+    {
+        if !self.left.is_empty() {
+            self.left = &self.left[1..];
+        }
+    }
+
+    /// Takes the next token, if it is that symbol.
+    pub fn eat(&mut self, wanted: Symbol) -> bool
+        ensures found { result ≡ is_at wanted (left self.old) }
+        ensures rest { left self.new ≡ (if result then tail (left self.old) else left self.old) }
+    {
+        let found = self.is_at(wanted);
+        if found {
+            self.skip();
+        }
+        found
+    }
+
+    /// Takes that symbol.
+    pub fn expect(&mut self, wanted: Symbol) -> Result<(), Stop>
+        ensures { Reads (λ _. tt) (expect wanted (left self.old)) result (left self.new) }
+    {
+        if self.eat(wanted) {
+            Ok(())
+        } else {
+            Err(Stop::Malformed)
+        }
+    }
+
+    /// The line of the next token.
+    #[tactic(auto, unfolding(grammar::specs::Front::line_at))]
+    pub fn line(&self) -> usize
+        ensures { result ≡ line_at (left self.now) }
+    {
+        match self.left.split_first() {
+            Some((first, _)) => first.line,
+            None => 0,
+        }
+    }
+
+    /// The name that the next token is.
+    #[tactic(auto, unfolding(grammar::specs::Front::name_at))]
+    pub fn name(&self) -> Option<Ascii<'t>>
+        ensures { option_map (λ x. x.bytes.now) result ≡ name_at (left self.now) }
+    {
+        match self.left.split_first() {
+            Some((first, _)) => match first.token {
+                Token::Name(found) => Some(found),
+                Token::Symbol(_) => None,
+                Token::Int(_) => None,
+                Token::Text(_) => None,
+            },
+            None => None,
+        }
+    }
+
+    /// The next token is a name, and the one behind it that symbol.
+    #[tactic(auto, unfolding(grammar::specs::Front::is_name_before, grammar::specs::Front::tail))]
+    pub fn is_name_before(&self, wanted: Symbol) -> bool
+        ensures { result ≡ is_name_before wanted (left self.now) }
+    {
+        match self.name() {
+            Some(_) => {
+                let mut behind = Tokens { left: self.left };
+                behind.skip();
+                behind.is_at(wanted)
+            }
+            None => false,
+        }
+    }
+
+    /// Takes a name.
+    pub fn take_name(&mut self, alloc: Global) -> Result<Text, Stop>
+        ensures { Reads (λ x. x) (a_name (left self.old)) result (left self.new) }
+    {
+        match self.name() {
+            Some(found) => {
+                let text = Text::new(alloc, found.as_str())?;
+                self.skip();
+                Ok(text)
+            }
+            None => Err(Stop::Malformed),
+        }
+    }
+
+    /// Those two symbols are the next tokens.
+    pub fn are_at(&self, first: Symbol, second: Symbol) -> bool
+        ensures { result ≡ (is_at first (left self.now) && is_at second (tail (left self.now))) }
+    {
+        if !self.is_at(first) {
+            return false;
+        }
+        let mut behind = Tokens { left: self.left };
+        behind.skip();
+        behind.is_at(second)
+    }
+
+    /// Takes the next token.
+    #[tactic(auto, unfolding(grammar::specs::Front::tail))]
+    pub fn take(&mut self) -> Option<Token<'t>>
+        ensures { Takes (left self.old) result (left self.new) }
+    {
+        match self.left.split_first() {
+            Some((first, _)) => {
+                let token = first.token;
+                self.skip();
+                Some(token)
+            }
+            None => None,
+        }
+    }
+
+    /// What the string that the next token is has between its quotes.
+    #[tactic(auto, unfolding(grammar::specs::Front::text_at))]
+    pub fn text(&self) -> Option<Ascii<'t>>
+        ensures { option_map (λ x. x.bytes.now) result ≡ text_at (left self.now) }
+    {
+        match self.left.split_first() {
+            Some((first, _)) => match first.token {
+                Token::Text(found) => Some(found),
+                Token::Symbol(_) => None,
+                Token::Int(_) => None,
+                Token::Name(_) => None,
+            },
+            None => None,
+        }
+    }
+
+    /// No token is left.
+    #[tactic(auto, unfolding(grammar::specs::Front::is_end))]
+    pub fn is_end(&self) -> bool
+        ensures { result ≡ is_end (left self.now) }
+    {
+        match self.left.split_first() {
+            Some((_first, _)) => false,
+            None => true,
+        }
+    }
+
+    /// The token behind the next one is that symbol.
+    pub fn is_behind(&self, wanted: Symbol) -> bool
+        ensures { result ≡ is_at wanted (tail (left self.now)) }
+    {
+        let mut behind = Tokens { left: self.left };
+        behind.skip();
+        behind.is_at(wanted)
+    }
+}

@@ -1,0 +1,10 @@
+//! The parser of expressions.
+#![tactic(auto)]
+
+mod expression;
+mod front;
+mod target;
+
+pub use expression::{expr, targets};
+pub use front::{Stop, Tokens};
+pub use target::is_target;

@@ -1,0 +1,21 @@
+-- What a text is parsed to.
+use Rattle.std.specs.Prelude.{◌≡◌, ℕ, List, Result, Ok, Err}
+use Rattle.tokens.specs.declared.refused.Refused.{Refused}
+use Rattle.tokens.specs.declared.refused.Refused.TheVariants as r
+use Rattle.tokens.specs.Reading.{Fault, Refuses}
+use Rattle.tree.specs.Tree.{Fi}
+use Rattle.tree.specs.declared.stmt.File.{File}
+use Rattle.tree.specs.Statements.{file_of}
+use Rattle.grammar.specs.declared.kind.FileKind.{FileKind}
+use Rattle.grammar.specs.Texts.{IsTree, IsRefused}
+
+-- the tree that the grammar relates to the text; or the fault that refuses it; or memory ran out
+abbrev pub Parses : FileKind → List ℕ → Result File Refused → Type 0
+Parses kind bytes (Ok f) = IsTree kind bytes (file_of f)
+Parses kind bytes (Err (r.Syntax code line)) = IsRefused kind bytes (record { code = code; line = line })
+Parses kind bytes (Err r.Memory) = Unit {0}
+
+-- what a function returned is what the definition gives, unless memory ran out
+abbrev pub Gives : Result Fi Fault → Result File Refused → Type 0
+Gives expected (Ok f) = expected ≡ Ok (file_of f)
+Gives expected (Err refused) = Refuses expected refused
