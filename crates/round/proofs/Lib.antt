@@ -4,3 +4,4 @@ pub mod Wanting
 pub mod Looking
 pub mod Confirming
 pub mod Checking
+pub mod Ending

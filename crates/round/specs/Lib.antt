@@ -4,3 +4,4 @@ pub mod Members
 pub mod Moves
 pub mod Looks
 pub mod Compared
+pub mod Turning

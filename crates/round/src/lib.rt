@@ -6,6 +6,7 @@ mod look;
 mod members;
 mod settle;
 mod stop;
+mod turns;
 
 pub use from_nothing::evaluate_from_nothing;
 pub use open_nodes::Run;

@@ -9,7 +9,11 @@ ghost use Rattle.functions.specs.Next as leaves;
 ghost use Rattle.open_nodes.specs.Nodes.{node_at, IsUnsettled, IsClean, IsWhole, pending};
 ghost use Rattle.std.specs.Prelude.{Option};
 ghost use Rattle.keys.specs.declared.value.Value.{Value};
+ghost use Rattle.std.specs.Prelude.{List};
+ghost use Rattle.evaluation.specs.Reply.{Reply, Done};
+ghost use Rattle.open_nodes.specs.Truths.{Leads};
 ghost use Rattle.round.specs.Looks.{HasPassed};
+ghost use Rattle.round.specs.Turning.{IsOutWith, ComesBack};
 ghost use Rattle.round.specs.Moves.{KeepsTrue, KeepsOut, Wants, IsWanted, IsWholeBut, IsWholeNow};
 
 use crate::members::is_settled;
@@ -132,5 +136,26 @@ pub fn confirm(alloc: Global, graph: &mut Graph, table: &mut Table, key: &Key) -
 {
     let _groups = leave(alloc, table, key)?;
     graph.confirm(key);
+    Ok(())
+}
+
+/// Settles a node that ended by its turns. The value is the one that its next turn, from these answers, ends with.
+pub fn end(
+    alloc: Global,
+    graph: &mut Graph,
+    table: &mut Table,
+    key: Key,
+    value: Value,
+) -> Result<(), Memory>
+    requires whole { IsWholeNow graph.old table.old }
+    requires out { (answers : List Value) × IsOutWith graph.old table.old key answers }
+    ensures whole { OnOk result (IsWholeNow graph.new table.new) }
+    ensures back { OnOk result (ComesBack table.old table.new key) }
+    ensures truth { (read : Key → Option Value) (next : Key → List Value → Reply Key Value) (answers : List Value) → IsOutWith graph.old table.old key answers → next key answers ≡ Done value → Leads next read graph.old graph.new table.old table.new result }
+{
+    let shared = Arc::new(alloc, value)?;
+    let groups = leave(alloc, table, &key)?;
+    note(table, &key, graph.version(), groups.len() as u64 + 1)?;
+    graph.record(key, shared, groups)?;
     Ok(())
 }
