@@ -606,10 +606,10 @@ impl<F: Fn(Global, &mut Tokens<'_, '_>, usize, Kind) -> Result<Expr, Stop>> Gram
     }
 
     /// Reads an expression that may be a choice.
-    #[tactic(auto, unfolding(grammar::specs::Expressions::test))]
+    #[tactic(auto, unfolding(grammar::specs::Expressions::conditional))]
     fn test(&self, t: &mut Tokens<'_, '_>) -> Result<Expr, Stop>
         requires { Nests self.now.depth (F.pre self.now.expr) (F.post self.now.expr) }
-        ensures { Reads tree_of (spec.test (spec.expr self.now.depth) (left t.old)) result (left t.new) }
+        ensures { Reads tree_of (spec.conditional (spec.expr self.now.depth) (left t.old)) result (left t.new) }
     {
         let first = self.or_test(t)?;
         if !t.eat(Symbol::If) {

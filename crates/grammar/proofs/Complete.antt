@@ -9,7 +9,7 @@ use Rattle.tree.specs.View.{exs_of}
 use Rattle.grammar.specs.declared.kind.Kind.TheVariants as k
 use Rattle.grammar.specs.declared.kind.Rank.TheVariants as r
 use Rattle.grammar.specs.Front.{Part, gives, is_at, tail, is_name, name_at, is_name_before}
-use Rattle.grammar.specs.Expressions.{Level, expr, test, and_test, not_test, comparison, sum, term, unary, postfix, postfix_after, chain, chain_after, atom, arguments, arguments_so_far, in_brackets, in_braces, items, items_after, entries, entries_after, clauses, clauses_after, target, targets, more_targets, targets_after, upper_bound}
+use Rattle.grammar.specs.Expressions.{Level, expr, conditional, and_test, not_test, comparison, sum, term, unary, postfix, postfix_after, chain, chain_after, atom, arguments, arguments_so_far, in_brackets, in_braces, items, items_after, entries, entries_after, clauses, clauses_after, target, targets, more_targets, targets_after, upper_bound}
 use Rattle.grammar.specs.Grammar as g
 use Rattle.grammar.specs.Grammar.{IsToken, Is, IsCommaOrNone, IsTest, IsOr, IsAnd, IsNot, IsCmp, IsSum, IsTerm, IsUnary, IsPostfix, IsBound, IsArgs, IsSomeArgs, IsAtom, IsItems, IsTests, IsEntries, IsSomeEntries, IsClauses, IsTargets, IsSomeTargets, IsTarget}
 use Rattle.grammar.proofs.Moves.{test_moves, or_moves, and_moves, not_moves, sum_moves, term_moves, unary_moves, postfix_moves, bound_moves, args_moves, some_args_moves, tests_moves, some_entries_moves, clauses_moves, targets_moves, some_targets_moves, target_moves}
@@ -23,7 +23,7 @@ use Rattle.grammar.proofs.Stops.{at_is, not_at, StopsPostfix, StopsTerm, StopsCm
 
 -- ---- a postfix expression alone
 
-pub alone : (l : Level) {ts rest : List Lex} {e : Ex} → Reads (postfix l) ts e rest → StartsPostfix ts → StopsTest rest → Reads (test l) ts e rest
+pub alone : (l : Level) {ts rest : List Lex} {e : Ex} → Reads (postfix l) ts e rest → StartsPostfix ts → StopsTest rest → Reads (conditional l) ts e rest
 alone l h starts stops =
     let unary_is = f.reads_postfix_unary l starts.1 starts.2 h in
     let term_is = f.reads_term l (f.chain_starts (unary l) r.Term unary_is) stops.0.0.0.0.0.1 in
@@ -115,7 +115,7 @@ pub record Targeted (m : ℕ) (ts : List Lex) (es : List Ex) (us : List Lex) : T
 -- ---- all expressions
 
 mutual
-  pub test_reads : {ts rest : List Lex} {e : Ex} → IsTest ts e rest → (m : ℕ) → Can (suc m) ts → StopsTest rest → Reads (test (expr m)) ts e rest
+  pub test_reads : {ts rest : List Lex} {e : Ex} → IsTest ts e rest → (m : ℕ) → Can (suc m) ts → StopsTest rest → Reads (conditional (expr m)) ts e rest
   test_reads (g.test_or d) m x stops = f.reads_test_or (expr m) (f.reads_or (expr m) (or_comes d m x stops.0.0) stops.0.1) stops.1
   test_reads (g.choice d if_is c else_is o) m x stops =
       let y = can_counted (can_after x (or_moves d)) if_is refl in

@@ -14,7 +14,7 @@ use Rattle.grammar.specs.declared.kind.Rank.{Rank}
 use Rattle.grammar.specs.declared.kind.Rank.TheVariants as r
 use Rattle.grammar.specs.Front.{Part, Reading, gives, and_then, is_at, tail, expect, name_at, named, is_name, is_name_before}
 use Rattle.grammar.specs.Targets.{is_target}
-use Rattle.grammar.specs.Expressions.{Level, expr, test, or_test, and_test, not_test, comparison, comparison_at, Comparison, sum, term, unary, postfix, postfix_after, postfix_rest, chain, chain_after, operator_at, atom, atom_by, symbol_atom, in_parens, in_brackets, in_braces, items, items_after, entry, entries, entries_after, dict_after, Pairs, argument, plain_argument, arguments, arguments_so_far, arguments_after, Arguments, clauses, clauses_after, for_clause, target, targets, more_targets, targets_after, subscript, slice_from, upper_bound, method_call, call}
+use Rattle.grammar.specs.Expressions.{Level, expr, conditional, or_test, and_test, not_test, comparison, comparison_at, Comparison, sum, term, unary, postfix, postfix_after, postfix_rest, chain, chain_after, operator_at, atom, atom_by, symbol_atom, in_parens, in_brackets, in_braces, items, items_after, entry, entries, entries_after, dict_after, Pairs, argument, plain_argument, arguments, arguments_so_far, arguments_after, Arguments, clauses, clauses_after, for_clause, target, targets, more_targets, targets_after, subscript, slice_from, upper_bound, method_call, call}
 use Rattle.grammar.specs.Grammar as g
 use Rattle.grammar.specs.Grammar.{IsToken, Is, IsCommaOrNone, IsOperator, IsCmpOp, IsTest, IsOr, IsAnd, IsNot, IsCmp, IsSum, IsTerm, IsUnary, IsPostfix, IsBound, IsArgs, IsSomeArgs, IsAtom, IsItems, IsTests, IsEntries, IsSomeEntries, IsClauses, IsTargets, IsSomeTargets, IsTarget}
 use Rattle.grammar.proofs.Starts.{is_next, name_next}
@@ -455,8 +455,8 @@ module _ (l : Level) (ls : SoundLevel l) where
   unfolding or_test
   or_sound = chain_sound (and_test l) r.Or IsAnd IsOr and_sound (λ ts rest e d. g.or_and d) (λ ts us vs rest op e f d is x. g.or_more d is x)
 
-  test_sound : Sound (test l) IsTest
-  unfolding test
+  test_sound : Sound (conditional l) IsTest
+  unfolding conditional
   test_sound ts p h =
       step _ (or_test l ts) h (λ q i j. let d = or_sound ts q i in
       test_of (is_at s.If q.rest) j

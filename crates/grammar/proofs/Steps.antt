@@ -12,7 +12,7 @@ use Rattle.grammar.specs.declared.kind.Kind.TheVariants as k
 use Rattle.grammar.specs.declared.kind.Rank.{Rank}
 use Rattle.grammar.specs.declared.kind.Rank.TheVariants as r
 use Rattle.grammar.specs.Front.{Part, Reading, gives, is_at, tail, same, name_at}
-use Rattle.grammar.specs.Expressions.{Level, operator_at, comparison_at, chain, chain_after, comparison, term, sum, not_test, and_test, or_test, test, unary, postfix, postfix_after, postfix_rest, method_call, call, subscript, slice_from, upper_bound, Arguments, arguments, atom}
+use Rattle.grammar.specs.Expressions.{Level, operator_at, comparison_at, chain, chain_after, comparison, term, sum, not_test, and_test, or_test, conditional, unary, postfix, postfix_after, postfix_rest, method_call, call, subscript, slice_from, upper_bound, Arguments, arguments, atom}
 use Rattle.grammar.specs.Grammar as g
 use Rattle.grammar.specs.Grammar.{IsToken, Is, IsOperator, IsCmpOp}
 use Rattle.grammar.proofs.Stops.{front, tail_is, at_is, not_at, StopsPostfix}
@@ -118,14 +118,14 @@ cmp_is {us} (g.is_not_in is in_is) =
 module _ (l : Level) where
   -- ---- operators
 
-  pub reads_test_or : {ts rest : List Lex} {e : Ex} → Reads (or_test l) ts e rest → is_at s.If rest ≡ false → Reads (test l) ts e rest
-  unfolding test
-  reads_test_or h stops = record { is = rw (h.is, stops, test) refl }
+  pub reads_test_or : {ts rest : List Lex} {e : Ex} → Reads (or_test l) ts e rest → is_at s.If rest ≡ false → Reads (conditional l) ts e rest
+  unfolding conditional
+  reads_test_or h stops = record { is = rw (h.is, stops, conditional) refl }
 
   pub reads_choice : {ts us vs ws xs rest : List Lex} {e condition other : Ex} → Reads (or_test l) ts e us → Is s.If us vs → Reads (or_test l) vs condition ws → Is s.Else ws xs
-      → Reads (l k.Test) xs other rest → Reads (test l) ts (t.choice e condition other) rest
-  unfolding test
-  reads_choice h if_is c else_is o = record { is = rw (h.is, at_is if_is, tail_is if_is, c.is, at_is else_is, tail_is else_is, o.is, test) refl }
+      → Reads (l k.Test) xs other rest → Reads (conditional l) ts (t.choice e condition other) rest
+  unfolding conditional
+  reads_choice h if_is c else_is o = record { is = rw (h.is, at_is if_is, tail_is if_is, c.is, at_is else_is, tail_is else_is, o.is, conditional) refl }
 
   pub reads_or : {ts us : List Lex} {e : Ex} → Comes (chain (and_test l) r.Or ts) (λ n. chain_after (and_test l) r.Or n e us) us → operator_at r.Or us ≡ None → Reads (or_test l) ts e us
   unfolding or_test

@@ -316,13 +316,13 @@ unfoldable pub or_test : Level → Reading Ex
 or_test l = chain (and_test l) r.Or
 
 -- Test
-unfoldable pub test : Level → Reading Ex
-test l ts = and_then (or_test l ts) (λ e us.
+unfoldable pub conditional : Level → Reading Ex
+conditional l ts = and_then (or_test l ts) (λ e us.
     if is_at s.If us then and_then (or_test l (tail us)) (λ c. expect s.Else >>= λ _. l k.Test >>= λ other. gives (t.choice e c other))
     else gives e us)
 
 abbrev pub of_kind : Kind → Level → Reading Ex
-of_kind k.Test l = test l
+of_kind k.Test l = conditional l
 of_kind k.Or l = or_test l
 of_kind k.Not l = not_test l
 of_kind k.Unary l = unary l

@@ -5,3 +5,4 @@ pub mod Looking
 pub mod Confirming
 pub mod Checking
 pub mod Ending
+pub mod Handing

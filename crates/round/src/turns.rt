@@ -1,5 +1,7 @@
 //! Turns handed out and taken back.
-ghost use Rattle.std.specs.Prelude.{◌≡◌, IfOk, OnOk, Some};
+ghost use Rattle.std.specs.Prelude.{◌≡◌, IfOk, OnOk, Option, Some};
+ghost use Rattle.std.specs.BTreeSet.{contains};
+ghost use Rattle.keys.specs.Keys.{key_cmp};
 ghost use Rattle.functions.specs.Next as leaves;
 ghost use Rattle.keys.specs.declared.key.Key.{Key};
 ghost use Rattle.keys.specs.declared.value.Value.{Value};
@@ -11,9 +13,10 @@ ghost use Rattle.round.specs.Moves.{KeepsTrue, IsWholeNow};
 ghost use Rattle.round.specs.Turning.{IsOutWith, ComesBack, Hands};
 
 use crate::members::answers_to;
-use keys::{Job, Key, Rules};
+use crate::settle::end;
+use keys::{Job, Key, Rules, Step, Turned};
 use node::Graph;
-use open_nodes::{Nodes, Table, set_out};
+use open_nodes::{Nodes, Table, ask, set_out};
 use std::alloc::Global;
 use std::collections::BTreeSet;
 use texts::Memory;
@@ -25,5 +28,59 @@ fn asked_groups<'a>(nodes: &'a Nodes, key: &Key) -> &'a [Vec<Key>]
     match nodes.get(key) {
         None => &[],
         Some(node) => node.groups.as_slice(),
+    }
+}
+
+// Whether a key is in the set.
+fn is_among(set: &BTreeSet<Key>, key: &Key) -> bool
+    ensures { result ≡ contains key_cmp set.now key.now }
+{
+    set.contains(key)
+}
+
+/// Hands out the next turn of a node that is ready, with all answers so far.
+pub fn hand_out<R: Rules>(
+    alloc: Global,
+    graph: &Graph,
+    table: &mut Table,
+    key: &Key,
+) -> Result<Option<Job<R>>, Memory>
+    requires whole { IsWholeNow graph.now table.old }
+    ensures hands { IfOk result (Hands graph.now key.now table.old table.new) }
+    ensures truth { (read : Key → Option Value) → KeepsTrue read graph.now graph.now table.old table.new result }
+{
+    if !is_among(&table.ready, key) {
+        return Ok(None);
+    }
+    match answers_to(alloc, graph, asked_groups(&table.nodes, key))? {
+        None => Ok(None),
+        Some(answers) => {
+            let job = Job::new(key.share()?, answers);
+            set_out(table, key);
+            Ok(Some(job))
+        }
+    }
+}
+
+// Takes a turn back.
+fn take<R: Rules>(
+    alloc: Global,
+    graph: &mut Graph,
+    table: &mut Table,
+    turned: Turned<R>,
+) -> Result<(), Memory>
+    requires whole { IsWholeNow graph.old table.old }
+    requires out { IsOutWith graph.old table.old turned.asked.key turned.asked.answers }
+    ensures whole { OnOk result (IsWholeNow graph.new table.new) }
+    ensures back { OnOk result (ComesBack table.old table.new turned.asked.key) }
+    ensures truth { (read : Key → Option Value) → Leads R.next read graph.old graph.new table.old table.new result }
+{
+    match turned.settle()? {
+        Step::End(key, value) => end(alloc, graph, table, key, value),
+        Step::Wait(waiting) => {
+            let key = waiting.key().share()?;
+            ask(table, &key, waiting.into_group())?;
+            Ok(())
+        }
     }
 }

@@ -1,0 +1,132 @@
+-- A turn is handed out, and a turn that asks comes back.
+use Rattle.std.proofs.Common.{◌≡◌, ◌≢◌, ◌⊎◌, inl, inr, ℕ, Bool, true, false, List, [], ◌∷◌, ◌++◌, Option, Some, None, refl, sym, ◌∙◌, ap, subst}
+use Rattle.std.specs.BTreeMap.{Updates}
+use Rattle.std.specs.declared.alloc.Global.{Global}
+use Rattle.evaluation.specs.Reply.{Reply, Ask}
+use Rattle.evaluation.specs.Value.{In, first, after, IsMember}
+use Rattle.keys.specs.Keys.{key_cmp}
+use Rattle.keys.specs.declared.key.Key.{Key}
+use Rattle.keys.specs.declared.value.Value.{Value}
+use Rattle.node.specs.Graphs.{Recorded, record_at}
+use Rattle.node.specs.Edges.{IsRemoved}
+use Rattle.node.proofs.Lists.{some_is, none_some, decide_key, other_key, in_left, in_right}
+use Rattle.open_nodes.specs.Nodes.{Nodes, Records, node_at, groups_of, pending, IsUnsettled, IsPlain, Stands, IsWhole, AreOut}
+use Rattle.open_nodes.specs.Steps.{HasPhase, HasAsked, Pends, SameRuns}
+use Rattle.open_nodes.specs.Truths.{IsNext, Past, IsTrueOf, IsOpenTruly, IsDoing, IsRun}
+use Rattle.open_nodes.specs.declared.run.Run.{Run}
+use Rattle.open_nodes.specs.declared.table.Node.{Node}
+use Rattle.open_nodes.specs.declared.table.Phase.{Phase}
+use Rattle.open_nodes.specs.declared.table.Phase.TheVariants as phase
+use Rattle.open_nodes.specs.declared.table.Table.{Table}
+use Rattle.open_nodes.proofs.Wholes.{node_changes}
+use Rattle.open_nodes.proofs.Settlings.{truth_changes}
+use Rattle.round.specs.Members.{AreAnswers, Answers}
+use Rattle.round.specs.Turning.{IsOutWith}
+use Rattle.round.proofs.Grouping.{never_none}
+use Rattle.round.proofs.Wanting.{StaysTrue}
+use Rattle.round.proofs.Ending.{asks_more, plain_values}
+
+-- the job of a node that is ready is handed out
+module _ (graph : Recorded) (before later : Table) (k : Key) (w : IsWhole (record_at graph) before.nodes before.ready.keys (pending before)) (ready : In k before.ready.keys) where
+  abbrev n : Node
+  n = (w.ready_now k ready).0
+
+  abbrev there : node_at before.nodes k ≡ Some n
+  there = (w.ready_now k ready).1
+
+  abbrev all_plain : (j : Key) → IsMember j (groups_of n) → IsPlain (record_at graph) j
+  all_plain = (w.ready_now k ready).3
+
+  -- it has answers
+  pub has_answers : (slice : List (List Key)) → ((m : Node) → node_at before.nodes k ≡ Some m → slice ≡ groups_of m) → Answers (record_at graph) slice None → ⊥
+  has_answers slice e a = never_none (record_at graph) (groups_of n) all_plain (subst (λ gs. Answers (record_at graph) gs None) (e n there) a)
+
+  module _ (h : HasPhase before.nodes later.nodes k phase.Out) (removed : IsRemoved before.ready.keys later.ready.keys k) (pends : pending later ≡ pending before) where
+    abbrev m : Node
+    m = record n { phase = phase.Out }
+
+    pub handed_whole : IsWhole (record_at graph) later.nodes later.ready.keys (pending later)
+    handed_whole = subst (λ (xs : List Key). IsWhole (record_at graph) later.nodes later.ready.keys xs) (sym pends)
+        (node_changes (record_at graph) before.nodes later.nodes k m (h n there) before.ready.keys later.ready.keys (pending before) (pending before) w
+        (w.holds k n there).0 all_plain (λ x y e i. subst (λ (z : Node). In y z.watchers.items) (some_is (sym e ∙ there)) i)
+        (λ j i. inl ((λ q. removed.gone (subst (λ y. In y later.ready.keys) (sym q) i)), removed.from j i))
+        (λ j d i. elim (removed.keeps j i) [ inl a ↦ a | inr q ↦ absurd (d q) ])
+        (λ j d i. i) (λ o. absurd (o refl)))
+
+    pub handed_out : (answers job : List Value) → (slice : List (List Key)) → ((x : Node) → node_at before.nodes k ≡ Some x → slice ≡ groups_of x) → AreAnswers (record_at graph) slice answers → job ≡ answers → IsOutWith graph later k job
+    handed_out answers job slice e a q = record {
+      node = m;
+      there = (h n there).1;
+      out = refl;
+      answered = subst (AreAnswers (record_at graph) (groups_of n)) (sym q) (subst (λ gs. AreAnswers (record_at graph) gs answers) (e n there) a);
+    }
+
+    pub handed_more : (keys : List Key) → AreOut before.nodes keys → AreOut later.nodes (k ∷ keys)
+    handed_more keys out j x e f = elim (decide_key k j) [
+      | inl q ↦ subst (λ y. In y (k ∷ keys)) q first
+      | inr d ↦ after (out j x (sym (other_key before.nodes later.nodes k (Some m) (h n there) j d) ∙ e) f)
+    ]
+
+    pub handed_true : (read : Key → Option Value) → SameRuns before later → StaysTrue read graph graph before later
+    handed_true read runs = λ next laws past t. let o = t.opened k n there in
+        subst (λ (x : List Run). IsTrueOf next read past graph later.nodes x) (sym runs)
+        (truth_changes next read laws past graph before.nodes later.nodes before.runs.items k m (h n there) t o.no_leaf o.same
+        (subst (λ (p : Phase). IsDoing next read past k (groups_of n) p) (w.ready_now k ready).2 o.doing))
+
+-- a turn that asks a group comes back
+module _ (graph : Recorded) (before later : Table) (k : Key) (answers : List Value) (o : IsOutWith graph before k answers)
+    (w : IsWhole (record_at graph) before.nodes before.ready.keys (pending before)) (group : List Key)
+    (asked : HasAsked before.nodes later.nodes k group) (pends : Pends before later k) where
+  abbrev new_node : Node
+  new_node = (asked o.node o.there).0
+
+  abbrev u : Updates key_cmp before.nodes later.nodes k (Some new_node)
+  u = (asked o.node o.there).1
+
+  its_members : (j : Key) → IsMember j (groups_of o.node) → IsPlain (record_at graph) j
+  its_members = subst (λ (p : Phase). Stands (record_at graph) k (groups_of o.node) p) o.out (w.holds k o.node o.there).1
+
+  new_stands : Stands (record_at graph) k (groups_of new_node) new_node.phase
+  new_stands = subst (λ (p : Phase). Stands (record_at graph) k (groups_of new_node) p) (sym (asked o.node o.there).3) (inr (groups_of o.node, group, (asked o.node o.there).2, its_members))
+
+  not_ready : (j : Key) → In j before.ready.keys → k ≢ j
+  not_ready j i q = let y = w.ready_now j i in no (sym o.out ∙ ap (λ (x : Node). x.phase) (some_is (sym o.there ∙ ap (node_at before.nodes) q ∙ y.1)) ∙ y.2)
+    where
+      no : phase.Out ≡ phase.Running → ⊥
+      no e = cc
+
+  pub asked_whole : IsWhole (record_at graph) later.nodes later.ready.keys (pending later)
+  asked_whole = subst (λ (xs : List Key). IsWhole (record_at graph) later.nodes xs (pending later)) (sym pends.ready)
+      (node_changes (record_at graph) before.nodes later.nodes k new_node u before.ready.keys before.ready.keys (pending before) (pending later) w
+      (w.holds k o.node o.there).0 new_stands
+      (λ x y e i. subst (In y) (sym (asked o.node o.there).4) (subst (λ (z : Node). In y z.watchers.items) (some_is (sym e ∙ o.there)) i))
+      (λ j i. inl (not_ready j i, i)) (λ j d i. i)
+      (λ j d i. subst (In j) (sym pends.pends) (in_left (k ∷ []) i))
+      (λ f. inl (subst (In k) (sym pends.pends) (in_right (pending before) first))))
+
+  pub asked_back : (keys : List Key) → AreOut before.nodes (k ∷ keys) → AreOut later.nodes keys
+  asked_back keys out j x e f = elim (decide_key k j) [
+    | inl q ↦ absurd (no (sym (asked o.node o.there).3 ∙ ap (λ (y : Node). y.phase) (some_is (sym u.1 ∙ ap (node_at later.nodes) q ∙ e)) ∙ f))
+    | inr d ↦ tail_in (out j x (sym (other_key before.nodes later.nodes k (Some new_node) u j d) ∙ e) f) refl d
+  ]
+    where
+      no : phase.Running ≡ phase.Out → ⊥
+      no h = cc
+
+      tail_in : {i : Key} {xs : List Key} → In i xs → xs ≡ k ∷ keys → k ≢ i → In i keys
+      tail_in {i = i} (first {xs = ys}) q d = let same : k ≡ i = cc in absurd (d same)
+      tail_in {i = i} (after {xs = ys} h) q d = let same : ys ≡ keys = cc in subst (In i) same h
+
+  pub asked_true : (next : Key → List Value → Reply Key Value) → next k answers ≡ Ask group → (read : Key → Option Value) (laws : IsNext next) (past : Past read)
+      → IsTrueOf next read past graph before.nodes before.runs.items → IsTrueOf next read past graph later.nodes later.runs.items
+  asked_true next asks_group read laws past t =
+      subst (λ (x : List Run). IsTrueOf next read past graph later.nodes x) (sym pends.runs)
+      (truth_changes next read laws past graph before.nodes later.nodes before.runs.items k new_node u t h.no_leaf h.same
+      (subst (λ (p : Phase). IsDoing next read past k (groups_of new_node) p) (sym (asked o.node o.there).3)
+      (subst (IsRun next read past k) (sym (asked o.node o.there).2) (record { justified = does.justified; asks = asks_more next read past (record_at graph) (plain_values next read laws past graph t.after) does.asks answers o.answered group asks_group }))))
+    where
+      h : IsOpenTruly next read past graph k o.node
+      h = t.opened k o.node o.there
+
+      does : IsRun next read past k (groups_of o.node)
+      does = subst (λ (p : Phase). IsDoing next read past k (groups_of o.node) p) o.out h.doing
