@@ -1,2 +1,7 @@
 pub mod Parsed
-pub mod Rows
+pub mod Programs
+pub mod RowsOfOperators
+pub mod RowsOfFunctions
+pub mod RowsOfStatements
+pub mod RowsOfCalls
+pub mod RowsOfSteps

@@ -1,8 +1,5 @@
 -- What the evaluation of a file ends with.
-use Rattle.std.specs.Prelude.{ℕ, List, [], ◌∷◌, ◌++◌, map, Option, Some, None}
-use Rattle.std.specs.Ordering.{nat_cmp}
-use Rattle.std.specs.Cmp.Lexicographic.{slice_cmp}
-use Rattle.std.specs.FinMap as finmap
+use Rattle.std.specs.Prelude.{ℕ, List, [], ◌∷◌, ◌++◌, Option, Some, None}
 use Rattle.grammar.specs.declared.kind.FileKind.{FileKind}
 use Rattle.grammar.specs.declared.kind.FileKind.TheVariants as k
 use Rattle.tree.specs.Tree as t
@@ -10,6 +7,7 @@ use Rattle.tree.specs.Tree.{Ld, It, Tp, Fn, Pa, Bound}
 use Rattle.meaning.specs.declared.val.Val.{Val}
 use Rattle.meaning.specs.Heap.{walks, makes, function}
 use Rattle.meaning.specs.Freezing.{Fz, freeze, freeze_members, thaw}
+use Rattle.language.specs.Sorting.{in_order}
 use Rattle.language.specs.Modules.{Frozen, Defaults, Body, Loaded, exported, all_bodies, each_once}
 use Rattle.language.specs.World.{World, Target, Site, Here, at_line, Ends, ended, failed, waits, Runs, ◌>>=◌, pure, fault, or_fault, on_heap, tick}
 use Rattle.language.specs.Names.{top_names, load_names, names_once, new_block, bind, file_slot, names_at, change_names}
@@ -135,23 +133,14 @@ pub data Outcome : Type 0 where
   a_need : List (List ℕ) → Outcome
   a_fault : (code : ℕ) → Site → Outcome
 
-abbrev pub targets_in_order : List Target → List Target
-targets_in_order targets = finmap.values (finmap.from_entries {R = slice_cmp nat_cmp} (map (λ x. (x.name, x)) targets))
+-- so many steps has an evaluation of a file
+abbrev pub all_steps : ℕ
+all_steps = 1000000
 
-abbrev pub module_outcome : Ends Loaded → Outcome
-module_outcome (ended m w) = a_module m
-module_outcome (failed code site) = a_fault code site
-module_outcome (waits patterns) = a_need patterns
-
-abbrev pub package_outcome : Ends (Unit {0}) → Outcome
-package_outcome (ended a w) = a_package (targets_in_order w.targets)
-package_outcome (failed code site) = a_fault code site
-package_outcome (waits patterns) = a_need patterns
-
--- no name is bound, and 1,000,000 steps are left
-abbrev pub start : Env → World
-start env = record {
-  store = record { heap = []; iterated = []; steps = 1000000 };
+-- no name is bound, and so many steps are left
+abbrev pub start : ℕ → Env → World
+start steps env = record {
+  store = record { heap = []; iterated = []; steps = steps };
   blocks = [];
   files = record { label = env.label; block = new_block (load_names env.file.loads ++ top_names env.file.tops); defaults = [] } ∷ [];
   targets = [];
@@ -160,9 +149,23 @@ start env = record {
 abbrev pub file_level : Env → Here
 file_level env = record { label = env.label; kind = env.kind; site = record { path = env.path; line = 0 }; running = [] }
 
-abbrev pub outcome_by : FileKind → Env → Outcome
-outcome_by k.Build env = package_outcome (statements env (file_level env) (start env))
-outcome_by k.Bzl env = module_outcome ((statements env (file_level env) >>= λ _. frozen_module env (file_level env)) (start env))
+abbrev pub the_package : Runs Outcome
+the_package w = ended (a_package (in_order (λ x. x.name) w.targets)) w
 
+-- the globals of a BUILD file are not frozen
+abbrev pub leaves : FileKind → Env → Here → Runs Outcome
+leaves k.Build env here = the_package
+leaves k.Bzl env here = frozen_module env here >>= λ m. pure (a_module m)
+
+-- the whole file
+abbrev pub whole_file : Env → Runs Outcome
+whole_file env = statements env (file_level env) >>= λ _. leaves env.kind env (file_level env)
+
+abbrev pub outcome_of : Ends Outcome → Outcome
+outcome_of (ended o w) = o
+outcome_of (failed code site) = a_fault code site
+outcome_of (waits patterns) = a_need patterns
+
+-- The outcome of a file, which its tree, its kind, label, path and package, its loads and the answered globs determine.
 unfoldable pub evaluate : Env → Outcome
-evaluate env = outcome_by env.kind env
+evaluate env = outcome_of (whole_file env (start all_steps env))

@@ -1,3 +1,4 @@
+pub mod Sorting
 pub mod Modules
 pub mod World
 pub mod Names
