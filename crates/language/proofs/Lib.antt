@@ -5,3 +5,6 @@ pub mod RowsOfFunctions
 pub mod RowsOfStatements
 pub mod RowsOfCalls
 pub mod RowsOfSteps
+pub mod RowsOfFiles
+pub mod RowsOfPackages
+pub mod RowsOfLimits
