@@ -8,3 +8,6 @@ pub mod RowsOfSteps
 pub mod RowsOfFiles
 pub mod RowsOfPackages
 pub mod RowsOfLimits
+pub mod Below
+pub mod MoreAnswers
+pub mod MoreValues

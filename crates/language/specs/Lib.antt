@@ -13,3 +13,4 @@ pub mod Expressions
 pub mod Statements
 pub mod Calls
 pub mod Files
+pub mod Laws

@@ -1,0 +1,105 @@
+-- Package calls and expressions under more answered globs.
+use Rattle.std.proofs.Common.{◌≡◌, ℕ, List, [], ◌∷◌, ◌++◌, Bool, true, false, Option, Some, None, refl, ap, ◌∙◌}
+use Rattle.std.specs.Prelude.{if◌then◌else◌, is_some, ◌||◌, flat_map}
+use Rattle.std.specs.List.{list_any}
+use Rattle.meaning.specs.declared.val.Val.{Val}
+use Rattle.meaning.specs.declared.val.Val.TheVariants as v
+use Rattle.meaning.specs.declared.val.Builtin.{Builtin}
+use Rattle.meaning.specs.declared.val.Builtin.TheVariants as b
+use Rattle.meaning.specs.Builtins.{same_builtin}
+use Rattle.meaning.specs.Comparing.{same_text}
+use Rattle.meaning.specs.Outcome.{checked}
+use Rattle.meaning.specs.Heap.{Obj, text, list, tuple, dict, function, at}
+use Rattle.meaning.specs.Functions.{Named}
+use Rattle.language.specs.World.{World, Here, on_heap, or_fault}
+use Rattle.language.specs.Names.{first_named, package_functions}
+use Rattle.language.specs.Environment.{Env, Answers}
+use Rattle.language.specs.Globs.{Glob, answer_to, unanswered, found_or_none, answered, read_call, glob}
+use Rattle.language.specs.Packages.{in_package, package_call}
+use Rattle.language.specs.Expressions.{Call, call_builtin, call_object, apply, Receiver, native, receiver, apply_method}
+use Rattle.language.specs.Laws.{with_answers}
+use Rattle.language.proofs.Below.{Below, same, waiting, after, choose, by_kind}
+
+-- a pattern that has an answer keeps it
+pub answer_stays : (p : List ℕ) (answers more : Answers) → is_some (answer_to p answers) ≡ true → answer_to p (answers ++ more) ≡ answer_to p answers
+answer_stays p [] more = λ e. cc
+answer_stays p (a ∷ answers) more = go (same_text p a.0) (answer_stays p answers more)
+  where
+    go : (b : Bool) → (is_some (answer_to p answers) ≡ true → answer_to p (answers ++ more) ≡ answer_to p answers)
+        → is_some (if b then Some a.1 else answer_to p answers) ≡ true → (if b then Some a.1 else answer_to p (answers ++ more)) ≡ (if b then Some a.1 else answer_to p answers)
+    go true h e = refl
+    go false h e = h e
+
+or_none : (b : Bool) → (b || false) ≡ b
+or_none true = refl
+or_none false = refl
+
+-- where no pattern is unanswered, the first has an answer and none of the others is unanswered
+first_answered : (answers : Answers) (p : List ℕ) (ps : List (List ℕ)) → unanswered answers [] (p ∷ ps) ≡ [] → (is_some (answer_to p answers) ≡ true) × (unanswered answers [] ps ≡ [])
+first_answered answers p ps = go (is_some (answer_to p answers))
+  where
+    go : (b : Bool) → (if b || false then unanswered answers [] ps else p ∷ unanswered answers (p ∷ []) ps) ≡ [] → (b ≡ true) × (unanswered answers [] ps ≡ [])
+    go true e = (refl, e)
+    go false e = cc
+
+pub none_unanswered : (answers more : Answers) (ps : List (List ℕ)) → unanswered answers [] ps ≡ [] → unanswered (answers ++ more) [] ps ≡ []
+none_unanswered answers more [] e = refl
+none_unanswered answers more (p ∷ ps) e = let h = first_answered answers p ps e in
+    ap (λ b. if b || false then unanswered (answers ++ more) [] ps else p ∷ unanswered (answers ++ more) (p ∷ []) ps) (ap is_some (answer_stays p answers more h.0) ∙ h.0) ∙ none_unanswered answers more ps h.1
+
+pub same_paths : (answers more : Answers) (ps : List (List ℕ)) → unanswered answers [] ps ≡ [] → flat_map (λ p. found_or_none (answer_to p (answers ++ more))) ps ≡ flat_map (λ p. found_or_none (answer_to p answers)) ps
+same_paths answers more [] e = refl
+same_paths answers more (p ∷ ps) e = let h = first_answered answers p ps e in
+    rw (answer_stays p answers more h.0, same_paths answers more ps h.1) refl
+
+-- ---- package calls
+
+module _ (env : Env) (more : Answers) where
+  abbrev env' : Env
+  env' = with_answers more env
+
+  answered_below : (patterns : List (List ℕ)) (g : Glob) → unanswered env.globs [] g.includes ≡ patterns → (here : Here) (w : World)
+      → Below (answered patterns env.globs g here w) (answered (unanswered env'.globs [] g.includes) env'.globs g here w)
+  answered_below [] g e here w =
+      rw (none_unanswered env.globs more g.includes e, same_paths env.globs more g.includes e) (same _)
+  answered_below (p ∷ ps) g e here w = waiting (p ∷ ps) _
+
+  glob_below : (xs : List Val) (ns : Named) (here : Here) (w : World) → Below (glob env.globs xs ns here w) (glob env'.globs xs ns here w)
+  unfolding glob
+  glob_below xs ns here w = after (on_heap here (λ s. checked (read_call xs ns s) s) w) λ g u. answered_below (unanswered env.globs [] g.includes) g refl here u
+
+  in_package_below : (f : Builtin) (xs : List Val) (ns : Named) (here : Here) (w : World) → Below (in_package env f xs ns here w) (in_package env' f xs ns here w)
+  in_package_below b.PackageName [] [] here w = same _
+  in_package_below b.PackageName [] (n ∷ ns) here w = same _
+  in_package_below b.PackageName (x ∷ xs) ns here w = same _
+  in_package_below b.Glob xs ns here w = glob_below xs ns here w
+  in_package_below f xs ns here w = same _
+
+  pub package_call_below : (f : Builtin) (xs : List Val) (ns : Named) (here : Here) (w : World) → Below (package_call env f xs ns here w) (package_call env' f xs ns here w)
+  unfolding package_call
+  package_call_below f xs ns here w = by_kind env.kind here (in_package env f xs ns here) (in_package env' f xs ns here) w (in_package_below f xs ns here w)
+
+  call_builtin_below : (f : Builtin) (xs : List Val) (ns : Named) (here : Here) (w : World) → Below (call_builtin env f xs ns here w) (call_builtin env' f xs ns here w)
+  call_builtin_below f xs ns here w = choose (list_any (same_builtin f) package_functions) _ _ _ _ w (package_call_below f xs ns here w) (same _)
+
+  module _ (call call' : Call) (calls : (label name : List ℕ) (xs : List Val) (ns : Named) (here : Here) (w : World) → Below (call label name xs ns here w) (call' label name xs ns here w)) where
+    call_object_below : (object : Option Obj) (xs : List Val) (ns : Named) (here : Here) (w : World) → Below (call_object call object xs ns here w) (call_object call' object xs ns here w)
+    call_object_below (Some (function label name)) xs ns here w = calls label name xs ns here w
+    call_object_below (Some (text bytes)) xs ns here w = same _
+    call_object_below (Some (list members f)) xs ns here w = same _
+    call_object_below (Some (tuple members)) xs ns here w = same _
+    call_object_below (Some (dict entries f)) xs ns here w = same _
+    call_object_below None xs ns here w = same _
+
+    pub apply_below : (g : Val) (xs : List Val) (ns : Named) (here : Here) (w : World) → Below (apply env call g xs ns here w) (apply env' call' g xs ns here w)
+    unfolding apply
+    apply_below (v.Builtin f) xs ns here w = call_builtin_below f xs ns here w
+    apply_below (v.At a) xs ns here w = call_object_below (at a w.store) xs ns here w
+    apply_below v.Nothing xs ns here w = same _
+    apply_below (v.Bool c) xs ns here w = same _
+    apply_below (v.Int n) xs ns here w = same _
+
+  pub apply_method_below : (r : Receiver) (name : List ℕ) (xs : List Val) (ns : Named) (here : Here) (w : World) → Below (apply_method env r name xs ns here w) (apply_method env' r name xs ns here w)
+  unfolding apply_method
+  apply_method_below native name xs ns here w = after (or_fault 5 (first_named name package_functions) here w) λ f u. package_call_below f xs ns here u
+  apply_method_below (receiver x) name xs ns here w = same _
