@@ -11,3 +11,4 @@ pub mod RowsOfLimits
 pub mod Below
 pub mod MoreAnswers
 pub mod MoreValues
+pub mod MoreStatements

@@ -55,6 +55,7 @@ modules : AllDefine
     ∷ ("native.filegroup(1)\n", at_bzl 23 1)
     ∷ ("native.package_name()\n", at_bzl 23 1)
     ∷ ("def f():\n    native.alias()\nf()\n", at_bzl 23 2)
+    ∷ ("def f():\n    return Y\nX = f()\nY = 1\n", at_bzl 4 2)
     ∷ ("glob([])\n", at_bzl 4 1)
     ∷ ("filegroup(name = \"a\")\n", at_bzl 4 1)
     ∷ ("native\n", at_bzl 5 1)

@@ -31,23 +31,23 @@ defs [] = []
 defs (t.stmt s ∷ tops) = defs tops
 defs (t.def d ∷ tops) = d ∷ defs tops
 
-abbrev pub path_or : List ℕ → Option Body → List ℕ
-path_or path None = path
-path_or path (Some body) = body.path
+-- a module that the loads reach
+abbrev pub reached_module : Env → List ℕ → Option Body
+reached_module env label = body_at label (all_bodies env.loads)
 
-abbrev pub functions_or : List Fn → Option Body → List Fn
-functions_or fs None = fs
-functions_or fs (Some body) = body.functions
+abbrev pub path_in : Option Body → List ℕ
+path_in None = []
+path_in (Some body) = body.path
 
--- the module with a label, where it isn't the file that is evaluated
-abbrev pub other_module : Env → List ℕ → Option Body
-other_module env label = if same_text label env.label then None else body_at label (all_bodies env.loads)
+abbrev pub functions_in : Option Body → List Fn
+functions_in None = []
+functions_in (Some body) = body.functions
 
 abbrev pub path_of : Env → List ℕ → List ℕ
-path_of env label = path_or env.path (other_module env label)
+path_of env label = if same_text label env.label then env.path else path_in (reached_module env label)
 
 abbrev pub functions_of : Env → List ℕ → List Fn
-functions_of env label = functions_or (defs env.file.tops) (other_module env label)
+functions_of env label = if same_text label env.label then defs env.file.tops else functions_in (reached_module env label)
 
 abbrev pub function_named : List ℕ → List Fn → Option Fn
 function_named x [] = None
@@ -76,7 +76,7 @@ thaw_body (Some body) here =
 
 -- the names of a module are put on the heap where one of them is first needed
 unfoldable pub need_names : Env → List ℕ → Here → Runs (Unit {0})
-need_names env label here = λ w. (if is_some (names_at label w.files) then pure tt else thaw_body (other_module env label) here) w
+need_names env label here = λ w. (if is_some (names_at label w.files) then pure tt else thaw_body (reached_module env label) here) w
 
 -- the defaults of a function
 abbrev pub values_named : List ℕ → List (List ℕ × List Val) → List Val

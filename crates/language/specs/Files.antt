@@ -56,13 +56,14 @@ frozen_loads (l ∷ ls) (m ∷ ms) = frozen_items m.body l.items ++ frozen_loads
 abbrev pub open_calls : ℕ
 open_calls = 64
 
+-- the value of a default, before those of the defaults behind it
+abbrev pub default_value : Env → Bound → Here → Runs (List Val) → Runs (List Val)
+default_value env t.no_bound here rest = rest
+default_value env (t.bound e) here rest = value env (call env open_calls) e here >>= λ x. rest >>= λ xs. pure (x ∷ xs)
+
 abbrev pub default_values : Env → List Pa → Here → Runs (List Val)
 default_values env [] here = pure []
-default_values env (p ∷ ps) here = default_value p.default (default_values env ps here)
-  where
-    default_value : Bound → Runs (List Val) → Runs (List Val)
-    default_value t.no_bound rest = rest
-    default_value (t.bound e) rest = value env (call env open_calls) e here >>= λ x. rest >>= λ xs. pure (x ∷ xs)
+default_values env (p ∷ ps) here = default_value env p.default here (default_values env ps here)
 
 abbrev pub keep_defaults : List ℕ → List ℕ → List Val → Runs (Unit {0})
 keep_defaults label name xs = λ w. ended tt (record w { files = change_names label (λ f. record f { defaults = (name, xs) ∷ f.defaults }) w.files })

@@ -1,2 +1,15 @@
-//! The meaning of the language: what a file's evaluation ends with.
+//! The meaning of the language: what the evaluation of a BUILD file or a .bzl file ends with, as definitions.
+//!
+//! `specs/Files` says it of a whole file; below it stand statements, calls, expressions, targets, names, the package
+//! calls, and what an evaluation is given and works on. The definitions follow the Starlark language specification, and
+//! where this repository's profile takes less or decides more, the definition says so. `proofs/` has programs as texts
+//! with the outcomes that the definitions compute of them, and the proofs of the laws.
 #![tactic(auto)]
+
+ghost use Rattle.language.specs.Laws.{FinishedStays};
+
+/// The law that answers do no harm: an outcome that does not wait for globs stays the same when more of them are
+/// answered.
+pub fn finished_outcomes_stay()
+    ensures { FinishedStays }
+{}
