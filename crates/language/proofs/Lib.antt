@@ -8,7 +8,9 @@ pub mod RowsOfSteps
 pub mod RowsOfFiles
 pub mod RowsOfPackages
 pub mod RowsOfLimits
+pub mod Quiet
 pub mod Below
+pub mod Asked
 pub mod MoreAnswers
 pub mod MoreValues
 pub mod MoreStatements

@@ -19,6 +19,8 @@ use Rattle.language.specs.Packages.{in_package, package_call}
 use Rattle.language.specs.Expressions.{Call, call_builtin, call_object, apply, Receiver, native, receiver, apply_method}
 use Rattle.language.specs.Laws.{with_answers}
 use Rattle.language.proofs.Below.{Below, same, waiting, after, choose, by_kind}
+use Rattle.language.proofs.Quiet.{quiet}
+use Rattle.language.proofs.Asked.{asked}
 
 -- a pattern that has an answer keeps it
 pub answer_stays : (p : List ℕ) (answers more : Answers) → is_some (answer_to p answers) ≡ true → answer_to p (answers ++ more) ≡ answer_to p answers
@@ -59,47 +61,47 @@ module _ (env : Env) (more : Answers) where
   env' = with_answers more env
 
   answered_below : (patterns : List (List ℕ)) (g : Glob) → unanswered env.globs [] g.includes ≡ patterns → (here : Here) (w : World)
-      → Below (answered patterns env.globs g here w) (answered (unanswered env'.globs [] g.includes) env'.globs g here w)
+      → Below env.globs (answered patterns env.globs g here w) (answered (unanswered env'.globs [] g.includes) env'.globs g here w)
   answered_below [] g e here w =
-      rw (none_unanswered env.globs more g.includes e, same_paths env.globs more g.includes e) (same _)
-  answered_below (p ∷ ps) g e here w = waiting (p ∷ ps) _
+      rw (none_unanswered env.globs more g.includes e, same_paths env.globs more g.includes e) (same _ (search quiet))
+  answered_below (p ∷ ps) g e here w = waiting (p ∷ ps) _ (asked env.globs g.includes p ps e)
 
-  glob_below : (xs : List Val) (ns : Named) (here : Here) (w : World) → Below (glob env.globs xs ns here w) (glob env'.globs xs ns here w)
+  glob_below : (xs : List Val) (ns : Named) (here : Here) (w : World) → Below env.globs (glob env.globs xs ns here w) (glob env'.globs xs ns here w)
   unfolding glob
-  glob_below xs ns here w = after (on_heap here (λ s. checked (read_call xs ns s) s) w) λ g u. answered_below (unanswered env.globs [] g.includes) g refl here u
+  glob_below xs ns here w = after (on_heap here (λ s. checked (read_call xs ns s) s) w) (search quiet) λ g u. answered_below (unanswered env.globs [] g.includes) g refl here u
 
-  in_package_below : (f : Builtin) (xs : List Val) (ns : Named) (here : Here) (w : World) → Below (in_package env f xs ns here w) (in_package env' f xs ns here w)
-  in_package_below b.PackageName [] [] here w = same _
-  in_package_below b.PackageName [] (n ∷ ns) here w = same _
-  in_package_below b.PackageName (x ∷ xs) ns here w = same _
+  in_package_below : (f : Builtin) (xs : List Val) (ns : Named) (here : Here) (w : World) → Below env.globs (in_package env f xs ns here w) (in_package env' f xs ns here w)
+  in_package_below b.PackageName [] [] here w = same _ (search quiet)
+  in_package_below b.PackageName [] (n ∷ ns) here w = same _ (search quiet)
+  in_package_below b.PackageName (x ∷ xs) ns here w = same _ (search quiet)
   in_package_below b.Glob xs ns here w = glob_below xs ns here w
-  in_package_below f xs ns here w = same _
+  in_package_below f xs ns here w = same _ (search quiet)
 
-  pub package_call_below : (f : Builtin) (xs : List Val) (ns : Named) (here : Here) (w : World) → Below (package_call env f xs ns here w) (package_call env' f xs ns here w)
+  pub package_call_below : (f : Builtin) (xs : List Val) (ns : Named) (here : Here) (w : World) → Below env.globs (package_call env f xs ns here w) (package_call env' f xs ns here w)
   unfolding package_call
   package_call_below f xs ns here w = by_kind env.kind here (in_package env f xs ns here) (in_package env' f xs ns here) w (in_package_below f xs ns here w)
 
-  call_builtin_below : (f : Builtin) (xs : List Val) (ns : Named) (here : Here) (w : World) → Below (call_builtin env f xs ns here w) (call_builtin env' f xs ns here w)
-  call_builtin_below f xs ns here w = choose (list_any (same_builtin f) package_functions) _ _ _ _ w (package_call_below f xs ns here w) (same _)
+  call_builtin_below : (f : Builtin) (xs : List Val) (ns : Named) (here : Here) (w : World) → Below env.globs (call_builtin env f xs ns here w) (call_builtin env' f xs ns here w)
+  call_builtin_below f xs ns here w = choose (list_any (same_builtin f) package_functions) _ _ _ _ w (package_call_below f xs ns here w) (same _ (search quiet))
 
-  module _ (call call' : Call) (calls : (label name : List ℕ) (xs : List Val) (ns : Named) (here : Here) (w : World) → Below (call label name xs ns here w) (call' label name xs ns here w)) where
-    call_object_below : (object : Option Obj) (xs : List Val) (ns : Named) (here : Here) (w : World) → Below (call_object call object xs ns here w) (call_object call' object xs ns here w)
+  module _ (call call' : Call) (calls : (label name : List ℕ) (xs : List Val) (ns : Named) (here : Here) (w : World) → Below env.globs (call label name xs ns here w) (call' label name xs ns here w)) where
+    call_object_below : (object : Option Obj) (xs : List Val) (ns : Named) (here : Here) (w : World) → Below env.globs (call_object call object xs ns here w) (call_object call' object xs ns here w)
     call_object_below (Some (function label name)) xs ns here w = calls label name xs ns here w
-    call_object_below (Some (text bytes)) xs ns here w = same _
-    call_object_below (Some (list members f)) xs ns here w = same _
-    call_object_below (Some (tuple members)) xs ns here w = same _
-    call_object_below (Some (dict entries f)) xs ns here w = same _
-    call_object_below None xs ns here w = same _
+    call_object_below (Some (text bytes)) xs ns here w = same _ (search quiet)
+    call_object_below (Some (list members f)) xs ns here w = same _ (search quiet)
+    call_object_below (Some (tuple members)) xs ns here w = same _ (search quiet)
+    call_object_below (Some (dict entries f)) xs ns here w = same _ (search quiet)
+    call_object_below None xs ns here w = same _ (search quiet)
 
-    pub apply_below : (g : Val) (xs : List Val) (ns : Named) (here : Here) (w : World) → Below (apply env call g xs ns here w) (apply env' call' g xs ns here w)
+    pub apply_below : (g : Val) (xs : List Val) (ns : Named) (here : Here) (w : World) → Below env.globs (apply env call g xs ns here w) (apply env' call' g xs ns here w)
     unfolding apply
     apply_below (v.Builtin f) xs ns here w = call_builtin_below f xs ns here w
     apply_below (v.At a) xs ns here w = call_object_below (at a w.store) xs ns here w
-    apply_below v.Nothing xs ns here w = same _
-    apply_below (v.Bool c) xs ns here w = same _
-    apply_below (v.Int n) xs ns here w = same _
+    apply_below v.Nothing xs ns here w = same _ (search quiet)
+    apply_below (v.Bool c) xs ns here w = same _ (search quiet)
+    apply_below (v.Int n) xs ns here w = same _ (search quiet)
 
-  pub apply_method_below : (r : Receiver) (name : List ℕ) (xs : List Val) (ns : Named) (here : Here) (w : World) → Below (apply_method env r name xs ns here w) (apply_method env' r name xs ns here w)
+  pub apply_method_below : (r : Receiver) (name : List ℕ) (xs : List Val) (ns : Named) (here : Here) (w : World) → Below env.globs (apply_method env r name xs ns here w) (apply_method env' r name xs ns here w)
   unfolding apply_method
-  apply_method_below native name xs ns here w = after (or_fault 5 (first_named name package_functions) here w) λ f u. package_call_below f xs ns here u
-  apply_method_below (receiver x) name xs ns here w = same _
+  apply_method_below native name xs ns here w = after (or_fault 5 (first_named name package_functions) here w) (search quiet) λ f u. package_call_below f xs ns here u
+  apply_method_below (receiver x) name xs ns here w = same _ (search quiet)

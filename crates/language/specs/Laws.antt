@@ -1,5 +1,7 @@
 -- Laws of the definitions.
-use Rattle.std.specs.Prelude.{◌≡◌, ◌++◌}
+use Rattle.std.specs.Prelude.{◌≡◌, ◌≢◌, ℕ, List, [], ◌∷◌, ◌++◌, false, is_some}
+use Rattle.std.specs.List.{AllByRecursion}
+use Rattle.language.specs.Globs.{answer_to}
 use Rattle.language.specs.Environment.{Env, Answers}
 use Rattle.language.specs.Files.{Outcome, a_need, evaluate}
 
@@ -14,3 +16,18 @@ IsFinished outcome = Unit {0}
 -- an outcome that does not wait for answers stays the same under more of them
 abbrev pub FinishedStays : Type 0
 FinishedStays = (env : Env) (more : Answers) → IsFinished (evaluate env) → evaluate (with_answers more env) ≡ evaluate env
+
+-- each differs from those behind it
+abbrev pub AllDiffer : List (List ℕ) → Type 0
+AllDiffer [] = Unit {0}
+AllDiffer (p ∷ ps) = AllByRecursion (λ q. p ≢ q) ps × AllDiffer ps
+
+-- some patterns, none of which has an answer, each once
+pub record IsAsked (answers : Answers) (patterns : List (List ℕ)) : Type 0 where
+  pub some : patterns ≢ []
+  pub unanswered : AllByRecursion (λ p. is_some (answer_to p answers) ≡ false) patterns
+  pub differ : AllDiffer patterns
+
+-- an outcome that waits asks for patterns that have no answer
+abbrev pub NeedsAreAsked : Type 0
+NeedsAreAsked = (env : Env) (patterns : List (List ℕ)) → evaluate env ≡ a_need patterns → IsAsked env.globs patterns

@@ -6,10 +6,15 @@
 //! with the outcomes that the definitions compute of them, and the proofs of the laws.
 #![tactic(auto)]
 
-ghost use Rattle.language.specs.Laws.{FinishedStays};
+ghost use Rattle.language.specs.Laws.{FinishedStays, NeedsAreAsked};
 
 /// The law that answers do no harm: an outcome that does not wait for globs stays the same when more of them are
 /// answered.
 pub fn finished_outcomes_stay()
     ensures { FinishedStays }
+{}
+
+/// The law of waiting: the patterns that an outcome waits for have no answer, each stands once, and there is one at least.
+pub fn needs_are_asked()
+    ensures { NeedsAreAsked }
 {}
