@@ -4,8 +4,9 @@ use Rattle.std.specs.Prelude.{if◌then◌else◌, is_some, ◌||◌}
 use Rattle.std.specs.List.{AllByRecursion}
 use lib.Pointwise.{bytes_decides}
 use Rattle.meaning.specs.Comparing.{same_text}
+use Rattle.grammar.specs.declared.kind.FileKind.TheVariants as k
 use Rattle.language.specs.Names.{has_name}
-use Rattle.language.specs.Environment.{Answers}
+use Rattle.language.specs.Environment.{Env, Answers}
 use Rattle.language.specs.Globs.{answer_to, unanswered}
 use Rattle.language.specs.Laws.{AllDiffer, IsAsked}
 
@@ -51,10 +52,11 @@ all_differ answers seen (p ∷ ps) = go (is_some (answer_to p answers) || has_na
     go true h k = h
     go false h k = (all_weaker (λ q g. (other_name p q seen (same_text q p) refl g).0) (unanswered answers (p ∷ seen) ps) (none_seen answers (p ∷ seen) ps), k)
 
--- where some pattern has no answer, these are asked
-pub asked : (answers : Answers) (ps : List (List ℕ)) (p : List ℕ) (rest : List (List ℕ)) → unanswered answers [] ps ≡ p ∷ rest → IsAsked answers (p ∷ rest)
-asked answers ps p rest e = record {
+-- where some pattern has no answer, in a BUILD file, these are asked
+pub asked : (env : Env) (ps : List (List ℕ)) (p : List ℕ) (rest : List (List ℕ)) → env.kind ≡ k.Build → unanswered env.globs [] ps ≡ p ∷ rest → IsAsked env (p ∷ rest)
+asked env ps p rest b e = record {
+  in_build = b;
   some = λ f. cc;
-  unanswered = subst (λ xs. AllByRecursion (λ p. is_some (answer_to p answers) ≡ false) xs) e (none_answered answers [] ps);
-  differ = subst AllDiffer e (all_differ answers [] ps);
+  unanswered = subst (λ xs. AllByRecursion (λ p. is_some (answer_to p env.globs) ≡ false) xs) e (none_answered env.globs [] ps);
+  differ = subst AllDiffer e (all_differ env.globs [] ps);
 }

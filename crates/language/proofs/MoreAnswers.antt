@@ -12,12 +12,13 @@ use Rattle.meaning.specs.Outcome.{checked}
 use Rattle.meaning.specs.Heap.{Obj, text, list, tuple, dict, function, at}
 use Rattle.meaning.specs.Functions.{Named}
 use Rattle.language.specs.World.{World, Here, on_heap, or_fault}
+use Rattle.grammar.specs.declared.kind.FileKind.TheVariants as k
 use Rattle.language.specs.Names.{first_named, package_functions}
 use Rattle.language.specs.Environment.{Env, Answers}
 use Rattle.language.specs.Globs.{Glob, answer_to, unanswered, found_or_none, answered, read_call, glob}
 use Rattle.language.specs.Packages.{in_package, package_call}
 use Rattle.language.specs.Expressions.{Call, call_builtin, call_object, apply, Receiver, native, receiver, apply_method}
-use Rattle.language.specs.Laws.{with_answers}
+use Rattle.language.specs.Laws.{with_answers, IsAsked}
 use Rattle.language.proofs.Below.{Below, same, waiting, after, choose, by_kind}
 use Rattle.language.proofs.Quiet.{quiet}
 use Rattle.language.proofs.Asked.{asked}
@@ -60,32 +61,32 @@ module _ (env : Env) (more : Answers) where
   abbrev env' : Env
   env' = with_answers more env
 
-  answered_below : (patterns : List (List ℕ)) (g : Glob) → unanswered env.globs [] g.includes ≡ patterns → (here : Here) (w : World)
-      → Below env.globs (answered patterns env.globs g here w) (answered (unanswered env'.globs [] g.includes) env'.globs g here w)
-  answered_below [] g e here w =
+  answered_below : (patterns : List (List ℕ)) (g : Glob) → env.kind ≡ k.Build → unanswered env.globs [] g.includes ≡ patterns → (here : Here) (w : World)
+      → Below (IsAsked env) (answered patterns env.globs g here w) (answered (unanswered env'.globs [] g.includes) env'.globs g here w)
+  answered_below [] g b e here w =
       rw (none_unanswered env.globs more g.includes e, same_paths env.globs more g.includes e) (same _ (search quiet))
-  answered_below (p ∷ ps) g e here w = waiting (p ∷ ps) _ (asked env.globs g.includes p ps e)
+  answered_below (p ∷ ps) g b e here w = waiting (p ∷ ps) _ (asked env g.includes p ps b e)
 
-  glob_below : (xs : List Val) (ns : Named) (here : Here) (w : World) → Below env.globs (glob env.globs xs ns here w) (glob env'.globs xs ns here w)
+  glob_below : env.kind ≡ k.Build → (xs : List Val) (ns : Named) (here : Here) (w : World) → Below (IsAsked env) (glob env.globs xs ns here w) (glob env'.globs xs ns here w)
   unfolding glob
-  glob_below xs ns here w = after (on_heap here (λ s. checked (read_call xs ns s) s) w) (search quiet) λ g u. answered_below (unanswered env.globs [] g.includes) g refl here u
+  glob_below b xs ns here w = after (on_heap here (λ s. checked (read_call xs ns s) s) w) (search quiet) λ g u. answered_below (unanswered env.globs [] g.includes) g b refl here u
 
-  in_package_below : (f : Builtin) (xs : List Val) (ns : Named) (here : Here) (w : World) → Below env.globs (in_package env f xs ns here w) (in_package env' f xs ns here w)
-  in_package_below b.PackageName [] [] here w = same _ (search quiet)
-  in_package_below b.PackageName [] (n ∷ ns) here w = same _ (search quiet)
-  in_package_below b.PackageName (x ∷ xs) ns here w = same _ (search quiet)
-  in_package_below b.Glob xs ns here w = glob_below xs ns here w
-  in_package_below f xs ns here w = same _ (search quiet)
+  in_package_below : env.kind ≡ k.Build → (f : Builtin) (xs : List Val) (ns : Named) (here : Here) (w : World) → Below (IsAsked env) (in_package env f xs ns here w) (in_package env' f xs ns here w)
+  in_package_below h b.PackageName [] [] here w = same _ (search quiet)
+  in_package_below h b.PackageName [] (n ∷ ns) here w = same _ (search quiet)
+  in_package_below h b.PackageName (x ∷ xs) ns here w = same _ (search quiet)
+  in_package_below h b.Glob xs ns here w = glob_below h xs ns here w
+  in_package_below h f xs ns here w = same _ (search quiet)
 
-  pub package_call_below : (f : Builtin) (xs : List Val) (ns : Named) (here : Here) (w : World) → Below env.globs (package_call env f xs ns here w) (package_call env' f xs ns here w)
+  pub package_call_below : (f : Builtin) (xs : List Val) (ns : Named) (here : Here) (w : World) → Below (IsAsked env) (package_call env f xs ns here w) (package_call env' f xs ns here w)
   unfolding package_call
-  package_call_below f xs ns here w = by_kind env.kind here (in_package env f xs ns here) (in_package env' f xs ns here) w (in_package_below f xs ns here w)
+  package_call_below f xs ns here w = by_kind env.kind here (in_package env f xs ns here) (in_package env' f xs ns here) w (λ h. in_package_below h f xs ns here w)
 
-  call_builtin_below : (f : Builtin) (xs : List Val) (ns : Named) (here : Here) (w : World) → Below env.globs (call_builtin env f xs ns here w) (call_builtin env' f xs ns here w)
+  call_builtin_below : (f : Builtin) (xs : List Val) (ns : Named) (here : Here) (w : World) → Below (IsAsked env) (call_builtin env f xs ns here w) (call_builtin env' f xs ns here w)
   call_builtin_below f xs ns here w = choose (list_any (same_builtin f) package_functions) _ _ _ _ w (package_call_below f xs ns here w) (same _ (search quiet))
 
-  module _ (call call' : Call) (calls : (label name : List ℕ) (xs : List Val) (ns : Named) (here : Here) (w : World) → Below env.globs (call label name xs ns here w) (call' label name xs ns here w)) where
-    call_object_below : (object : Option Obj) (xs : List Val) (ns : Named) (here : Here) (w : World) → Below env.globs (call_object call object xs ns here w) (call_object call' object xs ns here w)
+  module _ (call call' : Call) (calls : (label name : List ℕ) (xs : List Val) (ns : Named) (here : Here) (w : World) → Below (IsAsked env) (call label name xs ns here w) (call' label name xs ns here w)) where
+    call_object_below : (object : Option Obj) (xs : List Val) (ns : Named) (here : Here) (w : World) → Below (IsAsked env) (call_object call object xs ns here w) (call_object call' object xs ns here w)
     call_object_below (Some (function label name)) xs ns here w = calls label name xs ns here w
     call_object_below (Some (text bytes)) xs ns here w = same _ (search quiet)
     call_object_below (Some (list members f)) xs ns here w = same _ (search quiet)
@@ -93,7 +94,7 @@ module _ (env : Env) (more : Answers) where
     call_object_below (Some (dict entries f)) xs ns here w = same _ (search quiet)
     call_object_below None xs ns here w = same _ (search quiet)
 
-    pub apply_below : (g : Val) (xs : List Val) (ns : Named) (here : Here) (w : World) → Below env.globs (apply env call g xs ns here w) (apply env' call' g xs ns here w)
+    pub apply_below : (g : Val) (xs : List Val) (ns : Named) (here : Here) (w : World) → Below (IsAsked env) (apply env call g xs ns here w) (apply env' call' g xs ns here w)
     unfolding apply
     apply_below (v.Builtin f) xs ns here w = call_builtin_below f xs ns here w
     apply_below (v.At a) xs ns here w = call_object_below (at a w.store) xs ns here w
@@ -101,7 +102,7 @@ module _ (env : Env) (more : Answers) where
     apply_below (v.Bool c) xs ns here w = same _ (search quiet)
     apply_below (v.Int n) xs ns here w = same _ (search quiet)
 
-  pub apply_method_below : (r : Receiver) (name : List ℕ) (xs : List Val) (ns : Named) (here : Here) (w : World) → Below env.globs (apply_method env r name xs ns here w) (apply_method env' r name xs ns here w)
+  pub apply_method_below : (r : Receiver) (name : List ℕ) (xs : List Val) (ns : Named) (here : Here) (w : World) → Below (IsAsked env) (apply_method env r name xs ns here w) (apply_method env' r name xs ns here w)
   unfolding apply_method
   apply_method_below native name xs ns here w = after (or_fault 5 (first_named name package_functions) here w) (search quiet) λ f u. package_call_below f xs ns here u
   apply_method_below (receiver x) name xs ns here w = same _ (search quiet)

@@ -2,6 +2,7 @@
 use Rattle.std.specs.Prelude.{◌≡◌, ◌≢◌, ℕ, List, [], ◌∷◌, ◌++◌, false, is_some}
 use Rattle.std.specs.List.{AllByRecursion}
 use Rattle.language.specs.Globs.{answer_to}
+use Rattle.grammar.specs.declared.kind.FileKind.TheVariants as k
 use Rattle.language.specs.Environment.{Env, Answers}
 use Rattle.language.specs.Files.{Outcome, a_need, evaluate}
 
@@ -22,12 +23,17 @@ abbrev pub AllDiffer : List (List ℕ) → Type 0
 AllDiffer [] = Unit {0}
 AllDiffer (p ∷ ps) = AllByRecursion (λ q. p ≢ q) ps × AllDiffer ps
 
--- some patterns, none of which has an answer, each once
-pub record IsAsked (answers : Answers) (patterns : List (List ℕ)) : Type 0 where
+-- some patterns, none of which has an answer, each once; and only a BUILD file waits for answers
+pub record IsAsked (env : Env) (patterns : List (List ℕ)) : Type 0 where
+  pub in_build : env.kind ≡ k.Build
   pub some : patterns ≢ []
-  pub unanswered : AllByRecursion (λ p. is_some (answer_to p answers) ≡ false) patterns
+  pub unanswered : AllByRecursion (λ p. is_some (answer_to p env.globs) ≡ false) patterns
   pub differ : AllDiffer patterns
 
--- an outcome that waits asks for patterns that have no answer
+-- an outcome that waits asks for patterns that have no answer, and is a BUILD file's
 abbrev pub NeedsAreAsked : Type 0
-NeedsAreAsked = (env : Env) (patterns : List (List ℕ)) → evaluate env ≡ a_need patterns → IsAsked env.globs patterns
+NeedsAreAsked = (env : Env) (patterns : List (List ℕ)) → evaluate env ≡ a_need patterns → IsAsked env patterns
+
+-- a .bzl file waits for no answers
+abbrev pub ModulesDoNotWait : Type 0
+ModulesDoNotWait = (env : Env) → env.kind ≡ k.Bzl → IsFinished (evaluate env)

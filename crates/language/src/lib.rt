@@ -6,7 +6,7 @@
 //! with the outcomes that the definitions compute of them, and the proofs of the laws.
 #![tactic(auto)]
 
-ghost use Rattle.language.specs.Laws.{FinishedStays, NeedsAreAsked};
+ghost use Rattle.language.specs.Laws.{FinishedStays, ModulesDoNotWait, NeedsAreAsked};
 
 /// The law that answers do no harm: an outcome that does not wait for globs stays the same when more of them are
 /// answered.
@@ -17,4 +17,9 @@ pub fn finished_outcomes_stay()
 /// The law of waiting: the patterns that an outcome waits for have no answer, each stands once, and there is one at least.
 pub fn needs_are_asked()
     ensures { NeedsAreAsked }
+{}
+
+/// The law that a .bzl file's evaluation waits for no glob.
+pub fn modules_do_not_wait()
+    ensures { ModulesDoNotWait }
 {}
