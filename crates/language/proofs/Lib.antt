@@ -14,3 +14,4 @@ pub mod Asked
 pub mod MoreAnswers
 pub mod MoreValues
 pub mod MoreStatements
+pub mod Rising

@@ -1,10 +1,12 @@
 -- Laws of the definitions.
-use Rattle.std.specs.Prelude.{◌≡◌, ◌≢◌, ℕ, List, [], ◌∷◌, ◌++◌, false, is_some}
+use Rattle.std.specs.Prelude.{◌≡◌, ◌≢◌, ℕ, List, [], ◌∷◌, ◌++◌, false, is_some, map}
 use Rattle.std.specs.List.{AllByRecursion}
+use Rattle.language.specs.Sorting.{Rises}
+use Rattle.language.specs.World.{Target}
 use Rattle.language.specs.Globs.{answer_to}
 use Rattle.grammar.specs.declared.kind.FileKind.TheVariants as k
 use Rattle.language.specs.Environment.{Env, Answers}
-use Rattle.language.specs.Files.{Outcome, a_need, evaluate}
+use Rattle.language.specs.Files.{Outcome, a_package, a_need, evaluate}
 
 abbrev pub with_answers : Answers → Env → Env
 with_answers more env = record env { globs = env.globs ++ more }
@@ -37,3 +39,7 @@ NeedsAreAsked = (env : Env) (patterns : List (List ℕ)) → evaluate env ≡ a_
 -- a .bzl file waits for no answers
 abbrev pub ModulesDoNotWait : Type 0
 ModulesDoNotWait = (env : Env) → env.kind ≡ k.Bzl → IsFinished (evaluate env)
+
+-- the targets of a package stand in byte order of their names, one of each name
+abbrev pub TargetsRise : Type 0
+TargetsRise = (env : Env) (targets : List Target) → evaluate env ≡ a_package targets → Rises (map (λ t. t.name) targets)

@@ -1,5 +1,5 @@
 -- Byte order.
-use Rattle.std.specs.Prelude.{ℕ, List, [], ◌∷◌}
+use Rattle.std.specs.Prelude.{◌≡◌, ℕ, List, [], ◌∷◌}
 use Rattle.std.specs.Ordering.{nat_cmp}
 use Rattle.std.specs.Cmp.Lexicographic.{slice_cmp}
 use Rattle.std.specs.declared.cmp.Ordering.{Ordering}
@@ -20,3 +20,12 @@ put text_of x (y ∷ ys) = put_by (slice_cmp nat_cmp (text_of x) (text_of y)) x 
 abbrev pub in_order : {A : Type 0} → (A → List ℕ) → List A → List A
 in_order text_of [] = []
 in_order text_of (x ∷ xs) = put text_of x (in_order text_of xs)
+
+-- texts of which each is before the next
+abbrev pub RisesFrom : List ℕ → List (List ℕ) → Type 0
+RisesFrom x [] = Unit {0}
+RisesFrom x (y ∷ ys) = (slice_cmp nat_cmp x y ≡ Less) × RisesFrom y ys
+
+abbrev pub Rises : List (List ℕ) → Type 0
+Rises [] = Unit {0}
+Rises (x ∷ xs) = RisesFrom x xs

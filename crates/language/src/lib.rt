@@ -6,7 +6,7 @@
 //! with the outcomes that the definitions compute of them, and the proofs of the laws.
 #![tactic(auto)]
 
-ghost use Rattle.language.specs.Laws.{FinishedStays, ModulesDoNotWait, NeedsAreAsked};
+ghost use Rattle.language.specs.Laws.{FinishedStays, ModulesDoNotWait, NeedsAreAsked, TargetsRise};
 
 /// The law that answers do no harm: an outcome that does not wait for globs stays the same when more of them are
 /// answered.
@@ -22,4 +22,9 @@ pub fn needs_are_asked()
 /// The law that a .bzl file's evaluation waits for no glob.
 pub fn modules_do_not_wait()
     ensures { ModulesDoNotWait }
+{}
+
+/// The law that the targets of a package stand in byte order of their names, one of each name.
+pub fn targets_rise()
+    ensures { TargetsRise }
 {}
