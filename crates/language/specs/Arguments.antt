@@ -1,4 +1,5 @@
--- The arguments of a call and the parameters of a function.
+-- The arguments of a call and the parameters of a function (Starlark's specification, "Functions" and "Function and method
+-- calls"; this profile has neither `*args` nor `**kwargs`).
 --
 -- Plain arguments are those of the first parameters; the others are named. An argument that is missing, is given twice,
 -- has an unknown name or is one too many is fault 25.

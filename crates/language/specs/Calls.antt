@@ -1,4 +1,5 @@
--- Calls of functions of files.
+-- Calls of functions of files (Starlark's specification, "Functions": a function may not call itself, directly or by way
+-- of others).
 --
 -- Tested in order: the arguments (25), the function already open (14), a 65th open call (12).
 use Rattle.std.specs.Prelude.{ℕ, zero, suc, ◌&&◌, Bool, true, false, List, [], ◌∷◌, ◌++◌, map, Option, Some, None, if◌then◌else◌}
@@ -20,6 +21,7 @@ abbrev pub given : Exit → Val
 given (returns x) = x
 given exit = v.Nothing
 
+-- the function is open
 abbrev pub is_running : List ℕ → List ℕ → List (List ℕ × List ℕ) → Bool
 is_running label name [] = false
 is_running label name (f ∷ fs) = if same_text label f.0 && same_text name f.1 then true else is_running label name fs
@@ -37,6 +39,7 @@ abbrev pub body_does : Option (Suite → Here → Runs Exit) → Fn → Block �
 body_does None f parameters within here = fault 12 here
 body_does (Some run) f parameters within here = in_blocks (function_block f parameters ∷ []) (run f.body within) >>= λ exit. pure (given exit)
 
+-- a call of a function of a file, known by the file's label and its own name
 abbrev pub enter : Env → Option (Suite → Here → Runs Exit) → Call
 enter env run label name xs ns here =
     need_names env label here >>= λ _.

@@ -1,7 +1,8 @@
--- What expressions do.
+-- What expressions do (Starlark's specification, "Expressions").
 --
 -- Each expression node begun is a step; a method call is one node with its receiver and arguments below it. Operands are
--- evaluated from left to right, a condition before its branch, a key before its value.
+-- evaluated from left to right, a condition before its branch, a key before its value. A function comes before its
+-- arguments; whether it can be called, and with these, is tested once they are evaluated.
 use Rattle.std.specs.Prelude.{ℕ, List, [], ◌∷◌, ◌++◌, true, false, not, Option, Some, is_some, if◌then◌else◌}
 use Rattle.std.specs.List.{list_any}
 use Rattle.tree.specs.declared.expr.Literal.{Literal}

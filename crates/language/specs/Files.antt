@@ -1,4 +1,5 @@
--- What the evaluation of a file ends with.
+-- What the evaluation of a file ends with (Starlark's specification, "Load statements", "Function definitions", "Module
+-- execution" and "Freezing a value").
 use Rattle.std.specs.Prelude.{ℕ, List, [], ◌∷◌, ◌++◌, Option, Some, None}
 use Rattle.grammar.specs.declared.kind.FileKind.{FileKind}
 use Rattle.grammar.specs.declared.kind.FileKind.TheVariants as k
@@ -61,10 +62,12 @@ abbrev pub default_value : Env → Bound → Here → Runs (List Val) → Runs (
 default_value env t.no_bound here rest = rest
 default_value env (t.bound e) here rest = value env (call env open_calls) e here >>= λ x. rest >>= λ xs. pure (x ∷ xs)
 
+-- the values of the defaults, in the order of the parameters
 abbrev pub default_values : Env → List Pa → Here → Runs (List Val)
 default_values env [] here = pure []
 default_values env (p ∷ ps) here = default_value env p.default here (default_values env ps here)
 
+-- the defaults of a function, kept for its calls
 abbrev pub keep_defaults : List ℕ → List ℕ → List Val → Runs (Unit {0})
 keep_defaults label name xs = λ w. ended tt (record w { files = change_names label (λ f. record f { defaults = (name, xs) ∷ f.defaults }) w.files })
 
@@ -77,6 +80,7 @@ define env f here =
     keep_defaults env.label f.name xs >>= λ _.
     bind f.name x here
 
+-- a statement at file level, or a function
 abbrev pub top : Env → Tp → Here → Runs (Unit {0})
 top env (t.stmt s) here = exec env (call env open_calls) s here >>= λ _. pure tt
 top env (t.def f) here = define env f (at_line f.line here)
@@ -90,6 +94,7 @@ abbrev pub leading : Option ℕ → Here → Runs (Unit {0})
 leading None here = pure tt
 leading (Some line) here = tick (at_line line here)
 
+-- all statements of the file: the leading string, the loads, the others
 abbrev pub statements : Env → Here → Runs (Unit {0})
 statements env here =
     leading env.file.leading here >>= λ _.
@@ -98,6 +103,7 @@ statements env here =
 
 -- ---- freezing, at the end of a .bzl file, with the steps that are left
 
+-- the values of globals; each walk begins outside of all containers
 abbrev pub frozen_names : List (List ℕ) → Here → Runs (List Frozen)
 frozen_names [] here = pure []
 frozen_names (x ∷ xs) here =
@@ -147,9 +153,11 @@ start steps env = record {
   targets = [];
 }
 
+-- where the statements of the file stand; each has its own line
 abbrev pub file_level : Env → Here
 file_level env = record { label = env.label; kind = env.kind; site = record { path = env.path; line = 0 }; running = [] }
 
+-- the targets that were made
 abbrev pub the_package : Runs Outcome
 the_package w = ended (a_package (in_order (λ x. x.name) w.targets)) w
 
@@ -162,6 +170,7 @@ leaves k.Bzl env here = frozen_module env here >>= λ m. pure (a_module m)
 abbrev pub whole_file : Env → Runs Outcome
 whole_file env = statements env (file_level env) >>= λ _. leaves env.kind env (file_level env)
 
+-- a fault ends the evaluation, as does a call of `glob` without an answer
 abbrev pub outcome_of : Ends Outcome → Outcome
 outcome_of (ended o w) = o
 outcome_of (failed code site) = a_fault code site

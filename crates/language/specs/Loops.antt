@@ -1,4 +1,4 @@
--- Going over the members of a value.
+-- Going over the members of a value (Starlark's specification, "For loops" and "Comprehensions").
 use Rattle.std.specs.Prelude.{suc, List, [], ◌∷◌, ◌++◌, length, drop, if◌then◌else◌}
 use Rattle.meaning.specs.declared.val.Val.{Val}
 use Rattle.meaning.specs.declared.val.Val.TheVariants as v
@@ -9,7 +9,7 @@ use Rattle.meaning.specs.Functions.{the_items, grows}
 use Rattle.language.specs.World.{Here, Runs, ◌>>=◌, pure, fault, on_heap}
 
 -- A list or dictionary is iterated from the start of a `for` or a clause over it until that ends; meanwhile it can't be
--- changed. So what is gone over are the members at the start.
+-- changed. So what is gone over are the members at the start. A string is not iterated.
 
 abbrev pub locks : Val → Does Store (Unit {0})
 locks (v.At a) = λ s. o.gives tt (record s { iterated = a ∷ s.iterated })
@@ -19,6 +19,7 @@ abbrev pub unlocks : Val → Does Store (Unit {0})
 unlocks (v.At a) = λ s. o.gives tt (record s { iterated = drop 1 s.iterated })
 unlocks x = o.pure tt
 
+-- a piece over the members of a value
 abbrev pub over : {A : Type 0} → Val → (List Val → Runs A) → Here → Runs A
 over x body here =
     on_heap here (the_items x) >>= λ xs.

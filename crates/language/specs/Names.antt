@@ -1,7 +1,8 @@
--- Names: which are bound where, what a name gives, and what binding one does.
+-- Names: which are bound where, what a name gives, and what binding one does (Starlark's specification, "Name binding and
+-- variables").
 --
 -- A name bound anywhere in a function is local in all of it. A comprehension has names of its own. Otherwise a name that
--- the file binds anywhere at file level is its global, and any other is universal.
+-- the file binds anywhere at file level is its global, and any other is universal. This profile binds a global once.
 use Rattle.std.specs.Prelude.{ℕ, List, [], ◌∷◌, ◌++◌, Bool, true, false, Option, Some, None, if◌then◌else◌, is_some, codes}
 use Rattle.meaning.specs.declared.val.Val.{Val}
 use Rattle.meaning.specs.declared.val.Val.TheVariants as v
@@ -103,16 +104,19 @@ abbrev pub slot_among : List ℕ → List Block → Option (Option Val)
 slot_among x [] = None
 slot_among x (block ∷ blocks) = or_else (slot_in x block) (slot_among x blocks)
 
+-- the block with a name bound, where it has the name
 abbrev pub bind_in : List ℕ → Val → Block → Block
 bind_in x value [] = []
 bind_in x value (y ∷ ys) = if same_text x y.0 then (y.0, Some value) ∷ ys else y ∷ bind_in x value ys
 
+-- the same in the innermost block that has the name
 abbrev pub bind_among : List ℕ → Val → List Block → List Block
 bind_among x value [] = []
 bind_among x value (block ∷ blocks) = if is_some (slot_in x block) then bind_in x value block ∷ blocks else block ∷ bind_among x value blocks
 
 -- ---- the names of files
 
+-- the file with a label
 abbrev pub names_at : List ℕ → List Names → Option Names
 names_at label [] = None
 names_at label (f ∷ fs) = if same_text label f.label then Some f else names_at label fs
@@ -121,6 +125,7 @@ abbrev pub file_slot : List ℕ → Option Names → Option (Option Val)
 file_slot x None = None
 file_slot x (Some f) = slot_in x f.block
 
+-- another state of a file's names
 abbrev pub change_names : List ℕ → (Names → Names) → List Names → List Names
 change_names label change [] = []
 change_names label change (f ∷ fs) = if same_text label f.label then change f ∷ fs else f ∷ change_names label change fs

@@ -1,4 +1,6 @@
--- What statements do. Each statement begun is a step, an `elif` too; its line is that of the faults inside it.
+-- What statements do (Starlark's specification, "Statements").
+--
+-- Each statement begun is a step, an `elif` too; its line is that of the faults inside it.
 use Rattle.std.specs.Prelude.{List, [], ◌∷◌}
 use Rattle.tree.specs.declared.expr.BinaryOp.{BinaryOp}
 use Rattle.tree.specs.declared.expr.BinaryOp.TheVariants as o
@@ -26,6 +28,7 @@ pub data Exit : Type 0 where
   continues : Exit
   returns : Val → Exit
 
+-- the statements behind one that goes on
 abbrev pub unless_over : Exit → Runs Exit → Runs Exit
 unless_over goes_on rest = rest
 unless_over exit rest = pure exit
@@ -38,6 +41,7 @@ present (to_name x) here = read x here
 present (to_member container i) here = on_heap here (index container i)
 present (to_each aims) here = fault 5 here
 
+-- `+`, in place where both are lists
 abbrev pub added : Val → Val → Does Store Val
 added (v.At a) (v.At b) = λ s. add_in_place a (at a s) b (at b s) (add (v.At a) (v.At b)) s
 added x y = add x y
@@ -49,6 +53,7 @@ changed op x y here = on_heap here (binary (operator_of op) x y)
 
 -- ---- loops
 
+-- the turns behind one: `continue` goes on with them, `break` and `return` leave them out
 abbrev pub after_turn : Exit → Runs Exit → Runs Exit
 after_turn goes_on rest = rest
 after_turn continues rest = rest
@@ -81,6 +86,7 @@ module _ (env : Env) (call : Call) where
   abbrev pub turn : Ex → Runs Exit → Here → Val → Runs Exit
   turn target body here x = tick here >>= λ _. aim env call target here >>= λ a. store a x here >>= λ _. body
 
+  -- a `for` over the members of a value
   abbrev pub for_each : Ex → Ex → Runs Exit → Here → Runs Exit
   for_each target e body here = value env call e here >>= λ x. over x (turns (turn target body here)) here
 

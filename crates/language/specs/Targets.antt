@@ -1,4 +1,6 @@
--- What is assigned to: a name, a member of a list or dictionary, or several such.
+-- What is assigned to (Starlark's specification, "Assignments"): a name, a member of a list or dictionary, or several such.
+--
+-- An assignment evaluates its right side, then the operands of all its targets from left to right; then it stores.
 use Rattle.std.specs.Prelude.{ℕ, suc, ◌==◌, List, [], ◌∷◌, length, Option, Some, if◌then◌else◌}
 use Rattle.meaning.specs.declared.val.Val.{Val}
 use Rattle.meaning.specs.declared.val.Val.TheVariants as v
@@ -23,6 +25,8 @@ abbrev pub how_many : Aims → ℕ
 how_many no_aims = 0
 how_many (aim_at aim more) = suc (how_many more)
 
+-- Unpacking wants a list or tuple of that length; anything else is fault 5.
+
 abbrev pub of_length : ℕ → List Val → Checked (List Val)
 of_length n members = if length members == n then good members else bad 5
 
@@ -35,7 +39,6 @@ abbrev pub parts_of : ℕ → Val → Store → Checked (List Val)
 parts_of n (v.At a) s = object_parts n (at a s)
 parts_of n x s = bad 5
 
--- the members of a list or tuple of that length; else fault 5
 abbrev pub unpack : ℕ → Val → Does Store (List Val)
 unpack n x = λ s. checked (parts_of n x s) s
 
