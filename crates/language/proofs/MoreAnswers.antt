@@ -18,20 +18,28 @@ use Rattle.language.specs.Environment.{Env, Answers}
 use Rattle.language.specs.Globs.{Glob, answer_to, unanswered, found_or_none, answered, read_call, glob}
 use Rattle.language.specs.Packages.{in_package, package_call}
 use Rattle.language.specs.Expressions.{Call, call_builtin, call_object, apply, Receiver, native, receiver, apply_method}
-use Rattle.language.specs.Laws.{with_answers, IsAsked}
+use Rattle.language.specs.Laws.{KnowsMore, MoreBehind, with_answers, IsAsked}
 use Rattle.language.proofs.Below.{Below, same, waiting, after, choose, by_kind}
 use Rattle.language.proofs.Quiet.{quiet}
 use Rattle.language.proofs.Asked.{asked}
 
 -- a pattern that has an answer keeps it
-pub answer_stays : (p : List ℕ) (answers more : Answers) → is_some (answer_to p answers) ≡ true → answer_to p (answers ++ more) ≡ answer_to p answers
-answer_stays p [] more = λ e. cc
-answer_stays p (a ∷ answers) more = go (same_text p a.0) (answer_stays p answers more)
+pub answer_stays : MoreBehind
+answer_stays [] more p paths = λ e. cc
+answer_stays (a ∷ answers) more p paths = go (same_text p a.0) (answer_stays answers more p paths)
   where
-    go : (b : Bool) → (is_some (answer_to p answers) ≡ true → answer_to p (answers ++ more) ≡ answer_to p answers)
-        → is_some (if b then Some a.1 else answer_to p answers) ≡ true → (if b then Some a.1 else answer_to p (answers ++ more)) ≡ (if b then Some a.1 else answer_to p answers)
-    go true h e = refl
+    go : (b : Bool) → (answer_to p answers ≡ Some paths → answer_to p (answers ++ more) ≡ Some paths)
+        → (if b then Some a.1 else answer_to p answers) ≡ Some paths → (if b then Some a.1 else answer_to p (answers ++ more)) ≡ Some paths
+    go true h e = e
     go false h e = h e
+
+-- an answer that is known is known with more
+same_answer : (answers more : Answers) → KnowsMore answers more → (p : List ℕ) → is_some (answer_to p answers) ≡ true → answer_to p more ≡ answer_to p answers
+same_answer answers more knows p = go (answer_to p answers) refl
+  where
+    go : (a : Option (List (List ℕ))) → answer_to p answers ≡ a → is_some a ≡ true → answer_to p more ≡ a
+    go None e h = cc
+    go (Some paths) e h = knows p paths e
 
 or_none : (b : Bool) → (b || false) ≡ b
 or_none true = refl
@@ -45,26 +53,26 @@ first_answered answers p ps = go (is_some (answer_to p answers))
     go true e = (refl, e)
     go false e = cc
 
-pub none_unanswered : (answers more : Answers) (ps : List (List ℕ)) → unanswered answers [] ps ≡ [] → unanswered (answers ++ more) [] ps ≡ []
-none_unanswered answers more [] e = refl
-none_unanswered answers more (p ∷ ps) e = let h = first_answered answers p ps e in
-    ap (λ b. if b || false then unanswered (answers ++ more) [] ps else p ∷ unanswered (answers ++ more) (p ∷ []) ps) (ap is_some (answer_stays p answers more h.0) ∙ h.0) ∙ none_unanswered answers more ps h.1
+pub none_unanswered : (answers more : Answers) → KnowsMore answers more → (ps : List (List ℕ)) → unanswered answers [] ps ≡ [] → unanswered more [] ps ≡ []
+none_unanswered answers more knows [] e = refl
+none_unanswered answers more knows (p ∷ ps) e = let h = first_answered answers p ps e in
+    ap (λ b. if b || false then unanswered more [] ps else p ∷ unanswered more (p ∷ []) ps) (ap is_some (same_answer answers more knows p h.0) ∙ h.0) ∙ none_unanswered answers more knows ps h.1
 
-pub same_paths : (answers more : Answers) (ps : List (List ℕ)) → unanswered answers [] ps ≡ [] → flat_map (λ p. found_or_none (answer_to p (answers ++ more))) ps ≡ flat_map (λ p. found_or_none (answer_to p answers)) ps
-same_paths answers more [] e = refl
-same_paths answers more (p ∷ ps) e = let h = first_answered answers p ps e in
-    rw (answer_stays p answers more h.0, same_paths answers more ps h.1) refl
+pub same_paths : (answers more : Answers) → KnowsMore answers more → (ps : List (List ℕ)) → unanswered answers [] ps ≡ [] → flat_map (λ p. found_or_none (answer_to p more)) ps ≡ flat_map (λ p. found_or_none (answer_to p answers)) ps
+same_paths answers more knows [] e = refl
+same_paths answers more knows (p ∷ ps) e = let h = first_answered answers p ps e in
+    rw (same_answer answers more knows p h.0, same_paths answers more knows ps h.1) refl
 
 -- ---- package calls
 
-module _ (env : Env) (more : Answers) where
+module _ (env : Env) (more : Answers) (knows : KnowsMore env.globs more) where
   abbrev env' : Env
   env' = with_answers more env
 
   answered_below : (patterns : List (List ℕ)) (g : Glob) → env.kind ≡ k.Build → unanswered env.globs [] g.includes ≡ patterns → (here : Here) (w : World)
       → Below (IsAsked env) (answered patterns env.globs g here w) (answered (unanswered env'.globs [] g.includes) env'.globs g here w)
   answered_below [] g b e here w =
-      rw (none_unanswered env.globs more g.includes e, same_paths env.globs more g.includes e) (same _ (search quiet))
+      rw (none_unanswered env.globs more knows g.includes e, same_paths env.globs more knows g.includes e) (same _ (search quiet))
   answered_below (p ∷ ps) g b e here w = waiting (p ∷ ps) _ (asked env g.includes p ps b e)
 
   glob_below : env.kind ≡ k.Build → (xs : List Val) (ns : Named) (here : Here) (w : World) → Below (IsAsked env) (glob env.globs xs ns here w) (glob env'.globs xs ns here w)

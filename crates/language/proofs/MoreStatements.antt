@@ -17,7 +17,7 @@ use Rattle.language.specs.Expressions.{Call}
 use Rattle.language.specs.Statements.{Exit, goes_on, continues, unless_over, present, after_turn, turns, assign, augment, turn, for_each, exec, suite, first_true, branch}
 use Rattle.language.specs.Calls.{function_block, inside, is_running, body_does, enter, call}
 use Rattle.language.specs.Files.{frozen_module, open_calls, default_value, default_values, top, tops, leading, loads, statements, leaves, whole_file, Outcome, a_module, a_package, a_need, a_fault, outcome_of, all_steps, start, file_level, evaluate}
-use Rattle.language.specs.Laws.{with_answers, IsFinished, FinishedStays, IsAsked, NeedsAreAsked, ModulesDoNotWait}
+use Rattle.language.specs.Laws.{KnowsMore, with_answers, IsFinished, FinishedStays, IsAsked, NeedsAreAsked, ModulesDoNotWait}
 use Rattle.language.proofs.Below.{Asks, AtMost, Below, same, both, after, choose, going_over}
 use Rattle.language.proofs.Quiet.{quiet}
 use Rattle.language.proofs.MoreValues.{value_below, bound_below, aim_below}
@@ -41,31 +41,31 @@ AlikeBodies Q None None = Unit {0}
 AlikeBodies Q (Some run) (Some run') = (ss : Suite) (here : Here) (w : World) → Below Q (run ss here w) (run' ss here w)
 AlikeBodies Q run run' = ⊥
 
-module _ (env : Env) (more : Answers) where
+module _ (env : Env) (more : Answers) (knows : KnowsMore env.globs more) where
   abbrev env' : Env
   env' = with_answers more env
 
   module _ (call call' : Call) (calls : (label name : List ℕ) (xs : List Val) (ns : Named) (here : Here) (w : World) → Below (IsAsked env) (call label name xs ns here w) (call' label name xs ns here w)) where
     assign_below : (target e : Ex) (here : Here) (w : World) → Below (IsAsked env) (assign env call target e here w) (assign env' call' target e here w)
-    assign_below target e here w = both (value_below env more call call' calls e here w) λ x u. both (aim_below env more call call' calls target here u) λ _ _. same _ (search quiet)
+    assign_below target e here w = both (value_below env more knows call call' calls e here w) λ x u. both (aim_below env more knows call call' calls target here u) λ _ _. same _ (search quiet)
 
     augment_below : (target : Ex) (op : BinaryOp) (e : Ex) (here : Here) (w : World) → Below (IsAsked env) (augment env call target op e here w) (augment env' call' target op e here w)
     augment_below target op e here w =
-        both (aim_below env more call call' calls target here w) λ a u. after (present a here u) (search quiet) λ x z. both (value_below env more call call' calls e here z) λ _ _. same _ (search quiet)
+        both (aim_below env more knows call call' calls target here w) λ a u. after (present a here u) (search quiet) λ x z. both (value_below env more knows call call' calls e here z) λ _ _. same _ (search quiet)
 
     for_each_below : (target e : Ex) (m n : Runs Exit) → ((w : World) → Below (IsAsked env) (m w) (n w)) → (here : Here) (w : World) → Below (IsAsked env) (for_each env call target e m here w) (for_each env' call' target e n here w)
     for_each_below target e m n p here w =
-        both (value_below env more call call' calls e here w) λ x u.
+        both (value_below env more knows call call' calls e here w) λ x u.
         going_over x here (λ xs. turns_below (turn env call target m here) (turn env' call' target n here)
-        (λ y z. after (tick here z) (search quiet) λ _ s. both (aim_below env more call call' calls target here s) λ a q. after (store a y here q) (search quiet) λ _ r. p r) xs) u
+        (λ y z. after (tick here z) (search quiet) λ _ s. both (aim_below env more knows call call' calls target here s) λ a q. after (store a y here q) (search quiet) λ _ r. p r) xs) u
 
     mutual
       exec_below : (s : St) (here : Here) (w : World) → Below (IsAsked env) (exec env call s here w) (exec env' call' s here w)
       exec_below (t.pass line) here w = same _ (search quiet)
       exec_below (t.break line) here w = same _ (search quiet)
       exec_below (t.continue line) here w = same _ (search quiet)
-      exec_below (t.return line e) here w = after (tick (at_line line here) w) (search quiet) λ _ u. both (bound_below env more call call' calls e (at_line line here) u) λ _ _. same _ (search quiet)
-      exec_below (t.eval line e) here w = after (tick (at_line line here) w) (search quiet) λ _ u. both (value_below env more call call' calls e (at_line line here) u) λ _ _. same _ (search quiet)
+      exec_below (t.return line e) here w = after (tick (at_line line here) w) (search quiet) λ _ u. both (bound_below env more knows call call' calls e (at_line line here) u) λ _ _. same _ (search quiet)
+      exec_below (t.eval line e) here w = after (tick (at_line line here) w) (search quiet) λ _ u. both (value_below env more knows call call' calls e (at_line line here) u) λ _ _. same _ (search quiet)
       exec_below (t.assign line target e) here w = after (tick (at_line line here) w) (search quiet) λ _ u. assign_below target e (at_line line here) u
       exec_below (t.augment line target op e) here w = after (tick (at_line line here) w) (search quiet) λ _ u. augment_below target op e (at_line line here) u
       exec_below (t.if_else branches other) here w = first_below branches (suite env call other here) (suite env' call' other here) (suite_below other here) here w
@@ -82,7 +82,7 @@ module _ (env : Env) (more : Answers) where
       branch_below : (b : Br) (m n : Runs Exit) → ((w : World) → Below (IsAsked env) (m w) (n w)) → (here : Here) (w : World) → Below (IsAsked env) (branch env call b m here w) (branch env' call' b n here w)
       branch_below (t.branch line condition body) m n p here w =
           after (tick (at_line line here) w) (search quiet) λ _ u.
-          both (value_below env more call call' calls condition (at_line line here) u) λ x z. choose (is_true x z.store) _ _ _ _ z (suite_below body here z) (p z)
+          both (value_below env more knows call call' calls condition (at_line line here) u) λ x z. choose (is_true x z.store) _ _ _ _ z (suite_below body here z) (p z)
 
   -- ---- calls
 
@@ -115,7 +115,7 @@ module _ (env : Env) (more : Answers) where
       go : (d : Bound) → ((w : World) → Below (IsAsked env) (default_values env ps here w) (default_values env' ps here w)) → (w : World)
           → Below (IsAsked env) (default_value env d here (default_values env ps here) w) (default_value env' d here (default_values env' ps here) w)
       go t.no_bound h w = h w
-      go (t.bound e) h w = both (value_below env more (call env open_calls) (call env' open_calls) (call_below open_calls) e here w) λ x u. both (h u) λ _ _. same _ (search quiet)
+      go (t.bound e) h w = both (value_below env more knows (call env open_calls) (call env' open_calls) (call_below open_calls) e here w) λ x u. both (h u) λ _ _. same _ (search quiet)
 
   top_below : (x : Tp) (here : Here) (w : World) → Below (IsAsked env) (top env x here w) (top env' x here w)
   top_below (t.stmt s) here w = both (exec_below (call env open_calls) (call env' open_calls) (call_below open_calls) s here w) λ _ _. same _ (search quiet)
@@ -143,7 +143,7 @@ finished_at Q (waits ps) f p h = absurd h
 
 pub finished_stays : FinishedStays
 unfolding evaluate
-finished_stays env more h = finished_at (IsAsked env) _ _ (file_below env more (start all_steps env)).at h
+finished_stays env more knows h = finished_at (IsAsked env) _ _ (file_below env more knows (start all_steps env)).at h
 
 -- an end with an outcome is no need
 abbrev GivenOutcome : Ends Outcome → Type 0
@@ -168,7 +168,7 @@ pub needs_asked : NeedsAreAsked
 unfolding evaluate
 needs_asked env patterns e =
     let w = start all_steps env in
-    asked_at env (whole_file env w) (whole_file (with_answers [] env) w) (file_below env [] w).at patterns e
+    asked_at env (whole_file env w) (whole_file (with_answers env.globs env) w) (file_below env env.globs (λ p paths e. e) w).at patterns e
     (then_given (statements env (file_level env) w) _ λ _ u. leaves_given env.kind env (file_level env) u)
 
 finished_unless : (env : Env) (outcome : Outcome) → env.kind ≡ k.Bzl → ((patterns : List (List ℕ)) → outcome ≡ a_need patterns → IsAsked env patterns) → IsFinished outcome

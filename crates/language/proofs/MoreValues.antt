@@ -14,7 +14,7 @@ use Rattle.language.specs.Environment.{Env, Answers}
 use Rattle.language.specs.Targets.{store}
 use Rattle.language.specs.Loops.{Gathered, nothing_yet, one_more, one_entry}
 use Rattle.language.specs.Expressions.{Call, between, fresh, value, values, each_value, entries, bound_value, aim, aims, comprehension, clauses, clause}
-use Rattle.language.specs.Laws.{with_answers, IsAsked}
+use Rattle.language.specs.Laws.{KnowsMore, with_answers, IsAsked}
 use Rattle.language.proofs.Below.{Asks, Below, same, both, after, choose, going_over, gathering}
 use Rattle.language.proofs.Quiet.{quiet}
 use Rattle.language.proofs.MoreAnswers.{apply_below, apply_method_below}
@@ -30,7 +30,7 @@ AllBelow Q [] [] = Unit {0}
 AllBelow Q (m ∷ ms) (n ∷ ns) = ((w : World) → Below Q (m w) (n w)) × AllBelow Q ms ns
 AllBelow Q ms ns = ⊥
 
-module _ (env : Env) (more : Answers) (call call' : Call) (calls : (label name : List ℕ) (xs : List Val) (ns : Named) (here : Here) (w : World) → Below (IsAsked env) (call label name xs ns here w) (call' label name xs ns here w)) where
+module _ (env : Env) (more : Answers) (knows : KnowsMore env.globs more) (call call' : Call) (calls : (label name : List ℕ) (xs : List Val) (ns : Named) (here : Here) (w : World) → Below (IsAsked env) (call label name xs ns here w) (call' label name xs ns here w)) where
   abbrev env' : Env
   env' = with_answers more env
 
@@ -55,11 +55,11 @@ module _ (env : Env) (more : Answers) (call call' : Call) (calls : (label name :
     value_below (t.choice a c b) here w = after (tick here w) (search quiet) λ _ u. both (value_below c here u) λ x z. choose (is_true x z.store) _ _ _ _ z (value_below a here z) (value_below b here z)
     value_below (t.index a i) here w = after (tick here w) (search quiet) λ _ u. both (value_below a here u) λ x z. both (value_below i here z) λ _ _. same _ (search quiet)
     value_below (t.slice a i j) here w = after (tick here w) (search quiet) λ _ u. both (value_below a here u) λ x z. both (bound_below i here z) λ _ y. both (bound_below j here y) λ _ _. same _ (search quiet)
-    value_below (t.call f es names) here w = after (tick here w) (search quiet) λ _ u. both (value_below f here u) λ g z. both (values_below es here z) λ xs y. apply_below env more call call' calls g _ _ here y
+    value_below (t.call f es names) here w = after (tick here w) (search quiet) λ _ u. both (value_below f here u) λ g z. both (values_below es here z) λ xs y. apply_below env more knows call call' calls g _ _ here y
     value_below (t.method e name es names) here w =
         after (tick here w) (search quiet) λ _ u.
         both (choose (is_native_name e here u) _ _ _ _ u (same _ (search quiet)) (both (value_below e here u) λ _ _. same _ (search quiet))) λ r z.
-        both (values_below es here z) λ xs y. apply_method_below env more r name _ _ here y
+        both (values_below es here z) λ xs y. apply_method_below env more knows r name _ _ here y
 
     pub values_below : (es : Exs) (here : Here) (w : World) → Below (IsAsked env) (values env call es here w) (values env' call' es here w)
     values_below t.no_exs here w = same _ (search quiet)

@@ -1,5 +1,5 @@
 -- Laws of the definitions.
-use Rattle.std.specs.Prelude.{◌≡◌, ◌≢◌, ℕ, List, [], ◌∷◌, ◌++◌, false, is_some, map}
+use Rattle.std.specs.Prelude.{◌≡◌, ◌≢◌, ℕ, List, [], ◌∷◌, ◌++◌, false, is_some, map, Some}
 use Rattle.std.specs.List.{AllByRecursion}
 use Rattle.language.specs.Sorting.{Rises}
 use Rattle.language.specs.World.{Target}
@@ -8,17 +8,25 @@ use Rattle.grammar.specs.declared.kind.FileKind.TheVariants as k
 use Rattle.language.specs.Environment.{Env, Answers}
 use Rattle.language.specs.Files.{Outcome, a_package, a_need, evaluate}
 
+-- the second answers what the first does, and perhaps more
+abbrev pub KnowsMore : Answers → Answers → Type 0
+KnowsMore answers more = (p : List ℕ) (paths : List (List ℕ)) → answer_to p answers ≡ Some paths → answer_to p more ≡ Some paths
+
 abbrev pub with_answers : Answers → Env → Env
-with_answers more env = record env { globs = env.globs ++ more }
+with_answers more env = record env { globs = more }
 
 -- no call of `glob` has patterns without an answer
 abbrev pub IsFinished : Outcome → Type 0
 IsFinished (a_need patterns) = ⊥
 IsFinished outcome = Unit {0}
 
--- an outcome that does not wait for answers stays the same under more of them
+-- an outcome that does not wait for answers stays the same under more of them, in whatever order they stand
 abbrev pub FinishedStays : Type 0
-FinishedStays = (env : Env) (more : Answers) → IsFinished (evaluate env) → evaluate (with_answers more env) ≡ evaluate env
+FinishedStays = (env : Env) (more : Answers) → KnowsMore env.globs more → IsFinished (evaluate env) → evaluate (with_answers more env) ≡ evaluate env
+
+-- further answers behind those that are there
+abbrev pub MoreBehind : Type 0
+MoreBehind = (answers more : Answers) → KnowsMore answers (answers ++ more)
 
 -- each differs from those behind it
 abbrev pub AllDiffer : List (List ℕ) → Type 0

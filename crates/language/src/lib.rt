@@ -6,12 +6,13 @@
 //! with the outcomes that the definitions compute of them, and the proofs of the laws.
 #![tactic(auto)]
 
-ghost use Rattle.language.specs.Laws.{FinishedStays, ModulesDoNotWait, NeedsAreAsked, TargetsRise};
+ghost use Rattle.language.specs.Laws.{FinishedStays, MoreBehind, ModulesDoNotWait, NeedsAreAsked, TargetsRise};
 
 /// The law that answers do no harm: an outcome that does not wait for globs stays the same when more of them are
-/// answered.
+/// answered, as by further answers behind those that are there.
 pub fn finished_outcomes_stay()
-    ensures { FinishedStays }
+    ensures stays { FinishedStays }
+    ensures more { MoreBehind }
 {}
 
 /// The law of waiting: the patterns that an outcome waits for have no answer, each stands once, and there is one at least.
