@@ -15,3 +15,4 @@ pub mod MoreAnswers
 pub mod MoreValues
 pub mod MoreStatements
 pub mod Rising
+pub mod Found

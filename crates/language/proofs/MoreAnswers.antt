@@ -46,7 +46,7 @@ or_none true = refl
 or_none false = refl
 
 -- where no pattern is unanswered, the first has an answer and none of the others is unanswered
-first_answered : (answers : Answers) (p : List ℕ) (ps : List (List ℕ)) → unanswered answers [] (p ∷ ps) ≡ [] → (is_some (answer_to p answers) ≡ true) × (unanswered answers [] ps ≡ [])
+pub first_answered : (answers : Answers) (p : List ℕ) (ps : List (List ℕ)) → unanswered answers [] (p ∷ ps) ≡ [] → (is_some (answer_to p answers) ≡ true) × (unanswered answers [] ps ≡ [])
 first_answered answers p ps = go (is_some (answer_to p answers))
   where
     go : (b : Bool) → (if b || false then unanswered answers [] ps else p ∷ unanswered answers (p ∷ []) ps) ≡ [] → (b ≡ true) × (unanswered answers [] ps ≡ [])

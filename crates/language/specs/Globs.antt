@@ -2,10 +2,11 @@
 --
 -- Tested in order: the arguments (25), their types (5), the patterns (21); then it waits for the includes that have no
 -- answer yet; then the size (13), and an empty result that is not allowed (22).
-use Rattle.std.specs.Prelude.{ℕ, ◌&&◌, ◌||◌, Bool, true, false, not, nat_le, List, [], ◌∷◌, length, filter, flat_map, Option, Some, None, is_some, if◌then◌else◌, slice_get, codes}
-use Rattle.std.specs.List.{list_all, list_any}
+use Rattle.std.specs.Prelude.{ℕ, ◌&&◌, ◌||◌, Bool, true, false, not, nat_le, List, [], ◌∷◌, length, map, filter, flat_map, Option, Some, None, is_some, if◌then◌else◌, slice_get, codes}
+use Rattle.std.specs.List.{list_all}
+use Rattle.globs.specs.Globs.{some_matches}
 use Rattle.labels.specs.Paths.{segments}
-use Rattle.pattern.specs.Patterns.{is_pattern, path_matches}
+use Rattle.pattern.specs.Patterns.{is_pattern}
 use Rattle.meaning.specs.declared.val.Val.{Val}
 use Rattle.meaning.specs.declared.val.Val.TheVariants as v
 use Rattle.meaning.specs.Outcome as o
@@ -101,12 +102,9 @@ abbrev pub found_or_none : Option (List (List ℕ)) → List (List ℕ)
 found_or_none None = []
 found_or_none (Some paths) = paths
 
-abbrev pub is_excluded : List (List ℕ) → List ℕ → Bool
-is_excluded excludes path = list_any (λ p. path_matches (segments p) (segments path)) excludes
-
 -- the paths that some include finds and no exclude matches, in byte order, without repeats
 abbrev pub found : Answers → Glob → List (List ℕ)
-found answers g = in_order (λ path. path) (filter (λ path. not (is_excluded g.excludes path)) (flat_map (λ p. found_or_none (answer_to p answers)) g.includes))
+found answers g = in_order (λ path. path) (filter (λ path. not (some_matches (map segments g.excludes) path)) (flat_map (λ p. found_or_none (answer_to p answers)) g.includes))
 
 -- a new list that may be changed
 abbrev pub makes_paths : Bool → List (List ℕ) → Does Store Val

@@ -1,9 +1,11 @@
 -- Laws of the definitions.
-use Rattle.std.specs.Prelude.{◌≡◌, ◌≢◌, ℕ, List, [], ◌∷◌, ◌++◌, false, is_some, map, Some}
+use Rattle.std.specs.Prelude.{◌≡◌, ◌≢◌, ℕ, Bool, List, [], ◌∷◌, ◌++◌, false, is_some, map, Some}
 use Rattle.std.specs.List.{AllByRecursion}
 use Rattle.language.specs.Sorting.{Rises}
 use Rattle.language.specs.World.{Target}
-use Rattle.language.specs.Globs.{answer_to}
+use Rattle.labels.specs.Paths.{segments}
+use Rattle.globs.specs.Globs.{found_below, glob_below}
+use Rattle.language.specs.Globs.{answer_to, Glob, unanswered, found}
 use Rattle.grammar.specs.declared.kind.FileKind.TheVariants as k
 use Rattle.language.specs.Environment.{Env, Answers}
 use Rattle.language.specs.Files.{Outcome, a_package, a_need, evaluate}
@@ -51,3 +53,14 @@ ModulesDoNotWait = (env : Env) → env.kind ≡ k.Bzl → IsFinished (evaluate e
 -- the targets of a package stand in byte order of their names, one of each name
 abbrev pub TargetsRise : Type 0
 TargetsRise = (env : Env) (targets : List Target) → evaluate env ≡ a_package targets → Rises (map (λ t. t.name) targets)
+
+-- the answers are right below a directory: each is what the pattern finds there. `packages` tells which directories are
+-- packages, and `paths` are those of all files
+abbrev pub AreRight : Answers → (List ℕ → Bool) → List (List ℕ) → List ℕ → Type 0
+AreRight answers packages paths directory = (p : List ℕ) (below : List (List ℕ)) → answer_to p answers ≡ Some below → below ≡ found_below packages paths directory (segments p)
+
+-- by right answers to all its includes a call of `glob` finds what a glob finds among all files
+abbrev pub GlobsFindFiles : Type 0
+GlobsFindFiles = (answers : Answers) (packages : List ℕ → Bool) (paths : List (List ℕ)) (directory : List ℕ) (g : Glob) → AreRight answers packages paths directory
+    → unanswered answers [] g.includes ≡ []
+    → found answers g ≡ glob_below packages paths directory (map segments g.includes) (map segments g.excludes)

@@ -6,7 +6,7 @@
 //! with the outcomes that the definitions compute of them, and the proofs of the laws.
 #![tactic(auto)]
 
-ghost use Rattle.language.specs.Laws.{FinishedStays, MoreBehind, ModulesDoNotWait, NeedsAreAsked, TargetsRise};
+ghost use Rattle.language.specs.Laws.{FinishedStays, GlobsFindFiles, MoreBehind, ModulesDoNotWait, NeedsAreAsked, TargetsRise};
 
 /// The law that answers do no harm: an outcome that does not wait for globs stays the same when more of them are
 /// answered, as by further answers behind those that are there.
@@ -28,4 +28,10 @@ pub fn modules_do_not_wait()
 /// The law that the targets of a package stand in byte order of their names, one of each name.
 pub fn targets_rise()
     ensures { TargetsRise }
+{}
+
+/// The law of right answers: where each include of a call of `glob` is answered by what it finds below the package's
+/// directory, the call finds what a glob finds among all files.
+pub fn globs_find_files()
+    ensures { GlobsFindFiles }
 {}
