@@ -16,3 +16,8 @@ pub mod MoreValues
 pub mod MoreStatements
 pub mod Rising
 pub mod Found
+pub mod WalkSteps
+pub mod HeapSteps
+pub mod CallSteps
+pub mod MethodSteps
+pub mod PieceSteps
