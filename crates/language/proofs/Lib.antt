@@ -21,3 +21,4 @@ pub mod HeapSteps
 pub mod CallSteps
 pub mod MethodSteps
 pub mod PieceSteps
+pub mod ValueSteps
