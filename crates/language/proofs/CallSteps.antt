@@ -1,24 +1,22 @@
 -- Built-in functions and methods never have more steps left than they began with.
-use Rattle.std.proofs.Common.{◌≡◌, ℕ, zero, suc, ℤ, pos, List, [], ◌∷◌, ◌++◌, Bool, true, false, Option, Some, None, refl, map, reverse, length}
-use Rattle.std.specs.Prelude.{if◌then◌else◌, ◌&&◌, not, nat_le, codes, drop, unwrap_or}
+use Rattle.std.proofs.Common.{ℕ, suc, ℤ, pos, List, [], ◌∷◌, Bool, false, Option, Some, map, reverse, length}
+use Rattle.std.specs.Prelude.{◌&&◌, not, nat_le, codes}
 use Rattle.std.specs.Ordering.{int_eq, is_lt, is_gt}
 use Rattle.std.specs.declared.cmp.Ordering.{Ordering}
 use Rattle.meaning.specs.declared.val.Val.{Val}
 use Rattle.meaning.specs.declared.val.Val.TheVariants as v
 use Rattle.meaning.specs.declared.val.Builtin.{Builtin}
 use Rattle.meaning.specs.declared.val.Builtin.TheVariants as b
-use Rattle.meaning.specs.Outcome.{Out, gives, faults, Does, and_then, ◌>>=◌, Checked, good, bad, checked, fault, pure}
-use Rattle.meaning.specs.Heap.{Obj, text, list, tuple, dict, function, Entries, Store, at, makes, makes_text, makes_list, makes_tuple, makes_dict, is_sized, puts}
+use Rattle.meaning.specs.Outcome.{gives, faults, Does, and_then, ◌>>=◌, checked, fault}
+use Rattle.meaning.specs.Heap.{Obj, text, dict, Entries, Store, at, makes, makes_text, makes_list, makes_tuple, makes_dict, is_sized}
 use Rattle.meaning.specs.Printing.{print, repr, str_object, str}
-use Rattle.meaning.specs.Comparing.{same_text, found}
-use Rattle.meaning.specs.Indexing.{items, hash, with_key, keys_of, value_of, may_change}
-use Rattle.meaning.specs.Membership.{begins}
-use Rattle.meaning.specs.Operators.{is_true}
-use Rattle.meaning.specs.Functions.{Named, the_items, length_of, len, range_count, numbers, range_list, range_by, range, type_of, plain_order, are_alike, sort_from, turned, sorted_list, sorted_by, sorted, numbered, zipped, each_items, makes_tuples, best, best_of, extreme, any_true, all_true, grows, add_all, pair_of, add_each, entries_of, dict_from, is_twice, add_named, dict_of, one, at_most_one, truth_of, plain, unnamed, builtin}
+use Rattle.meaning.specs.Comparing.{same_text}
+use Rattle.meaning.specs.Indexing.{items, hash}
+use Rattle.meaning.specs.Functions.{Named, the_items, length_of, len, range_count, numbers, range_list, range_by, range, type_of, plain_order, are_alike, sort_from, turned, sorted_list, sorted_by, sorted, numbered, zipped, each_items, makes_tuples, best, best_of, extreme, grows, add_all, pair_of, add_each, entries_of, dict_from, is_twice, add_named, dict_of, one, at_most_one, truth_of, plain, unnamed, builtin}
 use Rattle.meaning.specs.Freezing as z
 use Rattle.meaning.specs.Freezing.{Fz, Fzs, Pairs, thaw, thaw_members, thaw_pairs}
 use Rattle.language.proofs.WalkSteps.{print_falls}
-use Rattle.language.proofs.HeapSteps.{Down, Lowers, d_pure, d_gives, d_fault, d_then, d_if, d_choice, d_checked, d_walks, d_makes, d_puts, d_text, d_list, d_tuple, d_dict, hash_down, may_change_down}
+use Rattle.language.proofs.HeapSteps.{Lowers, d_pure, d_fault, d_then, d_if, d_choice, d_checked, d_walks, d_makes, d_text, d_list, d_tuple, d_dict, hash_down}
 
 -- ---- functions
 

@@ -1,6 +1,6 @@
 -- What works on the heap never has more steps left than it began with: objects, operators, indexes.
-use Rattle.std.proofs.Common.{◌≡◌, ℕ, zero, suc, ℤ, ◌≤◌, arith, List, [], ◌∷◌, ◌++◌, Bool, true, false, Option, Some, None, refl, map}
-use Rattle.std.specs.Prelude.{if◌then◌else◌, ◌+ℤ◌, ◌-ℤ◌, ◌*ℤ◌, neg_ℤ, length, is_some, not}
+use Rattle.std.proofs.Common.{◌≡◌, ℕ, ℤ, ◌≤◌, arith, List, [], ◌∷◌, Bool, true, false, Option, Some, None, refl}
+use Rattle.std.specs.Prelude.{if◌then◌else◌, ◌+ℤ◌, ◌-ℤ◌, ◌*ℤ◌, neg_ℤ, length}
 use Rattle.std.specs.declared.cmp.Ordering.{Ordering}
 use Rattle.std.specs.Ordering.{is_lt, is_le, is_gt, is_ge}
 use Rattle.meaning.specs.declared.key.Part.{Part}
@@ -10,15 +10,15 @@ use Rattle.meaning.specs.declared.val.Entry.{Entry}
 use Rattle.meaning.specs.declared.val.Operator.{Operator}
 use Rattle.meaning.specs.declared.val.Operator.TheVariants as o
 use Rattle.meaning.specs.Outcome.{Out, gives, faults, Does, and_then, Checked, good, bad, checked, or_fault, fault, pure}
-use Rattle.meaning.specs.Heap.{Obj, text, list, tuple, dict, function, Entries, Store, at, walk_done, walks, makes, makes_sized, makes_text, makes_list, makes_tuple, makes_dict, is_sized, puts}
+use Rattle.meaning.specs.Heap.{Obj, text, list, tuple, dict, Entries, Store, at, walk_done, walks, makes, makes_sized, makes_text, makes_list, makes_tuple, makes_dict, is_sized, puts}
 use Rattle.meaning.specs.Numbers.{fits, whole, floor_div, floor_rem, unless_zero}
-use Rattle.meaning.specs.Operators.{joins, add, subtract, multiply, repeated, repeats, divide, remainder, negate, plus}
+use Rattle.meaning.specs.Operators.{joins, add, subtract, multiply, repeats, divide, remainder, negate, plus}
 use Rattle.meaning.specs.Hashing.{key}
 use Rattle.meaning.specs.Comparing.{equal, order, equals, compares, found}
 use Rattle.meaning.specs.Indexing.{hash, at_key, found_key, found_at, value_of, index_object, index, cut, slice_object, slice, is_iterated, may_change, set_place, set_member, with_key, puts_sized, set_key, set_object, set_index, int_of, place}
-use Rattle.meaning.specs.Membership.{any_equal, is_part, part_of, text_has, object_has, has}
-use Rattle.meaning.specs.Binary.{truth, test, binary}
-use Rattle.language.proofs.WalkSteps.{WalkFalls, LeavesAtMost, Falling, key_falls, equal_falls, order_falls, any_equal_falls}
+use Rattle.meaning.specs.Membership.{any_equal, part_of, text_has, object_has, has}
+use Rattle.meaning.specs.Binary.{test, binary}
+use Rattle.language.proofs.WalkSteps.{LeavesAtMost, Falling, key_falls, equal_falls, order_falls, any_equal_falls}
 
 abbrev pub HeapAtMost : {A : Type 0} → ℕ → Out Store A → Type 0
 HeapAtMost n (gives a s) = s.steps ≤ n

@@ -22,3 +22,4 @@ pub mod CallSteps
 pub mod MethodSteps
 pub mod PieceSteps
 pub mod ValueSteps
+pub mod FileSteps

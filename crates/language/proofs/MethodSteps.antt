@@ -1,16 +1,16 @@
 -- Methods never have more steps left than they began with.
-use Rattle.std.proofs.Common.{◌≡◌, ℕ, List, [], ◌∷◌, ◌++◌, Bool, true, false, Option, Some, None, refl, map, length}
-use Rattle.std.specs.Prelude.{if◌then◌else◌, codes}
+use Rattle.std.proofs.Common.{ℕ, List, [], ◌∷◌, ◌++◌, Bool, Option, Some, map, length}
+use Rattle.std.specs.Prelude.{codes}
 use Rattle.meaning.specs.declared.val.Val.{Val}
 use Rattle.meaning.specs.declared.val.Val.TheVariants as v
-use Rattle.meaning.specs.Outcome.{Out, gives, faults, Does, and_then, ◌>>=◌, ◌>>◌, checked, fault, pure}
-use Rattle.meaning.specs.Heap.{Obj, text, list, tuple, dict, function, Entries, Store, at, makes_text, makes_list, makes_tuple, is_sized, puts}
-use Rattle.meaning.specs.Comparing.{same_text, found}
-use Rattle.meaning.specs.Indexing.{hash, keys_of, value_of, may_change}
+use Rattle.meaning.specs.Outcome.{Does, and_then, ◌>>=◌, fault, pure}
+use Rattle.meaning.specs.Heap.{Obj, text, list, dict, Entries, Store, at, makes_text, makes_list, makes_tuple, is_sized, puts}
+use Rattle.meaning.specs.Comparing.{same_text}
+use Rattle.meaning.specs.Indexing.{hash, keys_of, may_change}
 use Rattle.meaning.specs.Membership.{begins}
 use Rattle.meaning.specs.Functions.{Named, the_items}
 use Rattle.meaning.specs.Methods.{adds, nothing_after, list_method, makes_items, get_or_else, get_from, no_arguments, dict_method, bytes_of, the_bytes, all_bytes, with_between, split_by, stripped, ends, makes_texts, one_text, split, replace_by, replace, joins_items, text_method, object_method, has_method, called, method, add_in_place}
-use Rattle.language.proofs.HeapSteps.{Down, Lowers, d_pure, d_fault, d_then, d_if, d_checked, d_puts, d_text, d_list, d_tuple, hash_down, may_change_down}
+use Rattle.language.proofs.HeapSteps.{Lowers, d_pure, d_fault, d_then, d_if, d_checked, d_puts, d_text, d_list, d_tuple, hash_down, may_change_down}
 use Rattle.language.proofs.CallSteps.{the_items_down}
 
 pub adds_down : (a : ℕ) (object : Option Obj) (more : List Val) → Lowers (adds a object more)

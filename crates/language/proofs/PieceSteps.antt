@@ -30,7 +30,7 @@ use Rattle.language.specs.Files.{load_items, loads, leading, frozen_names, froze
 use Rattle.language.specs.Rules.{is_used, target_of, adds_target, rule}
 use Rattle.language.specs.Packages.{package_name}
 use Rattle.language.proofs.WalkSteps.{w_tick, freeze_falls, freeze_members_falls}
-use Rattle.language.proofs.HeapSteps.{HeapAtMost, Down, Lowers, d_fault, d_checked, d_walks, d_text, hash_down, set_index_down, index_down, plus_down, negate_down, binary_down, add_down}
+use Rattle.language.proofs.HeapSteps.{HeapAtMost, Lowers, d_checked, d_walks, d_text, hash_down, set_index_down, index_down, plus_down, negate_down, binary_down, add_down}
 use Rattle.language.proofs.CallSteps.{grows_down, thaw_down, thaw_members_down}
 use Rattle.language.proofs.MethodSteps.{add_in_place_down}
 
@@ -227,4 +227,3 @@ frozen_module_sinks env here w =
     let fs = defs env.file.tops in
     then_sinks w.store.steps (frozen_names xs here w) _ (frozen_names_sinks xs here w) λ own s.
     then_sinks s.store.steps (frozen_defaults fs here s) _ (frozen_defaults_sinks fs here s) λ _ t. ends_sink _ _ _ refl
-

@@ -1,5 +1,5 @@
 -- Package calls and expressions have no more steps left than before.
-use Rattle.std.proofs.Common.{◌≡◌, ℕ, List, [], ◌∷◌, Bool, true, false, Option, Some, None, refl}
+use Rattle.std.proofs.Common.{ℕ, List, [], ◌∷◌, Bool, true, false, Option, Some, None, refl}
 use Rattle.std.specs.Prelude.{if◌then◌else◌, length}
 use Rattle.std.specs.List.{list_any}
 use Rattle.grammar.specs.declared.kind.FileKind.{FileKind}
@@ -15,19 +15,18 @@ use Rattle.meaning.specs.declared.val.Builtin.TheVariants as b
 use Rattle.meaning.specs.Builtins.{same_builtin}
 use Rattle.meaning.specs.Outcome as m
 use Rattle.meaning.specs.Outcome.{checked}
-use Rattle.meaning.specs.Heap.{Entries, Obj, text, list, tuple, dict, function, Store, at, makes_list, is_sized}
+use Rattle.meaning.specs.Heap.{Entries, Obj, text, list, tuple, dict, function, at, makes_list, is_sized}
 use Rattle.meaning.specs.Operators.{is_true}
 use Rattle.meaning.specs.Functions.{Named, the_items, builtin}
 use Rattle.meaning.specs.Methods.{makes_texts, method}
-use Rattle.language.specs.World.{World, Block, Here, Ends, Runs, then_runs, ended, on_heap, tick, or_fault, pure, in_block, with_block, without_block, ◌>>=◌}
+use Rattle.language.specs.World.{World, Block, Here, Ends, Runs, then_runs, ended, on_heap, tick, pure, with_block, without_block, ◌>>=◌}
 use Rattle.language.specs.Names.{is_native_name, first_named, package_functions, new_block, clause_names}
 use Rattle.language.specs.Environment.{Env, Answers}
-use Rattle.language.specs.Targets.{Aim, Aims, store}
 use Rattle.language.specs.Globs.{Glob, read_call, found, makes_paths, answered, unanswered, glob}
 use Rattle.language.specs.Packages.{in_package, if_build, package_call}
 use Rattle.language.specs.Loops.{Gathered, nothing_yet, one_more, one_entry, gather, over, locks, unlocks}
-use Rattle.language.specs.Expressions.{Call, between, both, operator_of, fresh, call_builtin, call_object, apply, Receiver, native, receiver, apply_method, on_receiver, value, values, each_value, entries, bound_value, aim, aims, comprehension, clauses, clause, unary}
-use Rattle.language.proofs.HeapSteps.{Down, Lowers, d_pure, d_gives, d_fault, d_then, d_if, d_checked, d_text, d_list, d_tuple, d_dict, index_down, slice_down, binary_down}
+use Rattle.language.specs.Expressions.{Call, between, both, operator_of, call_builtin, call_object, apply, Receiver, native, receiver, apply_method, value, values, each_value, entries, bound_value, aim, aims, comprehension, clauses, clause}
+use Rattle.language.proofs.HeapSteps.{Lowers, d_pure, d_gives, d_fault, d_then, d_if, d_checked, d_text, d_list, d_tuple, d_dict, index_down, slice_down, binary_down}
 use Rattle.language.proofs.CallSteps.{the_items_down, builtin_down}
 use Rattle.language.proofs.MethodSteps.{makes_texts_down, method_down}
 use Rattle.language.proofs.PieceSteps.{Sinks, Sinking, ends_sink, gives_sink, fails_sink, waits_sink, then_sinks, if_sinks, heap_sinks, tick_sinks, or_fault_sinks, read_sinks, store_sinks, one_more_sinks, one_entry_sinks, fresh_sinks, unary_sinks, rule_sinks, package_name_sinks}

@@ -1,14 +1,13 @@
 -- Walks never have more steps left than they began with.
-use Rattle.std.proofs.Common.{◌≡◌, ℕ, zero, suc, ◌≤◌, ◌-◌, ◌==◌, arith, List, [], ◌∷◌, Bool, true, false, Option, Some, None, refl}
-use Rattle.std.specs.Prelude.{if◌then◌else◌, nat_lt, length, slice_get}
+use Rattle.std.proofs.Common.{ℕ, zero, suc, ◌≤◌, ◌-◌, ◌==◌, arith, List, [], ◌∷◌, Bool, true, false, Option, Some, None}
+use Rattle.std.specs.Prelude.{if◌then◌else◌, nat_lt, length}
 use Rattle.std.specs.declared.cmp.Ordering.{Ordering}
 use Rattle.meaning.specs.declared.key.Part.{Part}
 use Rattle.meaning.specs.declared.val.Val.{Val}
 use Rattle.meaning.specs.declared.val.Entry.{Entry}
 use Rattle.meaning.specs.Outcome.{Out, gives, faults, Does, and_then, tick, spend}
 use Rattle.meaning.specs.Heap.{Obj, Entries}
-use Rattle.meaning.specs.Hashing as h
-use Rattle.meaning.specs.Hashing.{AsKey, part, parts, no_key, as_key, along, part_key, visit_key, key}
+use Rattle.meaning.specs.Hashing.{AsKey, part, parts, no_key, as_key, along, visit_key, key}
 use Rattle.meaning.specs.Comparing.{Pair, settled, members, entries, pair, found, equal_members, equal_found, equal_entry, equal_entries, visit_pair, equal, Sides, ordered, listed, no_order, sides, Parting, settled_as, unequal, parting, order_parted, visit_sides, order}
 use Rattle.meaning.specs.Membership.{any_equal}
 use Rattle.meaning.specs.Printing as p

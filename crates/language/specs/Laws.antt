@@ -1,14 +1,14 @@
 -- Laws of the definitions.
-use Rattle.std.specs.Prelude.{◌≡◌, ◌≢◌, ℕ, Bool, List, [], ◌∷◌, ◌++◌, false, is_some, map, Some}
+use Rattle.std.specs.Prelude.{◌≡◌, ◌≢◌, ◌≤◌, ℕ, Bool, List, [], ◌∷◌, ◌++◌, false, is_some, map, Some}
 use Rattle.std.specs.List.{AllByRecursion}
 use Rattle.language.specs.Sorting.{Rises}
-use Rattle.language.specs.World.{Target}
+use Rattle.language.specs.World.{World, Target, ended}
 use Rattle.labels.specs.Paths.{segments}
 use Rattle.globs.specs.Globs.{found_below, glob_below}
 use Rattle.language.specs.Globs.{answer_to, Glob, unanswered, found}
 use Rattle.grammar.specs.declared.kind.FileKind.TheVariants as k
 use Rattle.language.specs.Environment.{Env, Answers}
-use Rattle.language.specs.Files.{Outcome, a_package, a_need, evaluate}
+use Rattle.language.specs.Files.{Outcome, a_package, a_need, whole_file, evaluate}
 
 -- the second answers what the first does, and perhaps more
 abbrev pub KnowsMore : Answers → Answers → Type 0
@@ -64,3 +64,7 @@ abbrev pub GlobsFindFiles : Type 0
 GlobsFindFiles = (answers : Answers) (packages : List ℕ → Bool) (paths : List (List ℕ)) (directory : List ℕ) (g : Glob) → AreRight answers packages paths directory
     → unanswered answers [] g.includes ≡ []
     → found answers g ≡ glob_below packages paths directory (map segments g.includes) (map segments g.excludes)
+
+-- a file's evaluation ends with no more steps than it began with
+abbrev pub StepsAreSpent : Type 0
+StepsAreSpent = (env : Env) (w : World) (outcome : Outcome) (u : World) → whole_file env w ≡ ended outcome u → u.store.steps ≤ w.store.steps
