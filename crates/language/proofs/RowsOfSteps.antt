@@ -1,7 +1,8 @@
 -- The steps that programs take.
 use Prim.Native.String.{String}
 use Rattle.std.proofs.Common.{◌≡◌, ℕ, List, [], ◌∷◌, refl, codes, map}
-use Rattle.language.proofs.Programs.{AllTake, Shown, tags, taken, build, bzl, over_module, limited, at_build, at_bzl}
+use Rattle.language.specs.Environment.{Answers}
+use Rattle.language.proofs.Programs.{AllTake, Shown, tags, needs, exported, taken, build, bzl, over_module, limited, at_build, at_bzl}
 
 -- each expression node begun, and a statement
 expressions : AllTake
@@ -94,3 +95,22 @@ looped = "def f():\n    for i in range(3):\n        for j in range(3):\n        
 turn_spent : map (spent looped) (3 ∷ 4 ∷ 8 ∷ 9 ∷ 13 ∷ 14 ∷ 15 ∷ 19 ∷ 40 ∷ 41 ∷ []) ≡ at_build 11 2 ∷ at_bzl 11 2 ∷ at_bzl 11 2 ∷ at_bzl 11 3 ∷ at_bzl 11 3 ∷ at_bzl 11 4 ∷ at_bzl 11 3 ∷ at_bzl 11 2 ∷ at_bzl 11 4 ∷ tags [] ∷ []
 unfolding spent looped
 turn_spent = refl
+
+-- steps are counted across a glob: before its call they may be spent, at it the call waits, and behind it they go on from
+-- there
+globbing : Answers → ℕ → Shown
+unfolding limited over_module
+globbing known steps = limited steps (over_module known (codes "def f():\n    for i in range(3):\n        for j in range(10): pass\n    native.glob([\"x\"])\n    for i in range(3):\n        for j in range(10): pass\n") (codes "load(\":m.bzl\", \"f\")\nf()\n"))
+
+unanswered : map (globbing []) (83 ∷ 86 ∷ 87 ∷ 88 ∷ 1000 ∷ []) ≡ at_bzl 11 4 ∷ at_bzl 11 4 ∷ at_bzl 11 4 ∷ needs (codes "x" ∷ []) ∷ needs (codes "x" ∷ []) ∷ []
+unfolding globbing
+unanswered = refl
+
+counted_on : map (globbing ((codes "x", []) ∷ [])) (87 ∷ 88 ∷ 91 ∷ 92 ∷ 120 ∷ 166 ∷ 167 ∷ []) ≡ at_bzl 11 4 ∷ at_bzl 11 5 ∷ at_bzl 11 5 ∷ at_bzl 11 5 ∷ at_bzl 11 6 ∷ at_bzl 11 6 ∷ tags [] ∷ []
+unfolding globbing
+counted_on = refl
+
+-- in freezing the line is 0
+freezing_spent : map (λ n. limited n (bzl [] (codes "X = [1]\n"))) (0 ∷ 2 ∷ 3 ∷ 4 ∷ 5 ∷ []) ≡ at_bzl 11 1 ∷ at_bzl 11 1 ∷ at_bzl 11 0 ∷ at_bzl 11 0 ∷ exported (codes "X" ∷ []) ∷ []
+unfolding limited bzl
+freezing_spent = refl
