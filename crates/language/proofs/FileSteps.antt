@@ -1,5 +1,5 @@
--- Statements, calls and files have no more steps left than before.
-use Rattle.std.proofs.Common.{◌≡◌, ◌≤◌, ℕ, zero, suc, List, [], ◌∷◌, Option, Some, None, refl, subst}
+-- Statements, calls and files have no more steps left than before, and keep the names of files that are bound.
+use Rattle.std.proofs.Common.{◌≡◌, ℕ, zero, suc, List, [], ◌∷◌, Option, Some, None, refl, subst}
 use Rattle.grammar.specs.declared.kind.FileKind.{FileKind}
 use Rattle.grammar.specs.declared.kind.FileKind.TheVariants as k
 use Rattle.tree.specs.declared.expr.BinaryOp.{BinaryOp}
@@ -18,22 +18,23 @@ use Rattle.language.specs.Expressions.{Call}
 use Rattle.language.specs.Statements.{Exit, goes_on, breaks, continues, returns, unless_over, after_turn, turns, assign, augment, turn, for_each, exec, suite, first_true, branch}
 use Rattle.language.specs.Calls.{given, function_block, inside, is_running, body_does, enter, call}
 use Rattle.language.specs.Files.{keep_defaults, open_calls, default_value, default_values, top, tops, statements, leaves, whole_file, Outcome, file_level}
-use Rattle.language.specs.Laws.{StepsAreSpent}
+use Rattle.language.specs.Laws.{StepsAreSpent, GlobalsStay}
 use Rattle.language.proofs.HeapSteps.{d_checked, d_makes}
-use Rattle.language.proofs.PieceSteps.{Sinking, EndsAtMost, ends_sink, gives_sink, fails_sink, then_sinks, if_sinks, heap_sinks, tick_sinks, or_fault_sinks, bind_sinks, store_sinks, present_sinks, changed_sinks, need_names_sinks, loads_sinks, leading_sinks, frozen_module_sinks}
+use Rattle.language.proofs.PieceSteps.{After, changes_sink, from_beside, Sinking, EndsAfter, ends_sink, gives_sink, fails_sink, then_sinks, if_sinks, heap_sinks, tick_sinks, or_fault_sinks, bind_sinks, store_sinks, present_sinks, changed_sinks, need_names_sinks, loads_sinks, leading_sinks, frozen_module_sinks}
+use Rattle.language.proofs.KeptNames.{kept_defaults}
 use Rattle.language.proofs.ValueSteps.{also, over_sinks, value_sinks, bound_sinks, aim_sinks}
 
 unless_over_sinks : (exit : Exit) (m : Runs Exit) → Sinking m → Sinking (unless_over exit m)
 unless_over_sinks goes_on m h w = h w
-unless_over_sinks exit m h w = ends_sink _ _ _ refl
+unless_over_sinks exit m h w = ends_sink _ _ _ refl refl
 
 after_turn_sinks : (exit : Exit) (m : Runs Exit) → Sinking m → Sinking (after_turn exit m)
 after_turn_sinks goes_on m h w = h w
 after_turn_sinks continues m h w = h w
-after_turn_sinks exit m h w = ends_sink _ _ _ refl
+after_turn_sinks exit m h w = ends_sink _ _ _ refl refl
 
 turns_sink : (m : Val → Runs Exit) → ((x : Val) → Sinking (m x)) → (xs : List Val) → Sinking (turns m xs)
-turns_sink m h [] w = ends_sink _ _ _ refl
+turns_sink m h [] w = ends_sink _ _ _ refl refl
 turns_sink m h (x ∷ xs) w = also (h x w) λ exit u. after_turn_sinks exit (turns m xs) (turns_sink m h xs) u
 
 module _ (env : Env) (call' : Call) (calls : (label name : List ℕ) (xs : List Val) (ns : Named) (here : Here) → Sinking (call' label name xs ns here)) where
@@ -73,7 +74,7 @@ module _ (env : Env) (call' : Call) (calls : (label name : List ℕ) (xs : List 
     branch_sinks : (b : Br) (m : Runs Exit) → Sinking m → (here : Here) → Sinking (branch env call' b m here)
     branch_sinks (t.branch line condition body) m h here w =
         also (tick_sinks (at_line line here) w) λ _ u.
-        also (value_sinks env call' calls condition (at_line line here) u) λ x z. if_sinks (is_true x z.store) (suite env call' body here) m z z.store.steps (suite_sinks body here z) (h z)
+        also (value_sinks env call' calls condition (at_line line here) u) λ x z. if_sinks (is_true x z.store) (suite env call' body here) m z z (suite_sinks body here z) (h z)
 
 -- ---- calls
 
@@ -84,7 +85,8 @@ BodiesSink (Some run) = (ss : Suite) (here : Here) → Sinking (run ss here)
 body_sinks : (run : Option (Suite → Here → Runs Exit)) → BodiesSink run → (f : Fn) (block : Block) (within here : Here) → Sinking (body_does run f block within here)
 body_sinks None h f block within here w = fails_sink 12 here.site _
 body_sinks (Some run) h f block within here w =
-    also (then_sinks w.store.steps (run f.body within (with_blocks (function_block f block ∷ []) w)) _ (h f.body within (with_blocks (function_block f block ∷ []) w)) λ exit u. ends_sink _ _ _ refl) λ exit z. gives_sink (given exit) z
+    let inside = with_blocks (function_block f block ∷ []) w in
+    also (also (from_beside w inside _ refl refl (h f.body within inside)) λ exit u. ends_sink exit u (with_blocks w.blocks u) refl refl) λ exit z. gives_sink (given exit) z
 
 module _ (env : Env) where
   enter_sinks : (run : Option (Suite → Here → Runs Exit)) → BodiesSink run → (label name : List ℕ) (xs : List Val) (ns : Named) (here : Here) → Sinking (enter env run label name xs ns here)
@@ -92,7 +94,7 @@ module _ (env : Env) where
       also (need_names_sinks env label here w) λ _ u.
       also (or_fault_sinks 5 (function_named name (functions_of env label)) here u) λ f z.
       also (heap_sinks here (checked (arguments f xs ns (defaults_of label name z))) (λ s. d_checked (arguments f xs ns (defaults_of label name z)) s) z) λ block s.
-      if_sinks (is_running label name here.running) (fault 14 here) (body_does run f block (inside env label f here) here) s s.store.steps (fails_sink 14 here.site _) (body_sinks run h f block (inside env label f here) here s)
+      if_sinks (is_running label name here.running) (fault 14 here) (body_does run f block (inside env label f here) here) s s (fails_sink 14 here.site _) (body_sinks run h f block (inside env label f here) here s)
 
   call_sinks : (n : ℕ) (label name : List ℕ) (xs : List Val) (ns : Named) (here : Here) → Sinking (call env n label name xs ns here)
   unfolding call
@@ -102,7 +104,7 @@ module _ (env : Env) where
   -- ---- files
 
   defaults_sink : (ps : List Pa) (here : Here) → Sinking (default_values env ps here)
-  defaults_sink [] here w = ends_sink _ _ _ refl
+  defaults_sink [] here w = ends_sink _ _ _ refl refl
   defaults_sink (p ∷ ps) here w = go p.default (default_values env ps here) (defaults_sink ps here) w
     where
       go : (d : Bound) (rest : Runs (List Val)) → Sinking rest → Sinking (default_value env d here rest)
@@ -115,7 +117,7 @@ module _ (env : Env) where
       also (tick_sinks (at_line f.line here) w) λ _ u.
       also (defaults_sink f.params (at_line f.line here) u) λ xs z.
       also (heap_sinks (at_line f.line here) (makes (function env.label f.name)) (d_makes (function env.label f.name)) z) λ x s.
-      then_sinks s.store.steps (keep_defaults env.label f.name xs s) (λ _. bind f.name x (at_line f.line here)) (ends_sink tt s.store.steps _ refl) λ _ q. bind_sinks f.name x (at_line f.line here) q
+      then_sinks s (keep_defaults env.label f.name xs s) (λ _. bind f.name x (at_line f.line here)) (changes_sink tt s _ refl (kept_defaults env.label f.name xs s.files)) λ _ q. bind_sinks f.name x (at_line f.line here) q
 
   tops_sink : (xs : List Tp) (here : Here) → Sinking (tops env xs here)
   tops_sink [] here w = gives_sink tt w
@@ -125,16 +127,22 @@ module _ (env : Env) where
   statements_sink here w = also (leading_sinks env.file.leading here w) λ _ u. also (loads_sinks env.file.loads env.loads here u) λ _ z. tops_sink env.file.tops here z
 
   leaves_sink : (kind : FileKind) (here : Here) → Sinking (leaves kind env here)
-  leaves_sink k.Build here w = ends_sink _ _ _ refl
-  leaves_sink k.Bzl here w = also (frozen_module_sinks env here w) λ m u. ends_sink _ _ _ refl
+  leaves_sink k.Build here w = ends_sink _ _ _ refl refl
+  leaves_sink k.Bzl here w = also (frozen_module_sinks env here w) λ m u. ends_sink _ _ _ refl refl
 
   file_sinks : Sinking (whole_file env)
   file_sinks w = also (statements_sink (file_level env) w) λ _ u. leaves_sink env.kind (file_level env) u
 
-spent_at : (n : ℕ) (e : Ends Outcome) → EndsAtMost n e → (o : Outcome) (u : World) → e ≡ ended o u → u.store.steps ≤ n
-spent_at n (ended o w) h p u e = let same : w ≡ u = cc in subst (λ x. x.store.steps ≤ n) same h
-spent_at n (failed c s) h p u e = cc
-spent_at n (waits ps) h p u e = cc
+after_at : (w : World) (e : Ends Outcome) → EndsAfter w e → (o : Outcome) (u : World) → e ≡ ended o u → After w u
+after_at w (ended o z) h p u e = let same : z ≡ u = cc in subst (After w) same h
+after_at w (failed c s) h p u e = cc
+after_at w (waits ps) h p u e = cc
+
+file_after : (env : Env) (w : World) (outcome : Outcome) (u : World) → whole_file env w ≡ ended outcome u → After w u
+file_after env w outcome u e = after_at w (whole_file env w) (file_sinks env w).at outcome u e
 
 pub steps_are_spent : StepsAreSpent
-steps_are_spent env w outcome u e = spent_at w.store.steps (whole_file env w) (file_sinks env w).at outcome u e
+steps_are_spent env w outcome u e = (file_after env w outcome u e).steps
+
+pub globals_stay : GlobalsStay
+globals_stay env w outcome u e = (file_after env w outcome u e).kept

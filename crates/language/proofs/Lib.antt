@@ -20,6 +20,7 @@ pub mod WalkSteps
 pub mod HeapSteps
 pub mod CallSteps
 pub mod MethodSteps
+pub mod KeptNames
 pub mod PieceSteps
 pub mod ValueSteps
 pub mod FileSteps

@@ -1,4 +1,4 @@
--- Package calls and expressions have no more steps left than before.
+-- Package calls and expressions have no more steps left than before, and keep the names of files that are bound.
 use Rattle.std.proofs.Common.{ℕ, List, [], ◌∷◌, Bool, true, false, Option, Some, None, refl}
 use Rattle.std.specs.Prelude.{if◌then◌else◌, length}
 use Rattle.std.specs.List.{list_any}
@@ -29,10 +29,10 @@ use Rattle.language.specs.Expressions.{Call, between, both, operator_of, call_bu
 use Rattle.language.proofs.HeapSteps.{Lowers, d_pure, d_gives, d_fault, d_then, d_if, d_checked, d_text, d_list, d_tuple, d_dict, index_down, slice_down, binary_down}
 use Rattle.language.proofs.CallSteps.{the_items_down, builtin_down}
 use Rattle.language.proofs.MethodSteps.{makes_texts_down, method_down}
-use Rattle.language.proofs.PieceSteps.{Sinks, Sinking, ends_sink, gives_sink, fails_sink, waits_sink, then_sinks, if_sinks, heap_sinks, tick_sinks, or_fault_sinks, read_sinks, store_sinks, one_more_sinks, one_entry_sinks, fresh_sinks, unary_sinks, rule_sinks, package_name_sinks}
+use Rattle.language.proofs.PieceSteps.{Sinks, Sinking, ends_sink, gives_sink, from_beside, fails_sink, waits_sink, then_sinks, if_sinks, heap_sinks, tick_sinks, or_fault_sinks, read_sinks, store_sinks, one_more_sinks, one_entry_sinks, fresh_sinks, unary_sinks, rule_sinks, package_name_sinks}
 
 -- one piece after another
-pub also : {A B : Type 0} {n : ℕ} {e : Ends A} {k : A → Runs B} → Sinks n e → ((a : A) (w : World) → Sinks w.store.steps (k a w)) → Sinks n (then_runs e k)
+pub also : {A B : Type 0} {n : World} {e : Ends A} {k : A → Runs B} → Sinks n e → ((a : A) (w : World) → Sinks w (k a w)) → Sinks n (then_runs e k)
 also {n = n} {e = e} {k = k} p h = then_sinks n e k p h
 
 -- ---- package calls
@@ -68,7 +68,7 @@ package_call_sinks env f xs ns here w = by_kind_sinks env.kind here (in_package 
 
 call_builtin_sinks : (env : Env) (f : Builtin) (xs : List Val) (ns : Named) (here : Here) → Sinking (call_builtin env f xs ns here)
 call_builtin_sinks env f xs ns here w =
-    if_sinks (list_any (same_builtin f) package_functions) (package_call env f xs ns here) (on_heap here (builtin f xs ns)) w w.store.steps (package_call_sinks env f xs ns here w) (heap_sinks here (builtin f xs ns) (builtin_down f xs ns) w)
+    if_sinks (list_any (same_builtin f) package_functions) (package_call env f xs ns here) (on_heap here (builtin f xs ns)) w w (package_call_sinks env f xs ns here w) (heap_sinks here (builtin f xs ns) (builtin_down f xs ns) w)
 
 -- ---- going over members
 
@@ -91,8 +91,8 @@ gather_sinks : (turn : Val → Gathered → Runs Gathered) → ((x : Val) (g : G
 gather_sinks turn h [] g w = gives_sink g w
 gather_sinks turn h (x ∷ xs) g w = also (h x g w) λ i u. gather_sinks turn h xs i u
 
-out_of_block : {A : Type 0} (n : ℕ) (block : Block) (e : Ends A) → Sinks n e → Sinks n (then_runs e (λ a u. ended a (without_block u)))
-out_of_block n block e h = then_sinks n e _ h λ a u. ends_sink a u.store.steps _ refl
+out_of_block : {A : Type 0} (n : World) (block : Block) (e : Ends A) → Sinks n e → Sinks n (then_runs e (λ a u. ended a (without_block u)))
+out_of_block n block e h = then_sinks n e _ h λ a u. ends_sink a u _ refl refl
 
 -- ---- operators
 
@@ -100,8 +100,8 @@ both_sinks : (op : BinaryOp) (m n : Runs Val) → Sinking m → Sinking n → (h
 both_sinks op m n p q here w = also (p w) λ x u. also (q u) λ y z. heap_sinks here _ (binary_down (operator_of op) x y) z
 
 between_sinks : (op : BinaryOp) (m n : Runs Val) → Sinking m → Sinking n → (here : Here) → Sinking (between op m n here)
-between_sinks o.Or m n p q here w = also (p w) λ x u. if_sinks (is_true x u.store) (pure x) n u u.store.steps (gives_sink x u) (q u)
-between_sinks o.And m n p q here w = also (p w) λ x u. if_sinks (is_true x u.store) n (pure x) u u.store.steps (q u) (gives_sink x u)
+between_sinks o.Or m n p q here w = also (p w) λ x u. if_sinks (is_true x u.store) (pure x) n u u (gives_sink x u) (q u)
+between_sinks o.And m n p q here w = also (p w) λ x u. if_sinks (is_true x u.store) n (pure x) u u (q u) (gives_sink x u)
 between_sinks op m n p q here w = both_sinks op m n p q here w
 
 abbrev AllSinking : List (Runs Val) → Type 0
@@ -135,7 +135,7 @@ module _ (env : Env) (call : Call) (calls : (label name : List ℕ) (xs : List V
     value_sinks (t.name x) here w = also (tick_sinks here w) λ _ u. read_sinks x here u
     value_sinks (t.int n) here w = also (tick_sinks here w) λ _ u. gives_sink (v.Int n) u
     value_sinks (t.str x) here w = also (tick_sinks here w) λ _ u. heap_sinks here _ (d_text x) u
-    value_sinks (t.literal l) here w = also (tick_sinks here w) λ _ u. ends_sink _ _ _ refl
+    value_sinks (t.literal l) here w = also (tick_sinks here w) λ _ u. ends_sink _ _ _ refl refl
     value_sinks (t.tuple es) here w = also (tick_sinks here w) λ _ u. also (values_sink es here u) λ xs z. heap_sinks here _ (d_tuple xs) z
     value_sinks (t.list es) here w = also (tick_sinks here w) λ _ u. also (values_sink es here u) λ xs z. heap_sinks here _ (d_list xs) z
     value_sinks (t.dict ks es) here w = also (tick_sinks here w) λ _ u. also (entries_sink ks _ (each_sinks es here) [] here u) λ xs z. heap_sinks here _ (d_dict xs) z
@@ -148,13 +148,13 @@ module _ (env : Env) (call : Call) (calls : (label name : List ℕ) (xs : List V
         (λ g z. also (value_sinks k here z) λ x y. also (value_sinks e here y) λ q s. one_entry_sinks x q g here s) here u) λ g z. heap_sinks here _ (d_dict g.entries) z
     value_sinks (t.unary op e) here w = also (tick_sinks here w) λ _ u. also (value_sinks e here u) λ x z. unary_sinks op x here z
     value_sinks (t.binary op a b) here w = also (tick_sinks here w) λ _ u. between_sinks op (value env call a here) (value env call b here) (value_sinks a here) (value_sinks b here) here u
-    value_sinks (t.choice a c b) here w = also (tick_sinks here w) λ _ u. also (value_sinks c here u) λ x z. if_sinks (is_true x z.store) (value env call a here) (value env call b here) z z.store.steps (value_sinks a here z) (value_sinks b here z)
+    value_sinks (t.choice a c b) here w = also (tick_sinks here w) λ _ u. also (value_sinks c here u) λ x z. if_sinks (is_true x z.store) (value env call a here) (value env call b here) z z (value_sinks a here z) (value_sinks b here z)
     value_sinks (t.index a i) here w = also (tick_sinks here w) λ _ u. also (value_sinks a here u) λ x z. also (value_sinks i here z) λ y s. heap_sinks here _ (index_down x y) s
     value_sinks (t.slice a i j) here w = also (tick_sinks here w) λ _ u. also (value_sinks a here u) λ x z. also (bound_sinks i here z) λ y q. also (bound_sinks j here q) λ p s. heap_sinks here _ (slice_down x y p) s
     value_sinks (t.call f es names) here w = also (tick_sinks here w) λ _ u. also (value_sinks f here u) λ g z. also (values_sink es here z) λ xs y. apply_sinks g _ _ here y
     value_sinks (t.method e name es names) here w =
         also (tick_sinks here w) λ _ u.
-        also (if_sinks (is_native_name e here u) (tick here >>= λ _. pure native) (value env call e here >>= λ x. pure (receiver x)) u u.store.steps
+        also (if_sinks (is_native_name e here u) (tick here >>= λ _. pure native) (value env call e here >>= λ x. pure (receiver x)) u u
         (also (tick_sinks here u) λ _ z. gives_sink native z) (also (value_sinks e here u) λ x z. gives_sink (receiver x) z)) λ r z.
         also (values_sink es here z) λ xs y. apply_method_sinks env r name _ _ here y
 
@@ -167,8 +167,8 @@ module _ (env : Env) (call : Call) (calls : (label name : List ℕ) (xs : List V
     each_sinks (t.ex e es) here = (value_sinks e here, each_sinks es here)
 
     pub entries_sink : (ks : Exs) (ms : List (Runs Val)) → AllSinking ms → (done : Entries) (here : Here) → Sinking (entries env call ks ms done here)
-    entries_sink t.no_exs ms h done here w = ends_sink _ _ _ refl
-    entries_sink (t.ex k ks) [] h done here w = ends_sink _ _ _ refl
+    entries_sink t.no_exs ms h done here w = ends_sink _ _ _ refl refl
+    entries_sink (t.ex k ks) [] h done here w = ends_sink _ _ _ refl refl
     entries_sink (t.ex k ks) (m ∷ ms) h done here w = also (value_sinks k here w) λ x u. also (h.0 u) λ y z. also (fresh_sinks x y done here z) λ es s. entries_sink ks ms h.1 es here s
 
     pub bound_sinks : (b : Bound) (here : Here) → Sinking (bound_value env call b here)
@@ -176,21 +176,21 @@ module _ (env : Env) (call : Call) (calls : (label name : List ℕ) (xs : List V
     bound_sinks (t.bound e) here w = value_sinks e here w
 
     pub aim_sinks : (e : Ex) (here : Here) → Sinking (aim env call e here)
-    aim_sinks (t.name x) here w = ends_sink _ _ _ refl
-    aim_sinks (t.index a i) here w = also (value_sinks a here w) λ x u. also (value_sinks i here u) λ y z. ends_sink _ _ _ refl
-    aim_sinks (t.tuple es) here w = also (aims_sink es here w) λ x z. ends_sink _ _ _ refl
-    aim_sinks (t.list es) here w = also (aims_sink es here w) λ x z. ends_sink _ _ _ refl
+    aim_sinks (t.name x) here w = ends_sink _ _ _ refl refl
+    aim_sinks (t.index a i) here w = also (value_sinks a here w) λ x u. also (value_sinks i here u) λ y z. ends_sink _ _ _ refl refl
+    aim_sinks (t.tuple es) here w = also (aims_sink es here w) λ x z. ends_sink _ _ _ refl refl
+    aim_sinks (t.list es) here w = also (aims_sink es here w) λ x z. ends_sink _ _ _ refl refl
     aim_sinks e here w = fails_sink _ _ _
 
     pub aims_sink : (es : Exs) (here : Here) → Sinking (aims env call es here)
-    aims_sink t.no_exs here w = ends_sink _ _ _ refl
-    aims_sink (t.ex e es) here w = also (aim_sinks e here w) λ x u. also (aims_sink es here u) λ xs z. ends_sink _ _ _ refl
+    aims_sink t.no_exs here w = ends_sink _ _ _ refl refl
+    aims_sink (t.ex e es) here w = also (aim_sinks e here w) λ x u. also (aims_sink es here u) λ xs z. ends_sink _ _ _ refl refl
 
     pub comprehension_sinks : (cs : Clauses) (m : Gathered → Runs Gathered) → ((g : Gathered) → Sinking (m g)) → (here : Here) → Sinking (comprehension env call cs m here)
     comprehension_sinks (t.clause (t.for_in target e) cs) m h here w =
         also (value_sinks e here w) λ x u.
-        then_sinks u.store.steps _ _ (over_sinks x here _ (λ xs. gather_sinks _ (λ y g z. also (tick_sinks here z) λ _ s. also (aim_sinks target here s) λ a q. also (store_sinks a y here q) λ _ r. clauses_sink cs m h here g r) xs nothing_yet)
-        (with_block (new_block (clause_names (t.clause (t.for_in target e) cs))) u)) λ g z. ends_sink _ _ _ refl
+        let inside = with_block (new_block (clause_names (t.clause (t.for_in target e) cs))) u in
+        also (from_beside u inside _ refl refl (over_sinks x here _ (λ xs. gather_sinks _ (λ y g z. also (tick_sinks here z) λ _ s. also (aim_sinks target here s) λ a q. also (store_sinks a y here q) λ _ r. clauses_sink cs m h here g r) xs nothing_yet) inside)) λ g z. ends_sink _ _ _ refl refl
     comprehension_sinks (t.clause (t.only_if e) cs) m h here w = fails_sink _ _ _
     comprehension_sinks t.no_clauses m h here w = fails_sink _ _ _
 
@@ -202,4 +202,4 @@ module _ (env : Env) (call : Call) (calls : (label name : List ℕ) (xs : List V
     clause_sinks (t.for_in target e) m h here g w =
         also (value_sinks e here w) λ x u.
         over_sinks x here _ (λ xs. gather_sinks _ (λ y i z. also (tick_sinks here z) λ _ s. also (aim_sinks target here s) λ a q. also (store_sinks a y here q) λ _ r. h i r) xs g) u
-    clause_sinks (t.only_if e) m h here g w = also (value_sinks e here w) λ x u. if_sinks (is_true x u.store) (m g) (pure g) u u.store.steps (h g u) (gives_sink g u)
+    clause_sinks (t.only_if e) m h here g w = also (value_sinks e here w) λ x u. if_sinks (is_true x u.store) (m g) (pure g) u u (h g u) (gives_sink g u)

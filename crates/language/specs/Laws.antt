@@ -2,7 +2,9 @@
 use Rattle.std.specs.Prelude.{◌≡◌, ◌≢◌, ◌≤◌, ℕ, Bool, List, [], ◌∷◌, ◌++◌, false, is_some, map, Some}
 use Rattle.std.specs.List.{AllByRecursion}
 use Rattle.language.specs.Sorting.{Rises}
-use Rattle.language.specs.World.{World, Target, ended}
+use Rattle.language.specs.World.{World, Names, Target, ended}
+use Rattle.language.specs.Names.{file_slot, names_at}
+use Rattle.meaning.specs.declared.val.Val.{Val}
 use Rattle.labels.specs.Paths.{segments}
 use Rattle.globs.specs.Globs.{found_below, glob_below}
 use Rattle.language.specs.Globs.{answer_to, Glob, unanswered, found}
@@ -68,3 +70,11 @@ GlobsFindFiles = (answers : Answers) (packages : List ℕ → Bool) (paths : Lis
 -- a file's evaluation ends with no more steps than it began with
 abbrev pub StepsAreSpent : Type 0
 StepsAreSpent = (env : Env) (w : World) (outcome : Outcome) (u : World) → whole_file env w ≡ ended outcome u → u.store.steps ≤ w.store.steps
+
+-- each name of a file that is bound in the first has its value in the second, too
+abbrev pub Kept : List Names → List Names → Type 0
+Kept before behind = (label x : List ℕ) (value : Val) → file_slot x (names_at label before) ≡ Some (Some value) → file_slot x (names_at label behind) ≡ Some (Some value)
+
+-- a global that is bound keeps its value, and so do the names of loaded modules
+abbrev pub GlobalsStay : Type 0
+GlobalsStay = (env : Env) (w : World) (outcome : Outcome) (u : World) → whole_file env w ≡ ended outcome u → Kept w.files u.files

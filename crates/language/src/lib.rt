@@ -6,7 +6,7 @@
 //! with the outcomes that the definitions compute of them, and the proofs of the laws.
 #![tactic(auto)]
 
-ghost use Rattle.language.specs.Laws.{FinishedStays, GlobsFindFiles, MoreBehind, ModulesDoNotWait, NeedsAreAsked, StepsAreSpent, TargetsRise};
+ghost use Rattle.language.specs.Laws.{FinishedStays, GlobalsStay, GlobsFindFiles, MoreBehind, ModulesDoNotWait, NeedsAreAsked, StepsAreSpent, TargetsRise};
 
 /// The law that answers do no harm: an outcome that does not wait for globs stays the same when more of them are
 /// answered, as by further answers behind those that are there.
@@ -39,4 +39,9 @@ pub fn globs_find_files()
 /// The law of steps: a file's evaluation ends with no more steps left than it began with.
 pub fn steps_are_spent()
     ensures { StepsAreSpent }
+{}
+
+/// The law of globals: one that is bound keeps its value to the end, and so do the names of loaded modules.
+pub fn globals_stay()
+    ensures { GlobalsStay }
 {}
