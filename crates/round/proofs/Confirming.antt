@@ -44,7 +44,7 @@ module _ (records : Records) (nodes : Nodes) (h : Holds records nodes) (k : Key)
       subst (λ (x : Record Key Value). IsStill records x.settled_at j) same (s.3 j (subst (λ (x : Record Key Value). IsMember j (take at x.groups)) (sym same) m))
 
 -- everything is taken
-take_whole : {X : Type 0} (xs : List X) (i : ℕ) → length xs ≤ i → take i xs ≡ xs
+pub take_whole : {X : Type 0} (xs : List X) (i : ℕ) → length xs ≤ i → take i xs ≡ xs
 take_whole {X} xs i h = sym (nil (take i xs)) ∙ ap (λ ys. take i xs ++ ys) (sym (drop_all i xs h)) ∙ take-append-drop i xs
   where
     nil : (ys : List X) → ys ++ [] ≡ ys

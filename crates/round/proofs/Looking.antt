@@ -32,7 +32,7 @@ use Rattle.round.specs.Looks.{IsAwaiting, IsLastGroup, IsRunningAt, IsNextKey}
 use Rattle.round.proofs.Wanting.{StaysTrue}
 
 -- the last elements of equal lists
-last_same : {X : Type 0} (xs ys : List X) (x y : X) → xs ++ x ∷ [] ≡ ys ++ y ∷ [] → x ≡ y
+pub last_same : {X : Type 0} (xs ys : List X) (x y : X) → xs ++ x ∷ [] ≡ ys ++ y ∷ [] → x ≡ y
 last_same [] [] x y e = cc
 last_same [] (z ∷ []) x y e = cc
 last_same [] (z ∷ w ∷ ys) x y e = cc

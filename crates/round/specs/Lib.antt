@@ -6,3 +6,5 @@ pub mod Looks
 pub mod Compared
 pub mod Turning
 pub mod Call
+pub mod Closing
+pub mod Showing

@@ -1,8 +1,10 @@
 //! The evaluation of nodes.
 #![tactic(auto)]
 
+mod closing;
 mod from_nothing;
 mod look;
+mod loops;
 mod members;
 mod settle;
 mod stop;

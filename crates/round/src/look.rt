@@ -103,8 +103,8 @@ fn compare_group(
     Ok(compare_settled(graph, group, since))
 }
 
-// The groups of a key's record.
-fn recorded_groups<'a>(graph: &'a Graph, key: &Key) -> &'a [Vec<Key>]
+/// The groups of a key's record.
+pub fn recorded_groups<'a>(graph: &'a Graph, key: &Key) -> &'a [Vec<Key>]
     ensures { (r : Record Key Value) → record_at graph.now key.now ≡ Some r → items_of result.now ≡ r.groups }
 {
     match graph.groups(key) {
