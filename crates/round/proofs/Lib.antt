@@ -10,3 +10,4 @@ pub mod Reaching
 pub mod Stalling
 pub mod Walking
 pub mod Stalled
+pub mod Closings

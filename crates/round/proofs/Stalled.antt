@@ -38,6 +38,12 @@ init_same (z ∷ []) [] x y e = cc
 init_same (z ∷ w ∷ xs) [] x y e = cc
 init_same (z ∷ xs) (w ∷ ys) x y e = let q : xs ++ x ∷ [] ≡ ys ++ y ∷ [] = cc in let p : z ≡ w = cc in let r = init_same xs ys x y q in cc
 
+-- how a node came to the group that it waits for
+abbrev pub ComesBy : Records → Key → List (List Key) → Phase → List (List Key) → List Key → Type 0
+ComesBy records k asked (phase.Checking at) passed group = (r : Record Key Value) × (rest : List (List Key)) × (records k ≡ Some r) × (r.groups ≡ passed ++ group ∷ rest) × ((j : Key) → IsMember j passed → IsStill records r.settled_at j)
+ComesBy records k asked phase.Running passed group = asked ≡ passed ++ group ∷ []
+ComesBy records k asked phase.Out passed group = ⊥
+
 -- a closed node's groups end with the one that it waits for, whose members before the stop have values
 pub record IsStopped (records : Records) (nodes : Nodes) (stops : Stops) (c : Closing) : Type 0 where
   pub node : Node
@@ -46,6 +52,7 @@ pub record IsStopped (records : Records) (nodes : Nodes) (stops : Stops) (c : Cl
   pub current : IsCurrent records c.key (groups_of node) node.phase group
   pub passed : List (List Key)
   pub groups : items_of c.groups.items ≡ passed ++ group ∷ []
+  pub come : ComesBy records c.key (groups_of node) node.phase passed group
   pub all_clean : (j : Key) → IsMember j passed → IsClean records j
   pub wanted : (j : Key) → In j group → IsOpen nodes j ⊎ IsClean records j
   pub stop : Key
@@ -69,29 +76,28 @@ module _ (graph : Recorded) (start later : Table) (stall : Stall) (version : ℕ
   -- the member that keeps a node back has no value
   not_plain : (k : Key) (p : Phase) (j : Key) → KeepsBack records start.nodes k p j → IsPlain records j → ⊥
   not_plain k p j (inl m) s = unsettled_not_clean (records j) s.0 (w.holds j m.0 m.1).0 s.1 s.2
-  not_plain k p j (inr c) s = c.4 (subst (λ (r : Record Key Value). NoCycle r.value) (some_is (sym s.1 ∙ c.2)) s.3)
+  not_plain k p j (inr c) s = c.1.3 (subst (λ (r : Record Key Value). NoCycle r.value) (some_is (sym s.1 ∙ c.1.1)) s.3)
 
   abbrev Parts : Key → Node → List Key → List (List Key) → Type 0
-  Parts k n group gs = (passed : List (List Key)) × (gs ≡ passed ++ group ∷ []) × ((j : Key) → IsMember j passed → IsClean records j)
+  Parts k n group gs = (passed : List (List Key)) × (gs ≡ passed ++ group ∷ []) × ((j : Key) → IsMember j passed → IsClean records j) × ComesBy records k (groups_of n) n.phase passed group
 
   parts : (k : Key) (n : Node) (group : List Key) (gs : List (List Key)) → ClosesWith records k n gs → Stands records k (groups_of n) n.phase → IsCurrent records k (groups_of n) n.phase group → Parts k n group gs
   parts k n group gs by stands current = go n.phase by stands current
     where
-      go : (p : Phase) → ClosesBy records k (groups_of n) p gs → Stands records k (groups_of n) p → IsCurrent records k (groups_of n) p group → Parts k n group gs
+      go : (p : Phase) → ClosesBy records k (groups_of n) p gs → Stands records k (groups_of n) p → IsCurrent records k (groups_of n) p group → (passed : List (List Key)) × (gs ≡ passed ++ group ∷ []) × ((j : Key) → IsMember j passed → IsClean records j) × ComesBy records k (groups_of n) p passed group
       go (phase.Checking at) b s c =
-          let same : s.0 ≡ c.0 = some_is (sym s.1 ∙ c.2) in (
-            take at c.0.groups,
-            b c.0 c.2 ∙ rw add-one (next_taken at c.0.groups group c.1 c.3),
-            λ j m.
-                let h = s.3 j (subst (λ (r : Record Key Value). IsMember j (take at r.groups)) (sym same) m) in (h.0, h.1, h.2),
-          )
+          let same : s.0 ≡ c.0 = some_is (sym s.1 ∙ c.2) in
+          let still : (j : Key) → IsMember j (take at c.0.groups) → IsStill records c.0.settled_at j = λ j m.
+              subst (λ (r : Record Key Value). IsStill records r.settled_at j) same (s.3 j (subst (λ (r : Record Key Value). IsMember j (take at r.groups)) (sym same) m)) in
+          (take at c.0.groups, b c.0 c.2 ∙ rw add-one (next_taken at c.0.groups group c.1 c.3), (λ j m. let x = still j m in (x.0, x.1, x.2)), (c.0, c.1, c.2, c.3, still))
       go phase.Running b s c = (
         c.0,
         b ∙ c.1,
-        λ j m. elim s [
+        (λ j m. elim s [
           | inl e ↦ absurd (no_end c.0 group (sym c.1 ∙ e))
           | inr q ↦ let h = q.3 j (subst (IsMember j) (init_same c.0 q.0 group q.1 (sym c.1 ∙ q.2)) m) in (h.0, h.1, h.2)
-        ],
+        ]),
+        c.1,
       )
         where
           no_end : (xs : List (List Key)) (x : List Key) → xs ++ x ∷ [] ≡ [] → ⊥
@@ -107,6 +113,7 @@ module _ (graph : Recorded) (start later : Table) (stall : Stall) (version : ℕ
     current = b.current;
     passed = p.0;
     groups = p.1;
+    come = p.3;
     all_clean = p.2;
     wanted = b.wanted;
     stop = found.0;

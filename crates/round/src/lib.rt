@@ -1,6 +1,7 @@
 //! The evaluation of nodes.
 #![tactic(auto)]
 
+mod close;
 mod closing;
 mod from_nothing;
 mod look;
