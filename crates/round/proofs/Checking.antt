@@ -31,9 +31,10 @@ use Rattle.round.specs.Members.{IsMissing, has_changed}
 use Rattle.round.specs.Compared.{IsNextGroup, ComparesGroup, Compares}
 use Rattle.round.specs.declared.look.Compared.{Compared}
 use Rattle.round.specs.declared.look.Compared.TheVariants as compared
+use Rattle.round.specs.Moves.{KeepsWanted}
 use Rattle.round.specs.Looks.{IsAwaiting, IsChecking, HasPassed}
 use Rattle.round.proofs.Grouping.{split_at, snoc_in, items_taken}
-use Rattle.round.proofs.Wanting.{StaysTrue}
+use Rattle.round.proofs.Wanting.{StaysTrue, wanted_set}
 use Rattle.round.proofs.Confirming.{standing, passed_members}
 
 items_joined : (xs ys : List (Vec Key Global)) → items_of (xs ++ ys) ≡ items_of xs ++ items_of ys
@@ -134,6 +135,9 @@ module _ (graph : Recorded) (before later : Table) (k : Key) (at : ℕ) (c : IsC
 
   none_more : (p : Phase) → HasPhase before.nodes later.nodes k p → SameRuns before later → MakesNone before later
   none_more p h runs = same_asked before later k n (record n { phase = p }) c.1 (u p h) refl runs
+
+  pub set_keeps : (p : Phase) → HasPhase before.nodes later.nodes k p → KeepsWanted graph graph before later
+  set_keeps p h = wanted_set graph before later k (record n { phase = p }) (u p h)
 
   -- the next group has not changed
   module _ (found : (group : List Key) × IsNextGroup r at group × ComparesGroup (record_at graph) group r.settled_at compared.Passes)

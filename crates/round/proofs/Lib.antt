@@ -11,3 +11,4 @@ pub mod Stalling
 pub mod Walking
 pub mod Stalled
 pub mod Closings
+pub mod Resting

@@ -5,7 +5,7 @@ use Rattle.evaluation.specs.Graph.{Record}
 use Rattle.keys.specs.Turns.{NoCycle}
 use Rattle.keys.specs.declared.key.Key.{Key}
 use Rattle.keys.specs.declared.value.Value.{Value}
-use Rattle.node.specs.Batches.{asked, keys_of, HasReadyEntries}
+use Rattle.node.specs.Batches.{asked, keys_of, HasReadyEntries, SetsAll}
 use Rattle.node.specs.Graphs.{Recorded, record_at}
 use Rattle.node.specs.Kept.{items_of}
 use Rattle.node.specs.declared.entry.Entry.{Entry}
@@ -21,7 +21,7 @@ use Rattle.open_nodes.proofs.Wholes.{unsettled_not_clean}
 use Rattle.round.specs.Closing.{ClosesBy, ClosesWith, StopsIn, Stops, stop_at, closing_keys, IsClosed, HasTaken, IsIdle}
 use Rattle.round.specs.Looks.{IsLastGroup}
 use Rattle.round.specs.Members.{IsStop, plain_value}
-use Rattle.round.specs.Moves.{IsWholeNow}
+use Rattle.round.specs.Moves.{IsWholeNow, IsWanted, KeepsWanted}
 use Rattle.round.specs.Showing.{IsStall, AreEntries}
 use Rattle.round.specs.declared.closing.Closing.{Closing}
 use Rattle.round.specs.declared.closing.Stall.{Stall}
@@ -190,3 +190,16 @@ module _ (graph : Recorded) (start later : Table) (stall : Stall) (version : ℕ
           | inr l ↦ inr l
         ]
       ]
+
+  -- what was wanted is settled
+  pub closed_keeps : (new : Recorded) (entries : List Entry) → AreEntries (stop_at stall.stops) records stall.closing.items entries → SetsAll records (record_at new) entries version → KeepsWanted graph new start later
+  closed_keeps new entries a sets j o = elim (decide_in j (keys_of entries)) [
+    | inl i ↦ of_entry i
+    | inr n ↦ elim o [
+      | inl x ↦ let c = all_closed j x in absurd (n (subst (λ k. In k (keys_of entries)) c.2 (a.has c.0 c.1)))
+      | inr l ↦ inr (l.0, sets.others j n ∙ l.1, l.2)
+    ]
+  ]
+    where
+      of_entry : In j (keys_of entries) → IsWanted new later j
+      of_entry i = let e = in_map (λ (x : Entry). x.key) entries i in inr (_, ap (record_at new) (sym e.2) ∙ sets.there e.0 e.1, refl)

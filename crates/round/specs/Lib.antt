@@ -8,3 +8,4 @@ pub mod Turning
 pub mod Call
 pub mod Closing
 pub mod Showing
+pub mod Here

@@ -5,7 +5,7 @@ ghost use Rattle.keys.specs.declared.value.Value.{Value};
 ghost use Rattle.open_nodes.specs.Counted.{MakesNone};
 ghost use Rattle.open_nodes.specs.Nodes.{node_at};
 ghost use Rattle.round.specs.Closing.{IsIdle};
-ghost use Rattle.round.specs.Moves.{KeepsTrue, IsWholeNow};
+ghost use Rattle.round.specs.Moves.{KeepsTrue, KeepsWanted, IsWholeNow};
 
 use crate::closing::close_all;
 use crate::loops::entries_of;
@@ -20,6 +20,7 @@ pub fn close_cycles(alloc: Global, graph: &mut Graph, table: &mut Table) -> Resu
     requires whole { IsWholeNow graph.old table.old }
     requires idle { IsIdle table.old }
     ensures none { OnOk result ((k : Key) → node_at table.new.nodes k ≡ None) }
+    ensures keeps { OnOk result (KeepsWanted graph.old graph.new table.old table.new) }
     ensures turns { OnOk result (MakesNone table.old table.new) }
     ensures truth { (read : Key → Option Value) → KeepsTrue read graph.old graph.new table.old table.new result }
 {

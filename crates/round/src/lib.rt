@@ -4,6 +4,7 @@
 mod close;
 mod closing;
 mod from_nothing;
+mod here;
 mod look;
 mod loops;
 mod members;
