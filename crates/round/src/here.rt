@@ -139,3 +139,121 @@ pub fn evaluate_here<R: Rules>(
         Some(_) => Err(Stop::Budget),
     }
 }
+
+#[cfg(test)]
+mod tests {
+    use super::*;
+    use functions::Loading;
+    use keys::{BuildName, Value};
+    use std::test::Fail;
+    use texts::Text;
+
+    // Puts a text at a path, and marks what that reaches.
+    fn put(graph: &mut Graph, tree: &mut Tree, path: &str, text: &str) -> Result<(), Fail> {
+        tree.put(path, text)?;
+        graph.touch(path)?;
+        Ok(())
+    }
+
+    // Looks a package up, and tells its build file and how many items and turns that took.
+    fn find(
+        alloc: Global,
+        graph: &mut Graph,
+        tree: &Tree,
+        name: &str,
+    ) -> Result<(Option<BuildName>, usize, u64), Fail> {
+        let roots = [Key::Lookup(Text::new(alloc, name)?)];
+        let mut rules = Loading::new(alloc);
+        let runs = evaluate_here(alloc, graph, tree, &roots, &mut rules, 10)?;
+        let mut turns = 0;
+        for run in &runs {
+            if run.version != graph.version() {
+                return Err(Fail::from(Stop::Budget));
+            }
+            turns += run.turns;
+        }
+        match graph.get(&roots[0]) {
+            Some(value) => match &**value {
+                Value::Lookup(found) => Ok((*found, runs.len(), turns)),
+                _ => Err(Fail::from(Stop::Budget)),
+            },
+            None => Err(Fail::from(Stop::Budget)),
+        }
+    }
+
+    #[test]
+    fn only_what_an_edit_reaches_runs_again(rt: HostRuntime) -> Result<(), Fail> {
+        let alloc = rt.alloc();
+        let mut graph = Graph::new(alloc);
+        let mut tree = Tree::new(alloc);
+        put(&mut graph, &mut tree, "a/BUILD", "x")?;
+        assert!(rt; find(alloc, &mut graph, &tree, "a")? == (Some(BuildName::Build), 3, 2));
+        assert!(rt; find(alloc, &mut graph, &tree, "a")? == (Some(BuildName::Build), 0, 0));
+        // an edit elsewhere reaches nothing
+        put(&mut graph, &mut tree, "b/x", "")?;
+        assert!(rt; find(alloc, &mut graph, &tree, "a")? == (Some(BuildName::Build), 0, 0));
+        // the file is read again, and its equal text stops the change there
+        put(&mut graph, &mut tree, "a/BUILD", "x")?;
+        assert!(rt; find(alloc, &mut graph, &tree, "a")? == (Some(BuildName::Build), 1, 0));
+        // another text makes the look-up run
+        put(&mut graph, &mut tree, "a/BUILD", "y")?;
+        assert!(rt; find(alloc, &mut graph, &tree, "a")? == (Some(BuildName::Build), 2, 2));
+        put(&mut graph, &mut tree, "a/BUILD.bazel", "")?;
+        assert!(rt; find(alloc, &mut graph, &tree, "a")? == (Some(BuildName::BuildBazel), 2, 2));
+        assert!(rt; find(alloc, &mut graph, &tree, "b")? == (None, 3, 2));
+        assert_eq!(rt; graph.counts().records, 6);
+        Ok(())
+    }
+
+    #[test]
+    fn a_spent_budget_leaves_a_graph_that_goes_on(rt: HostRuntime) -> Result<(), Fail> {
+        let alloc = rt.alloc();
+        let mut graph = Graph::new(alloc);
+        let mut tree = Tree::new(alloc);
+        put(&mut graph, &mut tree, "a/BUILD", "x")?;
+        let roots = [
+            Key::Lookup(Text::new(alloc, "a")?),
+            Key::Lookup(Text::new(alloc, "b")?),
+        ];
+        for budget in 0..5 {
+            let mut rules = Loading::new(alloc);
+            match evaluate_here(alloc, &mut graph, &tree, &roots, &mut rules, budget) {
+                Ok(_) => assert_eq!(rt; budget, 3),
+                Err(Stop::Budget) => assert!(rt; budget < 3),
+                Err(Stop::Memory) => return Err(Fail::from(Stop::Memory)),
+            }
+            if budget == 3 {
+                break;
+            }
+        }
+        assert!(rt; graph.get(&roots[0]).is_some());
+        assert!(rt; graph.get(&roots[1]).is_some());
+        Ok(())
+    }
+
+    #[test]
+    fn without_roots_and_for_leaves_no_turn_is_made(rt: HostRuntime) -> Result<(), Fail> {
+        let alloc = rt.alloc();
+        let mut graph = Graph::new(alloc);
+        let mut tree = Tree::new(alloc);
+        put(&mut graph, &mut tree, "a/BUILD", "x")?;
+        let mut rules = Loading::new(alloc);
+        assert_eq!(rt;
+            evaluate_here(alloc, &mut graph, &tree, &[], &mut rules, 0)?.len(),
+            0
+        );
+        let roots = [
+            Key::File(Text::new(alloc, "a/BUILD")?),
+            Key::Listing(Text::new(alloc, "a")?),
+        ];
+        assert_eq!(rt;
+            evaluate_here(alloc, &mut graph, &tree, &roots, &mut rules, 0)?.len(),
+            2
+        );
+        assert_eq!(rt;
+            evaluate_here(alloc, &mut graph, &tree, &roots, &mut rules, 0)?.len(),
+            0
+        );
+        Ok(())
+    }
+}
