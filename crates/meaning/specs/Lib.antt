@@ -16,4 +16,3 @@ pub mod Membership
 pub mod Binary
 pub mod Functions
 pub mod Methods
-pub mod World

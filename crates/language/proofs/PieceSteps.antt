@@ -1,0 +1,229 @@
+-- No piece of an evaluation has more steps left than it began with.
+use Rattle.std.proofs.Common.{ℕ, List, [], ◌∷◌, ◌++◌, suc, ◌≡◌, ◌≤◌, arith, refl, Bool, true, false, Option, Some, None}
+use Rattle.std.specs.Prelude.{if◌then◌else◌, is_some, length}
+use Rattle.tree.specs.declared.expr.UnaryOp.{UnaryOp}
+use Rattle.tree.specs.declared.expr.UnaryOp.TheVariants as u
+use Rattle.tree.specs.declared.expr.BinaryOp.{BinaryOp}
+use Rattle.tree.specs.declared.expr.BinaryOp.TheVariants as o
+use Rattle.tree.specs.Tree.{Ld, It, Fn}
+use Rattle.meaning.specs.declared.val.Val.{Val}
+use Rattle.meaning.specs.declared.val.Builtin.{Builtin}
+use Rattle.meaning.specs.Outcome as m
+use Rattle.meaning.specs.Outcome.{Out, gives, faults, Does, checked}
+use Rattle.meaning.specs.declared.val.Val.TheVariants as v
+use Rattle.meaning.specs.Heap.{Store, at, Entries, walks, makes_text, is_sized}
+use Rattle.meaning.specs.Operators.{add, negate, plus}
+use Rattle.meaning.specs.Comparing.{found}
+use Rattle.meaning.specs.Indexing.{hash, index, set_index}
+use Rattle.meaning.specs.Binary.{binary}
+use Rattle.meaning.specs.Freezing.{thaw, thaw_members, freeze, freeze_members}
+use Rattle.meaning.specs.Functions.{Named, grows}
+use Rattle.language.specs.Modules.{Frozen, Defaults, Body, Loaded, exported}
+use Rattle.language.specs.World.{World, Site, Target, Here, Ends, ended, failed, waits, Runs, then_runs, at_site, on_heap, tick, or_fault, fault, pure, at_line}
+use Rattle.language.specs.Names.{names_once, top_names, slot, slot_among, file_slot, names_at, read_universal, read_slot, read, bind_global, bind, is_native, universal}
+use Rattle.language.specs.Environment.{Env, defs, defaults_of, thawed, thawed_defaults, thaw_body, need_names, reached_module}
+use Rattle.language.specs.Targets.{Aim, to_name, to_member, to_each, Aims, no_aims, aim_at, how_many, parts_of, unpack, store, store_each}
+use Rattle.language.specs.Loops.{Gathered, one_more, one_entry}
+use Rattle.language.specs.Expressions.{unary, operator_of, fresh}
+use Rattle.language.specs.Statements.{present, added, changed}
+use Rattle.language.specs.Files.{load_items, loads, leading, frozen_names, frozen_defaults, frozen_module}
+use Rattle.language.specs.Rules.{is_used, target_of, adds_target, rule}
+use Rattle.language.specs.Packages.{package_name}
+use Rattle.language.proofs.WalkSteps.{w_tick, freeze_falls, freeze_members_falls}
+use Rattle.language.proofs.HeapSteps.{HeapAtMost, Lowers, d_checked, d_walks, d_text, hash_down, set_index_down, index_down, plus_down, negate_down, binary_down, add_down}
+use Rattle.language.proofs.CallSteps.{grows_down, thaw_down, thaw_members_down}
+use Rattle.language.proofs.MethodSteps.{add_in_place_down}
+
+abbrev pub EndsAtMost : {A : Type 0} → ℕ → Ends A → Type 0
+EndsAtMost n (ended a w) = w.store.steps ≤ n
+EndsAtMost n (failed c s) = Unit {0}
+EndsAtMost n (waits ps) = Unit {0}
+
+pub record Sinks {A : Type 0} (n : ℕ) (e : Ends A) : Type 0 where
+  pub at : EndsAtMost n e
+
+-- a piece that never has more steps left
+abbrev pub Sinking : {A : Type 0} → Runs A → Type 0
+Sinking m = (w : World) → Sinks w.store.steps (m w)
+
+pub ends_sink : {A : Type 0} (a : A) (n : ℕ) (w : World) → w.store.steps ≡ n → Sinks n (ended a w)
+ends_sink a n w e = record { at = omega (arith, e) }
+
+pub gives_sink : {A : Type 0} (a : A) → Sinking (pure a)
+gives_sink a w = ends_sink a w.store.steps w refl
+
+pub fails_sink : {A : Type 0} (c : ℕ) (site : Site) (n : ℕ) → Sinks {A = A} n (failed c site)
+fails_sink c site n = record { at = tt }
+
+pub waits_sink : {A : Type 0} (ps : List (List ℕ)) (n : ℕ) → Sinks {A = A} n (waits ps)
+waits_sink ps n = record { at = tt }
+
+then_sinks_at : {A B : Type 0} (n : ℕ) (e : Ends A) (k : A → Runs B) → EndsAtMost n e → ((a : A) → Sinking (k a)) → EndsAtMost n (then_runs e k)
+then_sinks_at {B = B} n (ended a w) k p h = lower w.store.steps n p (k a w) (h a w).at
+  where
+    lower : (m n : ℕ) → m ≤ n → (e : Ends B) → EndsAtMost m e → EndsAtMost n e
+    lower m n p (ended b u) q = omega arith
+    lower m n p (failed c s) q = tt
+    lower m n p (waits ps) q = tt
+then_sinks_at n (failed c s) k p h = tt
+then_sinks_at n (waits ps) k p h = tt
+
+pub then_sinks : {A B : Type 0} (n : ℕ) (e : Ends A) (k : A → Runs B) → Sinks n e → ((a : A) → Sinking (k a)) → Sinks n (then_runs e k)
+then_sinks n e k p h = record { at = then_sinks_at n e k p.at h }
+
+pub if_sinks : {A : Type 0} (b : Bool) (m k : Runs A) (w : World) (n : ℕ) → Sinks n (m w) → Sinks n (k w) → Sinks n ((if b then m else k) w)
+if_sinks true m k w n p q = p
+if_sinks false m k w n p q = q
+
+site_sinks : {A : Type 0} (site : Site) (w : World) (n : ℕ) (out : Out Store A) → HeapAtMost n out → EndsAtMost n (at_site site w out)
+site_sinks site w n (gives a s) h = h
+site_sinks site w n (faults c) h = tt
+
+pub heap_sinks : {A : Type 0} (here : Here) (m : Does Store A) → Lowers m → Sinking (on_heap here m)
+heap_sinks here m h w = record { at = site_sinks here.site w w.store.steps (m w.store) (h w.store).at }
+
+unpack_down : (n : ℕ) (x : Val) → Lowers (unpack n x)
+unpack_down n x s = d_checked (parts_of n x s) s
+
+added_down : (x y : Val) → Lowers (added x y)
+added_down (v.At a) (v.At b) s = add_in_place_down a (at a s) b (at b s) (add (v.At a) (v.At b)) (add_down (v.At a) (v.At b)) s
+added_down x y s = add_down x y s
+
+pub tick_sinks : (here : Here) (w : World) → Sinks w.store.steps (tick here w)
+unfolding tick
+tick_sinks here w = heap_sinks here (walks λ heap. m.tick) (λ s. d_walks (λ heap. m.tick) (λ heap. w_tick) s) w
+
+pub or_fault_sinks : {A : Type 0} (c : ℕ) (a : Option A) (here : Here) (w : World) → Sinks w.store.steps (or_fault c a here w)
+or_fault_sinks c None here w = fails_sink _ _ _
+or_fault_sinks c (Some a) here w = ends_sink _ _ _ refl
+
+-- ---- names
+
+read_universal_sinks : (x : List ℕ) (here : Here) (w : World) → Sinks w.store.steps (read_universal x here w)
+read_universal_sinks x here w = if_sinks (is_native here.kind x) _ _ w w.store.steps (fails_sink _ _ _) (then_sinks w.store.steps (or_fault 4 (universal here.kind x) here w) _ (or_fault_sinks _ _ here w) λ f s. ends_sink _ _ _ refl)
+
+read_slot_sinks : (s : Option (Option Val)) (x : List ℕ) (here : Here) (w : World) → Sinks w.store.steps (read_slot s x here w)
+read_slot_sinks None x here w = read_universal_sinks x here w
+read_slot_sinks (Some value) x here w = or_fault_sinks 4 value here w
+
+pub read_sinks : (x : List ℕ) (here : Here) (w : World) → Sinks w.store.steps (read x here w)
+unfolding read
+read_sinks x here w = read_slot_sinks (slot x here w) x here w
+
+bind_global_sinks : (s : Option (Option Val)) (x : List ℕ) (value : Val) (here : Here) (w : World) → Sinks w.store.steps (bind_global s x value here w)
+bind_global_sinks (Some None) x value here w = ends_sink _ _ _ refl
+bind_global_sinks (Some (Some y)) x value here w = fails_sink _ _ _
+bind_global_sinks None x value here w = fails_sink _ _ _
+
+pub bind_sinks : (x : List ℕ) (value : Val) (here : Here) (w : World) → Sinks w.store.steps (bind x value here w)
+unfolding bind
+bind_sinks x value here w = if_sinks (is_some (slot_among x w.blocks)) _ _ w w.store.steps (ends_sink _ _ _ refl) (bind_global_sinks (file_slot x (names_at here.label w.files)) x value here w)
+
+mutual
+  pub store_sinks : (a : Aim) (x : Val) (here : Here) (w : World) → Sinks w.store.steps (store a x here w)
+  store_sinks (to_name y) x here w = bind_sinks y x here w
+  store_sinks (to_member c i) x here w = heap_sinks here (set_index c i x) (set_index_down c i x) w
+  store_sinks (to_each aims) x here w = then_sinks w.store.steps (on_heap here (unpack (how_many aims) x) w) _ (heap_sinks here (unpack (how_many aims) x) (unpack_down (how_many aims) x) w) λ xs s. store_each_sinks aims xs here s
+
+  pub store_each_sinks : (as' : Aims) (xs : List Val) (here : Here) (w : World) → Sinks w.store.steps (store_each as' xs here w)
+  store_each_sinks no_aims xs here w = ends_sink _ _ _ refl
+  store_each_sinks (aim_at a more) [] here w = fails_sink _ _ _
+  store_each_sinks (aim_at a more) (x ∷ xs) here w = then_sinks w.store.steps (store a x here w) _ (store_sinks a x here w) λ _ s. store_each_sinks more xs here s
+
+-- ---- values
+
+pub one_more_sinks : (x : Val) (g : Gathered) (here : Here) (w : World) → Sinks w.store.steps (one_more x g here w)
+one_more_sinks x g here w = if_sinks (is_sized (suc (length g.members))) (pure (record g { members = g.members ++ x ∷ [] })) (fault 13 here) w w.store.steps (ends_sink _ _ _ refl) (fails_sink _ _ _)
+
+pub one_entry_sinks : (x y : Val) (g : Gathered) (here : Here) (w : World) → Sinks w.store.steps (one_entry x y g here w)
+one_entry_sinks x y g here w = then_sinks w.store.steps (on_heap here (grows x y g.entries) w) _ (heap_sinks here (grows x y g.entries) (grows_down x y g.entries) w) λ _ s. ends_sink _ _ _ refl
+
+pub fresh_sinks : (x y : Val) (es : Entries) (here : Here) (w : World) → Sinks w.store.steps (fresh x y es here w)
+fresh_sinks x y es here w = then_sinks w.store.steps (on_heap here (hash x) w) _ (heap_sinks here (hash x) (hash_down x) w) λ parts s. if_sinks (is_some (found parts es)) (fault 25 here) (pure (es ++ (parts, record { key = x; value = y }) ∷ [])) s s.store.steps (fails_sink _ _ _) (ends_sink _ _ _ refl)
+
+pub unary_sinks : (op : UnaryOp) (x : Val) (here : Here) (w : World) → Sinks w.store.steps (unary op x here w)
+unary_sinks u.Not x here w = ends_sink _ _ _ refl
+unary_sinks u.Plus x here w = heap_sinks here (plus x) (plus_down x) w
+unary_sinks u.Minus x here w = heap_sinks here (negate x) (negate_down x) w
+
+pub present_sinks : (a : Aim) (here : Here) (w : World) → Sinks w.store.steps (present a here w)
+present_sinks (to_name x) here w = read_sinks x here w
+present_sinks (to_member c i) here w = heap_sinks here (index c i) (index_down c i) w
+present_sinks (to_each aims) here w = fails_sink _ _ _
+
+pub changed_sinks : (op : BinaryOp) (x y : Val) (here : Here) (w : World) → Sinks w.store.steps (changed op x y here w)
+changed_sinks o.Add x y here w = heap_sinks here (added x y) (added_down x y) w
+changed_sinks op x y here w = heap_sinks here (binary (operator_of op) x y) (binary_down (operator_of op) x y) w
+
+-- ---- modules and packages
+
+pub thawed_sinks : (fs : List Frozen) (here : Here) (w : World) → Sinks w.store.steps (thawed fs here w)
+thawed_sinks [] here w = ends_sink _ _ _ refl
+thawed_sinks (f ∷ fs) here w = then_sinks w.store.steps (on_heap here (thaw f.value) w) _ (heap_sinks here (thaw f.value) (thaw_down f.value) w) λ x s. then_sinks s.store.steps (thawed fs here s) _ (thawed_sinks fs here s) λ _ _. ends_sink _ _ _ refl
+
+pub thawed_defaults_sinks : (ds : List Defaults) (here : Here) (w : World) → Sinks w.store.steps (thawed_defaults ds here w)
+thawed_defaults_sinks [] here w = ends_sink _ _ _ refl
+thawed_defaults_sinks (d ∷ ds) here w = then_sinks w.store.steps (on_heap here (thaw_members d.values) w) _ (heap_sinks here (thaw_members d.values) (thaw_members_down d.values) w) λ x s. then_sinks s.store.steps (thawed_defaults ds here s) _ (thawed_defaults_sinks ds here s) λ _ _. ends_sink _ _ _ refl
+
+thaw_body_sinks : (body : Option Body) (here : Here) (w : World) → Sinks w.store.steps (thaw_body body here w)
+thaw_body_sinks None here w = ends_sink _ _ _ refl
+thaw_body_sinks (Some body) here w =
+    then_sinks w.store.steps (thawed body.own here w) _ (thawed_sinks body.own here w) λ own s.
+    then_sinks s.store.steps (thawed body.loaded here s) _ (thawed_sinks body.loaded here s) λ loaded t.
+    then_sinks t.store.steps (thawed_defaults body.defaults here t) _ (thawed_defaults_sinks body.defaults here t) λ _ _. ends_sink _ _ _ refl
+
+pub need_names_sinks : (env : Env) (label : List ℕ) (here : Here) (w : World) → Sinks w.store.steps (need_names env label here w)
+unfolding need_names
+need_names_sinks env label here w = if_sinks (is_some (names_at label w.files)) _ _ w w.store.steps (ends_sink _ _ _ refl) (thaw_body_sinks (reached_module env label) here w)
+
+adds_target_sinks : (target : Target) (here : Here) (w : World) → Sinks w.store.steps (adds_target target here w)
+adds_target_sinks target here w = if_sinks (is_used target.name w.targets) (fault 20 here) (λ u. ended v.Nothing (record u { targets = u.targets ++ target ∷ [] })) w w.store.steps (fails_sink _ _ _) (ends_sink _ _ _ refl)
+
+pub rule_sinks : (f : Builtin) (package_name : List ℕ) (xs : List Val) (ns : Named) (here : Here) (w : World) → Sinks w.store.steps (rule f package_name xs ns here w)
+unfolding rule
+rule_sinks f package_name xs ns here w = then_sinks w.store.steps (on_heap here (λ s. checked (target_of f package_name xs ns s) s) w) _ (heap_sinks here (λ s. checked (target_of f package_name xs ns s) s) (λ s. d_checked (target_of f package_name xs ns s) s) w) λ target s. adds_target_sinks target here s
+
+pub package_name_sinks : (env : Env) (xs : List Val) (ns : Named) (here : Here) (w : World) → Sinks w.store.steps (package_name env xs ns here w)
+package_name_sinks env [] [] here w = heap_sinks here (makes_text env.package_name) (d_text env.package_name) w
+package_name_sinks env [] (n ∷ ns) here w = fails_sink _ _ _
+package_name_sinks env (x ∷ xs) ns here w = fails_sink _ _ _
+
+-- ---- files
+
+load_items_sinks : (body : Body) (items : List It) (here : Here) (w : World) → Sinks w.store.steps (load_items body items here w)
+load_items_sinks body [] here w = ends_sink _ _ _ refl
+load_items_sinks body (i ∷ items) here w =
+    then_sinks w.store.steps (or_fault 18 (exported i.exported body) here w) _ (or_fault_sinks 18 (exported i.exported body) here w) λ f s.
+    then_sinks s.store.steps (on_heap here (thaw f) s) _ (heap_sinks here (thaw f) (thaw_down f) s) λ x t.
+    then_sinks t.store.steps (bind i.local x here t) _ (bind_sinks i.local x here t) λ _ r. load_items_sinks body items here r
+
+pub loads_sinks : (ls : List Ld) (ms : List Loaded) (here : Here) (w : World) → Sinks w.store.steps (loads ls ms here w)
+loads_sinks [] ms here w = ends_sink _ _ _ refl
+loads_sinks (l ∷ ls) [] here w = fails_sink _ _ _
+loads_sinks (l ∷ ls) (m ∷ ms) here w =
+    then_sinks w.store.steps (tick (at_line l.line here) w) _ (tick_sinks _ w) λ _ s.
+    then_sinks s.store.steps (load_items m.body l.items (at_line l.line here) s) _ (load_items_sinks m.body l.items (at_line l.line here) s) λ _ t. loads_sinks ls ms here t
+
+pub leading_sinks : (line : Option ℕ) (here : Here) (w : World) → Sinks w.store.steps (leading line here w)
+leading_sinks None here w = ends_sink _ _ _ refl
+leading_sinks (Some line) here w = tick_sinks _ w
+
+frozen_names_sinks : (xs : List (List ℕ)) (here : Here) (w : World) → Sinks w.store.steps (frozen_names xs here w)
+frozen_names_sinks [] here w = ends_sink _ _ _ refl
+frozen_names_sinks (x ∷ xs) here w =
+    then_sinks w.store.steps (or_fault 4 (file_slot x (names_at here.label w.files)) here w) _ (or_fault_sinks 4 (file_slot x (names_at here.label w.files)) here w) λ bound s.
+    then_sinks s.store.steps (or_fault 4 bound here s) _ (or_fault_sinks 4 bound here s) λ y t.
+    then_sinks t.store.steps (on_heap here (walks λ heap. freeze 64 heap y) t) _ (heap_sinks here (walks λ heap. freeze 64 heap y) (λ s. d_walks (λ heap. freeze 64 heap y) (λ heap. freeze_falls 64 heap y) s) t) λ f r.
+    then_sinks r.store.steps (frozen_names xs here r) _ (frozen_names_sinks xs here r) λ _ _. ends_sink _ _ _ refl
+
+frozen_defaults_sinks : (fs : List Fn) (here : Here) (w : World) → Sinks w.store.steps (frozen_defaults fs here w)
+frozen_defaults_sinks [] here w = ends_sink _ _ _ refl
+frozen_defaults_sinks (f ∷ fs) here w =
+    then_sinks w.store.steps (on_heap here (walks λ heap. freeze_members (freeze 64 heap) (defaults_of here.label f.name w)) w) _ (heap_sinks here (walks λ heap. freeze_members (freeze 64 heap) (defaults_of here.label f.name w)) (λ s. d_walks (λ heap. freeze_members (freeze 64 heap) (defaults_of here.label f.name w)) (λ heap. freeze_members_falls (freeze 64 heap) (freeze_falls 64 heap) (defaults_of here.label f.name w)) s) w) λ xs s. then_sinks s.store.steps (frozen_defaults fs here s) _ (frozen_defaults_sinks fs here s) λ _ _. ends_sink _ _ _ refl
+
+pub frozen_module_sinks : (env : Env) (here : Here) (w : World) → Sinks w.store.steps (frozen_module env here w)
+frozen_module_sinks env here w =
+    let xs = names_once [] (top_names env.file.tops) in
+    let fs = defs env.file.tops in
+    then_sinks w.store.steps (frozen_names xs here w) _ (frozen_names_sinks xs here w) λ own s.
+    then_sinks s.store.steps (frozen_defaults fs here s) _ (frozen_defaults_sinks fs here s) λ _ t. ends_sink _ _ _ refl

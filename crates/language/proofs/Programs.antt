@@ -1,0 +1,196 @@
+-- Programs as texts, and what the definitions compute of them.
+use Prim.Native.String.{String}
+use Rattle.std.proofs.Common.{◌≡◌, ℕ, ◌-◌, List, [], ◌∷◌, ◌++◌, map, codes}
+use Rattle.std.specs.Prelude.{Result, Ok, Err}
+use Rattle.grammar.specs.declared.kind.FileKind.{FileKind}
+use Rattle.grammar.specs.declared.kind.FileKind.TheVariants as k
+use Rattle.tokens.specs.Reading.{Fault}
+use Rattle.tree.specs.Tree.{Fi}
+use Rattle.meaning.specs.Hashing.{key}
+use Rattle.meaning.specs.Comparing.{equal, order}
+use Rattle.meaning.specs.Indexing.{found_key}
+use Rattle.meaning.specs.Printing.{print}
+use Rattle.meaning.specs.Freezing.{freeze}
+use Rattle.language.specs.Modules.{Loaded, exports}
+use Rattle.language.specs.World.{Attribute, several, Target, Ends, ended, failed, waits, tick}
+use Rattle.language.specs.Names.{read, bind}
+use Rattle.language.specs.Environment.{Env, Answers, need_names}
+use Rattle.language.specs.Arguments.{arguments}
+use Rattle.language.specs.Globs.{glob}
+use Rattle.language.specs.Rules.{rule}
+use Rattle.language.specs.Packages.{package_call}
+use Rattle.language.specs.Expressions.{apply, apply_method}
+use Rattle.language.specs.Calls.{call}
+use Rattle.language.specs.Files.{Outcome, a_module, a_package, a_need, a_fault, evaluate, start, whole_file, outcome_of}
+use Rattle.language.proofs.Parsed.{parsed}
+
+-- ---- programs
+
+-- the outcome, with all definitions laid out; and how the file's evaluation ends from so many steps
+unfoldable pub evaluated : Env → Outcome
+unfolding evaluate tick read bind need_names arguments glob rule package_call apply apply_method call key found_key equal order print freeze
+evaluated = evaluate
+
+unfoldable pub ran : ℕ → Env → Ends Outcome
+unfolding evaluated
+ran steps env = whole_file env (start steps env)
+
+-- a file of package k with a text
+unfoldable pub program : FileKind → (label path : List ℕ) → List Loaded → Answers → List ℕ → Result Env Fault
+unfolding parsed
+program kind label path loads globs text = go (parsed kind text)
+  where
+    go : Result Fi Fault → Result Env Fault
+    go (Ok f) = Ok (record { kind = kind; label = label; path = path; package_name = codes "k"; file = f; loads = loads; globs = globs })
+    go (Err e) = Err e
+
+-- k/BUILD, k/m.bzl and k/b.bzl
+unfoldable pub build : List Loaded → Answers → List ℕ → Result Env Fault
+unfolding program
+build = program k.Build [] (codes "k/BUILD")
+
+unfoldable pub bzl : List Loaded → List ℕ → Result Env Fault
+unfolding program
+bzl loads = program k.Bzl (codes "//k:m.bzl") (codes "k/m.bzl") loads []
+
+unfoldable pub base : List ℕ → Result Env Fault
+unfolding program
+base = program k.Bzl (codes "//k:b.bzl") (codes "k/b.bzl") [] []
+
+-- a text that is refused ends with its fault, too
+unfoldable pub outcome : Result Env Fault → Outcome
+unfolding evaluated
+outcome (Ok env) = evaluated env
+outcome (Err e) = a_fault e.code (record { path = []; line = e.line })
+
+-- the module that is loaded, where the file has one
+unfoldable pub loaded : Outcome → List Loaded
+loaded (a_module m) = m ∷ []
+loaded other = []
+
+-- k/m.bzl with a load of k/b.bzl, and k/BUILD with a load of k/m.bzl
+unfoldable pub over_base : (below text : List ℕ) → Result Env Fault
+unfolding bzl base outcome loaded
+over_base below text = bzl (loaded (outcome (base below))) text
+
+unfoldable pub over_module : Answers → (below text : List ℕ) → Result Env Fault
+unfolding build bzl outcome loaded
+over_module globs below text = build (loaded (outcome (bzl [] below))) globs text
+
+-- ---- what a row shows: the tags of the first target; the names that are exported; the patterns that have no answer; or
+-- a fault
+
+pub data Shown : Type 0 where
+  tags : List (List ℕ) → Shown
+  exported : List (List ℕ) → Shown
+  needs : List (List ℕ) → Shown
+  fails : (code : ℕ) → (path : List ℕ) → (line : ℕ) → Shown
+  other : Shown
+
+unfoldable pub shown_attribute : List (List ℕ × Attribute) → Shown
+shown_attribute ((name, several ts) ∷ rest) = tags ts
+shown_attribute rest = other
+
+unfoldable pub shown_target : List Target → Shown
+unfolding shown_attribute
+shown_target [] = tags []
+shown_target (t ∷ ts) = shown_attribute t.attributes
+
+unfoldable pub shown : Outcome → Shown
+unfolding shown_target
+shown (a_module m) = exported (exports m.body)
+shown (a_package targets) = shown_target targets
+shown (a_need patterns) = needs patterns
+shown (a_fault code site) = fails code site.path site.line
+
+abbrev pub texts : List String → List (List ℕ)
+texts ss = map codes ss
+
+-- a fault in k/BUILD or in k/m.bzl, and one of a text
+abbrev pub at_build : ℕ → ℕ → Shown
+at_build code line = fails code (codes "k/BUILD") line
+
+abbrev pub at_bzl : ℕ → ℕ → Shown
+at_bzl code line = fails code (codes "k/m.bzl") line
+
+abbrev pub of_text : ℕ → ℕ → Shown
+of_text code line = fails code [] line
+
+-- ---- rows
+
+-- BUILD files
+unfoldable pub built : String → Shown
+unfolding build outcome shown
+built text = shown (outcome (build [] [] (codes text)))
+
+abbrev pub AllBuild : List (String × Shown) → Type 0
+AllBuild rows = map (λ r. built r.0) rows ≡ map (λ r. r.1) rows
+
+-- .bzl files
+unfoldable pub defined : String → Shown
+unfolding bzl outcome shown
+defined text = shown (outcome (bzl [] (codes text)))
+
+abbrev pub AllDefine : List (String × Shown) → Type 0
+AllDefine rows = map (λ r. defined r.0) rows ≡ map (λ r. r.1) rows
+
+-- .bzl files with what f() gives in a package: its text by `repr`, or a fault
+unfoldable pub unless_refused : Outcome → Shown → Shown
+unfolding shown
+unless_refused (a_module m) row = row
+unless_refused refused row = shown refused
+
+unfoldable pub called : String → Shown
+unfolding bzl over_module outcome shown unless_refused
+called text =
+    unless_refused (outcome (bzl [] (codes text)))
+    (shown (outcome (over_module [] (codes text) (codes "load(\":m.bzl\", \"f\")\nfilegroup(name = \"t\", tags = [repr(f())])\n"))))
+
+abbrev pub AllCall : List (String × Shown) → Type 0
+AllCall rows = map (λ r. called r.0) rows ≡ map (λ r. r.1) rows
+
+abbrev pub returns : String → Shown
+returns s = tags (codes s ∷ [])
+
+-- expressions in a BUILD file: the text by `repr`, or the code of a fault
+pub data Told : Type 0 where
+  text : List ℕ → Told
+  code : ℕ → Told
+  nothing : Told
+
+unfoldable pub told : Shown → Told
+told (tags (t ∷ ts)) = text t
+told (fails c path line) = code c
+told s = nothing
+
+abbrev pub is : String → Told
+is s = text (codes s)
+
+unfoldable pub expression : String → Told
+unfolding build outcome shown told
+expression e = told (shown (outcome (build [] [] (codes "filegroup(name = \"t\", tags = [repr(" ++ codes e ++ codes ")])\n"))))
+
+abbrev pub AllGive : List (String × Told) → Type 0
+AllGive rows = map (λ r. expression r.0) rows ≡ map (λ r. r.1) rows
+
+-- ---- steps
+
+unfoldable pub steps_left : Ends Outcome → ℕ
+steps_left (ended o w) = w.store.steps
+steps_left (failed c site) = 0
+steps_left (waits patterns) = 0
+
+-- the steps that a file takes, of 1,000
+unfoldable pub taken : Result Env Fault → ℕ
+unfolding ran steps_left
+taken (Ok env) = 1000 - steps_left (ran 1000 env)
+taken (Err e) = 0
+
+abbrev pub AllTake : List (String × ℕ) → Type 0
+AllTake rows = map (λ r. taken (build [] [] (codes r.0))) rows ≡ map (λ r. r.1) rows
+
+-- what a file ends with from so many steps
+unfoldable pub limited : ℕ → Result Env Fault → Shown
+unfolding ran shown
+limited steps (Ok env) = shown (outcome_of (ran steps env))
+limited steps (Err e) = of_text e.code e.line

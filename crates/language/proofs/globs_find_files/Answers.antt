@@ -1,0 +1,5 @@
+use Rattle.language.proofs.Found.{globs_find}
+use Rattle.language.proofs.globs_find_files.Goals as goal
+
+pub returns : goal.returns
+returns c = globs_find

@@ -1,0 +1,119 @@
+-- `glob(include, exclude = [], allow_empty = True)`.
+--
+-- Tested in order: the arguments (25), their types (5), the patterns (21); then it waits for the includes that have no
+-- answer yet; then the size (13), and an empty result that is not allowed (22).
+use Rattle.std.specs.Prelude.{ℕ, ◌&&◌, ◌||◌, Bool, true, false, not, nat_le, List, [], ◌∷◌, length, map, filter, flat_map, Option, Some, None, is_some, if◌then◌else◌, slice_get, codes}
+use Rattle.std.specs.List.{list_all}
+use Rattle.globs.specs.Globs.{some_matches}
+use Rattle.labels.specs.Paths.{segments}
+use Rattle.pattern.specs.Patterns.{is_pattern}
+use Rattle.meaning.specs.declared.val.Val.{Val}
+use Rattle.meaning.specs.declared.val.Val.TheVariants as v
+use Rattle.meaning.specs.Outcome as o
+use Rattle.meaning.specs.Outcome.{Does, Checked, good, bad, then_checked, or_bad, checked}
+use Rattle.meaning.specs.Heap.{Obj, list, Store, at, makes_list, is_sized}
+use Rattle.meaning.specs.Comparing.{same_text}
+use Rattle.meaning.specs.Functions.{Named, is_named, is_twice}
+use Rattle.meaning.specs.Methods.{bytes_of, makes_texts}
+use Rattle.language.specs.Sorting.{in_order}
+use Rattle.language.specs.World.{Here, Runs, ◌>>=◌, on_heap, waits}
+use Rattle.language.specs.Names.{or_else, has_name}
+use Rattle.language.specs.Environment.{Answers}
+use Rattle.language.specs.Arguments.{value_named}
+
+-- ---- the arguments, plain or named
+
+abbrev pub parameters : List (List ℕ)
+parameters = codes "include" ∷ codes "exclude" ∷ codes "allow_empty" ∷ []
+
+abbrev pub are_known : Named → List (List ℕ) → Bool
+are_known [] names = true
+are_known (n ∷ ns) names = if has_name n.0 names then are_known ns names else false
+
+-- a plain argument whose parameter is named too
+abbrev pub given_twice : List Val → List (List ℕ) → Named → Bool
+given_twice [] names ns = false
+given_twice (x ∷ xs) [] ns = false
+given_twice (x ∷ xs) (n ∷ names) ns = if is_named n ns then true else given_twice xs names ns
+
+abbrev pub argument : ℕ → List ℕ → List Val → Named → Option Val
+argument i name xs ns = or_else (slice_get xs i) (value_named name ns)
+
+abbrev pub are_arguments : List Val → Named → Bool
+are_arguments xs ns =
+    nat_le (length xs) (length parameters) && not (is_twice ns) && are_known ns parameters
+    && not (given_twice xs parameters ns) && is_some (argument 0 (codes "include") xs ns)
+
+-- ---- their types
+
+abbrev pub all_texts : List Val → Store → Checked (List (List ℕ))
+all_texts [] s = good []
+all_texts (x ∷ xs) s = then_checked (bytes_of x s) (λ t. then_checked (all_texts xs s) (λ ts. good (t ∷ ts)))
+
+abbrev pub object_texts : Option Obj → Store → Checked (List (List ℕ))
+object_texts (Some (list members f)) s = all_texts members s
+object_texts object s = bad 5
+
+-- a list of strings; a tuple is none
+abbrev pub texts_in : Val → Store → Checked (List (List ℕ))
+texts_in (v.At a) s = object_texts (at a s) s
+texts_in x s = bad 5
+
+abbrev pub texts_or_none : Option Val → Store → Checked (List (List ℕ))
+texts_or_none None s = good []
+texts_or_none (Some x) s = texts_in x s
+
+abbrev pub truth_or : Bool → Option Val → Checked Bool
+truth_or other None = good other
+truth_or other (Some (v.Bool b)) = good b
+truth_or other (Some x) = bad 5
+
+pub record Glob : Type 0 where
+  pub includes : List (List ℕ)
+  pub excludes : List (List ℕ)
+  pub allow_empty : Bool
+
+abbrev pub typed : List Val → Named → Store → Checked Glob
+typed xs ns s =
+    then_checked (texts_or_none (argument 0 (codes "include") xs ns) s) (λ includes.
+    then_checked (texts_or_none (argument 1 (codes "exclude") xs ns) s) (λ excludes.
+    then_checked (truth_or true (argument 2 (codes "allow_empty") xs ns)) (λ allow_empty.
+    good (record { includes = includes; excludes = excludes; allow_empty = allow_empty }))))
+
+abbrev pub with_patterns : Glob → Checked Glob
+with_patterns g = if list_all is_pattern g.includes && list_all is_pattern g.excludes then good g else bad 21
+
+-- what the call asks for
+abbrev pub read_call : List Val → Named → Store → Checked Glob
+read_call xs ns s = if are_arguments xs ns then then_checked (typed xs ns s) with_patterns else bad 25
+
+-- ---- the answer
+
+abbrev pub answer_to : List ℕ → Answers → Option (List (List ℕ))
+answer_to pattern [] = None
+answer_to pattern (a ∷ answers) = if same_text pattern a.0 then Some a.1 else answer_to pattern answers
+
+-- the patterns that have no answer, in order, each once
+abbrev pub unanswered : Answers → List (List ℕ) → List (List ℕ) → List (List ℕ)
+unanswered answers seen [] = []
+unanswered answers seen (p ∷ ps) = if is_some (answer_to p answers) || has_name p seen then unanswered answers seen ps else p ∷ unanswered answers (p ∷ seen) ps
+
+abbrev pub found_or_none : Option (List (List ℕ)) → List (List ℕ)
+found_or_none None = []
+found_or_none (Some paths) = paths
+
+-- the paths that some include finds and no exclude matches, in byte order, without repeats
+abbrev pub found : Answers → Glob → List (List ℕ)
+found answers g = in_order (λ path. path) (filter (λ path. not (some_matches (map segments g.excludes) path)) (flat_map (λ p. found_or_none (answer_to p answers)) g.includes))
+
+-- a new list that may be changed
+abbrev pub makes_paths : Bool → List (List ℕ) → Does Store Val
+makes_paths false [] = o.fault 22
+makes_paths allow_empty paths = if is_sized (length paths) then o.◌>>=◌ (makes_texts paths) makes_list else o.fault 13
+
+abbrev pub answered : List (List ℕ) → Answers → Glob → Here → Runs Val
+answered [] answers g here = on_heap here (makes_paths g.allow_empty (found answers g))
+answered (p ∷ ps) answers g here = λ w. waits (p ∷ ps)
+
+unfoldable pub glob : Answers → List Val → Named → Here → Runs Val
+glob answers xs ns here = on_heap here (λ s. checked (read_call xs ns s) s) >>= λ g. answered (unanswered answers [] g.includes) answers g here

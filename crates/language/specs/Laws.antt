@@ -1,0 +1,70 @@
+-- Laws of the definitions.
+use Rattle.std.specs.Prelude.{◌≡◌, ◌≢◌, ◌≤◌, ℕ, Bool, List, [], ◌∷◌, ◌++◌, false, is_some, map, Some}
+use Rattle.std.specs.List.{AllByRecursion}
+use Rattle.language.specs.Sorting.{Rises}
+use Rattle.language.specs.World.{World, Target, ended}
+use Rattle.labels.specs.Paths.{segments}
+use Rattle.globs.specs.Globs.{found_below, glob_below}
+use Rattle.language.specs.Globs.{answer_to, Glob, unanswered, found}
+use Rattle.grammar.specs.declared.kind.FileKind.TheVariants as k
+use Rattle.language.specs.Environment.{Env, Answers}
+use Rattle.language.specs.Files.{Outcome, a_package, a_need, whole_file, evaluate}
+
+-- the second answers what the first does, and perhaps more
+abbrev pub KnowsMore : Answers → Answers → Type 0
+KnowsMore answers more = (p : List ℕ) (paths : List (List ℕ)) → answer_to p answers ≡ Some paths → answer_to p more ≡ Some paths
+
+abbrev pub with_answers : Answers → Env → Env
+with_answers more env = record env { globs = more }
+
+-- no call of `glob` has patterns without an answer
+abbrev pub IsFinished : Outcome → Type 0
+IsFinished (a_need patterns) = ⊥
+IsFinished outcome = Unit {0}
+
+-- an outcome that does not wait for answers stays the same under more of them, in whatever order they stand
+abbrev pub FinishedStays : Type 0
+FinishedStays = (env : Env) (more : Answers) → KnowsMore env.globs more → IsFinished (evaluate env) → evaluate (with_answers more env) ≡ evaluate env
+
+-- further answers behind those that are there
+abbrev pub MoreBehind : Type 0
+MoreBehind = (answers more : Answers) → KnowsMore answers (answers ++ more)
+
+-- each differs from those behind it
+abbrev pub AllDiffer : List (List ℕ) → Type 0
+AllDiffer [] = Unit {0}
+AllDiffer (p ∷ ps) = AllByRecursion (λ q. p ≢ q) ps × AllDiffer ps
+
+-- some patterns, none of which has an answer, each once; and only a BUILD file waits for answers
+pub record IsAsked (env : Env) (patterns : List (List ℕ)) : Type 0 where
+  pub in_build : env.kind ≡ k.Build
+  pub some : patterns ≢ []
+  pub unanswered : AllByRecursion (λ p. is_some (answer_to p env.globs) ≡ false) patterns
+  pub differ : AllDiffer patterns
+
+-- an outcome that waits asks for patterns that have no answer, and is a BUILD file's
+abbrev pub NeedsAreAsked : Type 0
+NeedsAreAsked = (env : Env) (patterns : List (List ℕ)) → evaluate env ≡ a_need patterns → IsAsked env patterns
+
+-- a .bzl file waits for no answers
+abbrev pub ModulesDoNotWait : Type 0
+ModulesDoNotWait = (env : Env) → env.kind ≡ k.Bzl → IsFinished (evaluate env)
+
+-- the targets of a package stand in byte order of their names, one of each name
+abbrev pub TargetsRise : Type 0
+TargetsRise = (env : Env) (targets : List Target) → evaluate env ≡ a_package targets → Rises (map (λ t. t.name) targets)
+
+-- the answers are right below a directory: each is what the pattern finds there. `packages` tells which directories are
+-- packages, and `paths` are those of all files
+abbrev pub AreRight : Answers → (List ℕ → Bool) → List (List ℕ) → List ℕ → Type 0
+AreRight answers packages paths directory = (p : List ℕ) (below : List (List ℕ)) → answer_to p answers ≡ Some below → below ≡ found_below packages paths directory (segments p)
+
+-- by right answers to all its includes a call of `glob` finds what a glob finds among all files
+abbrev pub GlobsFindFiles : Type 0
+GlobsFindFiles = (answers : Answers) (packages : List ℕ → Bool) (paths : List (List ℕ)) (directory : List ℕ) (g : Glob) → AreRight answers packages paths directory
+    → unanswered answers [] g.includes ≡ []
+    → found answers g ≡ glob_below packages paths directory (map segments g.includes) (map segments g.excludes)
+
+-- a file's evaluation ends with no more steps than it began with
+abbrev pub StepsAreSpent : Type 0
+StepsAreSpent = (env : Env) (w : World) (outcome : Outcome) (u : World) → whole_file env w ≡ ended outcome u → u.store.steps ≤ w.store.steps

@@ -1,0 +1,16 @@
+pub mod Sorting
+pub mod Modules
+pub mod World
+pub mod Names
+pub mod Environment
+pub mod Arguments
+pub mod Targets
+pub mod Globs
+pub mod Rules
+pub mod Packages
+pub mod Loops
+pub mod Expressions
+pub mod Statements
+pub mod Calls
+pub mod Files
+pub mod Laws

@@ -1,0 +1,50 @@
+-- Going over the members of a value (Starlark's specification, "For loops" and "Comprehensions").
+use Rattle.std.specs.Prelude.{suc, List, [], ◌∷◌, ◌++◌, length, drop, if◌then◌else◌}
+use Rattle.meaning.specs.declared.val.Val.{Val}
+use Rattle.meaning.specs.declared.val.Val.TheVariants as v
+use Rattle.meaning.specs.Outcome as o
+use Rattle.meaning.specs.Outcome.{Does}
+use Rattle.meaning.specs.Heap.{Entries, Store, is_sized}
+use Rattle.meaning.specs.Functions.{the_items, grows}
+use Rattle.language.specs.World.{Here, Runs, ◌>>=◌, pure, fault, on_heap}
+
+-- A list or dictionary is iterated from the start of a `for` or a clause over it until that ends; meanwhile it can't be
+-- changed. So what is gone over are the members at the start. A string is not iterated.
+
+abbrev pub locks : Val → Does Store (Unit {0})
+locks (v.At a) = λ s. o.gives tt (record s { iterated = a ∷ s.iterated })
+locks x = o.pure tt
+
+abbrev pub unlocks : Val → Does Store (Unit {0})
+unlocks (v.At a) = λ s. o.gives tt (record s { iterated = drop 1 s.iterated })
+unlocks x = o.pure tt
+
+-- a piece over the members of a value
+abbrev pub over : {A : Type 0} → Val → (List Val → Runs A) → Here → Runs A
+over x body here =
+    on_heap here (the_items x) >>= λ xs.
+    on_heap here (locks x) >>= λ _.
+    body xs >>= λ a.
+    on_heap here (unlocks x) >>= λ _.
+    pure a
+
+-- what a comprehension has gathered: the members of a list, or the entries of a dictionary
+pub record Gathered : Type 0 where
+  pub members : List Val
+  pub entries : Entries
+
+abbrev pub nothing_yet : Gathered
+nothing_yet = record { members = []; entries = [] }
+
+-- one more member; at the 65,537th fault 13
+abbrev pub one_more : Val → Gathered → Here → Runs Gathered
+one_more x g here = if is_sized (suc (length g.members)) then pure (record g { members = g.members ++ x ∷ [] }) else fault 13 here
+
+-- one more entry; at a key that is there the later value stays
+abbrev pub one_entry : Val → Val → Gathered → Here → Runs Gathered
+one_entry k x g here = on_heap here (grows k x g.entries) >>= λ es. pure (record g { entries = es })
+
+-- a turn for each member
+abbrev pub gather : (Val → Gathered → Runs Gathered) → List Val → Gathered → Runs Gathered
+gather turn [] g = pure g
+gather turn (x ∷ xs) g = turn x g >>= gather turn xs

@@ -1,0 +1,61 @@
+-- What the evaluation of a .bzl file leaves, and what another file's evaluation is given of it.
+use Rattle.std.specs.Prelude.{ℕ, Bool, false, not, ◌==◌, List, [], ◌∷◌, ◌++◌, Option, Some, None, if◌then◌else◌, filter, map, flat_map}
+use Rattle.std.specs.List.{list_any}
+use Rattle.meaning.specs.Comparing.{same_text}
+use Rattle.meaning.specs.Freezing.{Fz, Fzs}
+use Rattle.tree.specs.Tree.{Fn}
+
+pub record Frozen : Type 0 where
+  pub name : List ℕ
+  pub value : Fz
+
+-- the values of a function's defaults, in the order of its parameters
+pub record Defaults : Type 0 where
+  pub name : List ℕ
+  pub values : Fzs
+
+-- one .bzl file: its own globals in the order in which they were bound, the names that its loads bound, the trees of
+-- its functions, and their defaults
+pub record Body : Type 0 where
+  pub label : List ℕ
+  pub path : List ℕ
+  pub own : List Frozen
+  pub loaded : List Frozen
+  pub functions : List Fn
+  pub defaults : List Defaults
+
+-- the value of a .bzl file: itself, and all modules that its loads reach, each once
+pub record Loaded : Type 0 where
+  pub body : Body
+  pub reached : List Body
+
+abbrev pub frozen_at : List ℕ → List Frozen → Option Fz
+frozen_at x [] = None
+frozen_at x (f ∷ fs) = if same_text x f.name then Some f.value else frozen_at x fs
+
+-- a name that begins with `_` is the file's own
+abbrev pub is_private : List ℕ → Bool
+is_private [] = false
+is_private (b ∷ x) = b == 95
+
+-- what a load of a name from the module gives: its own globals whose names don't begin with `_`. Loaded names are not
+-- exported.
+abbrev pub exported : List ℕ → Body → Option Fz
+exported x body = if is_private x then None else frozen_at x body.own
+
+-- the names that a module exports, in the order in which they were bound
+abbrev pub exports : Body → List (List ℕ)
+exports body = filter (λ x. not (is_private x)) (map (λ f. f.name) body.own)
+
+abbrev pub body_at : List ℕ → List Body → Option Body
+body_at label [] = None
+body_at label (b ∷ bs) = if same_text label b.label then Some b else body_at label bs
+
+-- the modules that loads reach
+abbrev pub all_bodies : List Loaded → List Body
+all_bodies loads = flat_map (λ m. m.body ∷ m.reached) loads
+
+-- the same, each once
+abbrev pub each_once : List Body → List Body → List Body
+each_once done [] = done
+each_once done (b ∷ bs) = each_once (if list_any (λ d. same_text b.label d.label) done then done else done ++ b ∷ []) bs

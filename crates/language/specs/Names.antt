@@ -1,0 +1,185 @@
+-- Names: which are bound where, what a name gives, and what binding one does (Starlark's specification, "Name binding and
+-- variables").
+--
+-- A name bound anywhere in a function is local in all of it. A comprehension has names of its own. Otherwise a name that
+-- the file binds anywhere at file level is its global, and any other is universal. This profile binds a global once.
+use Rattle.std.specs.Prelude.{ℕ, List, [], ◌∷◌, ◌++◌, Bool, true, false, Option, Some, None, if◌then◌else◌, is_some, codes}
+use Rattle.meaning.specs.declared.val.Val.{Val}
+use Rattle.meaning.specs.declared.val.Val.TheVariants as v
+use Rattle.meaning.specs.declared.val.Builtin.{Builtin}
+use Rattle.meaning.specs.declared.val.Builtin.TheVariants as b
+use Rattle.meaning.specs.Builtins.{builtin_name}
+use Rattle.meaning.specs.Comparing.{same_text}
+use Rattle.grammar.specs.declared.kind.FileKind.{FileKind}
+use Rattle.grammar.specs.declared.kind.FileKind.TheVariants as k
+use Rattle.tree.specs.Tree as t
+use Rattle.tree.specs.Tree.{Ex, Exs, Clauses, Cl, St, Suite, Branches, Br, Tp, Ld, It, Pa}
+use Rattle.language.specs.World.{World, Block, Names, Here, Runs, ◌>>=◌, pure, fault, or_fault, ended}
+
+-- ---- which names a piece of a file binds
+
+-- the names that an assignment to a target binds
+abbrev mutual
+  pub target_names : Ex → List (List ℕ)
+  target_names (t.name x) = x ∷ []
+  target_names (t.tuple es) = targets_names es
+  target_names (t.list es) = targets_names es
+  target_names e = []
+
+  pub targets_names : Exs → List (List ℕ)
+  targets_names t.no_exs = []
+  targets_names (t.ex e es) = target_names e ++ targets_names es
+
+-- the names of a comprehension: those that its `for` clauses bind
+abbrev pub clause_names : Clauses → List (List ℕ)
+clause_names t.no_clauses = []
+clause_names (t.clause (t.for_in target sequence) cs) = target_names target ++ clause_names cs
+clause_names (t.clause (t.only_if e) cs) = clause_names cs
+
+-- the names that a statement binds: by assignments, augmented ones too, and by `for`
+abbrev mutual
+  pub stmt_names : St → List (List ℕ)
+  stmt_names (t.assign line target e) = target_names target
+  stmt_names (t.augment line target op e) = target_names target
+  stmt_names (t.if_else branches other) = branches_names branches ++ suite_names other
+  stmt_names (t.for_each line target e body) = target_names target ++ suite_names body
+  stmt_names s = []
+
+  pub suite_names : Suite → List (List ℕ)
+  suite_names t.no_more = []
+  suite_names (t.next s ss) = stmt_names s ++ suite_names ss
+
+  pub branches_names : Branches → List (List ℕ)
+  branches_names t.no_branches = []
+  branches_names (t.more_branches b bs) = branch_names b ++ branches_names bs
+
+  pub branch_names : Br → List (List ℕ)
+  branch_names (t.branch line condition body) = suite_names body
+
+-- the names that a file's own statements bind at file level
+abbrev pub top_names : List Tp → List (List ℕ)
+top_names [] = []
+top_names (t.stmt s ∷ tops) = stmt_names s ++ top_names tops
+top_names (t.def d ∷ tops) = d.name ∷ top_names tops
+
+abbrev pub item_names : List It → List (List ℕ)
+item_names [] = []
+item_names (i ∷ is) = i.local ∷ item_names is
+
+-- the names that a file's loads bind
+abbrev pub load_names : List Ld → List (List ℕ)
+load_names [] = []
+load_names (l ∷ ls) = item_names l.items ++ load_names ls
+
+-- ---- blocks
+
+abbrev pub has_name : List ℕ → List (List ℕ) → Bool
+has_name x [] = false
+has_name x (y ∷ ys) = if same_text x y then true else has_name x ys
+
+-- each name once, where it stands first
+abbrev pub names_once : List (List ℕ) → List (List ℕ) → List (List ℕ)
+names_once done [] = []
+names_once done (x ∷ xs) = if has_name x done then names_once done xs else x ∷ names_once (x ∷ done) xs
+
+abbrev pub all_unbound : List (List ℕ) → Block
+all_unbound [] = []
+all_unbound (x ∷ xs) = (x, None) ∷ all_unbound xs
+
+-- a block of these names, none of which is bound
+abbrev pub new_block : List (List ℕ) → Block
+new_block names = all_unbound (names_once [] names)
+
+-- what a block has at a name: None where the name is not the block's
+abbrev pub slot_in : List ℕ → Block → Option (Option Val)
+slot_in x [] = None
+slot_in x (y ∷ ys) = if same_text x y.0 then Some y.1 else slot_in x ys
+
+abbrev pub or_else : {A : Type 0} → Option A → Option A → Option A
+or_else None other = other
+or_else (Some a) other = Some a
+
+-- the innermost block that has the name
+abbrev pub slot_among : List ℕ → List Block → Option (Option Val)
+slot_among x [] = None
+slot_among x (block ∷ blocks) = or_else (slot_in x block) (slot_among x blocks)
+
+-- the block with a name bound, where it has the name
+abbrev pub bind_in : List ℕ → Val → Block → Block
+bind_in x value [] = []
+bind_in x value (y ∷ ys) = if same_text x y.0 then (y.0, Some value) ∷ ys else y ∷ bind_in x value ys
+
+-- the same in the innermost block that has the name
+abbrev pub bind_among : List ℕ → Val → List Block → List Block
+bind_among x value [] = []
+bind_among x value (block ∷ blocks) = if is_some (slot_in x block) then bind_in x value block ∷ blocks else block ∷ bind_among x value blocks
+
+-- ---- the names of files
+
+-- the file with a label
+abbrev pub names_at : List ℕ → List Names → Option Names
+names_at label [] = None
+names_at label (f ∷ fs) = if same_text label f.label then Some f else names_at label fs
+
+abbrev pub file_slot : List ℕ → Option Names → Option (Option Val)
+file_slot x None = None
+file_slot x (Some f) = slot_in x f.block
+
+-- another state of a file's names
+abbrev pub change_names : List ℕ → (Names → Names) → List Names → List Names
+change_names label change [] = []
+change_names label change (f ∷ fs) = if same_text label f.label then change f ∷ fs else f ∷ change_names label change fs
+
+-- ---- universal names
+
+abbrev pub first_named : List ℕ → List Builtin → Option Builtin
+first_named x [] = None
+first_named x (f ∷ fs) = if same_text x (builtin_name f) then Some f else first_named x fs
+
+-- the functions that every file has
+abbrev pub plain_functions : List Builtin
+plain_functions = b.Len ∷ b.Range ∷ b.Str ∷ b.Repr ∷ b.Type ∷ b.Sorted ∷ b.Reversed ∷ b.Enumerate ∷ b.Zip ∷ b.List ∷ b.Tuple ∷ b.Dict ∷ b.Bool ∷ b.Any ∷ b.All ∷ b.Min ∷ b.Max ∷ b.Fail ∷ []
+
+-- the package calls, which BUILD files have by their names and .bzl files as methods of `native`
+abbrev pub package_functions : List Builtin
+package_functions = b.Glob ∷ b.Filegroup ∷ b.Genrule ∷ b.Alias ∷ b.TestSuite ∷ b.PackageName ∷ []
+
+abbrev pub universal : FileKind → List ℕ → Option Builtin
+universal k.Build x = first_named x (plain_functions ++ package_functions)
+universal k.Bzl x = first_named x plain_functions
+
+abbrev pub is_native : FileKind → List ℕ → Bool
+is_native k.Build x = false
+is_native k.Bzl x = same_text x (codes "native")
+
+-- ---- reading and binding
+
+-- what a name is where it stands: one of the blocks, else a global of the file; None where it is universal
+abbrev pub slot : List ℕ → Here → World → Option (Option Val)
+slot x here w = or_else (slot_among x w.blocks) (file_slot x (names_at here.label w.files))
+
+abbrev pub read_universal : List ℕ → Here → Runs Val
+read_universal x here = if is_native here.kind x then fault 5 here else (or_fault 4 (universal here.kind x) here >>= λ f. pure (v.Builtin f))
+
+abbrev pub read_slot : Option (Option Val) → List ℕ → Here → Runs Val
+read_slot None x here = read_universal x here
+read_slot (Some value) x here = or_fault 4 value here
+
+-- the value of a name. One without a value when it is reached is fault 4, and `native` that is not before a dot is 5.
+unfoldable pub read : List ℕ → Here → Runs Val
+read x here = λ w. read_slot (slot x here w) x here w
+
+-- `native` of a .bzl file, where no name of the program hides it
+abbrev pub is_native_name : Ex → Here → World → Bool
+is_native_name (t.name x) here w = if is_some (slot x here w) then false else is_native here.kind x
+is_native_name e here w = false
+
+abbrev pub bind_global : Option (Option Val) → List ℕ → Val → Here → Runs (Unit {0})
+bind_global (Some None) x value here = λ w. ended tt (record w { files = change_names here.label (λ f. record f { block = bind_in x value f.block }) w.files })
+bind_global other x value here = fault 26 here
+
+-- Binds a name in the innermost block that has it, else as a global. A global that is bound is fault 26.
+unfoldable pub bind : List ℕ → Val → Here → Runs (Unit {0})
+bind x value here = λ w.
+    (if is_some (slot_among x w.blocks) then (λ u. ended tt (record u { blocks = bind_among x value u.blocks }))
+    else bind_global (file_slot x (names_at here.label w.files)) x value here) w

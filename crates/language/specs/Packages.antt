@@ -1,0 +1,31 @@
+-- The package calls: `package_name`, `glob` and the rules.
+use Rattle.std.specs.Prelude.{List, []}
+use Rattle.grammar.specs.declared.kind.FileKind.{FileKind}
+use Rattle.grammar.specs.declared.kind.FileKind.TheVariants as k
+use Rattle.meaning.specs.declared.val.Val.{Val}
+use Rattle.meaning.specs.declared.val.Builtin.{Builtin}
+use Rattle.meaning.specs.declared.val.Builtin.TheVariants as b
+use Rattle.meaning.specs.Heap.{makes_text}
+use Rattle.meaning.specs.Functions.{Named}
+use Rattle.language.specs.World.{Here, Runs, fault, on_heap}
+use Rattle.language.specs.Environment.{Env}
+use Rattle.language.specs.Globs.{glob}
+use Rattle.language.specs.Rules.{rule}
+
+-- the name of the package that is loaded
+abbrev pub package_name : Env → List Val → Named → Here → Runs Val
+package_name env [] [] here = on_heap here (makes_text env.package_name)
+package_name env xs ns here = fault 25 here
+
+abbrev pub in_package : Env → Builtin → List Val → Named → Here → Runs Val
+in_package env b.PackageName xs ns here = package_name env xs ns here
+in_package env b.Glob xs ns here = glob env.globs xs ns here
+in_package env f xs ns here = rule f env.package_name xs ns here
+
+abbrev pub if_build : FileKind → Here → Runs Val → Runs Val
+if_build k.Build here m = m
+if_build k.Bzl here m = fault 23 here
+
+-- While a .bzl file's own statements are evaluated each is fault 23, before its arguments are tested.
+unfoldable pub package_call : Env → Builtin → List Val → Named → Here → Runs Val
+package_call env f xs ns here = if_build env.kind here (in_package env f xs ns here)

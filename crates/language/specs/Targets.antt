@@ -1,0 +1,56 @@
+-- What is assigned to (Starlark's specification, "Assignments"): a name, a member of a list or dictionary, or several such.
+--
+-- An assignment evaluates its right side, then the operands of all its targets from left to right; then it stores.
+use Rattle.std.specs.Prelude.{ℕ, suc, ◌==◌, List, [], ◌∷◌, length, Option, Some, if◌then◌else◌}
+use Rattle.meaning.specs.declared.val.Val.{Val}
+use Rattle.meaning.specs.declared.val.Val.TheVariants as v
+use Rattle.meaning.specs.Outcome.{Does, Checked, good, bad, checked}
+use Rattle.meaning.specs.Heap.{Obj, list, tuple, Store, at}
+use Rattle.meaning.specs.Indexing.{set_index}
+use Rattle.language.specs.World.{Here, Runs, ◌>>=◌, pure, fault, on_heap}
+use Rattle.language.specs.Names.{bind}
+
+mutual
+  -- a target whose operands are evaluated
+  pub data Aim : Type 0 where
+    to_name : List ℕ → Aim
+    to_member : (container index : Val) → Aim
+    to_each : Aims → Aim
+
+  pub data Aims : Type 0 where
+    no_aims : Aims
+    aim_at : Aim → Aims → Aims
+
+abbrev pub how_many : Aims → ℕ
+how_many no_aims = 0
+how_many (aim_at aim more) = suc (how_many more)
+
+-- Unpacking wants a list or tuple of that length; anything else is fault 5.
+
+abbrev pub of_length : ℕ → List Val → Checked (List Val)
+of_length n members = if length members == n then good members else bad 5
+
+abbrev pub object_parts : ℕ → Option Obj → Checked (List Val)
+object_parts n (Some (list members f)) = of_length n members
+object_parts n (Some (tuple members)) = of_length n members
+object_parts n object = bad 5
+
+abbrev pub parts_of : ℕ → Val → Store → Checked (List Val)
+parts_of n (v.At a) s = object_parts n (at a s)
+parts_of n x s = bad 5
+
+abbrev pub unpack : ℕ → Val → Does Store (List Val)
+unpack n x = λ s. checked (parts_of n x s) s
+
+-- Storing a value in a target. Of several targets the length is tested first; then the members are stored from left to
+-- right.
+abbrev mutual
+  pub store : Aim → Val → Here → Runs (Unit {0})
+  store (to_name x) value here = bind x value here
+  store (to_member container index) value here = on_heap here (set_index container index value)
+  store (to_each aims) value here = on_heap here (unpack (how_many aims) value) >>= λ xs. store_each aims xs here
+
+  pub store_each : Aims → List Val → Here → Runs (Unit {0})
+  store_each no_aims xs here = pure tt
+  store_each (aim_at aim more) [] here = fault 5 here
+  store_each (aim_at aim more) (x ∷ xs) here = store aim x here >>= λ _. store_each more xs here
