@@ -8,6 +8,7 @@ pub use comparing::equal;
 pub use heap::{Builtin, Bytes, Entry, Halt, Heap, Key, Object, Operator, Part, Val};
 pub use indexing::{index, items, set_index, slice};
 pub use operators::{binary, less};
+pub use printing::{print, text};
 
 #[cfg(test)]
 mod tests;
