@@ -5,6 +5,7 @@ use Rattle.meaning.specs.declared.key.Part.TheVariants as p
 use Rattle.meaning.specs.declared.val.Builtin.{Builtin}
 use Rattle.meaning.specs.declared.val.Val.{Val}
 use Rattle.meaning.specs.declared.val.Val.TheVariants as v
+use Rattle.meaning.specs.declared.val.Entry.{Entry}
 use Rattle.meaning.specs.Outcome.{Does, ◌>>=◌, ◌>>◌, pure, fault, tick}
 use Rattle.meaning.specs.Heap as h
 use Rattle.meaning.specs.Heap.{Entries, Obj, Store, walks, makes}
@@ -58,12 +59,19 @@ abbrev pub freeze_members : (Val → Does ℕ Fz) → List Val → Does ℕ Fzs
 freeze_members freeze [] = pure no_members
 freeze_members freeze (x ∷ xs) = freeze x >>= λ f. freeze_members freeze xs >>= λ fs. pure (member f fs)
 
+-- the key first
+abbrev pub freeze_entry : (Val → Does ℕ Fz) → Entry → Does ℕ (Fz × Fz)
+freeze_entry freeze e = freeze e.key >>= λ k. freeze e.value >>= λ x. pure (k, x)
+
 abbrev pub freeze_entries : (Val → Does ℕ Fz) → Entries → Does ℕ Pairs
 freeze_entries freeze [] = pure no_pairs
-freeze_entries freeze (e ∷ es) = freeze e.1.key >>= λ k. freeze e.1.value >>= λ x. freeze_entries freeze es >>= λ ps. pure (pair k x ps)
+freeze_entries freeze (e ∷ es) = freeze_entry freeze e.1 >>= λ p. freeze_entries freeze es >>= λ ps. pure (pair p.0 p.1 ps)
+
+abbrev pub at_once : Fz → Does ℕ Fz
+at_once f = tick >> pure f
 
 abbrev pub visit_held : Option (Val → Does ℕ Fz) → Held → Does ℕ Fz
-visit_held inner (settled f) = tick >> pure f
+visit_held inner (settled f) = at_once f
 visit_held inner absent = tick >> fault 5
 visit_held None (listed xs) = fault 12
 visit_held None (tupled xs) = fault 12
@@ -76,6 +84,15 @@ visit_held (Some freeze) (mapped es) = tick >> (freeze_entries freeze es >>= λ 
 unfoldable pub freeze : ℕ → List Obj → Val → Does ℕ Fz
 freeze zero heap x = visit_held None (held heap x)
 freeze (suc n) heap x = visit_held (Some (freeze n heap)) (held heap x)
+
+-- the walk for what a container holds, if one more may be entered
+unfoldable pub inner_freeze : ℕ → List Obj → Option (Val → Does ℕ Fz)
+inner_freeze zero heap = None
+inner_freeze (suc n) heap = Some (freeze n heap)
+
+-- freezing begins outside of all containers
+abbrev pub freezes : Val → Does Store Fz
+freezes x = walks λ heap. freeze 64 heap x
 
 abbrev mutual
   pub frozen_key : Fz → List Part
