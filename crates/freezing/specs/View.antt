@@ -4,6 +4,7 @@ use Rattle.std.specs.Arc.{arc_value}
 use Rattle.std.specs.declared.alloc.Global.{Global}
 use Rattle.std.specs.declared.vec.Vec.{Vec}
 use Rattle.meaning.specs.Outcome.{Out, gives, faults}
+use Rattle.meaning.specs.Heap.{Entries}
 use Rattle.meaning.specs.Freezing.{Fz, Fzs, Pairs, nothing, boolean, whole, built_in, text, list, tuple, dict, function, no_members, member, no_pairs, pair}
 use Rattle.heap.specs.declared.halt.Halt.{Halt}
 use Rattle.heap.specs.declared.halt.Halt.TheVariants.{Code, Memory}
@@ -69,3 +70,9 @@ abbrev pub SaysEntries : Out ℕ Pairs → Result (Vec FrozenEntry Global) Halt 
 SaysEntries out (Ok v) s = out ≡ gives (pairs_of (map entry_of v.items)) s
 SaysEntries out (Err (Code c)) s = out ≡ faults c
 SaysEntries out (Err Memory) s = Unit {0}
+
+-- as for a list, of entries that are set
+abbrev pub SaysSet : {S A : Type 0} → Out S Entries → Result A Halt → Entries → S → Type 0
+SaysSet out (Ok a) es s = out ≡ gives es s
+SaysSet out (Err (Code c)) es s = out ≡ faults c
+SaysSet out (Err Memory) es s = Unit {0}

@@ -8,6 +8,7 @@ use Rattle.meaning.specs.declared.val.Val.TheVariants as v
 use Rattle.meaning.specs.declared.val.Entry.{Entry}
 use Rattle.meaning.specs.Outcome.{Does, ◌>>=◌, ◌>>◌, pure, fault, tick}
 use Rattle.meaning.specs.Heap as h
+use Rattle.meaning.specs.Indexing.{with_key}
 use Rattle.meaning.specs.Heap.{Entries, Obj, Store, walks, makes}
 
 mutual
@@ -124,13 +125,18 @@ abbrev mutual
   thaw (text bytes) = makes (h.text bytes)
   thaw (list fs) = thaw_members fs >>= λ xs. makes (h.list xs true)
   thaw (tuple fs) = thaw_members fs >>= λ xs. makes (h.tuple xs)
-  thaw (dict ps) = thaw_pairs ps >>= λ es. makes (h.dict es true)
+  thaw (dict ps) = thaw_pairs [] ps >>= λ es. makes (h.dict es true)
   thaw (function label name) = makes (h.function label name)
 
   pub thaw_members : Fzs → Does Store (List Val)
   thaw_members no_members = pure []
   thaw_members (member f fs) = thaw f >>= λ x. thaw_members fs >>= λ xs. pure (x ∷ xs)
 
-  pub thaw_pairs : Pairs → Does Store Entries
-  thaw_pairs no_pairs = pure []
-  thaw_pairs (pair k f ps) = thaw k >>= λ x. thaw f >>= λ y. thaw_pairs ps >>= λ es. pure ((frozen_key k, record { key = x; value = y }) ∷ es)
+  -- the entries, set one after another
+  pub thaw_pairs : Entries → Pairs → Does Store Entries
+  thaw_pairs es no_pairs = pure es
+  thaw_pairs es (pair k f ps) = thaw k >>= λ x. thaw f >>= λ y. thaw_pairs (with_key (frozen_key k) (record { key = x; value = y }) es) ps
+
+-- one entry
+abbrev pub thaw_entry : Entries → (Fz × Fz) → Does Store Entries
+thaw_entry es p = thaw p.0 >>= λ x. thaw p.1 >>= λ y. pure (with_key (frozen_key p.0) (record { key = x; value = y }) es)

@@ -5,6 +5,7 @@ mod operators;
 
 pub use arithmetic::{is_true, negate, plus};
 pub use comparing::equal;
+pub use freezing::{Frozen, FrozenEntry, freeze, thaw};
 pub use heap::{Builtin, Bytes, Entry, Halt, Heap, Key, Object, Operator, Part, Val};
 pub use indexing::{index, items, set_index, slice};
 pub use operators::{binary, less};
@@ -12,3 +13,5 @@ pub use printing::{print, text};
 
 #[cfg(test)]
 mod tests;
+#[cfg(test)]
+mod walk_tests;

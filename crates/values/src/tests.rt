@@ -7,7 +7,7 @@ use indexmap::IndexMap;
 use std::test::Fail;
 
 // A list of ints.
-fn list(heap: &mut Heap, ints: &[i64]) -> Result<Val, Halt> {
+pub fn list(heap: &mut Heap, ints: &[i64]) -> Result<Val, Halt> {
     let mut members = Vec::new(heap.alloc);
     for n in ints {
         members.push(Val::Int(*n))?;
@@ -16,13 +16,13 @@ fn list(heap: &mut Heap, ints: &[i64]) -> Result<Val, Halt> {
 }
 
 // A string.
-fn text(heap: &mut Heap, bytes: &str) -> Result<Val, Halt> {
+pub fn text(heap: &mut Heap, bytes: &str) -> Result<Val, Halt> {
     let bytes = Vec::from_slice(heap.alloc, bytes.as_bytes())?;
     heap.make_text(bytes)
 }
 
 // A list of lists, so many inside one another.
-fn nested(heap: &mut Heap, depth: u32) -> Result<Val, Halt> {
+pub fn nested(heap: &mut Heap, depth: u32) -> Result<Val, Halt> {
     let mut inner = list(heap, &[])?;
     for _i in 1..depth {
         let mut members = Vec::new(heap.alloc);
