@@ -388,11 +388,13 @@ fn nothing_is_longer_than_65536(rt: HostRuntime) -> Result<(), Fail> {
         binary(h, Operator::In, Val::Int(2), wide)?,
         Val::Bool(false)
     );
-    let quoted = binary(h, Operator::Multiply, text(h, "a")?, Val::Int(65534))?;
+    let a = text(h, "a")?;
+    let line = text(h, "\n")?;
+    let quoted = binary(h, Operator::Multiply, a, Val::Int(65534))?;
     assert!(rt; print(h, quoted).is_ok());
-    let longer = binary(h, Operator::Multiply, text(h, "a")?, Val::Int(65535))?;
+    let longer = binary(h, Operator::Multiply, a, Val::Int(65535))?;
     assert_eq!(rt; print(h, longer), Err(Halt::Code(13)));
-    let newlines = binary(h, Operator::Multiply, text(h, "\n")?, Val::Int(32767))?;
+    let newlines = binary(h, Operator::Multiply, line, Val::Int(32767))?;
     assert!(rt; print(h, newlines).is_ok());
     let d = dict(h, &[])?;
     for i in 0..65536 {
@@ -430,7 +432,8 @@ fn a_frozen_value_is_a_tree(rt: HostRuntime) -> Result<(), Fail> {
     let back = crate::thaw(h, &shared)?;
     assert!(rt; equal(h, d, back)?);
     assert_eq!(rt; set_index(h, back, a, Val::Nothing), Err(Halt::Code(6)));
-    let inside = index(h, index(h, back, a)?, Val::Int(0))?;
+    let outside = index(h, back, a)?;
+    let inside = index(h, outside, Val::Int(0))?;
     assert_eq!(rt;
         set_index(h, inside, Val::Int(0), Val::Nothing),
         Err(Halt::Code(6))
