@@ -1,4 +1,5 @@
 pub mod State
+pub mod Held
 pub mod Commands
 pub mod Answers
 pub mod Served

@@ -5,10 +5,12 @@ ghost use Rattle.serde_json.specs.View.{view};
 ghost use Rattle.serde_json.specs.Written.{compact_text, has_float};
 ghost use Rattle.loader.specs.Answers as answers;
 ghost use Rattle.loader.specs.Commands as commands;
+ghost use Rattle.loader.specs.Held.{state_of, files_of};
 ghost use Rattle.loader.specs.Seen.{edit_seen, request_seen, command_seen};
 
 use crate::commands::{Command, Request, command_of, data_of};
-use crate::session::{Edit, EditError, Session};
+use crate::edit::{Edit, EditError};
+use crate::session::Session;
 use keys::BuildName;
 use labels::is_package_name;
 use lines::Line;
@@ -40,8 +42,8 @@ fn build_answer(alloc: Global, found: Option<BuildName>) -> Result<Value, Memory
 }
 
 fn edit_answer(alloc: Global, session: &mut Session, edit: &Edit<'_>) -> Result<Value, Memory>
-    ensures { IfOk result (λ value. let reply = answers.reply_to (commands.change (edit_seen edit.now)) session.old in
-        (view value ≡ reply.0) × (session.new ≡ reply.1)) }
+    ensures { IfOk result (λ value. let reply = answers.reply_to (commands.change (edit_seen edit.now)) (state_of session.old) in
+        (view value ≡ reply.0) × (state_of session.new ≡ reply.1)) }
 {
     match session.apply(edit) {
         Ok(version) => accepted(alloc, version),
@@ -56,7 +58,7 @@ fn request_answer(
     request: &Request<'_>,
     budget: u64,
 ) -> Result<Value, Stop>
-    ensures { IfOk result (λ value. view value ≡ answers.request_answer (request_seen request.now) session.now.files) }
+    ensures { IfOk result (λ value. view value ≡ answers.request_answer (request_seen request.now) (files_of session.now)) }
 {
     match request {
         Request::Find(name) => {
@@ -75,8 +77,8 @@ fn command_answer(
     value: &Value,
     budget: u64,
 ) -> Result<Value, Stop>
-    ensures { IfOk result (λ answer. let reply = answers.reply_if (commands.command_of (view value.now)) session.old in
-        (view answer ≡ reply.0) × (session.new ≡ reply.1)) }
+    ensures { IfOk result (λ answer. let reply = answers.reply_if (commands.command_of (view value.now)) (state_of session.old) in
+        (view answer ≡ reply.0) × (state_of session.new ≡ reply.1)) }
 {
     match command_of(value) {
         None => Ok(refused(alloc, 1)?),
@@ -92,8 +94,8 @@ fn line_answer(
     budget: u64,
 ) -> Result<Value, Stop>
     ensures { IfOk result (λ answer. (whole : List ℕ) → Keeps line.now.bytes.items line.now.too_long whole
-        → (view answer ≡ (answers.reply_line whole session.old).0)
-        × (session.new ≡ (answers.reply_line whole session.old).1)) }
+        → (view answer ≡ (answers.reply_line whole (state_of session.old)).0)
+        × (state_of session.new ≡ (answers.reply_line whole (state_of session.old)).1)) }
 {
     if line.too_long {
         return Ok(refused(alloc, 6)?);
@@ -122,8 +124,8 @@ pub fn answer_text(
     budget: u64,
 ) -> Result<String, Stop>
     ensures { IfOk result (λ text. (whole : List ℕ) → Keeps line.now.bytes.items line.now.too_long whole
-        → (string_bytes text ≡ answers.answer_text whole session.old)
-        × (session.new ≡ (answers.reply_line whole session.old).1)) }
+        → (string_bytes text ≡ answers.answer_text whole (state_of session.old))
+        × (state_of session.new ≡ (answers.reply_line whole (state_of session.old)).1)) }
 {
     let answer = line_answer(alloc, session, line, budget)?;
     Ok(written(alloc, &answer)?)

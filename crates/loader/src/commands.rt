@@ -4,7 +4,7 @@ ghost use Rattle.serde_json.specs.View.{view};
 ghost use Rattle.loader.specs.Commands as commands;
 ghost use Rattle.loader.specs.Seen.{command_seen};
 
-use crate::session::Edit;
+use crate::edit::Edit;
 use serde_json::Value;
 use std::alloc::Global;
 use texts::Memory;

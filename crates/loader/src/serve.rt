@@ -1,6 +1,7 @@
 //! Serving: lines of a reader in, their answers out to a writer.
 ghost use Rattle.std.specs.Prelude.{◌≡◌, ℕ, ◌<◌, ◌≤◌, ◌+◌, List, length, IfOk, OnOk, OnErr, IsErrOf, not, ◌&&◌, ◌==◌, if◌then◌else◌};
 ghost use Rattle.lines.specs.Lines.{Keeps};
+ghost use Rattle.loader.specs.Held.{state_of};
 ghost use Rattle.loader.specs.Served.{Served, Stopped, Between, After};
 
 use crate::answers::answer_text;
@@ -98,12 +99,12 @@ fn serve_line<R: Input, W: Output>(
     budget: u64,
 ) -> Result<bool, ServeStop>
     ensures ok { IfOk result (λ more. (told held : List ℕ) →
-        Between told (R.told reader.old) held (W.held writer.old) pending.old session.old
-        → After more told (R.told reader.new) held (W.held writer.new) pending.new session.new) }
+        Between told (R.told reader.old) held (W.held writer.old) pending.old (state_of session.old)
+        → After more told (R.told reader.new) held (W.held writer.new) pending.new (state_of session.new)) }
     ensures left { IfOk result (λ more. R.left reader.new + length pending.new + (if more then 1 else 0)
         ≤ R.left reader.old + length pending.old) }
     ensures err { OnErr result ((told held : List ℕ) →
-        Between told (R.told reader.old) held (W.held writer.old) pending.old session.old
+        Between told (R.told reader.old) held (W.held writer.old) pending.old (state_of session.old)
         → Stopped told (R.told reader.new) held (W.held writer.new)) }
     ensures reader_counts { R.failures reader.old ≤ R.failures reader.new }
     ensures writer_counts { W.failures writer.old ≤ W.failures writer.new }

@@ -1,10 +1,11 @@
 use Rattle.std.proofs.Common.{◌+◌, ◌≤◌, length}
+use Rattle.loader.specs.Held.{state_of}
 use Rattle.loader.specs.Served.{Between}
 use Rattle.loader.proofs.serve.serve_here.Given as goal
 
 abbrev pub invariant-loop-line : goal.invariant-loop-line
 invariant-loop-line g l = record {
-  between : Between (g.R.Input.told l.fn.reader) (g.R.Input.told l.reader) (g.W.Output.held l.fn.writer) (g.W.Output.held l.writer) l.pending l.session;
+  between : Between (g.R.Input.told l.fn.reader) (g.R.Input.told l.reader) (g.W.Output.held l.fn.writer) (g.W.Output.held l.writer) l.pending (state_of l.session);
   reader_counts : g.R.Input.failures l.fn.reader ≤ g.R.Input.failures l.reader;
   writer_counts : g.W.Output.failures l.fn.writer ≤ g.W.Output.failures l.writer;
 }

@@ -1,4 +1,5 @@
 use Rattle.std.proofs.Common.{◌≡◌, ◌∙◌, ap, sym, ℕ, List, ◌++◌, length, false, not, ◌&&◌, take}
+use Rattle.loader.specs.Held.{state_of}
 use Rattle.loader.specs.Served.{Stopped, Between}
 use Rattle.loader.proofs.Steps.{stopped_before, stopped_within, after_line, on_err}
 use Rattle.std.specs.Prelude.{◌==◌}
@@ -6,19 +7,19 @@ use Rattle.loader.proofs.serve.serve_line.Goals as goal
 
 pub returns-in_err-ended-clause-err : goal.returns-in_err-ended-clause-err
 returns-in_err-ended-clause-err g c =
-    let k : (told held : List ℕ) → Between told (g.R.Input.told c.args.reader.now) held (g.W.Output.held c.args.writer.now) c.args.pending.now c.args.session.now
+    let k : (told held : List ℕ) → Between told (g.R.Input.told c.args.reader.now) held (g.W.Output.held c.args.writer.now) c.args.pending.now (state_of c.args.session.now)
     → Stopped told (g.R.Input.told c.next_line.new.input) held (g.W.Output.held c.args.writer.now) = λ told held b. let f = c.in_err-ended.ensures.err in stopped_before b _ f.0 f.1 in
     on_err _ k
 
 pub returns-in_err-text-clause-err : goal.returns-in_err-text-clause-err
 returns-in_err-text-clause-err g c =
-    let k : (told held : List ℕ) → Between told (g.R.Input.told c.args.reader.now) held (g.W.Output.held c.args.writer.now) c.args.pending.now c.args.session.now
+    let k : (told held : List ℕ) → Between told (g.R.Input.told c.args.reader.now) held (g.W.Output.held c.args.writer.now) c.args.pending.now (state_of c.args.session.now)
     → Stopped told (g.R.Input.told c.next_line.new.input) held (g.W.Output.held c.args.writer.now) = λ told held b. let t = c.in_ok-ended.ensures.took in stopped_before b _ t.fresh t.told in
     on_err _ k
 
 pub returns-in_err-write-clause-err : goal.returns-in_err-write-clause-err
 returns-in_err-write-clause-err g c =
-    let k : (told held : List ℕ) → Between told (g.R.Input.told c.args.reader.now) held (g.W.Output.held c.args.writer.now) c.args.pending.now c.args.session.now
+    let k : (told held : List ℕ) → Between told (g.R.Input.told c.args.reader.now) held (g.W.Output.held c.args.writer.now) c.args.pending.now (state_of c.args.session.now)
     → Stopped told (g.R.Input.told c.next_line.new.input) held (g.W.Output.held c.write.new.self) = λ told held b.
     let t = c.in_ok-ended.ensures.took in
     let no : (not c.in_ok-ended.ended && (length t.line == 0)) ≡ false = sym (c.is_end.ensures t.line t.keeps) ∙ c.if-is_end.false in
@@ -33,5 +34,5 @@ returns-clause-ok g c = λ told held b.
     let t = c.in_ok-ended.ensures.took in
     let no : (not c.in_ok-ended.ended && (length t.line == 0)) ≡ false = sym (c.is_end.ensures t.line t.keeps) ∙ c.if-is_end.false in
     let text = c.in_ok-text.ensures t.line t.keeps in
-    after_line b c.in_ok-ended.ended t no (g.W.Output.held c.write.new.self) c.answer_text.new.session
+    after_line b c.in_ok-ended.ended t no (g.W.Output.held c.write.new.self) (state_of c.answer_text.new.session)
     (c.in_ok-write.ensures.held ∙ ap (λ r. g.W.Output.held c.args.writer.now ++ r) (c.as_bytes.ensures.value ∙ text.0)) text.1
