@@ -25,6 +25,11 @@ use Rattle.open_nodes.specs.declared.table.Phase.{Phase}
 use Rattle.open_nodes.specs.declared.table.Phase.TheVariants as phase
 use Rattle.open_nodes.specs.declared.table.Table.{Table}
 use Rattle.open_nodes.proofs.Wholes.{unsettled_not_clean, node_changes, node_settles}
+use Rattle.std.specs.declared.alloc.Global.{Global}
+use Rattle.std.specs.declared.vec.Vec.{Vec}
+use Rattle.node.specs.Kept.{items_of}
+use Rattle.open_nodes.specs.Counted.{turns_of, asked_by, MakesNone}
+use Rattle.open_nodes.proofs.Counting.{counts_none}
 use Rattle.open_nodes.proofs.Settlings.{now_is, plain, same_since, truth_changes, settles_quietly}
 use Rattle.round.specs.Looks.{HasPassed}
 use Rattle.round.proofs.Wanting.{StaysTrue}
@@ -89,6 +94,17 @@ module _ (graph : Recorded) (table : Table) (k : Key) (p : HasPassed graph table
       | inr n ↦ o j m (sym (others_stay j n) ∙ e) f
     ]
 
+    no_groups : groups_of p.node ≡ []
+    no_groups = (standing (record_at graph) table.nodes w.holds k p.node p.there p.at p.checking).2
+
+    pub confirmed_turns : MakesNone table later
+    confirmed_turns = counts_none table later k others_stay
+        (let a = ap asked_by left.gone in let b = ap asked_by p.there in let c = no_items p.node.groups.items no_groups in let r = ap turns_of left.runs in omega (arith, a, b, c, r))
+      where
+        no_items : (gs : List (Vec Key Global)) → items_of gs ≡ [] → length gs ≡ 0
+        no_items [] e = refl
+        no_items (g ∷ gs) e = cc
+
     pub confirmed_true : ((r : Record Key Value) → record_at graph k ≡ Some r → SettlingKeepsLawful graph new k r.value r.groups) → (read : Key → Option Value) → StaysTrue read graph new table later
     confirmed_true keeps read = λ next laws past t.
         let e = recorded.1 in
@@ -98,7 +114,7 @@ module _ (graph : Recorded) (table : Table) (k : Key) (p : HasPassed graph table
         let none_now : past.reads graph.version k ≡ None = ap (λ u. past.reads u k) t.after.version ∙ past.at_present k ∙ o.no_leaf in
         let s = sets r e in
         subst (λ (x : List Run). IsTrueOf next read past new later.nodes x) (sym left.runs)
-        (settles_quietly next read laws past graph new table.nodes later.nodes table.runs.items k (record r { settled_at = graph.version; dirty = false }) t version s (w.holds k p.node p.there).0 refl refl
+        (settles_quietly next read laws past graph new table.nodes later.nodes table.runs.items k (record r { settled_at = graph.version; dirty = false }) t version s (w.holds k p.node p.there).0 refl o.reached refl
         (keeps r e next past.reads past.edits law
         (confirm_holds next cycle turned past.reads (record_at graph) (λ u j. IsTouched (past.edits u) j) graph.version law (plain next read laws past) k r e
         (none_now ∙ sym (never_leaf past graph.version r.settled_at none_now))

@@ -216,3 +216,11 @@ snoc_all x P xs all p j i = elim (snoc_in xs i) [ inl a ↦ all j a | inr q ↦ 
 -- all elements are taken
 pub in_whole : {X : Type 0} (xs : List X) (i : ℕ) {x : X} → length xs ≤ i → In x xs → In x (take i xs)
 in_whole xs i {x = x} h m = elim (in_split (subst (In x) (sym (take-append-drop i xs) ∙ ap (λ ys. take i xs ++ ys) (drop_all i xs h)) m) (take i xs) [] refl) [ inl a ↦ a | inr b ↦ elim b [ ] ]
+
+pub items_length : (gs : List (Vec Key Global)) → length (items_of gs) ≡ length gs
+items_length [] = refl
+items_length (g ∷ gs) = ap suc (items_length gs)
+
+-- an element of a list, alone
+pub one_in : {X : Type 0} (xs : List X) (i : ℕ) (x : X) → x ≡ slice_index_or xs i x → i < length xs → {j : X} → In j (x ∷ []) → In j xs
+one_in xs i x e h {j = j} m = subst (λ y. In y xs) (sym (in_one m)) (in_at_is xs i x x e h)

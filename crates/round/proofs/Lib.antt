@@ -6,3 +6,4 @@ pub mod Confirming
 pub mod Checking
 pub mod Ending
 pub mod Handing
+pub mod Reaching

@@ -22,6 +22,8 @@ use Rattle.open_nodes.specs.declared.table.Phase.{Phase}
 use Rattle.open_nodes.specs.declared.table.Phase.TheVariants as phase
 use Rattle.open_nodes.specs.declared.table.Table.{Table}
 use Rattle.open_nodes.proofs.Wholes.{unsettled_not_clean, node_changes, open_on, keeps_on, blocked_on, looked_at, more_waiting, current_on, clean_on, becomes_ready}
+use Rattle.open_nodes.specs.Counted.{turns_of, MakesNone}
+use Rattle.open_nodes.proofs.Counting.{counts_same, same_asked}
 use Rattle.open_nodes.proofs.Settlings.{truth_changes}
 use Rattle.round.specs.Members.{IsMissing, plain_value}
 use Rattle.round.proofs.Grouping.{clean_cycle}
@@ -124,10 +126,13 @@ module _ (graph : Recorded) (before later : Table) (k member : Key) (n : Node) (
     | inr d ↦ out j x (sym (other_key before.nodes later.nodes member (Some o) u j d) ∙ e) f
   ]
 
+  pub watched_turns : SameRuns before later → MakesNone before later
+  watched_turns runs = same_asked before later member m o open_member.1 u (ap (λ (gs : List (Vec Key Global)). length gs) (watches m open_member.1).2) runs
+
   pub watched_true : (read : Key → Option Value) → SameRuns before later → StaysTrue read graph graph before later
   watched_true read runs = λ next laws past t. let h = t.opened member m open_member.1 in
       subst (λ (x : List Run). IsTrueOf next read past graph later.nodes x) (sym runs)
-      (truth_changes next read laws past graph before.nodes later.nodes before.runs.items member o u t h.no_leaf h.same
+      (truth_changes next read laws past graph before.nodes later.nodes before.runs.items member o u t h.no_leaf h.reached h.same
       (subst (λ (p : Phase). IsDoing next read past member (groups_of o) p) same_phase (subst (λ (gs : List (List Key)). IsDoing next read past member gs m.phase) same_groups h.doing)))
 
 -- a node is to be looked at again
@@ -145,6 +150,9 @@ module _ (graph : Recorded) (before later : Table) (k : Key) (pends : Pends befo
 
   pub again_out : (keys : List Key) → AreOut before.nodes keys → AreOut later.nodes keys
   again_out keys out j m e f = out j m (ap (λ x. node_at x j) (sym nodes) ∙ e) f
+
+  pub again_turns : MakesNone before later
+  again_turns = counts_same before later nodes (ap turns_of pends.runs)
 
   pub again_true : (read : Key → Option Value) → StaysTrue read graph graph before later
   again_true read = λ next laws past t. subst (λ (x : Nodes). IsTrueOf next read past graph x later.runs.items) (sym nodes) (subst (λ (x : List Run). IsTrueOf next read past graph before.nodes x) (sym pends.runs) t)

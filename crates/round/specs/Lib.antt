@@ -5,3 +5,4 @@ pub mod Moves
 pub mod Looks
 pub mod Compared
 pub mod Turning
+pub mod Call

@@ -1,5 +1,7 @@
-use Rattle.std.proofs.Common.{subst}
+use Rattle.std.proofs.Common.{ap, subst}
 use Rattle.functions.specs.Next as leaves
+use Rattle.open_nodes.specs.Counted.{turns_of}
+use Rattle.open_nodes.proofs.Counting.{counts_same, makes_on}
 use Rattle.round.specs.Looks.{IsNextKey}
 use Rattle.round.proofs.Looking.{next_true}
 use Rattle.round.proofs.look.look_next.Goals as goal
@@ -11,3 +13,8 @@ returns-in-Ok-clause-truth c = λ next laws past t. c.in-Ok.ensures.truth next l
 pub returns-in-Err-clause-truth : goal.returns-in-Err-clause-truth
 returns-in-Err-clause-truth c = λ next laws past t. c.in-Err.ensures.truth next laws past
     (next_true c.args.graph.now c.args.table.now c.next_key.new.table c.in-Some.key (subst (IsNextKey c.args.table.now c.next_key.new.table) c.in-Some.is c.in_ok-key.ensures) (leaves.read c.args.tree.now) next laws past t)
+
+pub returns-in-Ok-clause-turns : goal.returns-in-Ok-clause-turns
+returns-in-Ok-clause-turns c =
+    let n = subst (IsNextKey c.args.table.now c.next_key.new.table) c.in-Some.is c.in_ok-key.ensures in
+    makes_on c.args.table.now c.next_key.new.table c.look-looked.new.table (counts_same c.args.table.now c.next_key.new.table n.1 (ap turns_of n.3)) c.in-Ok.ensures.turns
