@@ -1,14 +1,14 @@
 -- The histories of a session.
-use Rattle.std.proofs.Common.{◌≡◌, ℕ, suc, ◌+◌, List, [], ◌∷◌, ◌++◌, length, Option, Some, refl, sym, ◌∙◌, ap, subst, arith, length-append}
+use Rattle.std.proofs.Common.{◌≡◌, ℕ, suc, ◌+◌, ◌-◌, List, [], ◌∷◌, ◌++◌, length, refl, sym, ◌∙◌, ap, subst, arith, length-append, append_assoc, take}
 use Rattle.std.specs.FinMap as map_of
 use Rattle.filetree.specs.Files.{Files}
 use Rattle.functions.specs.Next.{next, read}
 use Rattle.functions.proofs.LeafReads.{leaf_stays, put_reads, del_reads}
 use Rattle.keys.specs.declared.key.Key.{Key}
 use Rattle.node.specs.Graphs.{Recorded, IsTouched}
-use Rattle.node.specs.Laws.{IsLawfulFor, TouchKeepsLawful, IsAlwaysLawful}
+use Rattle.node.specs.Laws.{TouchKeepsLawful, IsAlwaysLawful}
 use Rattle.loader.specs.State.{Edit, put, del, changed_files, changed}
-use Rattle.loader.specs.Held.{Held, files_after, files_of, state_of, path_of, Follows, IsHistory, IsLawful}
+use Rattle.loader.specs.Held.{Held, files_after, files_of, state_of, path_of, Follows, IsHistory, IsLawful, files_at, path_at}
 
 -- one more edit
 pub after_more : (files : Files) (edits : List Edit) (edit : Edit) → files_after files (edits ++ edit ∷ []) ≡ changed_files edit (files_after files edits)
@@ -65,3 +65,54 @@ module _ (h : Held) (new : Recorded) (edits : List Edit) (edit : Edit) (is : edi
   accepted_state =
       let f : files_after map_of.empty edits ≡ changed_files edit (files_of h) = ap (files_after map_of.empty) is ∙ after_more map_of.empty h.edits edit in
       λ i. record { files = f i; version = version i }
+
+-- the present files are the last of a history
+last_of : (files : ℕ → Files) (paths : ℕ → List ℕ) (n m : ℕ) (edits : List Edit) → m ≡ n + length edits → Follows files paths n edits → files m ≡ files_after (files n) edits
+last_of files paths n m [] e f = ap files (omega (arith, e))
+last_of files paths n m (edit ∷ edits) e f = last_of files paths (suc n) m edits (omega (arith, e)) f.2 ∙ ap (λ x. files_after x edits) f.0
+
+pub last_files : (files : ℕ → Files) (paths : ℕ → List ℕ) (h : Held) → h.graph.version ≡ h.began + length h.edits → IsHistory files paths h.began h.edits → files h.graph.version ≡ files_of h
+last_files files paths h v history = last_of files paths h.began h.graph.version h.edits v history.follows ∙ ap (λ x. files_after x h.edits) history.start
+
+-- each list of edits has a history
+take_front : (xs ys : List Edit) → take (length xs) (xs ++ ys) ≡ xs
+take_front [] ys = refl
+take_front (x ∷ xs) ys = ap (λ r. x ∷ r) (take_front xs ys)
+
+take_one : (xs : List Edit) (y : Edit) (ys : List Edit) → take (suc (length xs)) (xs ++ y ∷ ys) ≡ xs ++ y ∷ []
+take_one [] y ys = refl
+take_one (x ∷ xs) y ys = ap (λ r. x ∷ r) (take_one xs y ys)
+
+path_there : (xs : List Edit) (y : Edit) (ys : List Edit) → path_at (xs ++ y ∷ ys) (suc (length xs)) ≡ path_of y
+path_there [] y ys = refl
+path_there (x ∷ xs) y ys = path_there xs y ys
+
+module _ (files : ℕ → Files) (paths : ℕ → List ℕ) (began : ℕ) (edits : List Edit)
+    (files_are : (n m : ℕ) → n ≡ began + m → files n ≡ files_at edits m) (paths_are : (n m : ℕ) → n ≡ began + m → paths n ≡ path_at edits m) where
+  follow : (passed rest : List Edit) → edits ≡ passed ++ rest → (n : ℕ) → n ≡ began + length passed → Follows files paths n rest
+  follow passed [] e n h = tt
+  follow passed (x ∷ rest) e n h = (
+    files_are (suc n) (suc (length passed)) (omega (arith, h)) ∙ ap (λ es. files_after map_of.empty (take (suc (length passed)) es)) e ∙ ap (files_after map_of.empty) (take_one passed x rest)
+        ∙ after_more map_of.empty passed x
+        ∙ ap (changed_files x) (sym (files_are n (length passed) h ∙ ap (λ es. files_after map_of.empty (take (length passed) es)) e ∙ ap (files_after map_of.empty) (take_front passed (x ∷ rest)))),
+    paths_are (suc n) (suc (length passed)) (omega (arith, h)) ∙ ap (λ es. path_at es (suc (length passed))) e ∙ path_there passed x rest,
+    follow (passed ++ x ∷ []) rest (e ∙ sym (append_assoc passed (x ∷ []) rest)) (suc n) (omega (arith, h, length-append passed (x ∷ []))),
+  )
+
+  pub is_history : IsHistory files paths began edits
+  is_history = record { start = files_are began 0 (omega arith); follows = follow [] edits refl began (omega arith) }
+
+-- the history from version 0 on
+pub history_of : (edits : List Edit) → IsHistory (files_at edits) (path_at edits) 0 edits
+history_of edits = is_history (files_at edits) (path_at edits) 0 edits (λ n m e. ap (files_at edits) (omega (arith, e))) (λ n m e. ap (path_at edits) (omega (arith, e)))
+
+-- and from another
+pub files_from : ℕ → List Edit → ℕ → Files
+files_from began edits u = files_at edits (u - began)
+
+pub paths_from : ℕ → List Edit → ℕ → List ℕ
+paths_from began edits u = path_at edits (u - began)
+
+pub history_from : (began : ℕ) (edits : List Edit) → IsHistory (files_from began edits) (paths_from began edits) began edits
+unfolding files_from paths_from
+history_from began edits = is_history (λ u. files_at edits (u - began)) (λ u. path_at edits (u - began)) began edits (λ n m e. ap (files_at edits) (omega (arith, e))) (λ n m e. ap (path_at edits) (omega (arith, e)))

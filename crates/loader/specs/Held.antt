@@ -1,5 +1,5 @@
 -- What a contract sees of a session: the graph, and the history of the files for which it is lawful.
-use Rattle.std.specs.Prelude.{◌≡◌, ℕ, suc, ◌+◌, List, [], ◌∷◌, length, ⊤}
+use Rattle.std.specs.Prelude.{◌≡◌, ℕ, zero, suc, ◌+◌, List, [], ◌∷◌, length, take, ⊤}
 use Rattle.std.specs.FinMap as map
 use Rattle.filetree.specs.Files.{Files}
 use Rattle.functions.specs.Next.{next, read}
@@ -31,6 +31,17 @@ state_of h = record { files = files_of h; version = h.graph.version }
 abbrev pub path_of : Edit → List ℕ
 path_of (put path text) = path
 path_of (del path) = path
+
+-- the path of the edit of that number, counted from 1
+abbrev pub path_at : List Edit → ℕ → List ℕ
+path_at [] n = []
+path_at (edit ∷ edits) zero = []
+path_at (edit ∷ edits) (suc zero) = path_of edit
+path_at (edit ∷ edits) (suc (suc n)) = path_at edits (suc n)
+
+-- the history of edits from version 0 on: the files after the first u, and the path of the u-th
+abbrev pub files_at : List Edit → ℕ → Files
+files_at edits u = files_after map.empty (take u edits)
 
 -- `files u` are the files at version u, and `paths u` is the path of the edit to version u, where these edits are made from version n on
 abbrev pub Follows : (ℕ → Files) → (ℕ → List ℕ) → ℕ → List Edit → Type 0
