@@ -18,7 +18,7 @@ pub turns_snoc : (runs : List Run) (x : Run) → turns_of (runs ++ x ∷ []) ≡
 turns_snoc [] x = omega arith
 turns_snoc (y ∷ runs) x = let h = turns_snoc runs x in omega (arith, h)
 
-decide_in : (k : Key) (keys : List Key) → In k keys ⊎ (In k keys → ⊥)
+pub decide_in : (k : Key) (keys : List Key) → In k keys ⊎ (In k keys → ⊥)
 decide_in k [] = inr (λ i. elim i [ ])
 decide_in k (j ∷ keys) = elim (decide_key j k) [
   | inl e ↦ inl (subst (λ x. In x (j ∷ keys)) e first)

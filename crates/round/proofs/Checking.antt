@@ -31,15 +31,11 @@ use Rattle.round.specs.Members.{IsMissing, has_changed}
 use Rattle.round.specs.Compared.{IsNextGroup, ComparesGroup, Compares}
 use Rattle.round.specs.declared.look.Compared.{Compared}
 use Rattle.round.specs.declared.look.Compared.TheVariants as compared
+use Rattle.round.specs.Moves.{KeepsWanted}
 use Rattle.round.specs.Looks.{IsAwaiting, IsChecking, HasPassed}
-use Rattle.round.proofs.Grouping.{split_at, snoc_in}
-use Rattle.round.proofs.Wanting.{StaysTrue}
+use Rattle.round.proofs.Grouping.{split_at, snoc_in, items_taken}
+use Rattle.round.proofs.Wanting.{StaysTrue, wanted_set}
 use Rattle.round.proofs.Confirming.{standing, passed_members}
-
-items_taken : (i : ℕ) (gs : List (Vec Key Global)) → items_of (take i gs) ≡ take i (items_of gs)
-items_taken zero gs = refl
-items_taken (suc i) [] = refl
-items_taken (suc i) (g ∷ gs) = ap (λ x. g.items ∷ x) (items_taken i gs)
 
 items_joined : (xs ys : List (Vec Key Global)) → items_of (xs ++ ys) ≡ items_of xs ++ items_of ys
 items_joined [] ys = refl
@@ -54,7 +50,7 @@ group_at groups i g e h gs q x f = (
 )
 
 -- one group more is taken
-next_taken : (i : ℕ) (gs : List (List Key)) (g : List Key) (rest : List (List Key)) → gs ≡ take i gs ++ g ∷ rest → take (suc i) gs ≡ take i gs ++ g ∷ []
+pub next_taken : (i : ℕ) (gs : List (List Key)) (g : List Key) (rest : List (List Key)) → gs ≡ take i gs ++ g ∷ rest → take (suc i) gs ≡ take i gs ++ g ∷ []
 next_taken zero [] g rest e = cc
 next_taken zero (x ∷ gs) g rest e = let q : x ≡ g = cc in ap (λ y. y ∷ []) q
 next_taken (suc i) [] g rest e = cc
@@ -139,6 +135,9 @@ module _ (graph : Recorded) (before later : Table) (k : Key) (at : ℕ) (c : IsC
 
   none_more : (p : Phase) → HasPhase before.nodes later.nodes k p → SameRuns before later → MakesNone before later
   none_more p h runs = same_asked before later k n (record n { phase = p }) c.1 (u p h) refl runs
+
+  pub set_keeps : (p : Phase) → HasPhase before.nodes later.nodes k p → KeepsWanted graph graph before later
+  set_keeps p h = wanted_set graph before later k (record n { phase = p }) (u p h)
 
   -- the next group has not changed
   module _ (found : (group : List Key) × IsNextGroup r at group × ComparesGroup (record_at graph) group r.settled_at compared.Passes)

@@ -31,8 +31,9 @@ use Rattle.node.specs.Kept.{items_of}
 use Rattle.open_nodes.specs.Counted.{turns_of, asked_by, MakesNone}
 use Rattle.open_nodes.proofs.Counting.{counts_none}
 use Rattle.open_nodes.proofs.Settlings.{now_is, plain, same_since, truth_changes, settles_quietly}
+use Rattle.round.specs.Moves.{KeepsWanted}
 use Rattle.round.specs.Looks.{HasPassed}
-use Rattle.round.proofs.Wanting.{StaysTrue}
+use Rattle.round.proofs.Wanting.{StaysTrue, wanted_leaves}
 
 -- what a checked node's record and members are
 module _ (records : Records) (nodes : Nodes) (h : Holds records nodes) (k : Key) (n : Node) (there : node_at nodes k ≡ Some n) (at : ℕ) (checking : n.phase ≡ phase.Checking at) where
@@ -44,7 +45,7 @@ module _ (records : Records) (nodes : Nodes) (h : Holds records nodes) (k : Key)
       subst (λ (x : Record Key Value). IsStill records x.settled_at j) same (s.3 j (subst (λ (x : Record Key Value). IsMember j (take at x.groups)) (sym same) m))
 
 -- everything is taken
-take_whole : {X : Type 0} (xs : List X) (i : ℕ) → length xs ≤ i → take i xs ≡ xs
+pub take_whole : {X : Type 0} (xs : List X) (i : ℕ) → length xs ≤ i → take i xs ≡ xs
 take_whole {X} xs i h = sym (nil (take i xs)) ∙ ap (λ ys. take i xs ++ ys) (sym (drop_all i xs h)) ∙ take-append-drop i xs
   where
     nil : (ys : List X) → ys ++ [] ≡ ys
@@ -93,6 +94,9 @@ module _ (graph : Recorded) (table : Table) (k : Key) (p : HasPassed graph table
       | inl q ↦ absurd (none_some (sym left.gone ∙ ap (node_at later.nodes) q ∙ e))
       | inr n ↦ o j m (sym (others_stay j n) ∙ e) f
     ]
+
+    pub confirmed_keeps : KeepsWanted graph new table later
+    confirmed_keeps = let s = sets recorded.0 recorded.1 in wanted_leaves graph new table later k (record recorded.0 { settled_at = graph.version; dirty = false }) s.there refl s.others others_stay
 
     no_groups : groups_of p.node ≡ []
     no_groups = (standing (record_at graph) table.nodes w.holds k p.node p.there p.at p.checking).2

@@ -28,6 +28,8 @@ use Rattle.open_nodes.proofs.Counting.{counts, turns_snoc}
 use Rattle.open_nodes.proofs.Settlings.{now_is, plain_grounded, settles_by_run}
 use Rattle.round.specs.Members.{plain_value, all_values, AreAnswers}
 use Rattle.round.specs.Turning.{IsOutWith}
+use Rattle.round.specs.Moves.{KeepsWanted}
+use Rattle.round.proofs.Wanting.{wanted_leaves}
 use Rattle.round.proofs.Grouping.{plain_is, items_length}
 
 -- a list of values, cut where a list before it ends
@@ -124,6 +126,9 @@ module _ (old new : Recorded) (before mid later : Table) (k : Key) (v : Value) (
       tail_in : {i : Key} {xs : List Key} → In i xs → xs ≡ k ∷ keys → k ≢ i → In i keys
       tail_in {i = i} (first {xs = ys}) q d = let same : k ≡ i = cc in absurd (d same)
       tail_in {i = i} (after {xs = ys} h) q d = let same : ys ≡ keys = cc in subst (In i) same h
+
+  pub ended_keeps : KeepsWanted old new before later
+  ended_keeps = wanted_leaves old new before later k (stored (record_at old k) v (groups_of o.node) old.version) sets.there refl sets.others (λ j d. ap (λ x. node_at x j) noted.nodes ∙ others_stay j d)
 
   pub ended_turns : turns ≡ suc (length (groups_of o.node)) → MakesMore 1 before later
   ended_turns count = counts before later k 1 (λ j d. ap (λ x. node_at x j) noted.nodes ∙ others_stay j d)

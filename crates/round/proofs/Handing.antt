@@ -27,7 +27,8 @@ use Rattle.open_nodes.proofs.Settlings.{truth_changes}
 use Rattle.round.specs.Members.{AreAnswers, Answers}
 use Rattle.round.specs.Turning.{IsOutWith}
 use Rattle.round.proofs.Grouping.{never_none, items_length}
-use Rattle.round.proofs.Wanting.{StaysTrue}
+use Rattle.round.specs.Moves.{KeepsWanted}
+use Rattle.round.proofs.Wanting.{StaysTrue, wanted_set}
 use Rattle.round.proofs.Ending.{asks_more, plain_values}
 
 -- the job of a node that is ready is handed out
@@ -70,6 +71,9 @@ module _ (graph : Recorded) (before later : Table) (k : Key) (w : IsWhole (recor
       | inl q ↦ subst (λ y. In y (k ∷ keys)) q first
       | inr d ↦ after (out j x (sym (other_key before.nodes later.nodes k (Some m) (h n there) j d) ∙ e) f)
     ]
+
+    pub handed_keeps : KeepsWanted graph graph before later
+    handed_keeps = wanted_set graph before later k m (h n there)
 
     pub handed_turns : SameRuns before later → MakesNone before later
     handed_turns runs = same_asked before later k n m there (h n there) refl runs
@@ -123,6 +127,9 @@ module _ (graph : Recorded) (before later : Table) (k : Key) (answers : List Val
       tail_in : {i : Key} {xs : List Key} → In i xs → xs ≡ k ∷ keys → k ≢ i → In i keys
       tail_in {i = i} (first {xs = ys}) q d = let same : k ≡ i = cc in absurd (d same)
       tail_in {i = i} (after {xs = ys} h) q d = let same : ys ≡ keys = cc in subst (In i) same h
+
+  pub asked_keeps : KeepsWanted graph graph before later
+  asked_keeps = wanted_set graph before later k new_node u
 
   pub asked_turns : MakesMore 1 before later
   asked_turns = counts before later k 1 (λ j d. other_key before.nodes later.nodes k (Some new_node) u j d)

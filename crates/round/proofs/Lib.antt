@@ -7,3 +7,8 @@ pub mod Checking
 pub mod Ending
 pub mod Handing
 pub mod Reaching
+pub mod Stalling
+pub mod Walking
+pub mod Stalled
+pub mod Closings
+pub mod Resting

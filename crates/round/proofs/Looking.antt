@@ -27,12 +27,12 @@ use Rattle.open_nodes.proofs.Counting.{counts_same, same_asked}
 use Rattle.open_nodes.proofs.Settlings.{truth_changes}
 use Rattle.round.specs.Members.{IsMissing, plain_value}
 use Rattle.round.proofs.Grouping.{clean_cycle}
-use Rattle.round.specs.Moves.{Wants, IsWanted}
+use Rattle.round.specs.Moves.{Wants, IsWanted, KeepsWanted}
 use Rattle.round.specs.Looks.{IsAwaiting, IsLastGroup, IsRunningAt, IsNextKey}
-use Rattle.round.proofs.Wanting.{StaysTrue}
+use Rattle.round.proofs.Wanting.{StaysTrue, wanted_set}
 
 -- the last elements of equal lists
-last_same : {X : Type 0} (xs ys : List X) (x y : X) → xs ++ x ∷ [] ≡ ys ++ y ∷ [] → x ≡ y
+pub last_same : {X : Type 0} (xs ys : List X) (x y : X) → xs ++ x ∷ [] ≡ ys ++ y ∷ [] → x ≡ y
 last_same [] [] x y e = cc
 last_same [] (z ∷ []) x y e = cc
 last_same [] (z ∷ w ∷ ys) x y e = cc
@@ -125,6 +125,9 @@ module _ (graph : Recorded) (before later : Table) (k member : Key) (n : Node) (
     | inl q ↦ subst (λ y. In y keys) q (out member m open_member.1 (same_phase ∙ ap (λ (y : Node). y.phase) (some_is (sym u.1 ∙ ap (node_at later.nodes) q ∙ e)) ∙ f))
     | inr d ↦ out j x (sym (other_key before.nodes later.nodes member (Some o) u j d) ∙ e) f
   ]
+
+  pub watched_keeps : KeepsWanted graph graph before later
+  watched_keeps = wanted_set graph before later member o u
 
   pub watched_turns : SameRuns before later → MakesNone before later
   watched_turns runs = same_asked before later member m o open_member.1 u (ap (λ (gs : List (Vec Key Global)). length gs) (watches m open_member.1).2) runs
@@ -252,3 +255,7 @@ module _ (graph : Recorded) (before later : Table) (k : Key) (next_key : IsNextK
 
   pub next_true : (read : Key → Option Value) → StaysTrue read graph graph before later
   next_true read = λ next laws past t. subst (λ (x : Nodes). IsTrueOf next read past graph x later.runs.items) (sym next_key.1) (subst (λ (x : List Run). IsTrueOf next read past graph before.nodes x) (sym next_key.3) t)
+
+pub next_nodes : (before later : Table) (k : Option Key) → IsNextKey before later k → later.nodes ≡ before.nodes
+next_nodes before later (Some k) n = n.1
+next_nodes before later None n = ap (λ (x : Table). x.nodes) n.1

@@ -33,7 +33,7 @@ use Rattle.open_nodes.specs.declared.table.Table.{Table}
 use Rattle.open_nodes.proofs.Wholes.{unsettled_not_clean, node_changes, open_on, node_settles, keeps_clean, widens_refl, widens_on}
 use Rattle.open_nodes.proofs.Counting.{turns_snoc, counts_same, counts_none, makes_on}
 use Rattle.open_nodes.proofs.Settlings.{now_is, same_since, truth_changes, settled_after, settles_by_run}
-use Rattle.round.specs.Moves.{Wants, IsWanted}
+use Rattle.round.specs.Moves.{Wants, IsWanted, KeepsWanted}
 
 -- what was true of the round is true after a move
 abbrev pub StaysTrue : (Key → Option Value) → Recorded → Recorded → Table → Table → Type 0
@@ -250,3 +250,27 @@ pub leads_of_err : {X E : Type 0} (next : Key → List Value → Reply Key Value
     → ((laws : IsNext next) (past : Past read) → AreReached next read past keys → IsTrueOf next read past old before.nodes before.runs.items → IsAfter next read past new) → LeadsOf next read keys old new before later r
 leads_of_err next read keys old new before later (Ok x) e h = absurd (true_false e refl)
 leads_of_err next read keys old new before later (Err x) e h = h
+
+-- one node is set: what was wanted is
+pub wanted_set : (graph : Recorded) (before later : Table) (k : Key) (n : Node) → Updates key_cmp before.nodes later.nodes k (Some n) → KeepsWanted graph graph before later
+wanted_set graph before later k n u j (inr c) = inr c
+wanted_set graph before later k n u j (inl o) = elim (decide_key k j) [
+  | inl e ↦ inl (n, ap (node_at later.nodes) (sym e) ∙ u.1)
+  | inr d ↦ inl (o.0, other_key before.nodes later.nodes k (Some n) u j d ∙ o.1)
+]
+
+-- one node leaves, and is settled
+pub wanted_leaves : (old new : Recorded) (before later : Table) (k : Key) (r : Record Key Value) → record_at new k ≡ Some r → r.dirty ≡ false → ((j : Key) → k ≢ j → record_at new j ≡ record_at old j)
+    → ((j : Key) → k ≢ j → node_at later.nodes j ≡ node_at before.nodes j) → KeepsWanted old new before later
+wanted_leaves old new before later k r there clean records nodes j (inl o) = elim (decide_key k j) [
+  | inl e ↦ inr (r, ap (record_at new) (sym e) ∙ there, clean)
+  | inr d ↦ inl (o.0, nodes j d ∙ o.1)
+]
+wanted_leaves old new before later k r there clean records nodes j (inr c) = elim (decide_key k j) [
+  | inl e ↦ inr (r, ap (record_at new) (sym e) ∙ there, clean)
+  | inr d ↦ inr (c.0, records j d ∙ c.1, c.2)
+]
+
+pub wanted_same : (graph : Recorded) (before later : Table) → later.nodes ≡ before.nodes → KeepsWanted graph graph before later
+wanted_same graph before later e j (inl o) = inl (o.0, ap (λ x. node_at x j) e ∙ o.1)
+wanted_same graph before later e j (inr c) = inr c

@@ -6,3 +6,6 @@ pub mod Looks
 pub mod Compared
 pub mod Turning
 pub mod Call
+pub mod Closing
+pub mod Showing
+pub mod Here

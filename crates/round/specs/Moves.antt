@@ -39,3 +39,7 @@ IsWholeNow graph table = IsWhole (record_at graph) table.nodes table.ready.keys 
 -- no other job is out
 abbrev pub KeepsOut : Table → Table → Type 0
 KeepsOut before after = (keys : List Key) → AreOut before.nodes keys → AreOut after.nodes keys
+
+-- what was settled or open is settled or open
+abbrev pub KeepsWanted : Recorded → Recorded → Table → Table → Type 0
+KeepsWanted old new before after = (k : Key) → IsWanted old before k → IsWanted new after k

@@ -1,8 +1,12 @@
 //! The evaluation of nodes.
 #![tactic(auto)]
 
+mod close;
+mod closing;
 mod from_nothing;
+mod here;
 mod look;
+mod loops;
 mod members;
 mod settle;
 mod stop;

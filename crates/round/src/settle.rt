@@ -15,7 +15,7 @@ ghost use Rattle.open_nodes.specs.Truths.{Leads};
 ghost use Rattle.round.specs.Looks.{HasPassed};
 ghost use Rattle.round.specs.Turning.{IsOutWith, ComesBack};
 ghost use Rattle.open_nodes.specs.Counted.{MakesNone};
-ghost use Rattle.round.specs.Moves.{KeepsTrue, KeepsTrueOf, KeepsOut, Wants, IsWanted, IsWholeBut, IsWholeNow};
+ghost use Rattle.round.specs.Moves.{KeepsTrue, KeepsTrueOf, KeepsOut, KeepsWanted, Wants, IsWanted, IsWholeBut, IsWholeNow};
 
 use crate::members::is_settled;
 use filetree::Tree;
@@ -132,6 +132,7 @@ pub fn confirm(alloc: Global, graph: &mut Graph, table: &mut Table, key: &Key) -
     requires passed { HasPassed graph.old table.old key.now }
     ensures whole { OnOk result (IsWholeNow graph.new table.new) }
     ensures out { OnOk result (KeepsOut table.old table.new) }
+    ensures keeps { OnOk result (KeepsWanted graph.old graph.new table.old table.new) }
     ensures turns { OnOk result (MakesNone table.old table.new) }
     ensures truth { (read : Key → Option Value) → KeepsTrue read graph.old graph.new table.old table.new result }
     ensures looked { OnOk result (table.new.looked ≡ table.old.looked) }
@@ -153,6 +154,7 @@ pub fn end(
     requires out { (answers : List Value) × IsOutWith graph.old table.old key answers }
     ensures whole { OnOk result (IsWholeNow graph.new table.new) }
     ensures back { OnOk result (ComesBack table.old table.new key) }
+    ensures keeps { OnOk result (KeepsWanted graph.old graph.new table.old table.new) }
     ensures truth { (read : Key → Option Value) (next : Key → List Value → Reply Key Value) (answers : List Value) → IsOutWith graph.old table.old key answers → next key answers ≡ Done value → Leads next read graph.old graph.new table.old table.new result }
 {
     let shared = Arc::new(alloc, value)?;

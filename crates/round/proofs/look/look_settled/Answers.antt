@@ -2,6 +2,7 @@ use Rattle.std.proofs.Common.{sym, ap, subst, ◌∷◌}
 use Rattle.evaluation.specs.Value.{In}
 use Rattle.open_nodes.specs.Counted.{turns_of}
 use Rattle.open_nodes.proofs.Counting.{counts_same}
+use Rattle.round.proofs.Wanting.{wanted_same}
 use Rattle.round.proofs.Looking.{held_back, now_ready, stop_in}
 use Rattle.round.proofs.look.look_settled.Goals as goal
 
@@ -15,3 +16,6 @@ returns-in_ok-put_ready-in-None-clause-whole c =
 
 pub returns-in_ok-put_ready-in-None-clause-turns : goal.returns-in_ok-put_ready-in-None-clause-turns
 returns-in_ok-put_ready-in-None-clause-turns c = counts_same c.args.table.now c.put_ready.new.table c.put_ready.ensures.nodes (ap turns_of c.in_ok-put_ready-in-None.ensures.readies.runs)
+
+pub returns-in_ok-put_ready-in-None-clause-keeps : goal.returns-in_ok-put_ready-in-None-clause-keeps
+returns-in_ok-put_ready-in-None-clause-keeps c = wanted_same c.args.graph.now c.args.table.now c.put_ready.new.table c.put_ready.ensures.nodes

@@ -1,7 +1,7 @@
 use Rattle.std.proofs.Common.{◌∷◌, []}
 use Rattle.functions.specs.Next as leaves
-use Rattle.round.proofs.Looking.{still_there, still_current, all_wanted, watched_whole, watched_out, watched_turns, watched_true, again_whole, again_out, again_turns, again_true, wanted_open}
-use Rattle.round.proofs.Wanting.{leads_err}
+use Rattle.round.proofs.Looking.{still_there, still_current, all_wanted, watched_whole, watched_out, watched_keeps, watched_turns, watched_true, again_whole, again_out, again_turns, again_true, wanted_open}
+use Rattle.round.proofs.Wanting.{leads_err, wanted_on, wanted_same}
 use Rattle.round.proofs.Reaching.{missing_reached}
 use Rattle.round.proofs.look.wait_for.Goals as goal
 
@@ -43,6 +43,23 @@ returns-in_ok-watch-in-Some-clause-turns c = λ made h.
     (all_wanted c.args.graph.now c.want_all.new.graph c.args.table.now c.want_all.new.table c.args.key.now c.args.missing.now a w all)
     (a.of_group.among c.in-Some.member.now c.in-Some.ensures.0) (wanted_open c.want_all.new.graph c.want_all.new.table c.in-Some.member.now (all c.in-Some.member.now c.in-Some.ensures.0) c.in-Some.ensures.1)
     c.in_ok-watch-in-Some.ensures.watches c.in_ok-watch-in-Some.ensures.pends c.in_ok-watch-in-Some.ensures.ready c.in_ok-watch-in-Some.ensures.runs made (w.turns made h)
+
+pub returns-in_ok-watch-in-Some-clause-keeps : goal.returns-in_ok-watch-in-Some-clause-keeps
+returns-in_ok-watch-in-Some-clause-keeps c = λ j i.
+    let a = c.requires.awaiting in
+    let w = c.in_ok-want_all.ensures.wants in
+    let all = c.in_ok-want_all.ensures.wanted in
+    watched_keeps c.want_all.new.graph c.want_all.new.table c.watch.new.table c.args.key.now c.in-Some.member.now a.node a.group
+    (w.whole (c.args.key.now ∷ []) c.requires.whole)
+    (still_there c.args.graph.now c.want_all.new.graph c.args.table.now c.want_all.new.table c.args.key.now c.args.missing.now a w all)
+    (still_current c.args.graph.now c.want_all.new.graph c.args.table.now c.want_all.new.table c.args.key.now c.args.missing.now a w all)
+    (all_wanted c.args.graph.now c.want_all.new.graph c.args.table.now c.want_all.new.table c.args.key.now c.args.missing.now a w all)
+    (a.of_group.among c.in-Some.member.now c.in-Some.ensures.0) (wanted_open c.want_all.new.graph c.want_all.new.table c.in-Some.member.now (all c.in-Some.member.now c.in-Some.ensures.0) c.in-Some.ensures.1)
+    c.in_ok-watch-in-Some.ensures.watches c.in_ok-watch-in-Some.ensures.pends c.in_ok-watch-in-Some.ensures.ready j (wanted_on c.args.graph.now c.want_all.new.graph c.args.table.now c.want_all.new.table j w i)
+
+pub returns-in_ok-look_again-in-None-clause-keeps : goal.returns-in_ok-look_again-in-None-clause-keeps
+returns-in_ok-look_again-in-None-clause-keeps c = λ j i.
+    wanted_same c.want_all.new.graph c.want_all.new.table c.look_again.new.table c.look_again.ensures.nodes j (wanted_on c.args.graph.now c.want_all.new.graph c.args.table.now c.want_all.new.table j c.in_ok-want_all.ensures.wants i)
 
 pub returns-in_ok-watch-in-Some-clause-truth : goal.returns-in_ok-watch-in-Some-clause-truth
 returns-in_ok-watch-in-Some-clause-truth c = λ next laws past t.

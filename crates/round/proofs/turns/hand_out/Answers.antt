@@ -6,7 +6,7 @@ use Rattle.node.specs.Kept.{items_of}
 use Rattle.node.proofs.Joining.{in_has, has_in}
 use Rattle.node.proofs.Lists.{true_false}
 use Rattle.round.specs.Members.{Answers}
-use Rattle.round.proofs.Handing.{has_answers, handed_whole, handed_out, handed_more, handed_turns, handed_true}
+use Rattle.round.proofs.Handing.{has_answers, handed_whole, handed_keeps, handed_out, handed_more, handed_turns, handed_true}
 use Rattle.round.proofs.turns.hand_out.Goals as goal
 
 pub returns-then-not-is_among-clause-hands : goal.returns-then-not-is_among-clause-hands
@@ -33,3 +33,9 @@ returns-in_ok-share-in-Some-clause-truth g c = λ read.
     let i = in_has c.args.table.now.ready c.args.key.now (sym c.if-not-is_among.ensures) in
     let h = c.set_out.ensures in
     handed_true c.args.graph.now c.args.table.now c.set_out.new.table c.args.key.now c.requires.whole i h.phase h.ready h.pends read h.runs
+
+pub returns-in_ok-share-in-Some-clause-keeps : goal.returns-in_ok-share-in-Some-clause-keeps
+returns-in_ok-share-in-Some-clause-keeps g c =
+    let i = in_has c.args.table.now.ready c.args.key.now (sym c.if-not-is_among.ensures) in
+    let h = c.set_out.ensures in
+    handed_keeps c.args.graph.now c.args.table.now c.set_out.new.table c.args.key.now c.requires.whole i h.phase h.ready h.pends
