@@ -1,10 +1,8 @@
 -- A check goes on to the next group, or gives up.
-use Rattle.std.proofs.Common.{◌≡◌, ◌≢◌, ◌⊎◌, inl, inr, ℕ, ◌+◌, ◌<◌, ◌≤◌, zero, suc, Bool, true, false, nat_lt, List, [], ◌∷◌, ◌++◌, length, take, drop, map, Option, Some, None, refl, sym, ◌∙◌, ap, subst, arith, slice_index_or, add-one}
-use Rattle.std.proofs.lemmas.Bool.{ltb-true}
+use Rattle.std.proofs.Common.{◌≡◌, ◌≢◌, ◌⊎◌, inl, inr, ℕ, ◌+◌, ◌<◌, ◌≤◌, zero, suc, true, false, nat_lt, List, [], ◌∷◌, ◌++◌, length, take, drop, Option, Some, refl, sym, ◌∙◌, ap, subst, arith, slice_index_or, add-one}
 use Rattle.std.specs.BTreeMap.{Updates}
 use Rattle.std.specs.declared.alloc.Global.{Global}
 use Rattle.std.specs.declared.vec.Vec.{Vec}
-use Rattle.evaluation.specs.Reply.{Reply}
 use Rattle.evaluation.specs.Value.{In, first, after, IsMember}
 use Rattle.evaluation.specs.Graph.{Record, Differs}
 use Rattle.evaluation.specs.Journal.{RunIsJustified, dependency_differs}
@@ -14,10 +12,10 @@ use Rattle.keys.specs.declared.key.Key.{Key}
 use Rattle.keys.specs.declared.value.Value.{Value}
 use Rattle.node.specs.Graphs.{Recorded, record_at, IsTouched}
 use Rattle.node.specs.Kept.{items_of}
-use Rattle.node.proofs.Lists.{some_is, none_some, true_false, decide_key, other_key, in_left, in_right}
-use Rattle.open_nodes.specs.Nodes.{Nodes, Records, node_at, groups_of, pending, IsUnsettled, IsClean, IsStill, IsPlain, IsCurrent, Stands, IsWhole, AreOut}
+use Rattle.node.proofs.Lists.{some_is, decide_key, other_key, in_left, in_right}
+use Rattle.open_nodes.specs.Nodes.{node_at, groups_of, pending, IsStill, IsCurrent, Stands, IsWhole, AreOut}
 use Rattle.open_nodes.specs.Steps.{Pends, Readies, HasPhase, SameRuns}
-use Rattle.open_nodes.specs.Truths.{IsNext, Past, IsTrueOf, IsRun, Asks, nothing}
+use Rattle.open_nodes.specs.Truths.{IsTrueOf, Asks, nothing}
 use Rattle.open_nodes.specs.declared.run.Run.{Run}
 use Rattle.open_nodes.specs.declared.table.Node.{Node}
 use Rattle.open_nodes.specs.declared.table.Phase.{Phase}
@@ -35,7 +33,7 @@ use Rattle.round.specs.Moves.{KeepsWanted}
 use Rattle.round.specs.Looks.{IsAwaiting, IsChecking, HasPassed}
 use Rattle.round.proofs.Grouping.{split_at, snoc_in, items_taken}
 use Rattle.round.proofs.Wanting.{StaysTrue, wanted_set}
-use Rattle.round.proofs.Confirming.{standing, passed_members}
+use Rattle.round.proofs.Confirming.{standing}
 
 items_joined : (xs ys : List (Vec Key Global)) → items_of (xs ++ ys) ≡ items_of xs ++ items_of ys
 items_joined [] ys = refl

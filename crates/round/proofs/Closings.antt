@@ -1,8 +1,8 @@
 -- A stall is closed: none of its nodes is grounded, and each is settled with the loop that it shows.
-use Rattle.std.proofs.Common.{◌≡◌, ◌≢◌, ◌⊎◌, inl, inr, ℕ, ◌+◌, suc, true, false, List, [], ◌∷◌, ◌++◌, length, map, take, Option, Some, None, refl, sym, ◌∙◌, ap, subst, add-one}
+use Rattle.std.proofs.Common.{◌≡◌, ◌≢◌, ◌⊎◌, inl, inr, true, false, List, [], ◌∷◌, ◌++◌, length, map, Option, Some, None, refl, sym, ◌∙◌, ap, subst}
 use Rattle.std.specs.Arc.{arc_value}
 use Rattle.std.specs.List.{AllByRecursion}
-use Rattle.evaluation.specs.Reply.{Reply, Ask}
+use Rattle.evaluation.specs.Reply.{Reply}
 use Rattle.evaluation.specs.Value.{Grounded, AllGrounded, IsUngrounded, First, at_head, further, Walk, stay, step, Cyclic, Settles, leaf, run, closed, In, first, after, IsMember, AllDiffer}
 use Rattle.evaluation.specs.Value as value
 use Rattle.evaluation.specs.Graph.{Record}
@@ -19,25 +19,25 @@ use Rattle.node.specs.Kept.{items_of}
 use Rattle.node.specs.Laws.{IsLawfulFor, BatchKeepsLawful}
 use Rattle.node.specs.Writes.{stored}
 use Rattle.node.specs.declared.entry.Entry.{Entry}
-use Rattle.node.proofs.Lists.{some_is, none_some, true_false, in_split, in_left, in_right, in_one}
-use Rattle.open_nodes.specs.Nodes.{Nodes, Records, node_at, groups_of, pending, IsOpen, IsUnsettled, IsClean, IsPlain, IsStill, Stands, IsCurrent, IsWhole}
-use Rattle.open_nodes.specs.Truths.{IsNext, Past, IsReached, IsSince, IsAfter, IsDoing, IsRun, IsOpenTruly, IsItem, IsRunOf, run_keys, IsTold, IsTrueOf}
+use Rattle.node.proofs.Lists.{some_is, none_some, true_false, in_split, in_left, in_right}
+use Rattle.open_nodes.specs.Nodes.{Records, node_at, groups_of, IsOpen, IsUnsettled, IsPlain, Stands}
+use Rattle.open_nodes.specs.Truths.{IsNext, Past, IsSince, IsAfter, IsDoing, IsOpenTruly, IsRunOf, run_keys, IsTold, IsTrueOf}
 use Rattle.open_nodes.specs.declared.run.Run.{Run}
 use Rattle.open_nodes.specs.declared.table.Node.{Node}
 use Rattle.open_nodes.specs.declared.table.Phase.{Phase}
 use Rattle.open_nodes.specs.declared.table.Phase.TheVariants as phase
 use Rattle.open_nodes.specs.declared.table.Table.{Table}
 use Rattle.open_nodes.proofs.Counting.{decide_in}
-use Rattle.open_nodes.proofs.Settlings.{now_is, same_since, clean_settles, plain_grounded, cycle_ungrounded, in_map, map_in}
+use Rattle.open_nodes.proofs.Settlings.{now_is, clean_settles, plain_grounded, cycle_ungrounded, in_map}
 use Rattle.open_nodes.proofs.Wholes.{unsettled_not_clean}
-use Rattle.round.specs.Closing.{HasTurnedBy, HasTurned, Stops, stop_at, closing_keys, IsRunOfClosed, HasTaken, IsIdle}
-use Rattle.round.specs.Members.{IsStop, plain_value}
+use Rattle.round.specs.Closing.{HasTurnedBy, HasTurned, stop_at, HasTaken, IsIdle}
+use Rattle.round.specs.Members.{plain_value}
 use Rattle.round.specs.Moves.{IsWholeNow}
 use Rattle.round.specs.Showing.{Chain, Ends, Shows, IsStall, AreEntries}
 use Rattle.round.specs.Showing as showing
 use Rattle.round.specs.declared.closing.Closing.{Closing}
 use Rattle.round.specs.declared.closing.Stall.{Stall}
-use Rattle.round.proofs.Grouping.{clean_cycle, snoc_in, items_length}
+use Rattle.round.proofs.Grouping.{clean_cycle, items_length}
 use Rattle.round.proofs.Reaching.{AsksAfter, asks_last, check_asks}
 use Rattle.round.proofs.Stalled.{ComesBy, IsStopped, stop_among, stopped, all_closed, has_stop, is_stall}
 use Rattle.round.proofs.Walking.{chain_end}

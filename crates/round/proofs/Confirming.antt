@@ -1,36 +1,32 @@
 -- A check goes on, ends or gives up.
-use Rattle.std.proofs.Common.{◌≡◌, ◌≢◌, ◌⊎◌, inl, inr, ℕ, ◌+◌, ◌<◌, ◌≤◌, Bool, true, false, List, [], ◌∷◌, ◌++◌, length, take, drop, map, Option, Some, None, refl, sym, ◌∙◌, ap, subst, arith}
+use Rattle.std.proofs.Common.{◌≡◌, ◌≢◌, inl, inr, ℕ, ◌≤◌, false, List, [], ◌∷◌, ◌++◌, length, take, Option, Some, None, refl, sym, ◌∙◌, ap, subst, arith}
 use Rattle.std.proofs.lemmas.List.{take-append-drop, drop_all}
-use Rattle.std.specs.BTreeMap.{Updates}
 use Rattle.std.specs.Prelude.{IsSome}
-use Rattle.evaluation.specs.Reply.{Reply}
-use Rattle.evaluation.specs.Value.{Grounded, Settles, In, first, after, IsMember}
+use Rattle.evaluation.specs.Value.{In, first, after, IsMember}
 use Rattle.evaluation.specs.Graph.{Record}
-use Rattle.evaluation.specs.Journal.{RunIsJustified, dependency_differs}
 use Rattle.evaluation.proofs.Settle.{confirm_holds}
 use Rattle.keys.specs.Cycles.{cycle}
-use Rattle.keys.specs.Keys.{key_cmp}
 use Rattle.keys.specs.declared.key.Key.{Key}
 use Rattle.keys.specs.declared.value.Value.{Value}
 use Rattle.keys.proofs.CycleLaws.{turned}
-use Rattle.node.specs.Graphs.{Recorded, record_at, present, Sets, IsTouched, HasCleanMembers}
-use Rattle.node.specs.Laws.{IsLawfulFor, SettlingKeepsLawful}
-use Rattle.node.proofs.Lists.{some_is, none_some, true_false, decide_key, other_key, in_split, in_left, in_right, in_one}
-use Rattle.open_nodes.specs.Nodes.{Nodes, Records, node_at, groups_of, pending, IsOpen, IsUnsettled, IsClean, IsStill, IsPlain, Stands, Holds, IsWhole, AreOut}
-use Rattle.open_nodes.specs.Steps.{Pends, Readies, HasLeft, HasPhase, SameRuns}
-use Rattle.open_nodes.specs.Truths.{IsNext, Past, IsAfter, IsTrueOf, IsOpenTruly, IsDoing, IsRun, nothing}
+use Rattle.node.specs.Graphs.{Recorded, record_at, Sets, IsTouched, HasCleanMembers}
+use Rattle.node.specs.Laws.{SettlingKeepsLawful}
+use Rattle.node.proofs.Lists.{some_is, none_some, decide_key, other_key, in_left, in_right}
+use Rattle.open_nodes.specs.Nodes.{Nodes, Records, node_at, groups_of, pending, IsStill, Stands, Holds, IsWhole, AreOut}
+use Rattle.open_nodes.specs.Steps.{HasLeft}
+use Rattle.open_nodes.specs.Truths.{Past, IsTrueOf}
 use Rattle.open_nodes.specs.declared.run.Run.{Run}
 use Rattle.open_nodes.specs.declared.table.Node.{Node}
 use Rattle.open_nodes.specs.declared.table.Phase.{Phase}
 use Rattle.open_nodes.specs.declared.table.Phase.TheVariants as phase
 use Rattle.open_nodes.specs.declared.table.Table.{Table}
-use Rattle.open_nodes.proofs.Wholes.{unsettled_not_clean, node_changes, node_settles}
+use Rattle.open_nodes.proofs.Wholes.{node_settles}
 use Rattle.std.specs.declared.alloc.Global.{Global}
 use Rattle.std.specs.declared.vec.Vec.{Vec}
 use Rattle.node.specs.Kept.{items_of}
 use Rattle.open_nodes.specs.Counted.{turns_of, asked_by, MakesNone}
 use Rattle.open_nodes.proofs.Counting.{counts_none}
-use Rattle.open_nodes.proofs.Settlings.{now_is, plain, same_since, truth_changes, settles_quietly}
+use Rattle.open_nodes.proofs.Settlings.{plain, settles_quietly}
 use Rattle.round.specs.Moves.{KeepsWanted}
 use Rattle.round.specs.Looks.{HasPassed}
 use Rattle.round.proofs.Wanting.{StaysTrue, wanted_leaves}

@@ -1,5 +1,5 @@
 -- Members of groups, taken one by one.
-use Rattle.std.proofs.Common.{◌≡◌, ◌≢◌, ◌⊎◌, inl, inr, ℕ, ◌<◌, ◌≤◌, ◌+◌, zero, suc, Bool, true, false, List, [], ◌∷◌, ◌++◌, length, take, map, Option, Some, None, refl, sym, ◌∙◌, ap, subst, arith, slice_index_or, add-one, drop, drop-cons, cond}
+use Rattle.std.proofs.Common.{◌≡◌, ◌⊎◌, inl, inr, ℕ, ◌<◌, ◌≤◌, ◌+◌, zero, suc, Bool, true, false, List, [], ◌∷◌, ◌++◌, length, take, map, Option, Some, None, refl, sym, ◌∙◌, ap, subst, slice_index_or, add-one, drop, drop-cons, cond}
 use Rattle.std.specs.Arc.{arc_value}
 use Rattle.std.specs.declared.sync.Arc.{Arc}
 use Rattle.std.specs.declared.alloc.Global.{Global}
@@ -19,7 +19,7 @@ use Rattle.keys.specs.declared.value.Value.TheVariants as value
 use Rattle.node.specs.Graphs.{present}
 use Rattle.node.proofs.Lists.{none_some, true_false, in_split, in_left, in_one, some_is}
 use Rattle.open_nodes.specs.Nodes.{Records, IsClean, IsPlain, IsUnsettled}
-use Rattle.round.specs.Members.{IsMissing, IsFirst, has_changed, AnyChanged, is_cycle, no_cycle, plain_value, IsStop, AnswersGroup, all_values, AreAnswers, Answers}
+use Rattle.round.specs.Members.{IsMissing, is_cycle, no_cycle, plain_value, AnswersGroup, all_values, AreAnswers, Answers}
 
 pub snoc_in : {X : Type 0} (xs : List X) {x y : X} → In y (xs ++ x ∷ []) → In y xs ⊎ (y ≡ x)
 snoc_in xs {x = x} i = elim (in_split i xs (x ∷ []) refl) [ inl a ↦ inl a | inr b ↦ inr (in_one b) ]

@@ -1,5 +1,5 @@
 -- A turn is handed out, and a turn that asks comes back.
-use Rattle.std.proofs.Common.{◌≡◌, ◌≢◌, ◌⊎◌, inl, inr, ℕ, Bool, true, false, List, [], ◌∷◌, ◌++◌, Option, Some, None, refl, sym, ◌∙◌, ap, subst, suc, ◌+◌, length, arith, length-append}
+use Rattle.std.proofs.Common.{◌≡◌, ◌≢◌, inl, inr, List, [], ◌∷◌, ◌++◌, Option, Some, None, refl, sym, ◌∙◌, ap, subst, ◌+◌, length, arith, length-append}
 use Rattle.std.specs.BTreeMap.{Updates}
 use Rattle.std.specs.declared.alloc.Global.{Global}
 use Rattle.evaluation.specs.Reply.{Reply, Ask}
@@ -9,8 +9,8 @@ use Rattle.keys.specs.declared.key.Key.{Key}
 use Rattle.keys.specs.declared.value.Value.{Value}
 use Rattle.node.specs.Graphs.{Recorded, record_at}
 use Rattle.node.specs.Edges.{IsRemoved}
-use Rattle.node.proofs.Lists.{some_is, none_some, decide_key, other_key, in_left, in_right}
-use Rattle.open_nodes.specs.Nodes.{Nodes, Records, node_at, groups_of, pending, IsUnsettled, IsPlain, Stands, IsWhole, AreOut}
+use Rattle.node.proofs.Lists.{some_is, decide_key, other_key, in_left, in_right}
+use Rattle.open_nodes.specs.Nodes.{node_at, groups_of, pending, IsPlain, Stands, IsWhole, AreOut}
 use Rattle.open_nodes.specs.Steps.{HasPhase, HasAsked, Pends, SameRuns}
 use Rattle.open_nodes.specs.Truths.{IsNext, Past, IsTrueOf, IsOpenTruly, IsDoing, IsRun}
 use Rattle.open_nodes.specs.declared.run.Run.{Run}

@@ -1,27 +1,25 @@
 -- A node is looked at.
-use Rattle.std.proofs.Common.{◌≡◌, ◌≢◌, ◌⊎◌, inl, inr, ℕ, ◌<◌, ◌≤◌, Bool, true, false, List, [], ◌∷◌, ◌++◌, map, Option, Some, None, refl, sym, ◌∙◌, ap, subst}
+use Rattle.std.proofs.Common.{◌≡◌, ◌≢◌, ◌⊎◌, inl, inr, ℕ, Bool, false, List, [], ◌∷◌, ◌++◌, Option, Some, None, refl, sym, ◌∙◌, ap, subst}
 use Rattle.std.specs.BTreeMap.{Updates}
 use Rattle.std.specs.Prelude.{vec_len, length, ◌==◌}
 use Rattle.std.specs.declared.alloc.Global.{Global}
 use Rattle.std.specs.declared.vec.Vec.{Vec}
-use Rattle.evaluation.specs.Reply.{Reply}
 use Rattle.evaluation.specs.Value.{In, first, after, IsMember}
-use Rattle.evaluation.specs.Graph.{Record}
 use Rattle.keys.specs.Keys.{key_cmp}
 use Rattle.keys.specs.declared.key.Key.{Key}
 use Rattle.keys.specs.declared.value.Value.{Value}
-use Rattle.node.specs.Graphs.{Recorded, record_at, present}
+use Rattle.node.specs.Graphs.{Recorded, record_at}
 use Rattle.node.specs.Kept.{items_of}
-use Rattle.node.proofs.Lists.{some_is, none_some, true_false, decide_key, other_key, in_split, in_left, in_right, in_one}
-use Rattle.open_nodes.specs.Nodes.{Nodes, Records, node_at, groups_of, pending, IsOpen, IsUnsettled, IsClean, IsPlain, Stands, AreReady, IsCurrent, KeepsBack, IsBlocked, IsWhole, Widens, AreOut}
+use Rattle.node.proofs.Lists.{some_is, true_false, decide_key, other_key, in_split, in_left, in_right, in_one}
+use Rattle.open_nodes.specs.Nodes.{Nodes, node_at, groups_of, pending, IsOpen, IsUnsettled, IsClean, IsPlain, Stands, IsCurrent, IsBlocked, IsWhole, AreOut}
 use Rattle.open_nodes.specs.Steps.{Pends, Readies, HasWatcher, SameRuns}
-use Rattle.open_nodes.specs.Truths.{IsNext, Past, IsAfter, IsTrueOf, IsOpenTruly, IsDoing}
+use Rattle.open_nodes.specs.Truths.{IsTrueOf, IsDoing}
 use Rattle.open_nodes.specs.declared.run.Run.{Run}
 use Rattle.open_nodes.specs.declared.table.Node.{Node}
 use Rattle.open_nodes.specs.declared.table.Phase.{Phase}
 use Rattle.open_nodes.specs.declared.table.Phase.TheVariants as phase
 use Rattle.open_nodes.specs.declared.table.Table.{Table}
-use Rattle.open_nodes.proofs.Wholes.{unsettled_not_clean, node_changes, open_on, keeps_on, blocked_on, looked_at, more_waiting, current_on, clean_on, becomes_ready}
+use Rattle.open_nodes.proofs.Wholes.{unsettled_not_clean, node_changes, open_on, blocked_on, looked_at, more_waiting, current_on, clean_on, becomes_ready}
 use Rattle.open_nodes.specs.Counted.{turns_of, MakesNone}
 use Rattle.open_nodes.proofs.Counting.{counts_same, same_asked}
 use Rattle.open_nodes.proofs.Settlings.{truth_changes}

@@ -1,10 +1,10 @@
 -- The group that a node waits for is one that it asks at these files, so its members are reached.
-use Rattle.std.proofs.Common.{◌≡◌, ◌≢◌, ◌⊎◌, inl, inr, ℕ, ◌≤◌, false, List, [], ◌∷◌, ◌++◌, take, Option, Some, None, refl, sym, ◌∙◌, ap, subst}
+use Rattle.std.proofs.Common.{◌≡◌, ◌≤◌, List, [], ◌∷◌, ◌++◌, take, Option, Some, sym, ◌∙◌, ap, subst}
 use Rattle.evaluation.specs.Reply.{Reply, Ask}
-use Rattle.evaluation.specs.Value.{AllGrounded, In, IsMember, Settles}
+use Rattle.evaluation.specs.Value.{AllGrounded, In, IsMember}
 use Rattle.evaluation.specs.Graph.{Record, IsLawful}
 use Rattle.evaluation.specs.Choices.{Comes, stay, asks}
-use Rattle.evaluation.specs.Reached.{AsksGroup, Reached, member}
+use Rattle.evaluation.specs.Reached.{AsksGroup, member}
 use Rattle.evaluation.proofs.Passing.{pass_comes}
 use Rattle.evaluation.proofs.Pruned.{Same}
 use Rattle.evaluation.proofs.Touch.{each_member}
@@ -12,10 +12,10 @@ use Rattle.keys.specs.Cycles.{cycle}
 use Rattle.keys.proofs.CycleLaws.{turned}
 use Rattle.keys.specs.declared.key.Key.{Key}
 use Rattle.keys.specs.declared.value.Value.{Value}
-use Rattle.node.specs.Graphs.{Recorded, record_at, IsTouched}
+use Rattle.node.specs.Graphs.{Recorded, record_at}
 use Rattle.node.proofs.Lists.{some_is, in_left}
 use Rattle.open_nodes.specs.Nodes.{Nodes, node_at, groups_of, pending, IsStill, Stands, Holds, IsCurrent, IsWhole}
-use Rattle.open_nodes.specs.Truths.{IsNext, Past, IsReached, AreReached, Asks, nothing, last, more, IsRun, IsDoing, IsTrueOf}
+use Rattle.open_nodes.specs.Truths.{IsNext, Past, AreReached, Asks, nothing, last, more, IsDoing, IsTrueOf}
 use Rattle.open_nodes.specs.declared.run.Run.{Run}
 use Rattle.open_nodes.specs.declared.table.Node.{Node}
 use Rattle.open_nodes.specs.declared.table.Phase.{Phase}

@@ -1,25 +1,24 @@
 -- An evaluation on one thread, between two turns.
-use Rattle.std.proofs.Common.{◌≡◌, ◌⊎◌, inl, inr, ℕ, ◌+◌, true, false, cond, List, [], ◌∷◌, ◌++◌, Option, Some, None, Result, Ok, Err, IsErr, refl, sym, ◌∙◌, ap, subst}
+use Rattle.std.proofs.Common.{◌≡◌, ◌⊎◌, inl, inr, ℕ, true, false, cond, List, [], ◌∷◌, Option, Some, None, Result, Ok, Err, IsErr, refl, sym, ◌∙◌, ap, subst}
 use Rattle.evaluation.specs.Reply.{Reply}
-use Rattle.evaluation.specs.Value.{Settles, leaf, run, closed, In, first, after, IsMember, AllDiffer}
-use Rattle.evaluation.specs.Graph.{Record, IsLawful}
-use Rattle.evaluation.specs.Reached.{AsksGroup, Reached, root, member}
+use Rattle.evaluation.specs.Value.{In, first, after, AllDiffer}
+use Rattle.evaluation.specs.Graph.{Record}
+use Rattle.evaluation.specs.Reached.{root, member}
 use Rattle.evaluation.proofs.Asked.{asked_recorded}
 use Rattle.keys.specs.Cycles.{cycle}
 use Rattle.keys.specs.declared.key.Key.{Key}
 use Rattle.keys.specs.declared.value.Value.{Value}
-use Rattle.node.specs.Graphs.{Recorded, record_at, present, IsTouched}
-use Rattle.node.proofs.Lists.{some_is, none_some, true_false}
-use Rattle.open_nodes.specs.Nodes.{Nodes, Records, node_at, pending, IsOpen, IsUnsettled, IsClean, IsWhole, AreOut}
+use Rattle.node.specs.Graphs.{Recorded, record_at, present}
+use Rattle.node.proofs.Lists.{none_some, true_false}
+use Rattle.open_nodes.specs.Nodes.{Records, node_at, IsOpen, IsUnsettled, IsClean, AreOut}
 use Rattle.open_nodes.specs.Counted.{turns_of, HasMade}
 use Rattle.open_nodes.specs.Truths.{IsNext, Past, IsReached, AreReached, IsAfter, IsTrueOf, run_keys}
-use Rattle.open_nodes.specs.declared.run.Run.{Run}
 use Rattle.open_nodes.specs.declared.table.Table.{Table}
 use Rattle.open_nodes.proofs.Counting.{none_made, all_made}
 use Rattle.open_nodes.proofs.Settlings.{clean_settles}
 use Rattle.open_nodes.proofs.Wholes.{unsettled_not_clean}
-use Rattle.round.specs.Call.{IsAnswered, IsCall, IsHistory, Calls}
-use Rattle.round.specs.Here.{IsFresh, IsResting, IsTrueSince, IsAfterSince, LeadsSince}
+use Rattle.round.specs.Call.{IsCall, IsHistory}
+use Rattle.round.specs.Here.{IsFresh, IsAfterSince, LeadsSince}
 use Rattle.round.specs.Moves.{IsWholeNow, IsWanted}
 
 module _ (graph : Recorded) (table : Table) (f : IsFresh table) where

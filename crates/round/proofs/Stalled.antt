@@ -1,6 +1,6 @@
 -- A stall as it stands: each open node waits for a member of a group of its own, and stops at the first that has no value.
-use Rattle.std.proofs.Common.{◌≡◌, ◌≢◌, ◌⊎◌, inl, inr, ℕ, ◌+◌, suc, true, false, List, [], ◌∷◌, ◌++◌, length, map, take, Option, Some, None, refl, sym, ◌∙◌, ap, subst, add-one}
-use Rattle.evaluation.specs.Value.{In, first, after, IsMember, AllDiffer}
+use Rattle.std.proofs.Common.{◌≡◌, ◌⊎◌, inl, inr, ℕ, List, [], ◌∷◌, ◌++◌, take, Option, Some, None, refl, sym, ◌∙◌, ap, subst, add-one}
+use Rattle.evaluation.specs.Value.{In, first, IsMember}
 use Rattle.evaluation.specs.Graph.{Record}
 use Rattle.keys.specs.Turns.{NoCycle}
 use Rattle.keys.specs.declared.key.Key.{Key}
@@ -9,23 +9,23 @@ use Rattle.node.specs.Batches.{asked, keys_of, HasReadyEntries, SetsAll}
 use Rattle.node.specs.Graphs.{Recorded, record_at}
 use Rattle.node.specs.Kept.{items_of}
 use Rattle.node.specs.declared.entry.Entry.{Entry}
-use Rattle.node.proofs.Lists.{some_is, none_some, true_false, in_split, in_left, in_right, in_one}
-use Rattle.open_nodes.specs.Nodes.{Nodes, Records, node_at, groups_of, pending, IsOpen, IsUnsettled, IsClean, IsPlain, IsStill, Stands, IsCurrent, KeepsBack, IsBlocked, IsWhole, AreOut}
+use Rattle.node.proofs.Lists.{some_is, none_some, in_right}
+use Rattle.open_nodes.specs.Nodes.{Nodes, Records, node_at, groups_of, IsOpen, IsUnsettled, IsClean, IsPlain, IsStill, Stands, IsCurrent, KeepsBack, IsBlocked}
 use Rattle.open_nodes.specs.declared.table.Node.{Node}
 use Rattle.open_nodes.specs.declared.table.Phase.{Phase}
 use Rattle.open_nodes.specs.declared.table.Phase.TheVariants as phase
 use Rattle.open_nodes.specs.declared.table.Table.{Table}
 use Rattle.open_nodes.proofs.Counting.{decide_in}
-use Rattle.open_nodes.proofs.Settlings.{in_map, map_in}
+use Rattle.open_nodes.proofs.Settlings.{in_map}
 use Rattle.open_nodes.proofs.Wholes.{unsettled_not_clean}
-use Rattle.round.specs.Closing.{ClosesBy, ClosesWith, StopsIn, Stops, stop_at, closing_keys, IsClosed, HasTaken, IsIdle}
+use Rattle.round.specs.Closing.{ClosesBy, ClosesWith, Stops, stop_at, closing_keys, IsClosed, HasTaken, IsIdle}
 use Rattle.round.specs.Looks.{IsLastGroup}
-use Rattle.round.specs.Members.{IsStop, plain_value}
+use Rattle.round.specs.Members.{IsStop}
 use Rattle.round.specs.Moves.{IsWholeNow, IsWanted, KeepsWanted}
 use Rattle.round.specs.Showing.{IsStall, AreEntries}
 use Rattle.round.specs.declared.closing.Closing.{Closing}
 use Rattle.round.specs.declared.closing.Stall.{Stall}
-use Rattle.round.proofs.Grouping.{plain_has, snoc_in}
+use Rattle.round.proofs.Grouping.{snoc_in}
 use Rattle.round.proofs.Checking.{next_taken}
 use Rattle.round.proofs.Looking.{last_same}
 
@@ -88,7 +88,7 @@ module _ (graph : Recorded) (start later : Table) (stall : Stall) (version : ℕ
       go (phase.Checking at) b s c =
           let same : s.0 ≡ c.0 = some_is (sym s.1 ∙ c.2) in
           let still : (j : Key) → IsMember j (take at c.0.groups) → IsStill records c.0.settled_at j = λ j m.
-              subst (λ (r : Record Key Value). IsStill records r.settled_at j) same (s.3 j (subst (λ (r : Record Key Value). IsMember j (take at r.groups)) (sym same) m)) in
+          subst (λ (r : Record Key Value). IsStill records r.settled_at j) same (s.3 j (subst (λ (r : Record Key Value). IsMember j (take at r.groups)) (sym same) m)) in
           (take at c.0.groups, b c.0 c.2 ∙ rw add-one (next_taken at c.0.groups group c.1 c.3), (λ j m. let x = still j m in (x.0, x.1, x.2)), (c.0, c.1, c.2, c.3, still))
       go phase.Running b s c = (
         c.0,

@@ -1,17 +1,15 @@
 -- Nodes are taken out of those that are open.
-use Rattle.std.proofs.Common.{◌≡◌, ◌≢◌, ◌⊎◌, inl, inr, ℕ, ◌+◌, ◌<◌, ◌≤◌, suc, Bool, true, false, List, [], ◌∷◌, ◌++◌, length, map, take, Option, Some, None, refl, sym, ◌∙◌, ap, subst, arith, slice_index_or, length-append}
+use Rattle.std.proofs.Common.{◌≡◌, ◌≢◌, inl, inr, ℕ, ◌+◌, ◌<◌, ◌≤◌, Bool, true, false, List, [], ◌∷◌, ◌++◌, length, map, take, Option, Some, None, refl, sym, ◌∙◌, ap, subst, arith, slice_index_or, length-append}
 use Rattle.std.specs.declared.alloc.Global.{Global}
 use Rattle.std.specs.declared.vec.Vec.{Vec}
 use Rattle.std.specs.BTreeMap.{BTreeMap, get, is_at, Updates}
 use Rattle.std.specs.Map.{lookup}
-use Rattle.evaluation.specs.Value.{In, first, after, AllDiffer}
-use Rattle.evaluation.specs.Graph.{Record}
+use Rattle.evaluation.specs.Value.{In, first, AllDiffer}
 use Rattle.keys.specs.Keys.{key_cmp}
 use Rattle.keys.specs.declared.key.Key.{Key}
-use Rattle.keys.specs.declared.value.Value.{Value}
 use Rattle.node.specs.Kept.{items_of}
-use Rattle.node.proofs.Lists.{some_is, none_some, true_false, decide_key, other_key, in_split, in_left, in_right, in_one}
-use Rattle.open_nodes.specs.Nodes.{Nodes, Records, node_at, groups_of, IsOpen, Stands, Holds}
+use Rattle.node.proofs.Lists.{some_is, none_some, true_false, other_key, in_left, in_right}
+use Rattle.open_nodes.specs.Nodes.{Nodes, Records, node_at, groups_of, Stands, Holds}
 use Rattle.open_nodes.specs.Counted.{turns_of, asked_by, MakesNone}
 use Rattle.open_nodes.specs.Steps.{HasNoted}
 use Rattle.open_nodes.specs.declared.run.Run.{Run}
@@ -21,10 +19,10 @@ use Rattle.open_nodes.specs.declared.table.Phase.TheVariants as phase
 use Rattle.open_nodes.specs.declared.table.Table.{Table}
 use Rattle.open_nodes.proofs.Counting.{turns_snoc, counts_none, makes_on}
 use Rattle.open_nodes.proofs.Settlings.{differ_snoc, map_snoc, in_map, map_in}
-use Rattle.round.specs.Closing.{ClosesBy, ClosesWith, HasTurnedBy, HasTurned, StopsIn, Stops, stop_at, PutsStop, closing_keys, IsClosed, IsRunOfClosed, HasTaken}
+use Rattle.round.specs.Closing.{ClosesBy, ClosesWith, HasTurnedBy, HasTurned, StopsIn, stop_at, PutsStop, closing_keys, IsClosed, IsRunOfClosed, HasTaken}
 use Rattle.round.specs.declared.closing.Closing.{Closing}
 use Rattle.round.specs.declared.closing.Stall.{Stall}
-use Rattle.round.proofs.Grouping.{taken_next, items_length, snoc_in, snoc_all, items_taken}
+use Rattle.round.proofs.Grouping.{taken_next, items_length, snoc_in, items_taken}
 use Rattle.round.proofs.Confirming.{take_whole}
 
 items_snoc : (xs : List (Vec Key Global)) (x : Vec Key Global) → items_of (xs ++ x ∷ []) ≡ items_of xs ++ x.items ∷ []

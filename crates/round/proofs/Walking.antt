@@ -1,10 +1,10 @@
 -- Walks along stops.
-use Rattle.std.proofs.Common.{◌≡◌, ◌≢◌, ◌⊎◌, inl, inr, ℕ, zero, suc, ◌+◌, ◌-◌, ◌<◌, ◌≤◌, Bool, true, false, List, [], ◌∷◌, ◌++◌, length, map, take, drop, Option, Some, None, refl, sym, ◌∙◌, ap, subst, slice_index_or, arith}
+use Rattle.std.proofs.Common.{◌≡◌, ◌≢◌, ◌⊎◌, inl, inr, ℕ, zero, suc, ◌+◌, ◌-◌, ◌<◌, ◌≤◌, Bool, true, false, List, [], ◌∷◌, ◌++◌, length, take, drop, Option, Some, None, refl, sym, ◌∙◌, ap, subst, slice_index_or, arith}
 use Rattle.std.proofs.lemmas.List.{take-append-drop}
 use Rattle.std.specs.List.{filter_map, AllByRecursion}
 use Rattle.std.specs.Option.{option_map}
 use Rattle.std.specs.Arc.{arc_value}
-use Rattle.std.specs.BTreeMap.{BTreeMap, get, Updates}
+use Rattle.std.specs.BTreeMap.{Updates}
 use Rattle.std.specs.declared.alloc.Global.{Global}
 use Rattle.std.specs.declared.sync.Arc.{Arc}
 use Rattle.evaluation.specs.Value.{In, first, after, AllDiffer}
@@ -18,13 +18,13 @@ use Rattle.node.specs.Batches.{asked, keys_of}
 use Rattle.node.specs.Graphs.{present}
 use Rattle.node.specs.Kept.{items_of}
 use Rattle.node.specs.declared.entry.Entry.{Entry}
-use Rattle.node.proofs.Lists.{some_is, none_some, true_false, decide_key, other_key, in_split, in_left, in_right, in_one}
-use Rattle.open_nodes.specs.Nodes.{Records, IsClean, IsUnsettled}
+use Rattle.node.proofs.Lists.{some_is, none_some, true_false, decide_key, other_key, in_left, in_right}
+use Rattle.open_nodes.specs.Nodes.{Records, IsClean}
 use Rattle.open_nodes.proofs.Counting.{decide_in}
 use Rattle.open_nodes.proofs.Settlings.{differ_snoc, map_snoc, map_in}
 use Rattle.round.specs.Closing.{Stops, stop_at, closing_keys}
 use Rattle.round.specs.declared.closing.Closing.{Closing}
-use Rattle.round.specs.Showing.{Chain, stay, step, Ends, Shows, IsStall, Shown, shown_at, IsShowing, HasWalked, IsFrom, value_in, EndsWith, ShowsAll, AreEntries}
+use Rattle.round.specs.Showing.{Chain, stay, step, Shows, IsStall, Shown, shown_at, IsShowing, HasWalked, IsFrom, value_in, EndsWith, ShowsAll, AreEntries}
 use Rattle.round.proofs.Stalling.{empty_has}
 use Rattle.round.proofs.Confirming.{take_whole}
 use Rattle.round.proofs.Grouping.{taken_next, snoc_in, rest_at}

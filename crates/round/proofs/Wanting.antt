@@ -1,5 +1,5 @@
 -- Leaves are read, and nodes begin.
-use Rattle.std.proofs.Common.{◌≡◌, ◌≢◌, ◌⊎◌, inl, inr, ℕ, ◌<◌, ◌≤◌, Bool, true, false, List, [], ◌∷◌, ◌++◌, map, Option, Some, None, refl, sym, ◌∙◌, ap, subst, length, arith, ◌+◌, Result, Ok, Err, IsErr}
+use Rattle.std.proofs.Common.{◌≡◌, ◌≢◌, ◌⊎◌, inl, inr, ℕ, ◌≤◌, Bool, true, false, List, [], ◌∷◌, ◌++◌, map, Option, Some, None, refl, sym, ◌∙◌, ap, subst, length, arith, Result, Ok, Err, IsErr}
 use Rattle.std.specs.BTreeMap.{Updates}
 use Rattle.std.specs.Option.{is_some}
 use Rattle.std.specs.declared.alloc.Global.{Global}
@@ -9,30 +9,29 @@ use Rattle.functions.specs.Next as leaves
 use Rattle.keys.specs.declared.key.Key.TheVariants as key
 use Rattle.node.specs.Kept.{items_of}
 use Rattle.evaluation.specs.Reply.{Reply}
-use Rattle.evaluation.specs.Value.{Settles, leaf, In, first, after, IsMember}
+use Rattle.evaluation.specs.Value.{leaf, In, first, IsMember}
 use Rattle.evaluation.specs.Graph.{Record}
 use Rattle.evaluation.specs.Journal.{RunIsJustified, never_settled, ReadIsJustified, never_read, edited}
 use Rattle.keys.specs.Cycles.{cycle}
 use Rattle.keys.specs.Keys.{key_cmp}
 use Rattle.keys.specs.declared.key.Key.{Key}
 use Rattle.keys.specs.declared.value.Value.{Value}
-use Rattle.node.specs.Graphs.{Recorded, record_at, present, Sets, IsTouched}
+use Rattle.node.specs.Graphs.{Recorded, record_at, Sets, IsTouched}
 use Rattle.node.specs.Writes.{stored}
-use Rattle.node.specs.Laws.{IsLawfulFor, SettlingKeepsLawful}
-use Rattle.node.specs.Edges.{IsAdded}
-use Rattle.node.proofs.Lists.{some_is, none_some, true_false, decide_key, other_key, in_split, in_left, in_right, in_one}
-use Rattle.open_nodes.specs.Nodes.{Nodes, Records, node_at, groups_of, pending, IsOpen, IsUnsettled, IsClean, IsPlain, Stands, AreReady, IsWhole, Widens, AreOut}
+use Rattle.node.specs.Laws.{SettlingKeepsLawful}
+use Rattle.node.proofs.Lists.{some_is, none_some, true_false, decide_key, other_key, in_split, in_left, in_right}
+use Rattle.open_nodes.specs.Nodes.{Nodes, Records, node_at, groups_of, pending, IsOpen, IsUnsettled, Stands, IsWhole}
 use Rattle.open_nodes.specs.Steps.{HasEntered, Pends, Readies, HasNoted, SameRuns}
 use Rattle.open_nodes.specs.Counted.{turns_of, asked_by}
-use Rattle.open_nodes.specs.Truths.{Leads, LeadsOf, AreReached, IsNext, Past, IsAfter, IsTrueOf, IsRun, Asks, nothing, IsDoing, IsItem, Leads}
+use Rattle.open_nodes.specs.Truths.{Leads, LeadsOf, AreReached, IsNext, Past, IsAfter, IsTrueOf, IsRun, nothing, IsDoing, Leads}
 use Rattle.open_nodes.specs.declared.run.Run.{Run}
 use Rattle.open_nodes.specs.declared.table.Node.{Node}
 use Rattle.open_nodes.specs.declared.table.Phase.{Phase}
 use Rattle.open_nodes.specs.declared.table.Phase.TheVariants as phase
 use Rattle.open_nodes.specs.declared.table.Table.{Table}
-use Rattle.open_nodes.proofs.Wholes.{unsettled_not_clean, node_changes, open_on, node_settles, keeps_clean, widens_refl, widens_on}
+use Rattle.open_nodes.proofs.Wholes.{unsettled_not_clean, node_changes, node_settles, keeps_clean, widens_refl, widens_on}
 use Rattle.open_nodes.proofs.Counting.{turns_snoc, counts_same, counts_none, makes_on}
-use Rattle.open_nodes.proofs.Settlings.{now_is, same_since, truth_changes, settled_after, settles_by_run}
+use Rattle.open_nodes.proofs.Settlings.{same_since, truth_changes, settles_by_run}
 use Rattle.round.specs.Moves.{Wants, IsWanted, KeepsWanted}
 
 -- what was true of the round is true after a move

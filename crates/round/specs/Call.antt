@@ -1,5 +1,5 @@
 -- What a call of an evaluation promises, for every history of the files for which the graph was lawful at its entry.
-use Rattle.std.specs.Prelude.{◌≡◌, ℕ, List, Option, Some, false, Result, Ok, Err, ⊤}
+use Rattle.std.specs.Prelude.{◌≡◌, List, Option, Some, false, Result, Ok, Err}
 use Rattle.evaluation.specs.Reply.{Reply}
 use Rattle.evaluation.specs.Value.{In, AllDiffer, HasValue}
 use Rattle.evaluation.specs.Graph.{Record}
@@ -8,12 +8,10 @@ use Rattle.keys.specs.declared.key.Key.{Key}
 use Rattle.keys.specs.declared.value.Value.{Value}
 use Rattle.node.specs.Graphs.{Recorded, record_at}
 use Rattle.node.specs.Laws.{IsLawfulFor}
-use Rattle.open_nodes.specs.Counted.{turns_of}
 use Rattle.open_nodes.specs.Nodes.{IsUnsettled}
 use Rattle.open_nodes.specs.Truths.{Past, IsAfter, IsRunOf, IsTold, run_keys}
 use Rattle.open_nodes.specs.declared.run.Run.{Run}
 use Rattle.round.specs.declared.stop.Stop.{Stop}
-use Rattle.round.specs.declared.stop.Stop.TheVariants as stop
 
 module _ (next : Key → List Value → Reply Key Value) (read : Key → Option Value) where
   -- the key is settled, with its value at the present files
@@ -46,9 +44,3 @@ module _ (next : Key → List Value → Reply Key Value) (read : Key → Option 
   -- a root is not settled, whatever the history is
   abbrev pub HasOpenRoot : List Key → Recorded → Recorded → Type 0
   HasOpenRoot roots old new = (past : Past read) → IsHistory past roots old → (k : Key) × In k roots × IsUnsettled (record_at new) k
-
-  -- the turns made: those of the runs; or all of the budget, and a root is open
-  abbrev pub Spends : List Key → ℕ → Recorded → Recorded → Result (List Run) Stop → ℕ → Type 0
-  Spends roots budget old new (Ok runs) made = made ≡ turns_of runs
-  Spends roots budget old new (Err stop.Budget) made = (made ≡ budget) × HasOpenRoot roots old new
-  Spends roots budget old new (Err stop.Memory) made = ⊤

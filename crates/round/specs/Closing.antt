@@ -1,5 +1,5 @@
 -- The nodes that a stall closes, as they were open beside the graph.
-use Rattle.std.specs.Prelude.{◌≡◌, ℕ, ◌+◌, List, [], ◌∷◌, ◌++◌, length, map, take, Bool, true, false, Option, Some, None}
+use Rattle.std.specs.Prelude.{◌≡◌, ℕ, ◌+◌, List, [], ◌++◌, length, map, take, Bool, true, false, Option, Some, None}
 use Rattle.std.specs.BTreeMap.{BTreeMap, get, Updates}
 use Rattle.evaluation.specs.Graph.{Record}
 use Rattle.evaluation.specs.Value.{In, AllDiffer}

@@ -1,5 +1,5 @@
 -- How an evaluation on one thread stands between two turns.
-use Rattle.std.specs.Prelude.{◌≡◌, ℕ, ◌+◌, List, [], Option, Some, None, Result, Ok, Err}
+use Rattle.std.specs.Prelude.{◌≡◌, ℕ, ◌+◌, List, [], Option, None, Result, Ok, Err}
 use Rattle.evaluation.specs.Reply.{Reply}
 use Rattle.evaluation.specs.Value.{In}
 use Rattle.keys.specs.declared.key.Key.{Key}
@@ -8,8 +8,9 @@ use Rattle.node.specs.Graphs.{Recorded}
 use Rattle.open_nodes.specs.Counted.{HasMade}
 use Rattle.open_nodes.specs.Nodes.{node_at, pending, AreOut}
 use Rattle.open_nodes.specs.Truths.{IsNext, Past, IsAfter, IsTrueOf}
+use Rattle.open_nodes.specs.declared.run.Run.{Run}
 use Rattle.open_nodes.specs.declared.table.Table.{Table}
-use Rattle.round.specs.Call.{IsHistory}
+use Rattle.round.specs.Call.{IsHistory, IsCall}
 use Rattle.round.specs.Moves.{IsWanted, IsWholeNow}
 
 -- no job is out, and nothing is to be looked at; the roots are wanted, and so many turns were made
@@ -42,3 +43,8 @@ IsAfterSince next read roots old graph = (laws : IsNext next) (past : Past read)
 abbrev pub LeadsSince : {X E : Type 0} → (Key → List Value → Reply Key Value) → (Key → Option Value) → List Key → Recorded → Recorded → Table → Result X E → Type 0
 LeadsSince next read roots old graph table (Ok x) = IsTrueSince next read roots old graph table
 LeadsSince next read roots old graph table (Err e) = IsAfterSince next read roots old graph
+
+-- where the roots are wanted, the evaluation ends well by closing what is open
+abbrev pub Finishes : {E : Type 0} → (Key → List Value → Reply Key Value) → (Key → Option Value) → Recorded → Recorded → Table → Result (List Run) E → Type 0
+Finishes next read old new table (Ok runs) = (laws : IsNext next) (past : Past read) → ((k : Key) → In k past.roots → IsWanted old table k) → IsTrueOf next read past old table.nodes table.runs.items → IsCall next read past new runs
+Finishes next read old new table (Err e) = (laws : IsNext next) (past : Past read) → IsTrueOf next read past old table.nodes table.runs.items → IsAfter next read past new

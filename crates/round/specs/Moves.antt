@@ -4,7 +4,7 @@ use Rattle.evaluation.specs.Reply.{Reply}
 use Rattle.keys.specs.declared.key.Key.{Key}
 use Rattle.keys.specs.declared.value.Value.{Value}
 use Rattle.node.specs.Graphs.{Recorded, record_at}
-use Rattle.open_nodes.specs.Nodes.{node_at, IsOpen, IsClean, IsWhole, Widens, pending, AreOut}
+use Rattle.open_nodes.specs.Nodes.{IsOpen, IsClean, IsWhole, Widens, pending, AreOut}
 use Rattle.open_nodes.specs.Counted.{MakesNone}
 use Rattle.open_nodes.specs.Truths.{Leads, LeadsOf}
 use Rattle.open_nodes.specs.declared.table.Table.{Table}

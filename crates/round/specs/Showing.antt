@@ -16,7 +16,7 @@ use Rattle.node.specs.Graphs.{present}
 use Rattle.node.specs.Kept.{items_of}
 use Rattle.node.specs.declared.entry.Entry.{Entry}
 use Rattle.open_nodes.specs.Nodes.{Records, IsClean, IsUnsettled}
-use Rattle.round.specs.Closing.{Stops, stop_at, closing_keys}
+use Rattle.round.specs.Closing.{Stops, stop_at}
 use Rattle.round.specs.declared.closing.Closing.{Closing}
 
 -- the walk along the stops from k meets these keys and comes to j

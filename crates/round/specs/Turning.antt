@@ -1,12 +1,11 @@
 -- Turns that are handed out, and what they lead to.
 use Rattle.std.specs.Prelude.{◌≡◌, List, ◌∷◌, Option, Some, None}
-use Rattle.evaluation.specs.Reply.{Reply, Done}
 use Rattle.evaluation.specs.Value.{In}
 use Rattle.keys.specs.Jobs.{Asked}
 use Rattle.keys.specs.declared.key.Key.{Key}
 use Rattle.keys.specs.declared.value.Value.{Value}
 use Rattle.node.specs.Graphs.{Recorded, record_at}
-use Rattle.open_nodes.specs.Nodes.{node_at, groups_of, IsWhole, AreOut, pending}
+use Rattle.open_nodes.specs.Nodes.{node_at, groups_of, AreOut}
 use Rattle.open_nodes.specs.Counted.{MakesNone, MakesMore}
 use Rattle.open_nodes.specs.declared.table.Node.{Node}
 use Rattle.open_nodes.specs.declared.table.Phase.TheVariants as phase

@@ -1,17 +1,18 @@
 //! An evaluation on one thread.
 ghost use Rattle.std.specs.Prelude.{◌≡◌, ◌+◌, ◌≤◌, ℕ, [], true, false, IfOk, OnOk, Some, None, Option};
-ghost use Rattle.std.specs.Prelude.{List, IfSome, IfNone};
+ghost use Rattle.std.specs.Prelude.{List, IfSome, IfNone, IfErr, IsErrOf, Ok, Err};
 ghost use Rattle.evaluation.specs.Reply.{Reply};
 ghost use Rattle.evaluation.specs.Value.{In};
 ghost use Rattle.functions.specs.Next as leaves;
 ghost use Rattle.keys.specs.declared.key.Key.{Key};
 ghost use Rattle.keys.specs.declared.value.Value.{Value};
 ghost use Rattle.node.specs.Graphs.{record_at};
-ghost use Rattle.open_nodes.specs.Counted.{turns_of};
+ghost use Rattle.open_nodes.specs.Counted.{HasMade, turns_of};
 ghost use Rattle.open_nodes.specs.Nodes.{pending, AreOut};
 ghost use Rattle.open_nodes.specs.Truths.{Leads};
-ghost use Rattle.round.specs.Call.{Calls, Spends};
-ghost use Rattle.round.specs.Here.{IsFresh, IsResting, TurnsOnce, IsTrueSince, LeadsSince};
+ghost use Rattle.round.specs.Closing.{IsIdle};
+ghost use Rattle.round.specs.Call.{Calls, HasOpenRoot};
+ghost use Rattle.round.specs.Here.{IsFresh, IsResting, TurnsOnce, LeadsSince, Finishes};
 ghost use Rattle.round.specs.Moves.{KeepsTrue, IsWholeNow};
 
 use crate::close::close_cycles;
@@ -79,5 +80,62 @@ fn turn<R: Rules>(
             look_at_all(alloc, graph, tree, table)?;
             Ok(())
         }
+    }
+}
+
+// The runs of an evaluation in which no turn can be made any more: what is open is closed.
+fn finish(alloc: Global, graph: &mut Graph, mut table: Table) -> Result<Vec<Run>, Memory>
+    requires whole { IsWholeNow graph.old table }
+    requires idle { IsIdle table }
+    ensures made { IfOk result (λ runs. (made : ℕ) → HasMade table made → made ≡ turns_of runs.items) }
+    ensures law { IfOk result (λ runs. (read : Key → Option Value) (next : Key → List Value → Reply Key Value) → Finishes {E = Stop} next read graph.old graph.new table (Ok runs.items)) }
+    ensures stopped { IfErr result (λ e. (read : Key → Option Value) (next : Key → List Value → Reply Key Value) → Finishes next read graph.old graph.new table (Err e)) }
+{
+    close_cycles(alloc, graph, &mut table)?;
+    let Table {
+        nodes: _,
+        ready: _,
+        work: _,
+        looked: _,
+        runs,
+    } = table;
+    Ok(runs)
+}
+
+/// Evaluates the roots over the graph on one thread, in at most `budget` turns of the rules. Each root is settled then
+/// with its value at the tree's files; the runs are those of this call, in the order in which their nodes were settled.
+///
+/// A node with a record that is marked checks the groups of its record in their order: where no member has changed since,
+/// it is settled without a turn, and at the first group with a changed member it runs. Where no turn can be made any
+/// more, the open nodes lead into loops, and are settled with these.
+///
+/// `Stop::Budget` where the budget is spent and a root is still open; `Stop::Memory` where a growth was refused. After
+/// a stop the graph is lawful for the same history, no record is lost, and only nodes that were settled have new ones.
+/// That the tree is the last of the history for which the graph is lawful is the caller's condition.
+pub fn evaluate_here<R: Rules>(
+    alloc: Global,
+    graph: &mut Graph,
+    tree: &Tree,
+    roots: &[Key],
+    rules: &mut R,
+    budget: u64,
+) -> Result<Vec<Run>, Stop>
+    ensures law { IfOk result (λ runs. Calls R.next (leaves.read tree.now) roots.now graph.old graph.new (Ok runs.items)) }
+    ensures stopped { IfErr result (λ e. Calls R.next (leaves.read tree.now) roots.now graph.old graph.new (Err e)) }
+    ensures turns { IfOk result (λ runs. R.turns rules.new ≡ R.turns rules.old + turns_of runs.items) }
+    ensures budget { IsErrOf result Stop.Budget → (R.turns rules.new ≡ R.turns rules.old + budget) × HasOpenRoot R.next (leaves.read tree.now) roots.now graph.old graph.new }
+    ensures at_most { (R.turns rules.old ≤ R.turns rules.new) × (R.turns rules.new ≤ R.turns rules.old + budget) }
+{
+    let mut table = Table::new(alloc);
+    open(alloc, graph, tree, &mut table, roots)?;
+    for _made in 0..budget {
+        match first_of(&table.ready)? {
+            None => return Ok(finish(alloc, graph, table)?),
+            Some(key) => turn(alloc, graph, tree, rules, &mut table, &key)?,
+        }
+    }
+    match first_of(&table.ready)? {
+        None => Ok(finish(alloc, graph, table)?),
+        Some(_) => Err(Stop::Budget),
     }
 }

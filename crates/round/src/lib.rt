@@ -13,5 +13,6 @@ mod stop;
 mod turns;
 
 pub use from_nothing::evaluate_from_nothing;
+pub use here::evaluate_here;
 pub use open_nodes::Run;
 pub use stop::Stop;

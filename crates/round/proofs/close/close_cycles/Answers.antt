@@ -1,7 +1,3 @@
-use Rattle.std.proofs.Common.{refl}
-use Rattle.node.specs.Graphs.{record_at}
-use Rattle.round.specs.Closing.{stop_at}
-use Rattle.round.specs.Showing.{AreEntries}
 use Rattle.round.proofs.Stalled.{closed_keeps, is_stall, its_stop, entries_ready}
 use Rattle.round.proofs.Closings.{closed_true}
 use Rattle.round.proofs.close.close_cycles.Goals as goal

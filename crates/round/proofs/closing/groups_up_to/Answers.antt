@@ -1,4 +1,4 @@
-use Rattle.std.proofs.Common.{length, ◌≡◌, ◌+◌, subst, ap, sym, ◌∙◌, arith}
+use Rattle.std.proofs.Common.{length, ◌+◌, subst, ap, sym, ◌∙◌, arith}
 use Rattle.node.specs.Kept.{items_of}
 use Rattle.round.proofs.Stalling.{CopiesGroups, copies_more, copied_enough, copied_all}
 use Rattle.round.proofs.closing.groups_up_to.Goals as goal

@@ -1,6 +1,6 @@
 use Rattle.std.proofs.Common.{subst, sym}
 use Rattle.evaluation.specs.Value.{In}
-use Rattle.node.proofs.Joining.{has_in, in_has}
+use Rattle.node.proofs.Joining.{in_has}
 use Rattle.round.proofs.here.first_of.Goals as goal
 
 pub returns-in_ok-share-in-Some-clause-some : goal.returns-in_ok-share-in-Some-clause-some

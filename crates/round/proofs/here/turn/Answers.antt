@@ -2,7 +2,6 @@ use Rattle.std.proofs.Common.{◌∙◌, ◌+◌, ◌∷◌, [], sym, ap, subst}
 use Rattle.keys.specs.Jobs.{Asked, turns_made}
 use Rattle.functions.specs.Next as leaves
 use Rattle.open_nodes.specs.Nodes.{AreOut}
-use Rattle.round.specs.Turning.{Hands}
 use Rattle.round.proofs.Wanting.{leads_err}
 use Rattle.round.proofs.here.turn.Goals as goal
 

@@ -1,11 +1,8 @@
-use Rattle.std.proofs.Common.{◌≡◌, ◌≢◌, sym, ap, subst, inl, inr, arith}
+use Rattle.std.proofs.Common.{subst}
 use Rattle.functions.specs.Next as leaves
 use Rattle.std.proofs.Common.{ℕ}
-use Rattle.node.specs.Graphs.{record_at}
 use Rattle.open_nodes.specs.Steps.{HasPhase}
 use Rattle.open_nodes.specs.declared.table.Phase.TheVariants as phase
-use Rattle.round.specs.declared.look.Compared.{Compared}
-use Rattle.round.specs.declared.look.Compared.TheVariants as compared
 use Rattle.round.proofs.Checking.{passes_all, awaits_found, differs_found, passes_found, set_keeps, passed_whole, passed_out, passed_turns, passed_true, rerun_whole, rerun_out, rerun_turns, rerun_true, next_is}
 use Rattle.round.proofs.look.check.Goals as goal
 

@@ -1,5 +1,4 @@
-use Rattle.std.proofs.Common.{sym, ap, subst, ◌∷◌}
-use Rattle.evaluation.specs.Value.{In}
+use Rattle.std.proofs.Common.{ap}
 use Rattle.open_nodes.specs.Counted.{turns_of}
 use Rattle.open_nodes.proofs.Counting.{counts_same}
 use Rattle.round.proofs.Wanting.{wanted_same}

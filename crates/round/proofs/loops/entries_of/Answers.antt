@@ -1,4 +1,4 @@
-use Rattle.std.proofs.Common.{refl, sym, subst, ap, ◌∙◌, arith}
+use Rattle.std.proofs.Common.{refl, sym, subst, arith}
 use Rattle.evaluation.specs.Value.{In, first}
 use Rattle.node.specs.Graphs.{record_at}
 use Rattle.node.proofs.Lists.{in_right, none_of}

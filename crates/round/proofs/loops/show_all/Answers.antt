@@ -1,4 +1,4 @@
-use Rattle.std.proofs.Common.{◌+◌, subst, sym, take, Some}
+use Rattle.std.proofs.Common.{subst, sym, take, Some}
 use Rattle.std.specs.BTreeMap.{Updates}
 use Rattle.keys.specs.Keys.{key_cmp}
 use Rattle.std.specs.Arc.{arc_value}

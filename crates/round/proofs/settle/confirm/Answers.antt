@@ -1,6 +1,4 @@
-use Rattle.std.proofs.Common.{sym, ap, Some}
-use Rattle.std.specs.Prelude.{IsSome}
-use Rattle.round.proofs.Confirming.{recorded, clean_members, confirmed_whole, confirmed_out, confirmed_keeps, confirmed_turns, confirmed_true, is_recorded}
+use Rattle.round.proofs.Confirming.{clean_members, confirmed_whole, confirmed_out, confirmed_keeps, confirmed_turns, confirmed_true, is_recorded}
 use Rattle.round.proofs.settle.confirm.Goals as goal
 
 pub confirm-requires-clause-recorded : goal.confirm-requires-clause-recorded

@@ -1,4 +1,4 @@
-use Rattle.std.proofs.Common.{◌∙◌, sym, ap, subst}
+use Rattle.std.proofs.Common.{◌∙◌, sym, ap}
 use Rattle.std.specs.Arc.{arc_value}
 use Rattle.evaluation.specs.Reply.{Done}
 use Rattle.std.proofs.Common.{◌+◌}

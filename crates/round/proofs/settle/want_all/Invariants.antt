@@ -1,9 +1,8 @@
-use Rattle.std.proofs.Common.{◌≡◌, take, Ok, Result}
-use Rattle.texts.specs.declared.Memory.{Memory}
+use Rattle.std.proofs.Common.{◌≡◌, take}
 use Rattle.evaluation.specs.Value.{In}
 use Rattle.functions.specs.Next as leaves
 use Rattle.keys.specs.declared.key.Key.{Key}
-use Rattle.round.specs.Moves.{KeepsTrue, Wants, IsWanted}
+use Rattle.round.specs.Moves.{Wants, IsWanted}
 use Rattle.round.proofs.Wanting.{StaysTrueOf}
 use Rattle.round.proofs.settle.want_all.Given as goal
 

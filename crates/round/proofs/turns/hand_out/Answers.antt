@@ -1,4 +1,4 @@
-use Rattle.std.proofs.Common.{◌∙◌, sym, ap, subst, Option}
+use Rattle.std.proofs.Common.{◌∙◌, sym, subst}
 use Rattle.std.specs.Option.{option_map}
 use Rattle.keys.specs.Turns.{values}
 use Rattle.node.specs.Graphs.{record_at}
