@@ -1,6 +1,6 @@
 -- The graph and the requests so far: what one more request does.
-use Rattle.std.proofs.Common.{◌≡◌, ◌⊎◌, inl, inr, ℕ, ◌<◌, ◌≤◌, false, cond, List, [], ◌∷◌, Option, Some, None, refl, sym, ◌∙◌, ap, subst, arith}
-use Rattle.evaluation.specs.Value.{leaf as leaf_settles, run as run_settles, is_leaf, has_run, Grounded, HasValue, In, first, after, IsMember, Settles}
+use Rattle.std.proofs.Common.{◌≡◌, ◌⊎◌, inl, inr, ℕ, ◌<◌, ◌≤◌, false, cond, List, [], ◌∷◌, Option, Some, None, refl, suc, length, sym, ◌∙◌, ap, subst, arith}
+use Rattle.evaluation.specs.Value.{IsUngrounded, leaf as leaf_settles, run as run_settles, is_leaf, has_run, Grounded, HasValue, In, first, after, IsMember, Settles}
 use Rattle.evaluation.specs.Graph.{Record, Differs}
 use Rattle.evaluation.specs.Journal.{RunIsJustified, never_settled, dependency_differs, ReadIsJustified, never_read, edited}
 use Rattle.evaluation.specs.Reached.{Reached, root, member}
@@ -19,7 +19,7 @@ use Rattle.open_nodes.specs.declared.run.Run.{Run}
 use Rattle.round.specs.Call.{IsCall}
 use Rattle.loader.specs.Journal.{Asked, leaves, IsSettledBy, IsLastSettled, by_newest, by_earlier, MayRun, first_run, run_again, MayBeRead, first_read, read_again, IsItemOf, MissesNone, AreItemsOf}
 use Rattle.loader.specs.Linked.{Stays, IsLinked}
-use Rattle.loader.proofs.Asked.{asked_recorded, recorded_asked}
+use Rattle.loader.proofs.Asked.{asked_recorded, recorded_asked, asks_some}
 use Rattle.loader.proofs.Linking.{same_at, stays_now, read_plain}
 
 -- a key with a clean record is settled
@@ -216,6 +216,16 @@ module _ (files : ℕ → Files) (paths : ℕ → List ℕ) where
           | inr n ↦ (n.5, (n.0, n.1, n.3))
         ]
 
+    -- what is no leaf has a turn
+    some_turn : {run : Run} (p : IsRunOf next (at old.version) (past_of old roots) new run) → at old.version run.key ≡ None
+        → (Grounded next (at old.version) run.key p.of_key.value × (run.turns ≡ suc (length p.of_key.groups))) ⊎ (IsUngrounded next (at old.version) run.key × (run.turns ≡ length p.of_key.groups)) → 0 < run.turns
+    some_turn p n (inl g) = let t = g.1 in omega arith
+    some_turn {run = run} p n (inr u) =
+        let s = subst (λ (m : ℕ). Settles next (at m) cycle run.key p.of_key.groups p.of_key.value) version ((law.each run.key p.of_key p.recorded).clean p.clean) in
+        let h = asks_some next cycle (at old.version) s n u.0 in
+        let t = u.1 in
+        omega arith
+
     pub item_of : (run : Run) → In run runs → IsItemOf files paths earlier request run
     item_of run i =
         let p = call.ran run i in
@@ -224,7 +234,7 @@ module _ (files : ℕ → Files) (paths : ℕ → List ℕ) where
           settled = (item_now run i).0;
           justified = elim p.item [
             | inl l ↦ inl (p.of_key.value, l.0, l.1, may_read run.key p.of_key.value l.0 (record_at old run.key) refl l.2)
-            | inr n ↦ inr (n.0, may_run run.key (record_at old run.key) refl n.1)
+            | inr n ↦ inr (n.0, some_turn p n.0 n.2, may_run run.key (record_at old run.key) refl n.1)
           ];
         }
 

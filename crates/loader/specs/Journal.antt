@@ -61,12 +61,12 @@ module _ (files : ℕ → Files) (paths : ℕ → List ℕ) where
       first_read : IsNeverSettled k earlier → MayBeRead k v
       read_again : IsSettledOnce k earlier → ((u : ℕ) → IsLastSettled k u earlier → (w : ℕ) × (u < w) × (w ≤ v) × IsTouched (paths w) k) → MayBeRead k v
 
-    -- the item of a request is of a key that the request settles, and justified: a leaf with no turns may be read, another key may run
+    -- the item of a request is of a key that the request settles, and justified: a leaf with no turns may be read, another key with turns may run
     pub record IsItemOf (request : Asked) (run : Run) : Type 0 where
       pub version : run.version ≡ request.version
       pub settled : IsSettledBy run.key request
       pub justified : ((x : Value) × (leaves request.version run.key ≡ Some x) × (run.turns ≡ 0) × MayBeRead run.key request.version)
-          ⊎ ((leaves request.version run.key ≡ None) × MayRun run.key request.version)
+          ⊎ ((leaves request.version run.key ≡ None) × (0 < run.turns) × MayRun run.key request.version)
 
     -- the items of a request miss no key that it settles for the first time, and no grounded one whose value is another than when it was last settled
     pub record MissesNone (request : Asked) (runs : List Run) : Type 0 where

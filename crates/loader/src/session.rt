@@ -1,24 +1,35 @@
 //! The present files with the graph of what was found out about them, and their edits.
-ghost use Rattle.std.specs.Prelude.{◌≡◌, ◌<◌, ◌++◌, ◌∷◌, [], Option, IfOk, OnOk, OnErr};
+ghost use Rattle.std.specs.Prelude.{◌≡◌, ◌<◌, ◌++◌, ◌∷◌, [], Option, Some, Ok, IfOk, IfErr, OnOk, OnErr, option_map, string_bytes};
 ghost use Rattle.evaluation.specs.Graph.{Marks};
 ghost use Rattle.filetree.specs.Edits as edits;
 ghost use Rattle.functions.specs.Lookups.{build_of};
 ghost use Rattle.keys.specs.declared.value.BuildName.{BuildName};
 ghost use Rattle.keys.specs.declared.value.Value.TheVariants as values;
 ghost use Rattle.node.specs.Graphs.{record_at, IsTouched};
+ghost use Rattle.functions.specs.Next.{next, read};
+ghost use Rattle.keys.specs.declared.key.Key.TheVariants as keys;
+ghost use Rattle.round.specs.Call.{Calls};
+ghost use Rattle.serde_json.specs.Written.{compact_text};
+ghost use Rattle.std.specs.Arc.{arc_value};
+ghost use Rattle.loader.specs.Answers as answers;
+ghost use Rattle.loader.specs.Effects.{Moves, StopsAfter, request_effect, request_roots};
 ghost use Rattle.loader.specs.State as state;
 ghost use Rattle.loader.specs.Held.{state_of, files_of, path_of, IsLawful};
-ghost use Rattle.loader.specs.Seen.{edit_seen};
+ghost use Rattle.loader.specs.Seen.{edit_seen, request_seen};
 
 use crate::accepted::Accepted;
 use crate::edit::{Edit, EditError};
+use crate::request::{Reply, Request};
+use crate::written::{build, refused};
 use filetree::{Tree, TreeError};
 use functions::Loading;
 use keys::{BuildName, Key, Value};
+use labels::is_package_name;
 use node::Graph;
-use round::{Stop, evaluate_from_nothing};
+use round::{Run, Stop, evaluate_here};
 use std::alloc::Global;
 use std::marker::Model;
+use std::sync::Arc;
 use texts::{Memory, Text};
 
 /// The present files, and the graph of what earlier requests found out about them. A contract sees the graph, and the
@@ -135,14 +146,55 @@ impl Session {
         Ok(version)
     }
 
-    /// The build file of a package, as the value of its node, in at most `budget` turns.
-    pub fn find(&self, name: &str, budget: u64) -> Result<Option<BuildName>, Stop>
-        ensures { IfOk result (λ found. found ≡ build_of (files_of self.now) name.now) }
+    /// The answer to a request by its evaluation over the graph, in at most `budget` turns, and what that ran: a graph
+    /// that is lawful stays so, and each run is justified. The files stay as they are, and after a stop too a later
+    /// request is answered as from nothing.
+    pub fn request(&mut self, request: &Request<'_>, budget: u64) -> Result<Reply, Stop>
+        ensures text { IfOk result (λ reply. string_bytes reply.text ≡ compact_text (answers.request_answer (request_seen request.now) (files_of self.old))) }
+        ensures moves { IfOk result (λ reply. Moves (request_effect (request_seen request.now) self.old.graph.version) self.old self.new reply.runs.items) }
+        ensures stopped { OnErr result (StopsAfter (request_roots (request_seen request.now)) self.old self.new) }
+        ensures history { (self.new.began ≡ self.old.began) × (self.new.edits ≡ self.old.edits) }
+        ensures version { self.new.graph.version ≡ self.old.graph.version }
+        ensures lawful { IsLawful self.new }
     {
+        match request {
+            Request::Find(name) => {
+                if !is_package_name(name) {
+                    return Ok(Reply {
+                        text: refused(self.alloc, 5)?,
+                        runs: Vec::new(self.alloc),
+                    });
+                }
+                let (found, runs) = self.look_up(name, budget)?;
+                Ok(Reply {
+                    text: build(self.alloc, found)?,
+                    runs,
+                })
+            }
+        }
+    }
+
+    // The build file of a package, by an evaluation of its look-up over the graph, and what that ran.
+    fn look_up(&mut self, name: &str, budget: u64) -> Result<(Option<BuildName>, Vec<Run>), Stop>
+        ensures found { IfOk result (λ r. r.0 ≡ build_of (files_of self.old) name.now) }
+        ensures law { IfOk result (λ r. Calls next (read (files_of self.old)) (keys.Lookup name.now ∷ []) self.old.graph self.new.graph (Ok r.1.items)) }
+        ensures stopped { OnErr result (StopsAfter (keys.Lookup name.now ∷ []) self.old self.new) }
+        ensures history { (self.new.began ≡ self.old.began) × (self.new.edits ≡ self.old.edits) }
+        ensures version { self.new.graph.version ≡ self.old.graph.version }
+        ensures lawful { IsLawful self.new }
+    {
+        let roots = [Key::Lookup(Text::new(self.alloc, name)?)];
         let mut rules = Loading::new(self.alloc);
-        let root = Key::Lookup(Text::new(self.alloc, name)?);
-        let value = evaluate_from_nothing(self.alloc, &self.tree, &mut rules, &root, budget)?;
-        Ok(held_build(&value))
+        let runs = evaluate_here(
+            self.alloc,
+            &mut self.graph,
+            &self.tree,
+            &roots,
+            &mut rules,
+            budget,
+        )?;
+        let found = held_build(self.graph.get(&roots[0]));
+        Ok((found, runs))
     }
 }
 
@@ -160,10 +212,10 @@ fn refused_as(error: &TreeError) -> EditError
 }
 
 // The build file that the value of a look-up holds.
-fn held_build(value: &Value) -> Option<BuildName>
-    ensures { (found : Option BuildName) → value.now ≡ values.Lookup found → result ≡ found }
+fn held_build(value: Option<&Arc<Value>>) -> Option<BuildName>
+    ensures { (found : Option BuildName) → option_map (λ v. arc_value v.now) value.entry ≡ Some (values.Lookup found) → result ≡ found }
 {
-    match value {
+    match &**value? {
         Value::Lookup(found) => *found,
         _ => None,
     }

@@ -1,8 +1,7 @@
-use Rattle.std.proofs.Common.{◌≡◌, ◌∙◌, ap, sym, subst, List, ℕ}
-use Rattle.filetree.specs.Files.{Files}
+use Rattle.std.proofs.Common.{◌∙◌, ap, sym, subst, List, ℕ}
 use Rattle.node.specs.Laws.{TouchKeepsLawful}
 use Rattle.loader.specs.State.{Edit, changed, changed_files}
-use Rattle.loader.specs.Held.{Held, files_of, state_of, path_of}
+use Rattle.loader.specs.Held.{Held, files_of, state_of}
 use Rattle.loader.specs.Seen.{edit_seen}
 use Rattle.loader.proofs.Histories.{accepted, accepted_state}
 use Rattle.loader.proofs.session.Session.accept.Goals as goal
