@@ -1,4 +1,3 @@
-pub mod Evaluates
 pub mod Grouping
 pub mod Wanting
 pub mod Looking

@@ -1,5 +1,3 @@
-pub mod Tables
-pub mod Finds
 pub mod Members
 pub mod Moves
 pub mod Looks

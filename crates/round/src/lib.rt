@@ -3,7 +3,6 @@
 
 mod close;
 mod closing;
-mod from_nothing;
 mod here;
 mod look;
 mod loops;
@@ -12,7 +11,6 @@ mod settle;
 mod stop;
 mod turns;
 
-pub use from_nothing::evaluate_from_nothing;
 pub use here::evaluate_here;
 pub use open_nodes::Run;
 pub use stop::Stop;
