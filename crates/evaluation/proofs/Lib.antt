@@ -16,3 +16,4 @@ pub mod Moves
 pub mod Justified
 pub mod Standing
 pub mod Rotating
+pub mod Asked

@@ -5,3 +5,4 @@ pub mod Choices
 pub mod States
 pub mod Journal
 pub mod Rotated
+pub mod Reached

@@ -1,10 +1,10 @@
 -- A command of the code, as the definitions see it.
 use Rattle.loader.specs.State as state
 use Rattle.loader.specs.Commands as commands
-use Rattle.loader.specs.declared.session.Edit.{Edit}
-use Rattle.loader.specs.declared.session.Edit.TheVariants.{Put, Del}
-use Rattle.loader.specs.declared.commands.Request.{Request}
-use Rattle.loader.specs.declared.commands.Request.TheVariants.{Find}
+use Rattle.loader.specs.declared.edit.Edit.{Edit}
+use Rattle.loader.specs.declared.edit.Edit.TheVariants.{Put, Del}
+use Rattle.loader.specs.declared.request.Request.{Request}
+use Rattle.loader.specs.declared.request.Request.TheVariants.{Find}
 use Rattle.loader.specs.declared.commands.Command.{Command}
 use Rattle.loader.specs.declared.commands.Command.TheVariants.{Change, Ask}
 

@@ -3,8 +3,10 @@ use Rattle.std.specs.Prelude.{◌≡◌, refl, ℕ, ◌+◌, List, Option, Some,
 use Rattle.std.specs.FinMap as map
 use Rattle.std.specs.Coded.{Coded, code_by, coded×, coded_ℕ, coded_list}
 use Rattle.filetree.specs.Files.{Files, put_refusal, del_refusal}
-use Rattle.loader.specs.declared.session.EditError.{EditError}
-use Rattle.loader.specs.declared.session.EditError.TheVariants.{Refused, Memory}
+use Rattle.filetree.specs.Edits as edits
+use Rattle.filetree.specs.declared.error.TreeError.{TreeError}
+use Rattle.loader.specs.declared.edit.EditError.{EditError}
+use Rattle.loader.specs.declared.edit.EditError.TheVariants.{Refused, Memory}
 
 -- the present files, and how many edits were accepted
 pub record State : Type 0 where
@@ -27,6 +29,11 @@ start = start_at 0
 pub data Edit : Type 0 where
   put : List ℕ → List ℕ → Edit
   del : List ℕ → Edit
+
+-- an edit as it is kept: its path, and the text that is put there
+abbrev pub edit_of : List ℕ × Option (List ℕ) → Edit
+edit_of (path, Some text) = put path text
+edit_of (path, None) = del path
 
 -- the greatest version
 abbrev pub version_limit : ℕ
@@ -58,6 +65,11 @@ changed edit s = record { files = changed_files edit s.files; version = s.versio
 abbrev pub error_of : Option ℕ → EditError
 error_of (Some n) = Refused n
 error_of None = Memory
+
+-- a copy of the files with the edit made, or the first refusal; want of memory tells nothing
+abbrev pub Copies : Edit → Files → Result Files TreeError → Type 0
+Copies edit files (Ok copy) = (files_refusal edit files ≡ None) × (copy ≡ changed_files edit files)
+Copies edit files (Err e) = (n : ℕ) → edits.refusal_of e ≡ Some n → files_refusal edit files ≡ Some n
 
 -- the edit is made, and its version told; or its first refusal is told, or memory was refused, and nothing changes
 abbrev pub Applies : Edit → State → State → Result ℕ EditError → Type 0

@@ -1,47 +1,31 @@
 //! The answer to a line.
-ghost use Rattle.std.specs.Prelude.{◌≡◌, ◌++◌, ◌∷◌, [], List, ℕ, IfOk, string_bytes, codes, false};
+ghost use Rattle.std.specs.Prelude.{◌≡◌, ◌++◌, ◌∷◌, [], List, ℕ, IfOk, string_bytes};
 ghost use Rattle.lines.specs.Lines.{Keeps};
 ghost use Rattle.serde_json.specs.View.{view};
-ghost use Rattle.serde_json.specs.Written.{compact_text, has_float};
+ghost use Rattle.serde_json.specs.Written.{compact_text};
 ghost use Rattle.loader.specs.Answers as answers;
 ghost use Rattle.loader.specs.Commands as commands;
-ghost use Rattle.loader.specs.Seen.{edit_seen, request_seen, command_seen};
+ghost use Rattle.loader.specs.Effects.{Moves, line_effect, effect_if, edit_effect};
+ghost use Rattle.loader.specs.Held.{state_of, IsLawful};
+ghost use Rattle.loader.specs.State as state;
+ghost use Rattle.loader.specs.Seen.{edit_seen};
 
-use crate::commands::{Command, Request, command_of, data_of};
-use crate::session::{Edit, EditError, Session};
-use keys::BuildName;
-use labels::is_package_name;
+use crate::commands::{Command, command_of, data_of};
+use crate::edit::{Edit, EditError};
+use crate::request::Reply;
+use crate::session::Session;
+use crate::written::{accepted, refused};
 use lines::Line;
 use round::Stop;
-use serde_json::{Value, json};
+use serde_json::Value;
 use std::alloc::Global;
 use texts::Memory;
 
-fn refused(alloc: Global, n: u64) -> Result<Value, Memory>
-    ensures { IfOk result (λ value. view value ≡ answers.refused n) }
-{
-    Ok(json!(in alloc; {"refused": n})?)
-}
-
-fn accepted(alloc: Global, version: u32) -> Result<Value, Memory>
-    ensures { IfOk result (λ value. view value ≡ answers.accepted version) }
-{
-    Ok(json!(in alloc; {"ok": version})?)
-}
-
-fn build_answer(alloc: Global, found: Option<BuildName>) -> Result<Value, Memory>
-    ensures { IfOk result (λ value. view value ≡ answers.one_member (codes "build") (answers.build_text found)) }
-{
-    match found {
-        Some(BuildName::BuildBazel) => Ok(json!(in alloc; {"build": "BUILD.bazel"})?),
-        Some(BuildName::Build) => Ok(json!(in alloc; {"build": "BUILD"})?),
-        None => Ok(json!(in alloc; {"build": null})?),
-    }
-}
-
-fn edit_answer(alloc: Global, session: &mut Session, edit: &Edit<'_>) -> Result<Value, Memory>
-    ensures { IfOk result (λ value. let reply = answers.reply_to (commands.change (edit_seen edit.now)) session.old in
-        (view value ≡ reply.0) × (session.new ≡ reply.1)) }
+fn edit_answer(alloc: Global, session: &mut Session, edit: &Edit<'_>) -> Result<String, Memory>
+    ensures answer { IfOk result (λ text. let reply = answers.reply_to (commands.change (edit_seen edit.now)) (state_of session.old) in
+        (string_bytes text ≡ compact_text reply.0) × (state_of session.new ≡ reply.1)) }
+    ensures moves { IfOk result (λ _. Moves (edit_effect (edit_seen edit.now) (state.refusal_of (edit_seen edit.now) (state_of session.old))) session.old session.new []) }
+    ensures lawful { IsLawful session.old → IsLawful session.new }
 {
     match session.apply(edit) {
         Ok(version) => accepted(alloc, version),
@@ -50,22 +34,13 @@ fn edit_answer(alloc: Global, session: &mut Session, edit: &Edit<'_>) -> Result<
     }
 }
 
-fn request_answer(
-    alloc: Global,
-    session: &Session,
-    request: &Request<'_>,
-    budget: u64,
-) -> Result<Value, Stop>
-    ensures { IfOk result (λ value. view value ≡ answers.request_answer (request_seen request.now) session.now.files) }
+// An answer that no evaluation led to.
+fn plain(alloc: Global, text: String) -> Reply
+    ensures { (string_bytes result.text ≡ string_bytes text) × (result.runs.items ≡ []) }
 {
-    match request {
-        Request::Find(name) => {
-            if !is_package_name(name) {
-                return Ok(refused(alloc, 5)?);
-            }
-            let found = session.find(name, budget)?;
-            Ok(build_answer(alloc, found)?)
-        }
+    Reply {
+        text,
+        runs: Vec::new(alloc),
     }
 }
 
@@ -74,14 +49,16 @@ fn command_answer(
     session: &mut Session,
     value: &Value,
     budget: u64,
-) -> Result<Value, Stop>
-    ensures { IfOk result (λ answer. let reply = answers.reply_if (commands.command_of (view value.now)) session.old in
-        (view answer ≡ reply.0) × (session.new ≡ reply.1)) }
+) -> Result<Reply, Stop>
+    ensures answer { IfOk result (λ answer. let reply = answers.reply_if (commands.command_of (view value.now)) (state_of session.old) in
+        (string_bytes answer.text ≡ compact_text reply.0) × (state_of session.new ≡ reply.1)) }
+    ensures moves { IfOk result (λ answer. Moves (effect_if (commands.command_of (view value.now)) (state_of session.old)) session.old session.new answer.runs.items) }
+    ensures lawful { IsLawful session.old → IsLawful session.new }
 {
     match command_of(value) {
-        None => Ok(refused(alloc, 1)?),
-        Some(Command::Change(edit)) => Ok(edit_answer(alloc, session, &edit)?),
-        Some(Command::Ask(request)) => request_answer(alloc, session, &request, budget),
+        None => Ok(plain(alloc, refused(alloc, 1)?)),
+        Some(Command::Change(edit)) => Ok(plain(alloc, edit_answer(alloc, session, &edit)?)),
+        Some(Command::Ask(request)) => session.request(&request, budget),
     }
 }
 
@@ -90,41 +67,45 @@ fn line_answer(
     session: &mut Session,
     line: &Line,
     budget: u64,
-) -> Result<Value, Stop>
-    ensures { IfOk result (λ answer. (whole : List ℕ) → Keeps line.now.bytes.items line.now.too_long whole
-        → (view answer ≡ (answers.reply_line whole session.old).0)
-        × (session.new ≡ (answers.reply_line whole session.old).1)) }
+) -> Result<Reply, Stop>
+    ensures answer { IfOk result (λ answer. (whole : List ℕ) → Keeps line.now.bytes.items line.now.too_long whole
+        → (string_bytes answer.text ≡ compact_text (answers.reply_line whole (state_of session.old)).0)
+        × (state_of session.new ≡ (answers.reply_line whole (state_of session.old)).1)) }
+    ensures moves { IfOk result (λ answer. (whole : List ℕ) → Keeps line.now.bytes.items line.now.too_long whole
+        → Moves (line_effect whole (state_of session.old)) session.old session.new answer.runs.items) }
+    ensures lawful { IsLawful session.old → IsLawful session.new }
 {
     if line.too_long {
-        return Ok(refused(alloc, 6)?);
+        return Ok(plain(alloc, refused(alloc, 6)?));
     }
     match data_of(alloc, line.bytes.as_slice())? {
-        None => Ok(refused(alloc, 1)?),
+        None => Ok(plain(alloc, refused(alloc, 1)?)),
         Some(value) => command_answer(alloc, session, &value, budget),
     }
 }
 
-// The text of an answer, and byte 10.
-fn written(alloc: Global, answer: &Value) -> Result<String, Memory>
-    ensures { IfOk result (λ text. has_float (view answer.now) ≡ false → string_bytes text ≡ compact_text (view answer.now) ++ 10 ∷ []) }
+// A text with byte 10 behind it.
+fn ended(text: String) -> Result<String, Memory>
+    ensures { IfOk result (λ t. string_bytes t ≡ string_bytes text ++ 10 ∷ []) }
 {
-    let mut text = answer.to_string(alloc)?;
+    let mut text = text;
     text.push('\n')?;
     Ok(text)
 }
 
-/// The answer to a line, with its byte 10. A stop leaves the session as it was, or with the line's
-/// edit made and its answer lost.
-pub fn answer_text(
-    alloc: Global,
-    session: &mut Session,
-    line: &Line,
-    budget: u64,
-) -> Result<String, Stop>
-    ensures { IfOk result (λ text. (whole : List ℕ) → Keeps line.now.bytes.items line.now.too_long whole
-        → (string_bytes text ≡ answers.answer_text whole session.old)
-        × (session.new ≡ (answers.reply_line whole session.old).1)) }
+/// The answer to a line, with its byte 10, and what its evaluation ran. A stop leaves the files as they were, or with the
+/// line's edit made and its answer lost.
+pub fn answer(alloc: Global, session: &mut Session, line: &Line, budget: u64) -> Result<Reply, Stop>
+    ensures answer { IfOk result (λ answer. (whole : List ℕ) → Keeps line.now.bytes.items line.now.too_long whole
+        → (string_bytes answer.text ≡ answers.answer_text whole (state_of session.old))
+        × (state_of session.new ≡ (answers.reply_line whole (state_of session.old)).1)) }
+    ensures moves { IfOk result (λ answer. (whole : List ℕ) → Keeps line.now.bytes.items line.now.too_long whole
+        → Moves (line_effect whole (state_of session.old)) session.old session.new answer.runs.items) }
+    ensures lawful { IsLawful session.old → IsLawful session.new }
 {
-    let answer = line_answer(alloc, session, line, budget)?;
-    Ok(written(alloc, &answer)?)
+    let reply = line_answer(alloc, session, line, budget)?;
+    Ok(Reply {
+        text: ended(reply.text)?,
+        runs: reply.runs,
+    })
 }

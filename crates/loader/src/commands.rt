@@ -4,17 +4,11 @@ ghost use Rattle.serde_json.specs.View.{view};
 ghost use Rattle.loader.specs.Commands as commands;
 ghost use Rattle.loader.specs.Seen.{command_seen};
 
-use crate::session::Edit;
+use crate::edit::Edit;
+use crate::request::Request;
 use serde_json::Value;
 use std::alloc::Global;
 use texts::Memory;
-
-/// A question about the present files.
-#[derive(Drop)]
-pub enum Request<'a> {
-    /// Which build file a package has.
-    Find(&'a str),
-}
 
 /// What a line asks for.
 #[derive(Drop)]

@@ -1,14 +1,18 @@
 //! The program, but for its `main`: its words, its exit status and what it says of a stop.
-ghost use Rattle.std.specs.Prelude.{◌≡◌, ◌⊎◌};
+ghost use Rattle.std.specs.Prelude.{◌≡◌, ◌⊎◌, List};
+ghost use Rattle.open_nodes.specs.declared.run.Run.{Run};
 ghost use Rattle.loader.specs.Served.{Served, Stopped};
 
 use crate::serve::serve_here;
 use clap::error::ErrorKind;
-use clap::{Arg, ArgMatches, Command, Error, value_parser};
+use clap::{Arg, ArgAction, ArgMatches, Command, Error, value_parser};
+use functions::is_leaf;
 use lines::{Input, Output};
+use round::Run;
 use std::alloc::Global;
 use std::convert::AsStr;
 use std::io::Write;
+use texts::Memory;
 
 /// Turns of node functions that one request may have.
 pub const BUDGET: u64 = 10_000_000;
@@ -21,11 +25,16 @@ fn read_words<'a, S: AsStr>(alloc: Global, words: &'a [S]) -> Result<ArgMatches<
         .value_parser(value_parser!(u8).range(1..=1))
         .default_value("1")
         .help("How many worker threads evaluate a request");
+    let runs = Arg::new(alloc, "runs")
+        .long("runs")
+        .action(ArgAction::SetTrue)
+        .help("Tell on standard error at the end what was read and run");
     let run = Command::new(alloc, "run")
         .about(
             "Serves commands of standard input, a JSON object a line, with answers on standard output",
         )
-        .arg(workers)?;
+        .arg(workers)?
+        .arg(runs)?;
     let loader = Command::new(alloc, "loader")
         .about("A resident loader of packages")
         .subcommand_required(true)
@@ -33,8 +42,55 @@ fn read_words<'a, S: AsStr>(alloc: Global, words: &'a [S]) -> Result<ArgMatches<
     loader.try_get_matches_from(words)
 }
 
+// Whether the words want the journal.
+fn wants_runs(matches: &ArgMatches<'_>) -> bool {
+    match matches.subcommand() {
+        Some((_, run)) => run.get_flag("runs"),
+        None => false,
+    }
+}
+
+// A line for each item of a journal: `read V KEY` for a leaf that was read at version V, else `run V KEY`. A fault of
+// `errors` is passed over.
+fn tell_runs<E: Write>(alloc: Global, errors: &mut E, journal: &[Run]) -> Result<(), Memory> {
+    for run in journal {
+        let key = run.key.text(alloc)?;
+        let word = if is_leaf(&run.key) { "read" } else { "run" };
+        let _ = writeln!(errors, "{word} {} {key}", run.version);
+    }
+    Ok(())
+}
+
+// Serves, and answers the exit status.
+fn serve_words<R: Input, W: Output, E: Write>(
+    alloc: Global,
+    runs: bool,
+    reader: &mut R,
+    writer: &mut W,
+    errors: &mut E,
+) -> u8
+    ensures served { result ≡ 0 → (journal : List Run) × Served (R.told reader.old) (R.told reader.new) (W.held writer.old) (W.held writer.new) journal }
+    ensures stopped { result ≡ 3 → Stopped (R.told reader.old) (R.told reader.new) (W.held writer.old) (W.held writer.new) }
+    ensures status { (result ≡ 0) ⊎ (result ≡ 3) }
+{
+    match serve_here(alloc, reader, writer, BUDGET) {
+        Ok(journal) => {
+            if runs && tell_runs(alloc, errors, journal.as_slice()).is_err() {
+                let _ = writeln!(errors, "stop: memory");
+                return 3;
+            }
+            0
+        }
+        Err(stop) => {
+            let _ = writeln!(errors, "stop: {stop}");
+            3
+        }
+    }
+}
+
 /// The program `loader`: `words` are its words, its own name first. It serves the lines of `reader` to `writer` and
-/// answers the exit status: 0 at the end of the input; 2 for bad words, found before any input is read, with the text
+/// answers the exit status: 0 at the end of the input, where the flag `--runs` tells the journal on `errors`, one line an
+/// item, `run V KEY` or for a leaf `read V KEY`; 2 for bad words, found before any input is read, with the text
 /// of the fault on `errors`; 3 for a stop, with a line `stop: read`, `stop: write`, `stop: budget` or `stop: memory` on
 /// `errors`. A fault of `errors` is passed over.
 pub fn command<S: AsStr, R: Input, W: Output, E: Write>(
@@ -44,24 +100,20 @@ pub fn command<S: AsStr, R: Input, W: Output, E: Write>(
     writer: &mut W,
     errors: &mut E,
 ) -> u8
-    ensures served { result ≡ 0 → Served (R.told reader.old) (R.told reader.new) (W.held writer.old) (W.held writer.new) }
+    ensures served { result ≡ 0 → (journal : List Run) × Served (R.told reader.old) (R.told reader.new) (W.held writer.old) (W.held writer.new) journal }
     ensures stopped { result ≡ 3 → Stopped (R.told reader.old) (R.told reader.new) (W.held writer.old) (W.held writer.new) }
     ensures bad_words { result ≡ 2 → (R.told reader.new ≡ R.told reader.old) × (W.held writer.new ≡ W.held writer.old) }
     ensures status { (result ≡ 0) ⊎ (result ≡ 2) ⊎ (result ≡ 3) }
 {
-    if let Err(error) = read_words(alloc, words) {
-        if error.kind() == ErrorKind::OutOfMemory {
-            let _ = writeln!(errors, "stop: memory");
-            return 3;
-        }
-        let _ = write!(errors, "{error}");
-        return 2;
-    }
-    match serve_here(alloc, reader, writer, BUDGET) {
-        Ok(()) => 0,
-        Err(stop) => {
-            let _ = writeln!(errors, "stop: {stop}");
-            3
+    match read_words(alloc, words) {
+        Ok(matches) => serve_words(alloc, wants_runs(&matches), reader, writer, errors),
+        Err(error) => {
+            if error.kind() == ErrorKind::OutOfMemory {
+                let _ = writeln!(errors, "stop: memory");
+                return 3;
+            }
+            let _ = write!(errors, "{error}");
+            2
         }
     }
 }

@@ -3,10 +3,10 @@ ghost use Rattle.std.specs.Prelude.{◌≡◌, ℕ, ◌<◌, ◌≤◌, ◌+◌,
 ghost use Rattle.lines.specs.Lines.{Keeps};
 ghost use Rattle.loader.specs.Served.{Served, Stopped, Between, After};
 
-use crate::answers::answer_text;
+use crate::answers::answer;
 use crate::session::Session;
 use lines::{Failed, Input, Line, Output, Pending, ReadStop, next_line};
-use round::Stop;
+use round::{Run, Stop};
 use std::alloc::{AllocError, Global};
 use thiserror::Error;
 
@@ -79,6 +79,9 @@ impl From<Failed> for ServeStop {
     }
 }
 
+/// The run lists of all requests, in their order.
+pub type Journal = Vec<Run>;
+
 // Whether the input ended with no byte of a line.
 fn is_end(ended: bool, line: &Line) -> bool
     ensures { (whole : List ℕ) → Keeps line.now.bytes.items line.now.too_long whole
@@ -93,17 +96,18 @@ fn serve_line<R: Input, W: Output>(
     reader: &mut R,
     writer: &mut W,
     session: &mut Session,
+    journal: &mut Journal,
     pending: &mut Pending,
     line: &mut Line,
     budget: u64,
 ) -> Result<bool, ServeStop>
     ensures ok { IfOk result (λ more. (told held : List ℕ) →
-        Between told (R.told reader.old) held (W.held writer.old) pending.old session.old
-        → After more told (R.told reader.new) held (W.held writer.new) pending.new session.new) }
+        Between told (R.told reader.old) held (W.held writer.old) pending.old session.old journal.old.items
+        → After more told (R.told reader.new) held (W.held writer.new) pending.new session.new journal.new.items) }
     ensures left { IfOk result (λ more. R.left reader.new + length pending.new + (if more then 1 else 0)
         ≤ R.left reader.old + length pending.old) }
     ensures err { OnErr result ((told held : List ℕ) →
-        Between told (R.told reader.old) held (W.held writer.old) pending.old session.old
+        Between told (R.told reader.old) held (W.held writer.old) pending.old session.old journal.old.items
         → Stopped told (R.told reader.new) held (W.held writer.new)) }
     ensures reader_counts { R.failures reader.old ≤ R.failures reader.new }
     ensures writer_counts { W.failures writer.old ≤ W.failures writer.new }
@@ -114,22 +118,24 @@ fn serve_line<R: Input, W: Output>(
     if is_end(ended, line) {
         return Ok(false);
     }
-    let text = answer_text(alloc, session, line, budget)?;
-    writer.write(text.as_bytes())?;
+    let mut reply = answer(alloc, session, line, budget)?;
+    journal.append(&mut reply.runs)?;
+    writer.write(reply.text.as_bytes())?;
     Ok(ended)
 }
 
 /// Answers all lines of the reader up to its first end, one at a time, beginning with no files. Each answer is written
 /// before more is read. A request has at most `budget` turns of node functions.
 ///
-/// On Ok the bytes written are exactly the answers to the bytes read; after any stop they are a beginning of them.
+/// On Ok the bytes written are exactly the answers to the bytes read, and the journal is that of the lines: each item is
+/// justified, and none is missing. After any stop what was written is a beginning of the answers.
 pub fn serve_here<R: Input, W: Output>(
     alloc: Global,
     reader: &mut R,
     writer: &mut W,
     budget: u64,
-) -> Result<(), ServeStop>
-    ensures ok { OnOk result (Served (R.told reader.old) (R.told reader.new) (W.held writer.old) (W.held writer.new)) }
+) -> Result<Journal, ServeStop>
+    ensures ok { IfOk result (λ journal. Served (R.told reader.old) (R.told reader.new) (W.held writer.old) (W.held writer.new) journal.items) }
     ensures err { OnErr result (Stopped (R.told reader.old) (R.told reader.new) (W.held writer.old) (W.held writer.new)) }
     ensures read { IsErrOf result ServeStop.Read → R.failures reader.old < R.failures reader.new }
     ensures write { IsErrOf result ServeStop.Write → W.failures writer.old < W.failures writer.new }
@@ -137,14 +143,16 @@ pub fn serve_here<R: Input, W: Output>(
     let mut session = Session::new(alloc);
     let mut pending = Pending::new(alloc)?;
     let mut line = Line::new(alloc);
+    let mut journal = Vec::new(alloc);
     while serve_line(
         alloc,
         reader,
         writer,
         &mut session,
+        &mut journal,
         &mut pending,
         &mut line,
         budget,
     )? {}
-    Ok(())
+    Ok(journal)
 }

@@ -1,108 +1,127 @@
-//! The present files, and their edits.
-ghost use Rattle.std.specs.Prelude.{◌≡◌, Option, IfOk};
+//! The present files with the graph of what was found out about them, and their edits.
+ghost use Rattle.std.specs.Prelude.{◌≡◌, ◌<◌, ◌++◌, ◌∷◌, [], Option, Some, Ok, IfOk, IfErr, OnOk, OnErr, option_map, string_bytes};
+ghost use Rattle.evaluation.specs.Graph.{Marks};
 ghost use Rattle.filetree.specs.Edits as edits;
-ghost use Rattle.filetree.specs.Edits.{Edits};
 ghost use Rattle.functions.specs.Lookups.{build_of};
 ghost use Rattle.keys.specs.declared.value.BuildName.{BuildName};
 ghost use Rattle.keys.specs.declared.value.Value.TheVariants as values;
+ghost use Rattle.node.specs.Graphs.{record_at, IsTouched};
+ghost use Rattle.functions.specs.Next.{next, read};
+ghost use Rattle.keys.specs.declared.key.Key.TheVariants as keys;
+ghost use Rattle.round.specs.Call.{Calls};
+ghost use Rattle.serde_json.specs.Written.{compact_text};
+ghost use Rattle.std.specs.Arc.{arc_value};
+ghost use Rattle.loader.specs.Answers as answers;
+ghost use Rattle.loader.specs.Effects.{Moves, StopsAfter, request_effect, request_roots};
 ghost use Rattle.loader.specs.State as state;
-ghost use Rattle.loader.specs.Seen.{edit_seen};
+ghost use Rattle.loader.specs.Held.{state_of, files_of, path_of, IsLawful};
+ghost use Rattle.loader.specs.Seen.{edit_seen, request_seen};
 
+use crate::accepted::Accepted;
+use crate::edit::{Edit, EditError};
+use crate::request::{Reply, Request};
+use crate::written::{build, refused};
 use filetree::{Tree, TreeError};
 use functions::Loading;
 use keys::{BuildName, Key, Value};
-use round::{Stop, evaluate_from_nothing};
+use labels::is_package_name;
+use node::Graph;
+use round::{Run, Stop, evaluate_here};
 use std::alloc::Global;
 use std::marker::Model;
-use texts::Text;
-use thiserror::Error;
+use std::sync::Arc;
+use texts::{Memory, Text};
 
-/// A change of one file.
-#[derive(Drop)]
-pub enum Edit<'a> {
-    /// A text is put at a path. One that was there is replaced.
-    Put(&'a str, &'a str),
-    /// The file at a path is taken away.
-    Del(&'a str),
-}
-
-/// Why an edit was not made. Neither the files nor the version have changed.
-#[derive(Debug, Drop, Error)]
-pub enum EditError {
-    /// The first refusal: 2 for a bad path, 3 where a file is above the path or the path is a
-    /// directory, 4 for no such file, 7 for a text of over 262,144 bytes, 8 where the version would
-    /// pass 4,294,967,295.
-    #[error("refused: {0}")]
-    Refused(u64),
-    /// A growth was refused.
-    #[error("out of memory")]
-    Memory,
-}
-
-/// The present files, and how many edits were accepted. A contract sees both.
+/// The present files, and the graph of what earlier requests found out about them. A contract sees the graph, and the
+/// history for which it is lawful: the version at which the session began, without files, and the edits accepted since
+/// then; what they lead to are the present files.
 #[derive(Drop)]
 pub struct Session {
     alloc: Global,
     tree: Tree,
-    version: u32,
+    graph: Graph,
+    began: u32,
+    accepted: Accepted,
 }
 
 impl Model for Session {
-    ghost use Rattle.loader.specs.State.{State, state_code};
+    ghost use Rattle.std.specs.Prelude.{◌≡◌};
+    ghost use Rattle.loader.specs.Held.{Held, IsLawful, files_of};
 
-    ghost Value = { State };
+    ghost Value = { Held };
 
-    ghost coded = { state_code };
+    ghost view = { λ s. record { began = s.began; edits = s.accepted; graph = s.graph } };
 
-    ghost view = { λ s. record { files = s.tree; version = s.version } };
+    ghost invariant = { λ s. (s.tree ≡ files_of (record { began = s.began; edits = s.accepted; graph = s.graph })) × IsLawful (record { began = s.began; edits = s.accepted; graph = s.graph }) };
+}
+
+// A copy of the files with an edit made, which shares the rest.
+fn edited(tree: &Tree, edit: &Edit<'_>) -> Result<Tree, TreeError>
+    ensures { state.Copies (edit_seen edit.now) tree.now result }
+{
+    let mut copy = tree.copy()?;
+    match edit {
+        Edit::Put(path, text) => copy.put(path, text)?,
+        Edit::Del(path) => copy.del(path)?,
+    }
+    Ok(copy)
 }
 
 impl Session {
     /// No files, at version 0.
     pub fn new(alloc: Global) -> Session
-        ensures { result ≡ state.start }
+        ensures state { state_of result ≡ state.start }
+        ensures history { (result.began ≡ 0) × (result.edits ≡ []) }
+        ensures records { result.graph.records ≡ [] }
+        ensures lawful { IsLawful result }
     {
         Session::new_at(alloc, 0)
     }
 
     /// No files, at a version.
     pub fn new_at(alloc: Global, version: u32) -> Session
-        ensures { result ≡ state.start_at version }
+        ensures state { state_of result ≡ state.start_at version }
+        ensures history { (result.began ≡ version) × (result.edits ≡ []) }
+        ensures records { result.graph.records ≡ [] }
+        ensures lawful { IsLawful result }
     {
         Session {
             alloc,
             tree: Tree::new(alloc),
-            version,
+            graph: Graph::new_at(alloc, version),
+            began: version,
+            accepted: Accepted::new(),
         }
     }
 
     /// How many edits were accepted, counted from the version at which the session began.
     pub fn version(&self) -> u32
-        ensures { result ≡ self.now.version }
+        ensures { result ≡ (state_of self.now).version }
     {
-        self.version
+        self.graph.version()
     }
 
-    /// Makes an edit, and answers the new version. What is refused changes neither the files nor the
-    /// version.
+    /// Makes an edit, and answers the new version. The records that reach a leaf which the edit touches are marked as
+    /// dirty. What is refused changes nothing.
     pub fn apply(&mut self, edit: &Edit<'_>) -> Result<u32, EditError>
-        ensures { state.Applies (edit_seen edit.now) self.old self.new result }
+        ensures applies { state.Applies (edit_seen edit.now) (state_of self.old) (state_of self.new) result }
+        ensures history { OnOk result ((self.new.began ≡ self.old.began) × (self.new.edits ≡ self.old.edits ++ edit_seen edit.now ∷ [])) }
+        ensures marks { OnOk result (Marks (record_at self.old.graph) (record_at self.new.graph) (IsTouched (path_of (edit_seen edit.now)))) }
+        ensures lawful { IsLawful self.new }
+        ensures refused { OnErr result (self.new ≡ self.old) }
     {
-        if self.version == u32::MAX {
+        if self.graph.version() == u32::MAX {
             return Err(EditError::Refused(self.files_refusal(edit).unwrap_or(8)));
         }
-        match self.change_files(edit) {
-            Ok(()) => {
-                self.version += 1;
-                Ok(self.version)
-            }
+        match edited(&self.tree, edit) {
+            Ok(tree) => Ok(self.accept(tree, edit)?),
             Err(error) => Err(refused_as(&error)),
         }
     }
 
     // The first refusal by the path, the text and the files.
     fn files_refusal(&self, edit: &Edit<'_>) -> Option<u64>
-        ensures { result ≡ state.files_refusal (edit_seen edit.now) self.now.files }
+        ensures { result ≡ state.files_refusal (edit_seen edit.now) (files_of self.now) }
     {
         match edit {
             Edit::Put(path, text) => self.tree.put_refusal(path, text),
@@ -110,26 +129,72 @@ impl Session {
         }
     }
 
-    // Changes the files alone, or answers their first refusal and changes nothing.
-    fn change_files(&mut self, edit: &Edit<'_>) -> Result<(), TreeError>
-        ensures files { Edits result (state.files_refusal (edit_seen edit.now) self.old.files)
-            self.old.files (state.changed_files (edit_seen edit.now) self.old.files) self.new.files }
-        ensures version { self.new.version ≡ self.old.version }
+    // Marks what an edit reaches, and then puts the edited files in place.
+    fn accept(&mut self, tree: Tree, edit: &Edit<'_>) -> Result<u32, Memory>
+        requires version { self.old.graph.version < u32.MAX }
+        requires edited { tree ≡ state.changed_files (edit_seen edit.now) (files_of self.old) }
+        ensures version { IfOk result (λ v. v ≡ self.new.graph.version) }
+        ensures changed { OnOk result (state_of self.new ≡ state.changed (edit_seen edit.now) (state_of self.old)) }
+        ensures history { OnOk result ((self.new.began ≡ self.old.began) × (self.new.edits ≡ self.old.edits ++ edit_seen edit.now ∷ [])) }
+        ensures marks { OnOk result (Marks (record_at self.old.graph) (record_at self.new.graph) (IsTouched (path_of (edit_seen edit.now)))) }
+        ensures lawful { IsLawful self.new }
+        ensures refused { OnErr result (self.new ≡ self.old) }
     {
-        match edit {
-            Edit::Put(path, text) => self.tree.put(path, text),
-            Edit::Del(path) => self.tree.del(path),
+        let version = self.graph.touch(edit.path())?;
+        self.tree = tree;
+        self.accepted.add(edit);
+        Ok(version)
+    }
+
+    /// The answer to a request by its evaluation over the graph, in at most `budget` turns, and what that ran: a graph
+    /// that is lawful stays so, and each run is justified. The files stay as they are, and after a stop too a later
+    /// request is answered as from nothing.
+    pub fn request(&mut self, request: &Request<'_>, budget: u64) -> Result<Reply, Stop>
+        ensures text { IfOk result (λ reply. string_bytes reply.text ≡ compact_text (answers.request_answer (request_seen request.now) (files_of self.old))) }
+        ensures moves { IfOk result (λ reply. Moves (request_effect (request_seen request.now) self.old.graph.version) self.old self.new reply.runs.items) }
+        ensures stopped { OnErr result (StopsAfter (request_roots (request_seen request.now)) self.old self.new) }
+        ensures history { (self.new.began ≡ self.old.began) × (self.new.edits ≡ self.old.edits) }
+        ensures version { self.new.graph.version ≡ self.old.graph.version }
+        ensures lawful { IsLawful self.new }
+    {
+        match request {
+            Request::Find(name) => {
+                if !is_package_name(name) {
+                    return Ok(Reply {
+                        text: refused(self.alloc, 5)?,
+                        runs: Vec::new(self.alloc),
+                    });
+                }
+                let (found, runs) = self.look_up(name, budget)?;
+                Ok(Reply {
+                    text: build(self.alloc, found)?,
+                    runs,
+                })
+            }
         }
     }
 
-    /// The build file of a package, as the value of its node, in at most `budget` turns.
-    pub fn find(&self, name: &str, budget: u64) -> Result<Option<BuildName>, Stop>
-        ensures { IfOk result (λ found. found ≡ build_of self.now.files name.now) }
+    // The build file of a package, by an evaluation of its look-up over the graph, and what that ran.
+    fn look_up(&mut self, name: &str, budget: u64) -> Result<(Option<BuildName>, Vec<Run>), Stop>
+        ensures found { IfOk result (λ r. r.0 ≡ build_of (files_of self.old) name.now) }
+        ensures law { IfOk result (λ r. Calls next (read (files_of self.old)) (keys.Lookup name.now ∷ []) self.old.graph self.new.graph (Ok r.1.items)) }
+        ensures stopped { OnErr result (StopsAfter (keys.Lookup name.now ∷ []) self.old self.new) }
+        ensures history { (self.new.began ≡ self.old.began) × (self.new.edits ≡ self.old.edits) }
+        ensures version { self.new.graph.version ≡ self.old.graph.version }
+        ensures lawful { IsLawful self.new }
     {
+        let roots = [Key::Lookup(Text::new(self.alloc, name)?)];
         let mut rules = Loading::new(self.alloc);
-        let root = Key::Lookup(Text::new(self.alloc, name)?);
-        let value = evaluate_from_nothing(self.alloc, &self.tree, &mut rules, &root, budget)?;
-        Ok(held_build(&value))
+        let runs = evaluate_here(
+            self.alloc,
+            &mut self.graph,
+            &self.tree,
+            &roots,
+            &mut rules,
+            budget,
+        )?;
+        let found = held_build(self.graph.get(&roots[0]));
+        Ok((found, runs))
     }
 }
 
@@ -147,10 +212,10 @@ fn refused_as(error: &TreeError) -> EditError
 }
 
 // The build file that the value of a look-up holds.
-fn held_build(value: &Value) -> Option<BuildName>
-    ensures { (found : Option BuildName) → value.now ≡ values.Lookup found → result ≡ found }
+fn held_build(value: Option<&Arc<Value>>) -> Option<BuildName>
+    ensures { (found : Option BuildName) → option_map (λ v. arc_value v.now) value.entry ≡ Some (values.Lookup found) → result ≡ found }
 {
-    match value {
+    match &**value? {
         Value::Lookup(found) => *found,
         _ => None,
     }

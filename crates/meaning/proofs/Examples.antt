@@ -8,7 +8,8 @@ use Rattle.meaning.specs.Heap.{Obj, Store, text, list, tuple}
 use Rattle.meaning.specs.Numbers.{floor_div, floor_rem}
 use Rattle.meaning.specs.Operators.{add, divide, remainder}
 use Rattle.meaning.specs.Hashing.{key}
-use Rattle.meaning.specs.Printing.{print, decimal}
+use Rattle.std.specs.Fmt.{digits}
+use Rattle.meaning.specs.Printing.{print, int_text}
 use Rattle.meaning.specs.Freezing.{freeze}
 use Rattle.meaning.specs.Functions.{range_count, range, zipped}
 use Rattle.meaning.specs.Methods.{split_by, with_between, stripped}
@@ -115,15 +116,16 @@ mixed : List Obj
 mixed = text (97 ∷ 10 ∷ []) ∷ list (v.Int (pos 1) ∷ v.At 0 ∷ []) false ∷ tuple (v.Int (negsuc 6) ∷ []) ∷ []
 
 mixed_text : print 64 mixed (v.At 1) 10 ≡ gives (codes "[1, \"a\\n\"]") 7
-unfolding mixed print
+unfolding mixed print int_text digits
 mixed_text = refl
 
 -- repr((-7,)) is (-7,)
 tuple_of_one : print 64 mixed (v.At 2) 10 ≡ gives (codes "(-7,)") 8
-unfolding mixed print
+unfolding mixed print int_text digits
 tuple_of_one = refl
 
-least_text : decimal (negsuc 9223372036854775807) ≡ codes "-9223372036854775808"
+least_text : int_text (negsuc 9223372036854775807) ≡ codes "-9223372036854775808"
+unfolding int_text digits
 least_text = refl
 
 -- a list that has itself as its member is not printed or frozen to its end

@@ -15,13 +15,17 @@ use Rattle.meaning.specs.Membership.{has}
 abbrev pub truth : Does Store Bool → Does Store Val
 truth m = m >>= λ b. pure (v.Bool b)
 
+-- `a < b`
+abbrev pub less : Val → Val → Does Store Bool
+less a b = compares a b >>= λ o. pure (is_lt o)
+
 abbrev pub test : (Ordering → Bool) → Val → Val → Does Store Val
 test holds a b = compares a b >>= λ o. pure (v.Bool (holds o))
 
 abbrev pub binary : Operator → Val → Val → Does Store Val
 binary o.Equal a b = truth (equals a b)
 binary o.NotEqual a b = equals a b >>= λ same. pure (v.Bool (not same))
-binary o.Less a b = test is_lt a b
+binary o.Less a b = truth (less a b)
 binary o.LessEqual a b = test is_le a b
 binary o.Greater a b = test is_gt a b
 binary o.GreaterEqual a b = test is_ge a b

@@ -5,8 +5,10 @@ use Rattle.meaning.specs.declared.key.Part.TheVariants as p
 use Rattle.meaning.specs.declared.val.Builtin.{Builtin}
 use Rattle.meaning.specs.declared.val.Val.{Val}
 use Rattle.meaning.specs.declared.val.Val.TheVariants as v
+use Rattle.meaning.specs.declared.val.Entry.{Entry}
 use Rattle.meaning.specs.Outcome.{Does, ◌>>=◌, ◌>>◌, pure, fault, tick}
 use Rattle.meaning.specs.Heap as h
+use Rattle.meaning.specs.Indexing.{with_key}
 use Rattle.meaning.specs.Heap.{Entries, Obj, Store, walks, makes}
 
 mutual
@@ -58,12 +60,19 @@ abbrev pub freeze_members : (Val → Does ℕ Fz) → List Val → Does ℕ Fzs
 freeze_members freeze [] = pure no_members
 freeze_members freeze (x ∷ xs) = freeze x >>= λ f. freeze_members freeze xs >>= λ fs. pure (member f fs)
 
+-- the key first
+abbrev pub freeze_entry : (Val → Does ℕ Fz) → Entry → Does ℕ (Fz × Fz)
+freeze_entry freeze e = freeze e.key >>= λ k. freeze e.value >>= λ x. pure (k, x)
+
 abbrev pub freeze_entries : (Val → Does ℕ Fz) → Entries → Does ℕ Pairs
 freeze_entries freeze [] = pure no_pairs
-freeze_entries freeze (e ∷ es) = freeze e.1.key >>= λ k. freeze e.1.value >>= λ x. freeze_entries freeze es >>= λ ps. pure (pair k x ps)
+freeze_entries freeze (e ∷ es) = freeze_entry freeze e.1 >>= λ p. freeze_entries freeze es >>= λ ps. pure (pair p.0 p.1 ps)
+
+abbrev pub at_once : Fz → Does ℕ Fz
+at_once f = tick >> pure f
 
 abbrev pub visit_held : Option (Val → Does ℕ Fz) → Held → Does ℕ Fz
-visit_held inner (settled f) = tick >> pure f
+visit_held inner (settled f) = at_once f
 visit_held inner absent = tick >> fault 5
 visit_held None (listed xs) = fault 12
 visit_held None (tupled xs) = fault 12
@@ -76,6 +85,15 @@ visit_held (Some freeze) (mapped es) = tick >> (freeze_entries freeze es >>= λ 
 unfoldable pub freeze : ℕ → List Obj → Val → Does ℕ Fz
 freeze zero heap x = visit_held None (held heap x)
 freeze (suc n) heap x = visit_held (Some (freeze n heap)) (held heap x)
+
+-- the walk for what a container holds, if one more may be entered
+unfoldable pub inner_freeze : ℕ → List Obj → Option (Val → Does ℕ Fz)
+inner_freeze zero heap = None
+inner_freeze (suc n) heap = Some (freeze n heap)
+
+-- freezing begins outside of all containers
+abbrev pub freezes : Val → Does Store Fz
+freezes x = walks λ heap. freeze 64 heap x
 
 abbrev mutual
   pub frozen_key : Fz → List Part
@@ -107,13 +125,18 @@ abbrev mutual
   thaw (text bytes) = makes (h.text bytes)
   thaw (list fs) = thaw_members fs >>= λ xs. makes (h.list xs true)
   thaw (tuple fs) = thaw_members fs >>= λ xs. makes (h.tuple xs)
-  thaw (dict ps) = thaw_pairs ps >>= λ es. makes (h.dict es true)
+  thaw (dict ps) = thaw_pairs [] ps >>= λ es. makes (h.dict es true)
   thaw (function label name) = makes (h.function label name)
 
   pub thaw_members : Fzs → Does Store (List Val)
   thaw_members no_members = pure []
   thaw_members (member f fs) = thaw f >>= λ x. thaw_members fs >>= λ xs. pure (x ∷ xs)
 
-  pub thaw_pairs : Pairs → Does Store Entries
-  thaw_pairs no_pairs = pure []
-  thaw_pairs (pair k f ps) = thaw k >>= λ x. thaw f >>= λ y. thaw_pairs ps >>= λ es. pure ((frozen_key k, record { key = x; value = y }) ∷ es)
+  -- the entries, set one after another
+  pub thaw_pairs : Entries → Pairs → Does Store Entries
+  thaw_pairs es no_pairs = pure es
+  thaw_pairs es (pair k f ps) = thaw k >>= λ x. thaw f >>= λ y. thaw_pairs (with_key (frozen_key k) (record { key = x; value = y }) es) ps
+
+-- one entry
+abbrev pub thaw_entry : Entries → (Fz × Fz) → Does Store Entries
+thaw_entry es p = thaw p.0 >>= λ x. thaw p.1 >>= λ y. pure (with_key (frozen_key p.0) (record { key = x; value = y }) es)

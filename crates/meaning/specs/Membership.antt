@@ -1,8 +1,9 @@
 -- `in`.
-use Rattle.std.specs.Prelude.{ℕ, Bool, true, false, List, [], ◌∷◌, length, Option, Some, if◌then◌else◌, take, is_some}
+use Rattle.std.specs.Prelude.{ℕ, Bool, true, false, List, [], ◌∷◌, length, Option, Some, if◌then◌else◌, take, is_some, slice_get}
+use Rattle.meaning.specs.declared.key.Part.{Part}
 use Rattle.meaning.specs.declared.val.Val.{Val}
 use Rattle.meaning.specs.declared.val.Val.TheVariants as v
-use Rattle.meaning.specs.Outcome.{Does, ◌>>=◌, pure, fault}
+use Rattle.meaning.specs.Outcome.{Does, ◌>>=◌, pure, fault, Checked, good, bad, checked}
 use Rattle.meaning.specs.Heap.{Obj, text, list, tuple, dict, Store, at, walks}
 use Rattle.meaning.specs.Comparing.{equal, found, same_text}
 use Rattle.meaning.specs.Indexing.{hash}
@@ -20,19 +21,27 @@ abbrev pub is_part : List ℕ → List ℕ → Bool
 is_part part [] = begins part []
 is_part part (c ∷ cs) = if begins part (c ∷ cs) then true else is_part part cs
 
-abbrev pub part_of : List ℕ → Option Obj → Does Store Bool
-part_of whole (Some (text part)) = pure (is_part part whole)
-part_of whole object = fault 5
+abbrev pub part_of : List ℕ → Option Obj → Checked Bool
+part_of whole (Some (text part)) = good (is_part part whole)
+part_of whole object = bad 5
 
-abbrev pub text_has : List ℕ → Val → Does Store Bool
-text_has whole (v.At place) = λ s. part_of whole (at place s) s
-text_has whole x = fault 5
+abbrev pub text_has : List Obj → List ℕ → Val → Checked Bool
+text_has heap whole (v.At place) = part_of whole (slice_get heap place)
+text_has heap whole x = bad 5
+
+abbrev pub has_key : Option Obj → List Part → Does Store Bool
+has_key (Some (dict entries f)) k = pure (is_some (found k entries))
+has_key object k = fault 5
+
+-- what can't be a key is fault 5
+unfoldable pub hashed_has : Option Obj → Val → Does Store Bool
+hashed_has object x = hash x >>= has_key object
 
 abbrev pub object_has : Option Obj → Val → Does Store Bool
-object_has (Some (text whole)) x = text_has whole x
+object_has (Some (text whole)) x = λ s. checked (text_has s.heap whole x) s
 object_has (Some (list members f)) x = walks λ heap. any_equal (equal 64 heap) x members
 object_has (Some (tuple members)) x = walks λ heap. any_equal (equal 64 heap) x members
-object_has (Some (dict entries f)) x = hash x >>= λ k. pure (is_some (found k entries))
+object_has (Some (dict entries f)) x = hashed_has (Some (dict entries f)) x
 object_has object x = fault 5
 
 -- `x in a`: a member of a list or tuple, a key of a dictionary, a part of a string

@@ -1,8 +1,11 @@
 -- The texts of values.
 --
 -- Each value entered is a step, keys and values of dictionaries too. A 65th container inside one another is fault 12.
-use Rattle.std.specs.Prelude.{ℕ, zero, suc, ℤ, pos, negsuc, ◌+◌, ◌/◌, ◌%◌, ◌==◌, nat_lt, Bool, true, false, List, [], ◌∷◌, ◌++◌, Option, Some, None, if◌then◌else◌, slice_get, codes}
+use Rattle.std.specs.Prelude.{ℕ, zero, suc, ℤ, ◌==◌, Bool, true, false, List, [], ◌∷◌, ◌++◌, Option, Some, None, if◌then◌else◌, slice_get, codes}
+use Rattle.std.specs.Fmt.{signed_decimal}
+use Rattle.meaning.specs.declared.key.Part.{Part}
 use Rattle.meaning.specs.declared.val.Val.{Val}
+use Rattle.meaning.specs.declared.val.Entry.{Entry}
 use Rattle.meaning.specs.declared.val.Val.TheVariants as v
 use Rattle.meaning.specs.Outcome.{Does, ◌>>=◌, ◌>>◌, pure, fault, tick}
 use Rattle.meaning.specs.Heap.{Entries, Obj, text, list, tuple, dict, function, Store, at, walks, makes_text}
@@ -19,15 +22,9 @@ all_escaped (c ∷ cs) = escaped c ++ all_escaped cs
 abbrev pub quoted : List ℕ → List ℕ
 quoted bytes = 34 ∷ all_escaped bytes ++ 34 ∷ []
 
--- the digits of a number, of which there are at most so many
-abbrev pub digits : ℕ → ℕ → List ℕ
-digits zero n = []
-digits (suc most) n = (if nat_lt n 10 then [] else digits most (n / 10)) ++ (n % 10 + 48) ∷ []
-
--- 64 bits have at most 19 digits
-abbrev pub decimal : ℤ → List ℕ
-decimal (pos n) = digits 19 n
-decimal (negsuc n) = 45 ∷ digits 19 (suc n)
+-- decimal, with `-` before a negative number
+unfoldable pub int_text : ℤ → List ℕ
+int_text n = signed_decimal n
 
 abbrev pub bool_text : Bool → List ℕ
 bool_text true = codes "True"
@@ -52,42 +49,60 @@ shown_object None = absent
 abbrev pub shown : List Obj → Val → Shown
 shown heap v.Nothing = written (codes "None")
 shown heap (v.Bool b) = written (bool_text b)
-shown heap (v.Int n) = written (decimal n)
+shown heap (v.Int n) = written (int_text n)
 shown heap (v.Builtin b) = written (codes "<built-in " ++ builtin_name b ++ codes ">")
 shown heap (v.At place) = shown_object (slice_get heap place)
 
+-- texts that follow others, with a comma and a space before each
+abbrev pub following : {A : Type 0} → (A → Does ℕ (List ℕ)) → List A → Does ℕ (List ℕ)
+following show [] = pure []
+following show (x ∷ xs) = show x >>= λ t. following show xs >>= λ ts. pure (codes ", " ++ t ++ ts)
+
 -- texts with a comma and a space between them
-abbrev pub commas : List (List ℕ) → List ℕ
-commas [] = []
-commas (t ∷ []) = t
-commas (t ∷ u ∷ ts) = t ++ codes ", " ++ commas (u ∷ ts)
+abbrev pub separated : {A : Type 0} → (A → Does ℕ (List ℕ)) → List A → Does ℕ (List ℕ)
+separated show [] = pure []
+separated show (x ∷ xs) = show x >>= λ t. following show xs >>= λ ts. pure (t ++ ts)
+
+abbrev pub enclosed : List ℕ → Does ℕ (List ℕ) → List ℕ → Does ℕ (List ℕ)
+enclosed before inner after = inner >>= λ t. pure (before ++ t ++ after)
 
 -- a tuple of one has a comma after it
-abbrev pub tuple_text : List (List ℕ) → List ℕ
-tuple_text (t ∷ []) = codes "(" ++ t ++ codes ",)"
-tuple_text ts = codes "(" ++ commas ts ++ codes ")"
+abbrev pub tuple_end : List Val → List ℕ
+tuple_end (x ∷ []) = codes ",)"
+tuple_end xs = codes ")"
 
-abbrev pub texts : (Val → Does ℕ (List ℕ)) → List Val → Does ℕ (List (List ℕ))
-texts print [] = pure []
-texts print (x ∷ xs) = print x >>= λ t. texts print xs >>= λ ts. pure (t ∷ ts)
+abbrev pub entry_text : (Val → Does ℕ (List ℕ)) → Entry → Does ℕ (List ℕ)
+entry_text print e = print e.key >>= λ k. print e.value >>= λ x. pure (k ++ codes ": " ++ x)
 
-abbrev pub entry_texts : (Val → Does ℕ (List ℕ)) → Entries → Does ℕ (List (List ℕ))
-entry_texts print [] = pure []
-entry_texts print (e ∷ es) = print e.1.key >>= λ k. print e.1.value >>= λ x. entry_texts print es >>= λ ts. pure ((k ++ codes ": " ++ x) ∷ ts)
+-- of a dictionary's entry
+abbrev pub pair_text : (Val → Does ℕ (List ℕ)) → (List Part × Entry) → Does ℕ (List ℕ)
+pair_text print e = entry_text print e.1
+
+abbrev pub plain : List ℕ → Does ℕ (List ℕ)
+plain t = tick >> pure t
+
+-- what holds others is entered by a step
+abbrev pub container : List ℕ → Does ℕ (List ℕ) → List ℕ → Does ℕ (List ℕ)
+container before inner after = tick >> enclosed before inner after
 
 abbrev pub visit_shown : Option (Val → Does ℕ (List ℕ)) → Shown → Does ℕ (List ℕ)
-visit_shown inner (written t) = tick >> pure t
+visit_shown inner (written t) = plain t
 visit_shown inner absent = tick >> fault 5
 visit_shown None (listed xs) = fault 12
 visit_shown None (tupled xs) = fault 12
 visit_shown None (mapped es) = fault 12
-visit_shown (Some print) (listed xs) = tick >> (texts print xs >>= λ ts. pure (codes "[" ++ commas ts ++ codes "]"))
-visit_shown (Some print) (tupled xs) = tick >> (texts print xs >>= λ ts. pure (tuple_text ts))
-visit_shown (Some print) (mapped es) = tick >> (entry_texts print es >>= λ ts. pure (codes "{" ++ commas ts ++ codes "}"))
+visit_shown (Some print) (listed xs) = container (codes "[") (separated print xs) (codes "]")
+visit_shown (Some print) (tupled xs) = container (codes "(") (separated print xs) (tuple_end xs)
+visit_shown (Some print) (mapped es) = container (codes "{") (separated (pair_text print) es) (codes "}")
 
 unfoldable pub print : ℕ → List Obj → Val → Does ℕ (List ℕ)
 print zero heap x = visit_shown None (shown heap x)
 print (suc n) heap x = visit_shown (Some (print n heap)) (shown heap x)
+
+-- the walk for what a container holds, if one more may be entered
+unfoldable pub inner_print : ℕ → List Obj → Option (Val → Does ℕ (List ℕ))
+inner_print zero heap = None
+inner_print (suc n) heap = Some (print n heap)
 
 -- `repr(x)`; the size of the text is tested at its end
 abbrev pub repr : Val → Does Store Val

@@ -17,7 +17,7 @@ use Rattle.node.specs.Graphs.{Recorded, record_at, present, Sets, IsTouched}
 use Rattle.node.specs.Laws.{IsLawfulFor}
 use Rattle.node.proofs.Lists.{some_is, none_some, true_false, decide_key, other_key, in_split, in_left, in_one}
 use Rattle.open_nodes.specs.Nodes.{Nodes, node_at, groups_of, IsUnsettled}
-use Rattle.open_nodes.specs.Truths.{IsNext, Past, IsSince, IsAfter, IsDoing, IsRun, IsOpenTruly, IsItem, IsRunOf, run_keys, IsTold, IsTrueOf}
+use Rattle.open_nodes.specs.Truths.{IsNext, Past, IsReached, IsSince, IsAfter, IsDoing, IsRun, IsOpenTruly, IsItem, IsRunOf, run_keys, IsTold, IsTrueOf}
 use Rattle.open_nodes.specs.declared.run.Run.{Run}
 use Rattle.open_nodes.specs.declared.table.Node.{Node}
 use Rattle.open_nodes.proofs.Wholes.{unsettled_not_clean}
@@ -91,13 +91,13 @@ module _ (next : Key → List Value → Reply Key Value) (read : Key → Option 
 
   -- one node is set
   pub truth_changes : (graph : Recorded) (nodes later : Nodes) (runs : List Run) (k : Key) (n : Node) → Updates key_cmp nodes later k (Some n)
-      → IsTrueOf next read past graph nodes runs → read k ≡ None → record_at graph k ≡ record_at past.entry k → IsDoing next read past k (groups_of n) n.phase
+      → IsTrueOf next read past graph nodes runs → read k ≡ None → IsReached next read past k → record_at graph k ≡ record_at past.entry k → IsDoing next read past k (groups_of n) n.phase
       → IsTrueOf next read past graph later runs
-  truth_changes graph nodes later runs k n u t no_leaf same doing = record {
+  truth_changes graph nodes later runs k n u t no_leaf reached same doing = record {
     after = t.after;
     opened = λ j m e. elim (decide_key k j) [
       | inl q ↦ let is : n ≡ m = some_is (sym u.1 ∙ ap (node_at later) q ∙ e) in
-          subst (λ (y : Key). IsOpenTruly next read past graph y m) q (subst (λ (y : Node). IsOpenTruly next read past graph k y) is (record { no_leaf = no_leaf; same = same; doing = doing }))
+          subst (λ (y : Key). IsOpenTruly next read past graph y m) q (subst (λ (y : Node). IsOpenTruly next read past graph k y) is (record { no_leaf = no_leaf; reached = reached; same = same; doing = doing }))
       | inr d ↦ t.opened j m (sym (other_key nodes later k (Some n) u j d) ∙ e)
     ];
     ran = t.ran;
@@ -109,7 +109,7 @@ module _ (next : Key → List Value → Reply Key Value) (read : Key → Option 
   module _ (graph new : Recorded) (nodes left : Nodes) (runs : List Run) (k : Key) (r : Record Key Value)
       (t : IsTrueOf next read past graph nodes runs) (version : new.version ≡ graph.version)
       (sets : Sets (record_at graph) (record_at new) k r) (was : IsUnsettled (record_at graph) k)
-      (is_clean : r.dirty ≡ false) (at : r.settled_at ≡ graph.version) (lawful : IsLawfulFor next past.reads past.edits new)
+      (is_clean : r.dirty ≡ false) (reached : IsReached next read past k) (at : r.settled_at ≡ graph.version) (lawful : IsLawfulFor next past.reads past.edits new)
       (gone : node_at left k ≡ None) (others_stay : (j : Key) → k ≢ j → node_at left j ≡ node_at nodes j) where
     keeps : (j : Key) (s : Record Key Value) → record_at graph j ≡ Some s → s.dirty ≡ false → record_at new j ≡ Some s
     keeps j s e d = elim (decide_key k j) [
@@ -122,10 +122,10 @@ module _ (next : Key → List Value → Reply Key Value) (read : Key → Option 
       version = version ∙ t.after.version;
       lawful = lawful;
       since = λ j. elim (decide_key k j) [
-        | inl q ↦ subst (IsSince next read past new) q (inr (r, sets.there, is_clean, at ∙ t.after.version, subst (λ o. present o ≡ None) (same_since graph t.after k was) was))
+        | inl q ↦ subst (IsSince next read past new) q (inr (r, sets.there, is_clean, at ∙ t.after.version, subst (λ o. present o ≡ None) (same_since graph t.after k was) was, reached))
         | inr n ↦ elim (t.after.since j) [
           | inl e ↦ inl (sets.others j n ∙ e)
-          | inr s ↦ inr (s.0, sets.others j n ∙ s.1, s.2, s.3, s.4)
+          | inr s ↦ inr (s.0, sets.others j n ∙ s.1, s.2, s.3, s.4, s.5)
         ]
       ];
     }
@@ -133,7 +133,7 @@ module _ (next : Key → List Value → Reply Key Value) (read : Key → Option 
     left_nodes : (j : Key) (m : Node) → node_at left j ≡ Some m → IsOpenTruly next read past new j m
     left_nodes j m e = elim (decide_key k j) [
       | inl q ↦ absurd (none_some (sym gone ∙ ap (node_at left) q ∙ e))
-      | inr n ↦ let o = t.opened j m (sym (others_stay j n) ∙ e) in record { no_leaf = o.no_leaf; same = sets.others j n ∙ o.same; doing = o.doing }
+      | inr n ↦ let o = t.opened j m (sym (others_stay j n) ∙ e) in record { no_leaf = o.no_leaf; reached = o.reached; same = sets.others j n ∙ o.same; doing = o.doing }
     ]
 
     run_stays : (x : Run) → IsRunOf next read past graph x → IsRunOf next read past new x

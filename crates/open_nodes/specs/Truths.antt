@@ -1,10 +1,10 @@
 -- What is true of a round: of the graph since the entry, of the open nodes, and of the runs so far.
-use Rattle.std.specs.Prelude.{◌≡◌, ◌≢◌, ◌⊎◌, ℕ, ◌+◌, suc, List, [], ◌∷◌, ◌++◌, length, map, true, false, Option, Some, None, Result, Ok, Err, ⊤, sum_by}
+use Rattle.std.specs.Prelude.{◌≡◌, ◌≢◌, ◌⊎◌, ℕ, ◌+◌, suc, List, [], ◌∷◌, ◌++◌, length, map, true, false, Option, Some, None, Result, Ok, Err, ⊤}
 use Rattle.std.specs.List.{AllByRecursion}
-use Rattle.std.specs.BTreeMap.{values}
 use Rattle.evaluation.specs.Reply.{Reply, Ask, Done}
 use Rattle.evaluation.specs.Value.{Grounded, AllGrounded, IsUngrounded, AllDiffer, In}
 use Rattle.evaluation.specs.Graph.{Record}
+use Rattle.evaluation.specs.Reached.{Reached}
 use Rattle.evaluation.specs.Journal.{RunIsJustified, ReadIsJustified}
 use Rattle.keys.specs.Cycles.{cycle}
 use Rattle.keys.specs.Turns.{NoCycle}
@@ -24,10 +24,11 @@ pub record IsNext (next : Key → List Value → Reply Key Value) : Type 0 where
   pub groups_differ : (key : Key) (answers : List Value) (group : List Key) → next key answers ≡ Ask group → AllDiffer group
   pub ends_plain : (key : Key) (answers : List Value) (v : Value) → AllByRecursion NoCycle answers → next key answers ≡ Done v → NoCycle v
 
--- the graph at the entry of a call, and the history of the files for which it is lawful: `reads u` reads the leaves at version u,
+-- the graph at the entry of a call and its roots, and the history of the files for which it is lawful: `reads u` reads the leaves at version u,
 -- and `edits u` is the path of the edit to version u
 pub record Past (read : Key → Option Value) : Type 0 where
   pub entry : Recorded
+  pub roots : List Key
   pub reads : ℕ → Key → Option Value
   pub edits : ℕ → List ℕ
   pub at_present : (k : Key) → reads entry.version k ≡ read k
@@ -35,10 +36,17 @@ pub record Past (read : Key → Option Value) : Type 0 where
   pub leaf_plain : (u : ℕ) (k : Key) (v : Value) → reads u k ≡ Some v → NoCycle v
 
 module _ (next : Key → List Value → Reply Key Value) (read : Key → Option Value) (past : Past read) where
-  -- the record is that of the entry, or the key was not settled at the entry and is now
+  -- an evaluation of the roots reaches the key
+  abbrev pub IsReached : Key → Type 0
+  IsReached k = Reached next cycle read past.roots k
+
+  abbrev pub AreReached : List Key → Type 0
+  AreReached keys = (k : Key) → In k keys → IsReached k
+
+  -- the record is that of the entry, or the key was not settled at the entry and is now, since the roots reach it
   abbrev pub IsSince : Recorded → Key → Type 0
   IsSince graph k = (record_at graph k ≡ record_at past.entry k)
-      ⊎ ((r : Record Key Value) × (record_at graph k ≡ Some r) × (r.dirty ≡ false) × (r.settled_at ≡ past.entry.version) × IsUnsettled (record_at past.entry) k)
+      ⊎ ((r : Record Key Value) × (record_at graph k ≡ Some r) × (r.dirty ≡ false) × (r.settled_at ≡ past.entry.version) × IsUnsettled (record_at past.entry) k × IsReached k)
 
   -- the graph may have come about in this call
   pub record IsAfter (graph : Recorded) : Type 0 where
@@ -66,6 +74,7 @@ module _ (next : Key → List Value → Reply Key Value) (read : Key → Option 
   -- an open node
   pub record IsOpenTruly (graph : Recorded) (k : Key) (n : Node) : Type 0 where
     pub no_leaf : read k ≡ None
+    pub reached : IsReached k
     pub same : record_at graph k ≡ record_at past.entry k
     pub doing : IsDoing k (groups_of n) n.phase
 
@@ -102,6 +111,7 @@ abbrev pub Leads : {X E : Type 0} → (Key → List Value → Reply Key Value) �
 Leads next read old new before after (Ok x) = (laws : IsNext next) (past : Past read) → IsTrueOf next read past old before.nodes before.runs.items → IsTrueOf next read past new after.nodes after.runs.items
 Leads next read old new before after (Err e) = (laws : IsNext next) (past : Past read) → IsTrueOf next read past old before.nodes before.runs.items → IsAfter next read past new
 
--- how many turns were made: those of the runs, and those of the open nodes
-abbrev pub turns_made : Nodes → List Run → ℕ
-turns_made nodes runs = sum_by (λ (run : Run). run.turns) runs + sum_by (λ (n : Node). length n.groups.items) (values nodes)
+-- the same for what is known of these keys: an evaluation of the roots reaches them
+abbrev pub LeadsOf : {X E : Type 0} → (Key → List Value → Reply Key Value) → (Key → Option Value) → List Key → Recorded → Recorded → Table → Table → Result X E → Type 0
+LeadsOf next read keys old new before after (Ok x) = (laws : IsNext next) (past : Past read) → AreReached next read past keys → IsTrueOf next read past old before.nodes before.runs.items → IsTrueOf next read past new after.nodes after.runs.items
+LeadsOf next read keys old new before after (Err e) = (laws : IsNext next) (past : Past read) → AreReached next read past keys → IsTrueOf next read past old before.nodes before.runs.items → IsAfter next read past new

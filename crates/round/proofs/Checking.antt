@@ -1,10 +1,8 @@
 -- A check goes on to the next group, or gives up.
-use Rattle.std.proofs.Common.{◌≡◌, ◌≢◌, ◌⊎◌, inl, inr, ℕ, ◌+◌, ◌<◌, ◌≤◌, zero, suc, Bool, true, false, nat_lt, List, [], ◌∷◌, ◌++◌, length, take, drop, map, Option, Some, None, refl, sym, ◌∙◌, ap, subst, arith, slice_index_or, add-one}
-use Rattle.std.proofs.lemmas.Bool.{ltb-true}
+use Rattle.std.proofs.Common.{◌≡◌, ◌≢◌, ◌⊎◌, inl, inr, ℕ, ◌+◌, ◌<◌, ◌≤◌, zero, suc, true, false, nat_lt, List, [], ◌∷◌, ◌++◌, length, take, drop, Option, Some, refl, sym, ◌∙◌, ap, subst, arith, slice_index_or, add-one}
 use Rattle.std.specs.BTreeMap.{Updates}
 use Rattle.std.specs.declared.alloc.Global.{Global}
 use Rattle.std.specs.declared.vec.Vec.{Vec}
-use Rattle.evaluation.specs.Reply.{Reply}
 use Rattle.evaluation.specs.Value.{In, first, after, IsMember}
 use Rattle.evaluation.specs.Graph.{Record, Differs}
 use Rattle.evaluation.specs.Journal.{RunIsJustified, dependency_differs}
@@ -14,29 +12,28 @@ use Rattle.keys.specs.declared.key.Key.{Key}
 use Rattle.keys.specs.declared.value.Value.{Value}
 use Rattle.node.specs.Graphs.{Recorded, record_at, IsTouched}
 use Rattle.node.specs.Kept.{items_of}
-use Rattle.node.proofs.Lists.{some_is, none_some, true_false, decide_key, other_key, in_left, in_right}
-use Rattle.open_nodes.specs.Nodes.{Nodes, Records, node_at, groups_of, pending, IsUnsettled, IsClean, IsStill, IsPlain, IsCurrent, Stands, IsWhole, AreOut}
-use Rattle.open_nodes.specs.Steps.{Pends, Readies, HasPhase}
-use Rattle.open_nodes.specs.Truths.{IsNext, Past, IsTrueOf, IsRun, Asks, nothing}
+use Rattle.node.proofs.Lists.{some_is, decide_key, other_key, in_left, in_right}
+use Rattle.open_nodes.specs.Nodes.{node_at, groups_of, pending, IsStill, IsCurrent, Stands, IsWhole, AreOut}
+use Rattle.open_nodes.specs.Steps.{Pends, Readies, HasPhase, SameRuns}
+use Rattle.open_nodes.specs.Truths.{IsTrueOf, Asks, nothing}
 use Rattle.open_nodes.specs.declared.run.Run.{Run}
 use Rattle.open_nodes.specs.declared.table.Node.{Node}
+use Rattle.open_nodes.specs.declared.table.Phase.{Phase}
 use Rattle.open_nodes.specs.declared.table.Phase.TheVariants as phase
 use Rattle.open_nodes.specs.declared.table.Table.{Table}
 use Rattle.open_nodes.proofs.Wholes.{node_changes}
+use Rattle.open_nodes.specs.Counted.{MakesNone}
+use Rattle.open_nodes.proofs.Counting.{same_asked}
 use Rattle.open_nodes.proofs.Settlings.{truth_changes}
 use Rattle.round.specs.Members.{IsMissing, has_changed}
 use Rattle.round.specs.Compared.{IsNextGroup, ComparesGroup, Compares}
 use Rattle.round.specs.declared.look.Compared.{Compared}
 use Rattle.round.specs.declared.look.Compared.TheVariants as compared
+use Rattle.round.specs.Moves.{KeepsWanted}
 use Rattle.round.specs.Looks.{IsAwaiting, IsChecking, HasPassed}
-use Rattle.round.proofs.Grouping.{split_at, snoc_in}
-use Rattle.round.proofs.Wanting.{StaysTrue}
-use Rattle.round.proofs.Confirming.{standing, passed_members}
-
-items_taken : (i : ℕ) (gs : List (Vec Key Global)) → items_of (take i gs) ≡ take i (items_of gs)
-items_taken zero gs = refl
-items_taken (suc i) [] = refl
-items_taken (suc i) (g ∷ gs) = ap (λ x. g.items ∷ x) (items_taken i gs)
+use Rattle.round.proofs.Grouping.{split_at, snoc_in, items_taken}
+use Rattle.round.proofs.Wanting.{StaysTrue, wanted_set}
+use Rattle.round.proofs.Confirming.{standing}
 
 items_joined : (xs ys : List (Vec Key Global)) → items_of (xs ++ ys) ≡ items_of xs ++ items_of ys
 items_joined [] ys = refl
@@ -51,7 +48,7 @@ group_at groups i g e h gs q x f = (
 )
 
 -- one group more is taken
-next_taken : (i : ℕ) (gs : List (List Key)) (g : List Key) (rest : List (List Key)) → gs ≡ take i gs ++ g ∷ rest → take (suc i) gs ≡ take i gs ++ g ∷ []
+pub next_taken : (i : ℕ) (gs : List (List Key)) (g : List Key) (rest : List (List Key)) → gs ≡ take i gs ++ g ∷ rest → take (suc i) gs ≡ take i gs ++ g ∷ []
 next_taken zero [] g rest e = cc
 next_taken zero (x ∷ gs) g rest e = let q : x ≡ g = cc in ap (λ y. y ∷ []) q
 next_taken (suc i) [] g rest e = cc
@@ -134,6 +131,12 @@ module _ (graph : Recorded) (before later : Table) (k : Key) (at : ℕ) (c : IsC
     | inr x ↦ o j m (sym (other_key before.nodes later.nodes k (Some (record n { phase = p })) (u p h) j x) ∙ e) f
   ]
 
+  none_more : (p : Phase) → HasPhase before.nodes later.nodes k p → SameRuns before later → MakesNone before later
+  none_more p h runs = same_asked before later k n (record n { phase = p }) c.1 (u p h) refl runs
+
+  pub set_keeps : (p : Phase) → HasPhase before.nodes later.nodes k p → KeepsWanted graph graph before later
+  set_keeps p h = wanted_set graph before later k (record n { phase = p }) (u p h)
+
   -- the next group has not changed
   module _ (found : (group : List Key) × IsNextGroup r at group × ComparesGroup (record_at graph) group r.settled_at compared.Passes)
       (pends : Pends before later k) (h : HasPhase before.nodes later.nodes k (phase.Checking (at + 1))) where
@@ -159,10 +162,13 @@ module _ (graph : Recorded) (before later : Table) (k : Key) (at : ℕ) (c : IsC
     pub passed_out : (keys : List Key) → AreOut before.nodes keys → AreOut later.nodes keys
     passed_out = out_on (phase.Checking (at + 1)) (λ e. cc) h
 
+    pub passed_turns : MakesNone before later
+    passed_turns = none_more (phase.Checking (at + 1)) h pends.runs
+
     pub passed_true : (read : Key → Option Value) → StaysTrue read graph graph before later
     passed_true read = λ next laws past t. let o = t.opened k n c.1 in
         subst (λ (x : List Run). IsTrueOf next read past graph later.nodes x) (sym pends.runs)
-        (truth_changes next read laws past graph before.nodes later.nodes before.runs.items k (record n { phase = phase.Checking (at + 1) }) (u (phase.Checking (at + 1)) h) t o.no_leaf o.same tt)
+        (truth_changes next read laws past graph before.nodes later.nodes before.runs.items k (record n { phase = phase.Checking (at + 1) }) (u (phase.Checking (at + 1)) h) t o.no_leaf o.reached o.same tt)
 
   -- a member of the next group has changed
   module _ (found : (group : List Key) × IsNextGroup r at group × ComparesGroup (record_at graph) group r.settled_at compared.Differs)
@@ -183,13 +189,16 @@ module _ (graph : Recorded) (before later : Table) (k : Key) (at : ℕ) (c : IsC
     in_groups : In found.0 r.groups
     in_groups = subst (In found.0) (sym found.1.1) (in_right (take at r.groups) first)
 
+    pub rerun_turns : MakesNone before later
+    rerun_turns = none_more phase.Running h readies.runs
+
     pub rerun_true : (read : Key → Option Value) → StaysTrue read graph graph before later
     rerun_true read = λ next laws past t. let o = t.opened k n c.1 in
         let j = found.2.1.0 in
         let d = (t.after.lawful.each k r stand.1).depends j (found.0, in_groups, found.2.1.1) in
         let changed : nat_lt r.settled_at d.of_j.changed_at ≡ true = sym (ap (λ x. has_changed x r.settled_at) d.recorded) ∙ found.2.1.2 in
         subst (λ (x : List Run). IsTrueOf next read past graph later.nodes x) (sym readies.runs)
-        (truth_changes next read laws past graph before.nodes later.nodes before.runs.items k (record n { phase = phase.Running }) (u phase.Running h) t o.no_leaf o.same (record {
+        (truth_changes next read laws past graph before.nodes later.nodes before.runs.items k (record n { phase = phase.Running }) (u phase.Running h) t o.no_leaf o.reached o.same (record {
           justified = subst (RunIsJustified next cycle past.reads (λ x y. IsTouched (past.edits x) y) past.entry.version) (sym stand.1 ∙ o.same)
               (dependency_differs (found.0, in_groups, found.2.1.1) (subst (λ v. Differs next cycle past.reads j r.settled_at v) t.after.version (d.changed (late changed)).0));
           asks = subst (Asks next read past k []) (sym stand.2) nothing;

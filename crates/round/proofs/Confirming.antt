@@ -1,33 +1,35 @@
 -- A check goes on, ends or gives up.
-use Rattle.std.proofs.Common.{◌≡◌, ◌≢◌, ◌⊎◌, inl, inr, ℕ, ◌+◌, ◌<◌, ◌≤◌, Bool, true, false, List, [], ◌∷◌, ◌++◌, length, take, drop, map, Option, Some, None, refl, sym, ◌∙◌, ap, subst, arith}
+use Rattle.std.proofs.Common.{◌≡◌, ◌≢◌, inl, inr, ℕ, ◌≤◌, false, List, [], ◌∷◌, ◌++◌, length, take, Option, Some, None, refl, sym, ◌∙◌, ap, subst, arith}
 use Rattle.std.proofs.lemmas.List.{take-append-drop, drop_all}
-use Rattle.std.specs.BTreeMap.{Updates}
 use Rattle.std.specs.Prelude.{IsSome}
-use Rattle.evaluation.specs.Reply.{Reply}
-use Rattle.evaluation.specs.Value.{Grounded, Settles, In, first, after, IsMember}
+use Rattle.evaluation.specs.Value.{In, first, after, IsMember}
 use Rattle.evaluation.specs.Graph.{Record}
-use Rattle.evaluation.specs.Journal.{RunIsJustified, dependency_differs}
 use Rattle.evaluation.proofs.Settle.{confirm_holds}
 use Rattle.keys.specs.Cycles.{cycle}
-use Rattle.keys.specs.Keys.{key_cmp}
 use Rattle.keys.specs.declared.key.Key.{Key}
 use Rattle.keys.specs.declared.value.Value.{Value}
 use Rattle.keys.proofs.CycleLaws.{turned}
-use Rattle.node.specs.Graphs.{Recorded, record_at, present, Sets, IsTouched, HasCleanMembers}
-use Rattle.node.specs.Laws.{IsLawfulFor, SettlingKeepsLawful}
-use Rattle.node.proofs.Lists.{some_is, none_some, true_false, decide_key, other_key, in_split, in_left, in_right, in_one}
-use Rattle.open_nodes.specs.Nodes.{Nodes, Records, node_at, groups_of, pending, IsOpen, IsUnsettled, IsClean, IsStill, IsPlain, Stands, Holds, IsWhole, AreOut}
-use Rattle.open_nodes.specs.Steps.{Pends, Readies, HasLeft, HasPhase, SameRuns}
-use Rattle.open_nodes.specs.Truths.{IsNext, Past, IsAfter, IsTrueOf, IsOpenTruly, IsDoing, IsRun, nothing}
+use Rattle.node.specs.Graphs.{Recorded, record_at, Sets, IsTouched, HasCleanMembers}
+use Rattle.node.specs.Laws.{SettlingKeepsLawful}
+use Rattle.node.proofs.Lists.{some_is, none_some, decide_key, other_key, in_left, in_right}
+use Rattle.open_nodes.specs.Nodes.{Nodes, Records, node_at, groups_of, pending, IsStill, Stands, Holds, IsWhole, AreOut}
+use Rattle.open_nodes.specs.Steps.{HasLeft}
+use Rattle.open_nodes.specs.Truths.{Past, IsTrueOf}
 use Rattle.open_nodes.specs.declared.run.Run.{Run}
 use Rattle.open_nodes.specs.declared.table.Node.{Node}
 use Rattle.open_nodes.specs.declared.table.Phase.{Phase}
 use Rattle.open_nodes.specs.declared.table.Phase.TheVariants as phase
 use Rattle.open_nodes.specs.declared.table.Table.{Table}
-use Rattle.open_nodes.proofs.Wholes.{unsettled_not_clean, node_changes, node_settles}
-use Rattle.open_nodes.proofs.Settlings.{now_is, plain, same_since, truth_changes, settles_quietly}
+use Rattle.open_nodes.proofs.Wholes.{node_settles}
+use Rattle.std.specs.declared.alloc.Global.{Global}
+use Rattle.std.specs.declared.vec.Vec.{Vec}
+use Rattle.node.specs.Kept.{items_of}
+use Rattle.open_nodes.specs.Counted.{turns_of, asked_by, MakesNone}
+use Rattle.open_nodes.proofs.Counting.{counts_none}
+use Rattle.open_nodes.proofs.Settlings.{plain, settles_quietly}
+use Rattle.round.specs.Moves.{KeepsWanted}
 use Rattle.round.specs.Looks.{HasPassed}
-use Rattle.round.proofs.Wanting.{StaysTrue}
+use Rattle.round.proofs.Wanting.{StaysTrue, wanted_leaves}
 
 -- what a checked node's record and members are
 module _ (records : Records) (nodes : Nodes) (h : Holds records nodes) (k : Key) (n : Node) (there : node_at nodes k ≡ Some n) (at : ℕ) (checking : n.phase ≡ phase.Checking at) where
@@ -39,7 +41,7 @@ module _ (records : Records) (nodes : Nodes) (h : Holds records nodes) (k : Key)
       subst (λ (x : Record Key Value). IsStill records x.settled_at j) same (s.3 j (subst (λ (x : Record Key Value). IsMember j (take at x.groups)) (sym same) m))
 
 -- everything is taken
-take_whole : {X : Type 0} (xs : List X) (i : ℕ) → length xs ≤ i → take i xs ≡ xs
+pub take_whole : {X : Type 0} (xs : List X) (i : ℕ) → length xs ≤ i → take i xs ≡ xs
 take_whole {X} xs i h = sym (nil (take i xs)) ∙ ap (λ ys. take i xs ++ ys) (sym (drop_all i xs h)) ∙ take-append-drop i xs
   where
     nil : (ys : List X) → ys ++ [] ≡ ys
@@ -89,6 +91,20 @@ module _ (graph : Recorded) (table : Table) (k : Key) (p : HasPassed graph table
       | inr n ↦ o j m (sym (others_stay j n) ∙ e) f
     ]
 
+    pub confirmed_keeps : KeepsWanted graph new table later
+    confirmed_keeps = let s = sets recorded.0 recorded.1 in wanted_leaves graph new table later k (record recorded.0 { settled_at = graph.version; dirty = false }) s.there refl s.others others_stay
+
+    no_groups : groups_of p.node ≡ []
+    no_groups = (standing (record_at graph) table.nodes w.holds k p.node p.there p.at p.checking).2
+
+    pub confirmed_turns : MakesNone table later
+    confirmed_turns = counts_none table later k others_stay
+        (let a = ap asked_by left.gone in let b = ap asked_by p.there in let c = no_items p.node.groups.items no_groups in let r = ap turns_of left.runs in omega (arith, a, b, c, r))
+      where
+        no_items : (gs : List (Vec Key Global)) → items_of gs ≡ [] → length gs ≡ 0
+        no_items [] e = refl
+        no_items (g ∷ gs) e = cc
+
     pub confirmed_true : ((r : Record Key Value) → record_at graph k ≡ Some r → SettlingKeepsLawful graph new k r.value r.groups) → (read : Key → Option Value) → StaysTrue read graph new table later
     confirmed_true keeps read = λ next laws past t.
         let e = recorded.1 in
@@ -98,7 +114,7 @@ module _ (graph : Recorded) (table : Table) (k : Key) (p : HasPassed graph table
         let none_now : past.reads graph.version k ≡ None = ap (λ u. past.reads u k) t.after.version ∙ past.at_present k ∙ o.no_leaf in
         let s = sets r e in
         subst (λ (x : List Run). IsTrueOf next read past new later.nodes x) (sym left.runs)
-        (settles_quietly next read laws past graph new table.nodes later.nodes table.runs.items k (record r { settled_at = graph.version; dirty = false }) t version s (w.holds k p.node p.there).0 refl refl
+        (settles_quietly next read laws past graph new table.nodes later.nodes table.runs.items k (record r { settled_at = graph.version; dirty = false }) t version s (w.holds k p.node p.there).0 refl o.reached refl
         (keeps r e next past.reads past.edits law
         (confirm_holds next cycle turned past.reads (record_at graph) (λ u j. IsTouched (past.edits u) j) graph.version law (plain next read laws past) k r e
         (none_now ∙ sym (never_leaf past graph.version r.settled_at none_now))

@@ -1,8 +1,7 @@
 -- Turns that are handed out, and what they lead to.
-use Rattle.std.proofs.Common.{◌≡◌, ◌≢◌, ◌⊎◌, inl, inr, ℕ, ◌+◌, suc, Bool, true, false, List, [], ◌∷◌, ◌++◌, length, map, Option, Some, None, refl, sym, ◌∙◌, ap, subst, arith, vec_len}
+use Rattle.std.proofs.Common.{◌≡◌, ◌≢◌, inl, inr, ℕ, ◌+◌, suc, List, [], ◌∷◌, ◌++◌, length, map, Option, Some, None, refl, sym, ◌∙◌, ap, subst, arith, vec_len}
 use Rattle.evaluation.specs.Reply.{Reply, Ask, Done}
 use Rattle.evaluation.specs.Value.{Grounded, has_run, Turns, ends, asks, AllGrounded, none, one, Settles, run, In, first, after, IsMember}
-use Rattle.evaluation.specs.Graph.{Record}
 use Rattle.evaluation.proofs.Unique.{same_values}
 use Rattle.keys.specs.declared.key.Key.{Key}
 use Rattle.keys.specs.declared.value.Value.{Value}
@@ -23,10 +22,14 @@ use Rattle.open_nodes.specs.declared.table.Phase.{Phase}
 use Rattle.open_nodes.specs.declared.table.Phase.TheVariants as phase
 use Rattle.open_nodes.specs.declared.table.Table.{Table}
 use Rattle.open_nodes.proofs.Wholes.{node_settles}
+use Rattle.open_nodes.specs.Counted.{turns_of, asked_by, MakesMore}
+use Rattle.open_nodes.proofs.Counting.{counts, turns_snoc}
 use Rattle.open_nodes.proofs.Settlings.{now_is, plain_grounded, settles_by_run}
 use Rattle.round.specs.Members.{plain_value, all_values, AreAnswers}
 use Rattle.round.specs.Turning.{IsOutWith}
-use Rattle.round.proofs.Grouping.{plain_is}
+use Rattle.round.specs.Moves.{KeepsWanted}
+use Rattle.round.proofs.Wanting.{wanted_leaves}
+use Rattle.round.proofs.Grouping.{plain_is, items_length}
 
 -- a list of values, cut where a list before it ends
 split_some : {X : Type 0} (p q : List (Option X)) (xs : List X) → p ++ q ≡ map (λ x. Some x) xs → (ys : List X) × (zs : List X) × (xs ≡ ys ++ zs) × (p ≡ map (λ x. Some x) ys) × (q ≡ map (λ x. Some x) zs)
@@ -123,12 +126,21 @@ module _ (old new : Recorded) (before mid later : Table) (k : Key) (v : Value) (
       tail_in {i = i} (first {xs = ys}) q d = let same : k ≡ i = cc in absurd (d same)
       tail_in {i = i} (after {xs = ys} h) q d = let same : ys ≡ keys = cc in subst (In i) same h
 
+  pub ended_keeps : KeepsWanted old new before later
+  ended_keeps = wanted_leaves old new before later k (stored (record_at old k) v (groups_of o.node) old.version) sets.there refl sets.others (λ j d. ap (λ x. node_at x j) noted.nodes ∙ others_stay j d)
+
+  pub ended_turns : turns ≡ suc (length (groups_of o.node)) → MakesMore 1 before later
+  ended_turns count = counts before later k 1 (λ j d. ap (λ x. node_at x j) noted.nodes ∙ others_stay j d)
+      (let a = ap asked_by o.there in let b = ap asked_by (ap (λ x. node_at x k) noted.nodes ∙ left.gone) in
+      let r = ap turns_of (noted.runs ∙ ap (λ (xs : List Run). xs ++ record { key = k; version = at; turns = turns } ∷ []) left.runs) in
+      let s = turns_snoc before.runs.items (record { key = k; version = at; turns = turns }) in let i = items_length o.node.groups.items in omega (arith, a, b, r, s, count, i))
+
   pub ended_true : at ≡ old.version → turns ≡ suc (length (groups_of o.node)) → SettlingKeepsLawful old new k v (groups_of o.node)
       → (next : Key → List Value → Reply Key Value) → next k answers ≡ Done v → (read : Key → Option Value) (laws : IsNext next) (past : Past read)
       → IsTrueOf next read past old before.nodes before.runs.items → IsTrueOf next read past new later.nodes later.runs.items
   ended_true now count keeps next ended read laws past t =
       subst (λ (x : Nodes). IsTrueOf next read past new x later.runs.items) (sym noted.nodes) (subst (λ (x : List Run). IsTrueOf next read past new mid.nodes x) (sym (noted.runs ∙ ap (λ (xs : List Run). xs ++ record { key = k; version = at; turns = turns } ∷ []) left.runs))
-      (settles_by_run next read laws past old new before.nodes mid.nodes before.runs.items k (stored (record_at old k) v (groups_of o.node) old.version) t version sets was refl refl
+      (settles_by_run next read laws past old new before.nodes mid.nodes before.runs.items k (stored (record_at old k) v (groups_of o.node) old.version) t version sets was refl h.reached refl
       (keeps next past.reads past.edits t.after.lawful (subst (λ f. Settles next f cycle k (groups_of o.node) v) (sym present_now) (run h.no_leaf its_turns)))
       left.gone others_stay (record { key = k; version = at; turns = turns }) refl now (inr (h.no_leaf, does.justified, inl (has_run h.no_leaf its_turns, count)))))
     where

@@ -1,5 +1,5 @@
 -- Members of groups, taken one by one.
-use Rattle.std.proofs.Common.{◌≡◌, ◌≢◌, ◌⊎◌, inl, inr, ℕ, ◌<◌, ◌≤◌, ◌+◌, suc, Bool, true, false, List, [], ◌∷◌, ◌++◌, length, take, map, Option, Some, None, refl, sym, ◌∙◌, ap, subst, arith, slice_index_or, add-one, drop, drop-cons, cond}
+use Rattle.std.proofs.Common.{◌≡◌, ◌⊎◌, inl, inr, ℕ, ◌<◌, ◌≤◌, ◌+◌, zero, suc, Bool, true, false, List, [], ◌∷◌, ◌++◌, length, take, map, Option, Some, None, refl, sym, ◌∙◌, ap, subst, slice_index_or, add-one, drop, drop-cons, cond}
 use Rattle.std.specs.Arc.{arc_value}
 use Rattle.std.specs.declared.sync.Arc.{Arc}
 use Rattle.std.specs.declared.alloc.Global.{Global}
@@ -19,7 +19,7 @@ use Rattle.keys.specs.declared.value.Value.TheVariants as value
 use Rattle.node.specs.Graphs.{present}
 use Rattle.node.proofs.Lists.{none_some, true_false, in_split, in_left, in_one, some_is}
 use Rattle.open_nodes.specs.Nodes.{Records, IsClean, IsPlain, IsUnsettled}
-use Rattle.round.specs.Members.{IsMissing, IsFirst, has_changed, AnyChanged, is_cycle, no_cycle, plain_value, IsStop, AnswersGroup, all_values, AreAnswers, Answers}
+use Rattle.round.specs.Members.{IsMissing, is_cycle, no_cycle, plain_value, AnswersGroup, all_values, AreAnswers, Answers}
 
 pub snoc_in : {X : Type 0} (xs : List X) {x y : X} → In y (xs ++ x ∷ []) → In y xs ⊎ (y ≡ x)
 snoc_in xs {x = x} i = elim (in_split i xs (x ∷ []) refl) [ inl a ↦ inl a | inr b ↦ inr (in_one b) ]
@@ -216,3 +216,20 @@ snoc_all x P xs all p j i = elim (snoc_in xs i) [ inl a ↦ all j a | inr q ↦ 
 -- all elements are taken
 pub in_whole : {X : Type 0} (xs : List X) (i : ℕ) {x : X} → length xs ≤ i → In x xs → In x (take i xs)
 in_whole xs i {x = x} h m = elim (in_split (subst (In x) (sym (take-append-drop i xs) ∙ ap (λ ys. take i xs ++ ys) (drop_all i xs h)) m) (take i xs) [] refl) [ inl a ↦ a | inr b ↦ elim b [ ] ]
+
+pub items_length : (gs : List (Vec Key Global)) → length (items_of gs) ≡ length gs
+items_length [] = refl
+items_length (g ∷ gs) = ap suc (items_length gs)
+
+-- an element of a list, alone
+pub one_in : {X : Type 0} (xs : List X) (i : ℕ) (x : X) → x ≡ slice_index_or xs i x → i < length xs → {j : X} → In j (x ∷ []) → In j xs
+one_in xs i x e h {j = j} m = subst (λ y. In y xs) (sym (in_one m)) (in_at_is xs i x x e h)
+
+pub items_taken : (i : ℕ) (gs : List (Vec Key Global)) → items_of (take i gs) ≡ take i (items_of gs)
+items_taken zero gs = refl
+items_taken (suc i) [] = refl
+items_taken (suc i) (g ∷ gs) = ap (λ x. g.items ∷ x) (items_taken i gs)
+
+-- what there is from a place on
+pub rest_at : {X : Type 0} (xs : List X) (i : ℕ) (x : X) → x ≡ slice_index_or xs i x → i < length xs → drop i xs ≡ x ∷ drop (i + 1) xs
+rest_at xs i x e h = rw add-one (drop-cons xs i x h) ∙ ap (λ y. y ∷ drop (i + 1) xs) (sym e)

@@ -1,5 +1,5 @@
 -- A turn is handed out, and a turn that asks comes back.
-use Rattle.std.proofs.Common.{◌≡◌, ◌≢◌, ◌⊎◌, inl, inr, ℕ, Bool, true, false, List, [], ◌∷◌, ◌++◌, Option, Some, None, refl, sym, ◌∙◌, ap, subst}
+use Rattle.std.proofs.Common.{◌≡◌, ◌≢◌, inl, inr, List, [], ◌∷◌, ◌++◌, Option, Some, None, refl, sym, ◌∙◌, ap, subst, ◌+◌, length, arith, length-append}
 use Rattle.std.specs.BTreeMap.{Updates}
 use Rattle.std.specs.declared.alloc.Global.{Global}
 use Rattle.evaluation.specs.Reply.{Reply, Ask}
@@ -9,8 +9,8 @@ use Rattle.keys.specs.declared.key.Key.{Key}
 use Rattle.keys.specs.declared.value.Value.{Value}
 use Rattle.node.specs.Graphs.{Recorded, record_at}
 use Rattle.node.specs.Edges.{IsRemoved}
-use Rattle.node.proofs.Lists.{some_is, none_some, decide_key, other_key, in_left, in_right}
-use Rattle.open_nodes.specs.Nodes.{Nodes, Records, node_at, groups_of, pending, IsUnsettled, IsPlain, Stands, IsWhole, AreOut}
+use Rattle.node.proofs.Lists.{some_is, decide_key, other_key, in_left, in_right}
+use Rattle.open_nodes.specs.Nodes.{node_at, groups_of, pending, IsPlain, Stands, IsWhole, AreOut}
 use Rattle.open_nodes.specs.Steps.{HasPhase, HasAsked, Pends, SameRuns}
 use Rattle.open_nodes.specs.Truths.{IsNext, Past, IsTrueOf, IsOpenTruly, IsDoing, IsRun}
 use Rattle.open_nodes.specs.declared.run.Run.{Run}
@@ -19,11 +19,16 @@ use Rattle.open_nodes.specs.declared.table.Phase.{Phase}
 use Rattle.open_nodes.specs.declared.table.Phase.TheVariants as phase
 use Rattle.open_nodes.specs.declared.table.Table.{Table}
 use Rattle.open_nodes.proofs.Wholes.{node_changes}
+use Rattle.std.specs.declared.vec.Vec.{Vec}
+use Rattle.node.specs.Kept.{items_of}
+use Rattle.open_nodes.specs.Counted.{turns_of, asked_by, MakesNone, MakesMore}
+use Rattle.open_nodes.proofs.Counting.{counts, same_asked}
 use Rattle.open_nodes.proofs.Settlings.{truth_changes}
 use Rattle.round.specs.Members.{AreAnswers, Answers}
 use Rattle.round.specs.Turning.{IsOutWith}
-use Rattle.round.proofs.Grouping.{never_none}
-use Rattle.round.proofs.Wanting.{StaysTrue}
+use Rattle.round.proofs.Grouping.{never_none, items_length}
+use Rattle.round.specs.Moves.{KeepsWanted}
+use Rattle.round.proofs.Wanting.{StaysTrue, wanted_set}
 use Rattle.round.proofs.Ending.{asks_more, plain_values}
 
 -- the job of a node that is ready is handed out
@@ -67,10 +72,16 @@ module _ (graph : Recorded) (before later : Table) (k : Key) (w : IsWhole (recor
       | inr d ↦ after (out j x (sym (other_key before.nodes later.nodes k (Some m) (h n there) j d) ∙ e) f)
     ]
 
+    pub handed_keeps : KeepsWanted graph graph before later
+    handed_keeps = wanted_set graph before later k m (h n there)
+
+    pub handed_turns : SameRuns before later → MakesNone before later
+    handed_turns runs = same_asked before later k n m there (h n there) refl runs
+
     pub handed_true : (read : Key → Option Value) → SameRuns before later → StaysTrue read graph graph before later
     handed_true read runs = λ next laws past t. let o = t.opened k n there in
         subst (λ (x : List Run). IsTrueOf next read past graph later.nodes x) (sym runs)
-        (truth_changes next read laws past graph before.nodes later.nodes before.runs.items k m (h n there) t o.no_leaf o.same
+        (truth_changes next read laws past graph before.nodes later.nodes before.runs.items k m (h n there) t o.no_leaf o.reached o.same
         (subst (λ (p : Phase). IsDoing next read past k (groups_of n) p) (w.ready_now k ready).2 o.doing))
 
 -- a turn that asks a group comes back
@@ -117,11 +128,21 @@ module _ (graph : Recorded) (before later : Table) (k : Key) (answers : List Val
       tail_in {i = i} (first {xs = ys}) q d = let same : k ≡ i = cc in absurd (d same)
       tail_in {i = i} (after {xs = ys} h) q d = let same : ys ≡ keys = cc in subst (In i) same h
 
+  pub asked_keeps : KeepsWanted graph graph before later
+  asked_keeps = wanted_set graph before later k new_node u
+
+  pub asked_turns : MakesMore 1 before later
+  asked_turns = counts before later k 1 (λ j d. other_key before.nodes later.nodes k (Some new_node) u j d)
+      (let a = ap asked_by o.there in let b = ap asked_by u.1 in let c = one_more o.node.groups.items new_node.groups.items (asked o.node o.there).2 in let r = ap turns_of pends.runs in omega (arith, a, b, c, r))
+    where
+      one_more : (xs ys : List (Vec Key Global)) → items_of ys ≡ items_of xs ++ group ∷ [] → length ys ≡ length xs + 1
+      one_more xs ys e = sym (items_length ys) ∙ ap (λ (zs : List (List Key)). length zs) e ∙ length-append (items_of xs) (group ∷ []) ∙ ap (λ n. n + 1) (items_length xs)
+
   pub asked_true : (next : Key → List Value → Reply Key Value) → next k answers ≡ Ask group → (read : Key → Option Value) (laws : IsNext next) (past : Past read)
       → IsTrueOf next read past graph before.nodes before.runs.items → IsTrueOf next read past graph later.nodes later.runs.items
   asked_true next asks_group read laws past t =
       subst (λ (x : List Run). IsTrueOf next read past graph later.nodes x) (sym pends.runs)
-      (truth_changes next read laws past graph before.nodes later.nodes before.runs.items k new_node u t h.no_leaf h.same
+      (truth_changes next read laws past graph before.nodes later.nodes before.runs.items k new_node u t h.no_leaf h.reached h.same
       (subst (λ (p : Phase). IsDoing next read past k (groups_of new_node) p) (sym (asked o.node o.there).3)
       (subst (IsRun next read past k) (sym (asked o.node o.there).2) (record { justified = does.justified; asks = asks_more next read past (record_at graph) (plain_values next read laws past graph t.after) does.asks answers o.answered group asks_group }))))
     where

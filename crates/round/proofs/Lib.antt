@@ -1,4 +1,3 @@
-pub mod Evaluates
 pub mod Grouping
 pub mod Wanting
 pub mod Looking
@@ -6,3 +5,9 @@ pub mod Confirming
 pub mod Checking
 pub mod Ending
 pub mod Handing
+pub mod Reaching
+pub mod Stalling
+pub mod Walking
+pub mod Stalled
+pub mod Closings
+pub mod Resting

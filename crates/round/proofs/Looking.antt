@@ -1,36 +1,36 @@
 -- A node is looked at.
-use Rattle.std.proofs.Common.{◌≡◌, ◌≢◌, ◌⊎◌, inl, inr, ℕ, ◌<◌, ◌≤◌, Bool, true, false, List, [], ◌∷◌, ◌++◌, map, Option, Some, None, refl, sym, ◌∙◌, ap, subst}
+use Rattle.std.proofs.Common.{◌≡◌, ◌≢◌, ◌⊎◌, inl, inr, ℕ, Bool, false, List, [], ◌∷◌, ◌++◌, Option, Some, None, refl, sym, ◌∙◌, ap, subst}
 use Rattle.std.specs.BTreeMap.{Updates}
 use Rattle.std.specs.Prelude.{vec_len, length, ◌==◌}
 use Rattle.std.specs.declared.alloc.Global.{Global}
 use Rattle.std.specs.declared.vec.Vec.{Vec}
-use Rattle.evaluation.specs.Reply.{Reply}
 use Rattle.evaluation.specs.Value.{In, first, after, IsMember}
-use Rattle.evaluation.specs.Graph.{Record}
 use Rattle.keys.specs.Keys.{key_cmp}
 use Rattle.keys.specs.declared.key.Key.{Key}
 use Rattle.keys.specs.declared.value.Value.{Value}
-use Rattle.node.specs.Graphs.{Recorded, record_at, present}
+use Rattle.node.specs.Graphs.{Recorded, record_at}
 use Rattle.node.specs.Kept.{items_of}
-use Rattle.node.proofs.Lists.{some_is, none_some, true_false, decide_key, other_key, in_split, in_left, in_right, in_one}
-use Rattle.open_nodes.specs.Nodes.{Nodes, Records, node_at, groups_of, pending, IsOpen, IsUnsettled, IsClean, IsPlain, Stands, AreReady, IsCurrent, KeepsBack, IsBlocked, IsWhole, Widens, AreOut}
+use Rattle.node.proofs.Lists.{some_is, true_false, decide_key, other_key, in_split, in_left, in_right, in_one}
+use Rattle.open_nodes.specs.Nodes.{Nodes, node_at, groups_of, pending, IsOpen, IsUnsettled, IsClean, IsPlain, Stands, IsCurrent, IsBlocked, IsWhole, AreOut}
 use Rattle.open_nodes.specs.Steps.{Pends, Readies, HasWatcher, SameRuns}
-use Rattle.open_nodes.specs.Truths.{IsNext, Past, IsAfter, IsTrueOf, IsOpenTruly, IsDoing}
+use Rattle.open_nodes.specs.Truths.{IsTrueOf, IsDoing}
 use Rattle.open_nodes.specs.declared.run.Run.{Run}
 use Rattle.open_nodes.specs.declared.table.Node.{Node}
 use Rattle.open_nodes.specs.declared.table.Phase.{Phase}
 use Rattle.open_nodes.specs.declared.table.Phase.TheVariants as phase
 use Rattle.open_nodes.specs.declared.table.Table.{Table}
-use Rattle.open_nodes.proofs.Wholes.{unsettled_not_clean, node_changes, open_on, keeps_on, blocked_on, looked_at, more_waiting, current_on, clean_on, becomes_ready}
+use Rattle.open_nodes.proofs.Wholes.{unsettled_not_clean, node_changes, open_on, blocked_on, looked_at, more_waiting, current_on, clean_on, becomes_ready}
+use Rattle.open_nodes.specs.Counted.{turns_of, MakesNone}
+use Rattle.open_nodes.proofs.Counting.{counts_same, same_asked}
 use Rattle.open_nodes.proofs.Settlings.{truth_changes}
 use Rattle.round.specs.Members.{IsMissing, plain_value}
 use Rattle.round.proofs.Grouping.{clean_cycle}
-use Rattle.round.specs.Moves.{Wants, IsWanted}
+use Rattle.round.specs.Moves.{Wants, IsWanted, KeepsWanted}
 use Rattle.round.specs.Looks.{IsAwaiting, IsLastGroup, IsRunningAt, IsNextKey}
-use Rattle.round.proofs.Wanting.{StaysTrue}
+use Rattle.round.proofs.Wanting.{StaysTrue, wanted_set}
 
 -- the last elements of equal lists
-last_same : {X : Type 0} (xs ys : List X) (x y : X) → xs ++ x ∷ [] ≡ ys ++ y ∷ [] → x ≡ y
+pub last_same : {X : Type 0} (xs ys : List X) (x y : X) → xs ++ x ∷ [] ≡ ys ++ y ∷ [] → x ≡ y
 last_same [] [] x y e = cc
 last_same [] (z ∷ []) x y e = cc
 last_same [] (z ∷ w ∷ ys) x y e = cc
@@ -124,10 +124,16 @@ module _ (graph : Recorded) (before later : Table) (k member : Key) (n : Node) (
     | inr d ↦ out j x (sym (other_key before.nodes later.nodes member (Some o) u j d) ∙ e) f
   ]
 
+  pub watched_keeps : KeepsWanted graph graph before later
+  watched_keeps = wanted_set graph before later member o u
+
+  pub watched_turns : SameRuns before later → MakesNone before later
+  watched_turns runs = same_asked before later member m o open_member.1 u (ap (λ (gs : List (Vec Key Global)). length gs) (watches m open_member.1).2) runs
+
   pub watched_true : (read : Key → Option Value) → SameRuns before later → StaysTrue read graph graph before later
   watched_true read runs = λ next laws past t. let h = t.opened member m open_member.1 in
       subst (λ (x : List Run). IsTrueOf next read past graph later.nodes x) (sym runs)
-      (truth_changes next read laws past graph before.nodes later.nodes before.runs.items member o u t h.no_leaf h.same
+      (truth_changes next read laws past graph before.nodes later.nodes before.runs.items member o u t h.no_leaf h.reached h.same
       (subst (λ (p : Phase). IsDoing next read past member (groups_of o) p) same_phase (subst (λ (gs : List (List Key)). IsDoing next read past member gs m.phase) same_groups h.doing)))
 
 -- a node is to be looked at again
@@ -145,6 +151,9 @@ module _ (graph : Recorded) (before later : Table) (k : Key) (pends : Pends befo
 
   pub again_out : (keys : List Key) → AreOut before.nodes keys → AreOut later.nodes keys
   again_out keys out j m e f = out j m (ap (λ x. node_at x j) (sym nodes) ∙ e) f
+
+  pub again_turns : MakesNone before later
+  again_turns = counts_same before later nodes (ap turns_of pends.runs)
 
   pub again_true : (read : Key → Option Value) → StaysTrue read graph graph before later
   again_true read = λ next laws past t. subst (λ (x : Nodes). IsTrueOf next read past graph x later.runs.items) (sym nodes) (subst (λ (x : List Run). IsTrueOf next read past graph before.nodes x) (sym pends.runs) t)
@@ -244,3 +253,7 @@ module _ (graph : Recorded) (before later : Table) (k : Key) (next_key : IsNextK
 
   pub next_true : (read : Key → Option Value) → StaysTrue read graph graph before later
   next_true read = λ next laws past t. subst (λ (x : Nodes). IsTrueOf next read past graph x later.runs.items) (sym next_key.1) (subst (λ (x : List Run). IsTrueOf next read past graph before.nodes x) (sym next_key.3) t)
+
+pub next_nodes : (before later : Table) (k : Option Key) → IsNextKey before later k → later.nodes ≡ before.nodes
+next_nodes before later (Some k) n = n.1
+next_nodes before later None n = ap (λ (x : Table). x.nodes) n.1

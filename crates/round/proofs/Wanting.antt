@@ -1,5 +1,5 @@
 -- Leaves are read, and nodes begin.
-use Rattle.std.proofs.Common.{◌≡◌, ◌≢◌, ◌⊎◌, inl, inr, ℕ, ◌<◌, ◌≤◌, Bool, true, false, List, [], ◌∷◌, ◌++◌, map, Option, Some, None, refl, sym, ◌∙◌, ap, subst}
+use Rattle.std.proofs.Common.{◌≡◌, ◌≢◌, ◌⊎◌, inl, inr, ℕ, ◌≤◌, Bool, true, false, List, [], ◌∷◌, ◌++◌, map, Option, Some, None, refl, sym, ◌∙◌, ap, subst, length, arith, Result, Ok, Err, IsErr}
 use Rattle.std.specs.BTreeMap.{Updates}
 use Rattle.std.specs.Option.{is_some}
 use Rattle.std.specs.declared.alloc.Global.{Global}
@@ -9,33 +9,37 @@ use Rattle.functions.specs.Next as leaves
 use Rattle.keys.specs.declared.key.Key.TheVariants as key
 use Rattle.node.specs.Kept.{items_of}
 use Rattle.evaluation.specs.Reply.{Reply}
-use Rattle.evaluation.specs.Value.{Settles, leaf, In, first, after, IsMember}
+use Rattle.evaluation.specs.Value.{leaf, In, first, IsMember}
 use Rattle.evaluation.specs.Graph.{Record}
 use Rattle.evaluation.specs.Journal.{RunIsJustified, never_settled, ReadIsJustified, never_read, edited}
 use Rattle.keys.specs.Cycles.{cycle}
 use Rattle.keys.specs.Keys.{key_cmp}
 use Rattle.keys.specs.declared.key.Key.{Key}
 use Rattle.keys.specs.declared.value.Value.{Value}
-use Rattle.node.specs.Graphs.{Recorded, record_at, present, Sets, IsTouched}
+use Rattle.node.specs.Graphs.{Recorded, record_at, Sets, IsTouched}
 use Rattle.node.specs.Writes.{stored}
-use Rattle.node.specs.Laws.{IsLawfulFor, SettlingKeepsLawful}
-use Rattle.node.specs.Edges.{IsAdded}
-use Rattle.node.proofs.Lists.{some_is, none_some, true_false, decide_key, other_key, in_split, in_left, in_right, in_one}
-use Rattle.open_nodes.specs.Nodes.{Nodes, Records, node_at, groups_of, pending, IsOpen, IsUnsettled, IsClean, IsPlain, Stands, AreReady, IsWhole, Widens, AreOut}
+use Rattle.node.specs.Laws.{SettlingKeepsLawful}
+use Rattle.node.proofs.Lists.{some_is, none_some, true_false, decide_key, other_key, in_split, in_left, in_right}
+use Rattle.open_nodes.specs.Nodes.{Nodes, Records, node_at, groups_of, pending, IsOpen, IsUnsettled, Stands, IsWhole}
 use Rattle.open_nodes.specs.Steps.{HasEntered, Pends, Readies, HasNoted, SameRuns}
-use Rattle.open_nodes.specs.Truths.{IsNext, Past, IsAfter, IsTrueOf, IsRun, Asks, nothing, IsDoing, IsItem, Leads}
+use Rattle.open_nodes.specs.Counted.{turns_of, asked_by}
+use Rattle.open_nodes.specs.Truths.{Leads, LeadsOf, AreReached, IsNext, Past, IsAfter, IsTrueOf, IsRun, nothing, IsDoing, Leads}
 use Rattle.open_nodes.specs.declared.run.Run.{Run}
 use Rattle.open_nodes.specs.declared.table.Node.{Node}
 use Rattle.open_nodes.specs.declared.table.Phase.{Phase}
 use Rattle.open_nodes.specs.declared.table.Phase.TheVariants as phase
 use Rattle.open_nodes.specs.declared.table.Table.{Table}
-use Rattle.open_nodes.proofs.Wholes.{unsettled_not_clean, node_changes, open_on, node_settles, keeps_clean, widens_refl, widens_on}
-use Rattle.open_nodes.proofs.Settlings.{now_is, same_since, truth_changes, settled_after, settles_by_run}
-use Rattle.round.specs.Moves.{Wants, IsWanted}
+use Rattle.open_nodes.proofs.Wholes.{unsettled_not_clean, node_changes, node_settles, keeps_clean, widens_refl, widens_on}
+use Rattle.open_nodes.proofs.Counting.{turns_snoc, counts_same, counts_none, makes_on}
+use Rattle.open_nodes.proofs.Settlings.{same_since, truth_changes, settles_by_run}
+use Rattle.round.specs.Moves.{Wants, IsWanted, KeepsWanted}
 
 -- what was true of the round is true after a move
 abbrev pub StaysTrue : (Key → Option Value) → Recorded → Recorded → Table → Table → Type 0
 StaysTrue read old new before later = (next : Key → List Value → Reply Key Value) (laws : IsNext next) (past : Past read) → IsTrueOf next read past old before.nodes before.runs.items → IsTrueOf next read past new later.nodes later.runs.items
+
+abbrev pub StaysTrueOf : List Key → (Key → Option Value) → Recorded → Recorded → Table → Table → Type 0
+StaysTrueOf keys read old new before later = (next : Key → List Value → Reply Key Value) (laws : IsNext next) (past : Past read) → AreReached next read past keys → IsTrueOf next read past old before.nodes before.runs.items → IsTrueOf next read past new later.nodes later.runs.items
 
 -- an unsettled record is dirty
 pub unsettled_dirty : (records : Records) (k : Key) (r : Record Key Value) → IsUnsettled records k → records k ≡ Some r → r.dirty ≡ true
@@ -57,8 +61,8 @@ module _ (old new : Recorded) (before after : Table) (k : Key) (v : Value) (turn
   nodes_same : (j : Key) → node_at after.nodes j ≡ node_at before.nodes j
   nodes_same j = ap (λ x. node_at x j) noted.nodes
 
-  pub read_wants : Wants old new before after
-  read_wants = record {
+  pub read_wants : turns.turns ≡ 0 → Wants old new before after
+  read_wants none = record {
     version = version;
     widens = record {
       clean = λ j s e d. keeps_clean (record_at old) (record_at new) before.nodes before.nodes k (stored (record_at old k) v [] old.version) sets.there refl sets.others was closed other_nodes j s e d;
@@ -72,11 +76,12 @@ module _ (old new : Recorded) (before after : Table) (k : Key) (v : Value) (turn
         before.ready.keys (spare ++ pending before) (spare ++ pending before) w
         (λ i. let r = w.ready_now k i in none_some (sym closed ∙ r.1)) (λ j n i. i) (λ m x e i. absurd (none_some (sym closed ∙ e))))));
     out = λ keys o j m e. o j m (sym (nodes_same j) ∙ e);
+    turns = counts_same before after noted.nodes (let a = ap turns_of noted.runs in let b = turns_snoc before.runs.items turns in omega (arith, a, b, none));
   }
 
   module _ (next : Key → List Value → Reply Key Value) (read : Key → Option Value) (is_leaf : read k ≡ Some v)
       (lawful : SettlingKeepsLawful old new k v []) (of_k : turns.key ≡ k) (now : turns.version ≡ old.version) (no_turns : turns.turns ≡ 0)
-      (laws : IsNext next) (past : Past read) (t : IsTrueOf next read past old before.nodes before.runs.items) where
+      (laws : IsNext next) (past : Past read) (reached : AreReached next read past (k ∷ [])) (t : IsTrueOf next read past old before.nodes before.runs.items) where
     at_now : (u : ℕ) → u ≡ past.entry.version → past.reads u k ≡ Some v
     at_now u e = ap (λ n. past.reads n k) e ∙ past.at_present k ∙ is_leaf
 
@@ -95,7 +100,7 @@ module _ (old new : Recorded) (before after : Table) (k : Key) (v : Value) (turn
     pub read_true : IsTrueOf next read past new after.nodes after.runs.items
     read_true =
         subst (λ (x : Nodes). IsTrueOf next read past new x after.runs.items) (sym noted.nodes) (subst (λ (x : List Run). IsTrueOf next read past new before.nodes x) (sym noted.runs)
-        (settles_by_run next read laws past old new before.nodes before.nodes before.runs.items k (stored (record_at old k) v [] old.version) t version sets was refl refl
+        (settles_by_run next read laws past old new before.nodes before.nodes before.runs.items k (stored (record_at old k) v [] old.version) t version sets was refl (reached k first) refl
         (lawful next past.reads past.edits t.after.lawful (leaf (at_now old.version t.after.version))) closed other_nodes turns of_k now
         (inl (ap read of_k ∙ is_leaf, no_turns, justified))))
 
@@ -114,8 +119,9 @@ module _ (graph : Recorded) (before after : Table) (k : Key) (p : Phase) (no_out
       → ((j : Key) → In j before.ready.keys → In j after.ready.keys)
       → ((j : Key) → In j (pending before) → In j (pending after))
       → In k (pending after) ⊎ In k after.ready.keys
+      → SameRuns before after
       → Wants graph graph before after
-  begin_wants ready_more ready_on waits own = record {
+  begin_wants ready_more ready_on waits own runs = record {
     version = refl;
     widens = record {
       clean = λ j s e d. e;
@@ -136,6 +142,8 @@ module _ (graph : Recorded) (before after : Table) (k : Key) (p : Phase) (no_out
       | inl q ↦ absurd (no_out (sym entered.4 ∙ ap (λ (x : Node). x.phase) (some_is (sym entered.1.1 ∙ ap (node_at after.nodes) q ∙ e)) ∙ f))
       | inr d ↦ o j m (sym (other_key before.nodes after.nodes k (Some n) entered.1 j d) ∙ e) f
     ];
+    turns = counts_none before after k (λ j d. other_key before.nodes after.nodes k (Some n) entered.1 j d)
+        (let a = ap asked_by entered.1.1 in let b = ap asked_by closed in let c = ap (λ (gs : List (Vec Key Global)). length gs) entered.2 in let r = ap turns_of runs in omega (arith, a, b, c, r));
   }
     where
       no_member : (i : Key) → IsMember i [] → ⊥
@@ -145,11 +153,11 @@ module _ (graph : Recorded) (before after : Table) (k : Key) (p : Phase) (no_out
   begin_open = (n, entered.1.1)
 
   module _ (next : Key → List Value → Reply Key Value) (read : Key → Option Value) (no_leaf : read k ≡ None)
-      (laws : IsNext next) (past : Past read) (t : IsTrueOf next read past graph before.nodes before.runs.items) (runs : SameRuns before after)
+      (laws : IsNext next) (past : Past read) (reached : AreReached next read past (k ∷ [])) (t : IsTrueOf next read past graph before.nodes before.runs.items) (runs : SameRuns before after)
       (doing : record_at graph k ≡ record_at past.entry k → IsDoing next read past k [] p) where
     pub begin_true : IsTrueOf next read past graph after.nodes after.runs.items
     begin_true = subst (λ (x : List Run). IsTrueOf next read past graph after.nodes x) (sym runs)
-        (truth_changes next read laws past graph before.nodes after.nodes before.runs.items k n entered.1 t no_leaf same
+        (truth_changes next read laws past graph before.nodes after.nodes before.runs.items k n entered.1 t no_leaf (reached k first) same
         (subst (λ (x : Phase). IsDoing next read past k (groups_of n) x) (sym entered.4) (subst (λ (x : List (List Key)). IsDoing next read past k x p) (sym no_groups) (doing same))))
       where
         same : record_at graph k ≡ record_at past.entry k
@@ -174,10 +182,10 @@ module _ (graph : Recorded) (before after : Table) (k : Key) (closed : node_at b
   pub check_begins : Wants graph graph before after
   check_begins = begin_wants graph before after k (phase.Checking 0) not_out closed was entered stands
       (λ j i. inl (subst (In j) pends.ready i)) (λ j i. subst (In j) (sym pends.ready) i)
-      (λ j i. subst (In j) (sym pends.pends) (in_left (k ∷ []) i)) (inl (subst (In k) (sym pends.pends) (in_right (pending before) first)))
+      (λ j i. subst (In j) (sym pends.pends) (in_left (k ∷ []) i)) (inl (subst (In k) (sym pends.pends) (in_right (pending before) first))) pends.runs
 
-  pub check_true : (read : Key → Option Value) → read k ≡ None → StaysTrue read graph graph before after
-  check_true read no_leaf = λ next laws past t. begin_true graph before after k (phase.Checking 0) not_out closed was entered stands next read no_leaf laws past t pends.runs (λ same. tt)
+  pub check_true : (read : Key → Option Value) → read k ≡ None → StaysTrueOf (k ∷ []) read graph graph before after
+  check_true read no_leaf = λ next laws past reached t. begin_true graph before after k (phase.Checking 0) not_out closed was entered stands next read no_leaf laws past reached t pends.runs (λ same. tt)
 
 -- the turns of a node without a record begin
 module _ (graph : Recorded) (before after : Table) (k : Key) (closed : node_at before.nodes k ≡ None) (was : IsUnsettled (record_at graph) k)
@@ -188,10 +196,10 @@ module _ (graph : Recorded) (before after : Table) (k : Key) (closed : node_at b
   pub run_begins : Wants graph graph before after
   run_begins = begin_wants graph before after k phase.Running running_not_out closed was entered (inl refl)
       (λ j i. elim (readies.ready.from j i) [ inl a ↦ inl a | inr q ↦ inr (q, refl) ]) (λ j i. readies.ready.keeps j i)
-      (λ j i. subst (In j) (sym readies.pends) i) (inr readies.ready.has)
+      (λ j i. subst (In j) (sym readies.pends) i) (inr readies.ready.has) readies.runs
 
-  pub run_true : (read : Key → Option Value) → read k ≡ None → StaysTrue read graph graph before after
-  run_true read no_leaf = λ next laws past t. begin_true graph before after k phase.Running running_not_out closed was entered (inl refl) next read no_leaf laws past t readies.runs (λ same. first_run next read past graph k none same)
+  pub run_true : (read : Key → Option Value) → read k ≡ None → StaysTrueOf (k ∷ []) read graph graph before after
+  run_true read no_leaf = λ next laws past reached t. begin_true graph before after k phase.Running running_not_out closed was entered (inl refl) next read no_leaf laws past reached t readies.runs (λ same. first_run next read past graph k none same)
 
 -- what a call stores for a leaf
 pub read_sets : (old new : Recorded) (a k : Key) (v : Value) (gs : List (Vec Key Global)) → a ≡ k → gs ≡ [] → Sets (record_at old) (record_at new) a (stored (record_at old a) v (items_of gs) old.version) → Sets (record_at old) (record_at new) k (stored (record_at old k) v [] old.version)
@@ -201,7 +209,7 @@ pub read_keeps : (old new : Recorded) (a k : Key) (v : Value) (gs : List (Vec Ke
 read_keeps old new a k v gs e f s = subst (λ (x : Key). SettlingKeepsLawful old new x v []) e (subst (λ (xs : List (Vec Key Global)). SettlingKeepsLawful old new a v (items_of xs)) f s)
 
 pub wants_refl : (graph : Recorded) (table : Table) → Wants graph graph table table
-wants_refl graph table = record { version = refl; widens = widens_refl (record_at graph) table.nodes; whole = λ spare w. w; out = λ keys o. o }
+wants_refl graph table = record { version = refl; widens = widens_refl (record_at graph) table.nodes; whole = λ spare w. w; out = λ keys o. o; turns = λ made h. h }
 
 pub wants_on : (a b c : Recorded) (x y z : Table) → Wants a b x y → Wants b c y z → Wants a c x z
 wants_on a b c x y z f g = record {
@@ -209,6 +217,7 @@ wants_on a b c x y z f g = record {
   widens = widens_on (record_at a) (record_at b) (record_at c) x.nodes y.nodes z.nodes f.widens g.widens;
   whole = λ spare w. g.whole spare (f.whole spare w);
   out = λ keys o. g.out keys (f.out keys o);
+  turns = makes_on x y z f.turns g.turns;
 }
 
 pub wanted_on : (a b : Recorded) (x y : Table) (k : Key) → Wants a b x y → IsWanted a x k → IsWanted b y k
@@ -229,3 +238,38 @@ pub no_leaf : (files : Files) (k : Key) → leaves.is_leaf k ≡ false → leave
 no_leaf files (key.File path) e = absurd (true_false refl e)
 no_leaf files (key.Listing directory) e = absurd (true_false refl e)
 no_leaf files (key.Lookup directory) e = refl
+
+-- after a stop
+pub leads_err : {X E : Type 0} (next : Key → List Value → Reply Key Value) (read : Key → Option Value) (old new : Recorded) (before later : Table) (r : Result X E) → IsErr r
+    → ((laws : IsNext next) (past : Past read) → IsTrueOf next read past old before.nodes before.runs.items → IsAfter next read past new) → Leads next read old new before later r
+leads_err next read old new before later (Ok x) e h = absurd (true_false e refl)
+leads_err next read old new before later (Err x) e h = h
+
+pub leads_of_err : {X E : Type 0} (next : Key → List Value → Reply Key Value) (read : Key → Option Value) (keys : List Key) (old new : Recorded) (before later : Table) (r : Result X E) → IsErr r
+    → ((laws : IsNext next) (past : Past read) → AreReached next read past keys → IsTrueOf next read past old before.nodes before.runs.items → IsAfter next read past new) → LeadsOf next read keys old new before later r
+leads_of_err next read keys old new before later (Ok x) e h = absurd (true_false e refl)
+leads_of_err next read keys old new before later (Err x) e h = h
+
+-- one node is set: what was wanted is
+pub wanted_set : (graph : Recorded) (before later : Table) (k : Key) (n : Node) → Updates key_cmp before.nodes later.nodes k (Some n) → KeepsWanted graph graph before later
+wanted_set graph before later k n u j (inr c) = inr c
+wanted_set graph before later k n u j (inl o) = elim (decide_key k j) [
+  | inl e ↦ inl (n, ap (node_at later.nodes) (sym e) ∙ u.1)
+  | inr d ↦ inl (o.0, other_key before.nodes later.nodes k (Some n) u j d ∙ o.1)
+]
+
+-- one node leaves, and is settled
+pub wanted_leaves : (old new : Recorded) (before later : Table) (k : Key) (r : Record Key Value) → record_at new k ≡ Some r → r.dirty ≡ false → ((j : Key) → k ≢ j → record_at new j ≡ record_at old j)
+    → ((j : Key) → k ≢ j → node_at later.nodes j ≡ node_at before.nodes j) → KeepsWanted old new before later
+wanted_leaves old new before later k r there clean records nodes j (inl o) = elim (decide_key k j) [
+  | inl e ↦ inr (r, ap (record_at new) (sym e) ∙ there, clean)
+  | inr d ↦ inl (o.0, nodes j d ∙ o.1)
+]
+wanted_leaves old new before later k r there clean records nodes j (inr c) = elim (decide_key k j) [
+  | inl e ↦ inr (r, ap (record_at new) (sym e) ∙ there, clean)
+  | inr d ↦ inr (c.0, records j d ∙ c.1, c.2)
+]
+
+pub wanted_same : (graph : Recorded) (before later : Table) → later.nodes ≡ before.nodes → KeepsWanted graph graph before later
+wanted_same graph before later e j (inl o) = inl (o.0, ap (λ x. node_at x j) e ∙ o.1)
+wanted_same graph before later e j (inr c) = inr c

@@ -1,6 +1,5 @@
 -- What a look at a node finds.
 use Rattle.std.specs.Prelude.{◌≡◌, ◌⊎◌, ◌≤◌, ◌<◌, ◌+◌, ◌^◌, ℕ, length, List, [], ◌∷◌, ◌++◌, Option, Some, None}
-use Rattle.evaluation.specs.Value.{In}
 use Rattle.evaluation.specs.Graph.{Record}
 use Rattle.keys.specs.declared.key.Key.{Key}
 use Rattle.keys.specs.declared.value.Value.{Value}

@@ -4,13 +4,18 @@ use Rattle.evaluation.specs.Reply.{Reply}
 use Rattle.keys.specs.declared.key.Key.{Key}
 use Rattle.keys.specs.declared.value.Value.{Value}
 use Rattle.node.specs.Graphs.{Recorded, record_at}
-use Rattle.open_nodes.specs.Nodes.{node_at, IsOpen, IsClean, IsWhole, Widens, pending, AreOut}
-use Rattle.open_nodes.specs.Truths.{Leads}
+use Rattle.open_nodes.specs.Nodes.{IsOpen, IsClean, IsWhole, Widens, pending, AreOut}
+use Rattle.open_nodes.specs.Counted.{MakesNone}
+use Rattle.open_nodes.specs.Truths.{Leads, LeadsOf}
 use Rattle.open_nodes.specs.declared.table.Table.{Table}
 
 -- whichever the node functions are, what was true of the round stays true
 abbrev pub KeepsTrue : {X E : Type 0} → (Key → Option Value) → Recorded → Recorded → Table → Table → Result X E → Type 0
 KeepsTrue read old new before after result = (next : Key → List Value → Reply Key Value) → Leads next read old new before after result
+
+-- the same where an evaluation of the roots reaches these keys
+abbrev pub KeepsTrueOf : {X E : Type 0} → List Key → (Key → Option Value) → Recorded → Recorded → Table → Table → Result X E → Type 0
+KeepsTrueOf keys read old new before after result = (next : Key → List Value → Reply Key Value) → LeadsOf next read keys old new before after result
 
 -- keys are wanted: more are settled or open, whatever else there is to be looked at
 pub record Wants (old new : Recorded) (before after : Table) : Type 0 where
@@ -18,6 +23,7 @@ pub record Wants (old new : Recorded) (before after : Table) : Type 0 where
   pub widens : Widens (record_at old) (record_at new) before.nodes after.nodes
   pub whole : (spare : List Key) → IsWhole (record_at old) before.nodes before.ready.keys (spare ++ pending before) → IsWhole (record_at new) after.nodes after.ready.keys (spare ++ pending after)
   pub out : (keys : List Key) → AreOut before.nodes keys → AreOut after.nodes keys
+  pub turns : MakesNone before after
 
 -- the key is settled or open
 abbrev pub IsWanted : Recorded → Table → Key → Type 0
@@ -33,3 +39,7 @@ IsWholeNow graph table = IsWhole (record_at graph) table.nodes table.ready.keys 
 -- no other job is out
 abbrev pub KeepsOut : Table → Table → Type 0
 KeepsOut before after = (keys : List Key) → AreOut before.nodes keys → AreOut after.nodes keys
+
+-- what was settled or open is settled or open
+abbrev pub KeepsWanted : Recorded → Recorded → Table → Table → Type 0
+KeepsWanted old new before after = (k : Key) → IsWanted old before k → IsWanted new after k

@@ -1,13 +1,16 @@
 //! The evaluation of nodes.
 #![tactic(auto)]
 
-mod from_nothing;
+mod close;
+mod closing;
+mod here;
 mod look;
+mod loops;
 mod members;
 mod settle;
 mod stop;
 mod turns;
 
-pub use from_nothing::evaluate_from_nothing;
+pub use here::evaluate_here;
 pub use open_nodes::Run;
 pub use stop::Stop;

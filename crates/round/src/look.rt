@@ -12,6 +12,7 @@ ghost use Rattle.keys.specs.declared.key.Key.{Key};
 ghost use Rattle.keys.specs.declared.value.Value.{Value};
 ghost use Rattle.node.specs.Graphs.{record_at};
 ghost use Rattle.node.specs.Kept.{items_of};
+ghost use Rattle.open_nodes.specs.Counted.{MakesNone};
 ghost use Rattle.open_nodes.specs.Nodes.{node_at, groups_of, AreOut};
 ghost use Rattle.open_nodes.specs.declared.table.Node.{Node};
 ghost use Rattle.open_nodes.specs.declared.table.Phase.TheVariants as phase;
@@ -25,7 +26,7 @@ ghost use Rattle.open_nodes.specs.declared.table.Node.{Node};
 ghost use Rattle.open_nodes.specs.declared.table.Phase.TheVariants as phase;
 ghost use Rattle.keys.specs.declared.key.Key.{Key};
 ghost use Rattle.round.specs.Looks.{IsAwaiting, IsChecking, IsLastGroup, IsRunning, IsRunningAt, IsNextKey};
-ghost use Rattle.round.specs.Moves.{KeepsTrue, IsWholeBut, IsWholeNow, KeepsOut};
+ghost use Rattle.round.specs.Moves.{KeepsTrue, IsWholeBut, IsWholeNow, KeepsOut, KeepsWanted};
 
 use crate::members::{any_changed, first_stop, first_unsettled, share_all, unsettled};
 use crate::settle::{confirm, want_all};
@@ -49,6 +50,8 @@ fn wait_for(
     requires awaiting { IsAwaiting graph.old table.old key.now missing.now }
     ensures whole { OnOk result (IsWholeNow graph.new table.new) }
     ensures out { OnOk result (KeepsOut table.old table.new) }
+    ensures keeps { OnOk result (KeepsWanted graph.old graph.new table.old table.new) }
+    ensures turns { OnOk result (MakesNone table.old table.new) }
     ensures truth { KeepsTrue (leaves.read tree.now) graph.old graph.new table.old table.new result }
     ensures looked { OnOk result (table.new.looked ≡ table.old.looked) }
 {
@@ -101,8 +104,8 @@ fn compare_group(
     Ok(compare_settled(graph, group, since))
 }
 
-// The groups of a key's record.
-fn recorded_groups<'a>(graph: &'a Graph, key: &Key) -> &'a [Vec<Key>]
+/// The groups of a key's record.
+pub fn recorded_groups<'a>(graph: &'a Graph, key: &Key) -> &'a [Vec<Key>]
     ensures { (r : Record Key Value) → record_at graph.now key.now ≡ Some r → items_of result.now ≡ r.groups }
 {
     match graph.groups(key) {
@@ -158,6 +161,8 @@ fn check(
     requires checking { IsChecking table.old key.now passed }
     ensures whole { OnOk result (IsWholeNow graph.new table.new) }
     ensures out { OnOk result (KeepsOut table.old table.new) }
+    ensures keeps { OnOk result (KeepsWanted graph.old graph.new table.old table.new) }
+    ensures turns { OnOk result (MakesNone table.old table.new) }
     ensures truth { KeepsTrue (leaves.read tree.now) graph.old graph.new table.old table.new result }
     ensures looked { OnOk result (table.new.looked ≡ table.old.looked) }
 {
@@ -191,6 +196,8 @@ fn look_settled(graph: &Graph, table: &mut Table, key: &Key, group: &[Key]) -> R
     requires settled { (j : Key) → In j group.now → IsClean (record_at graph.now) j }
     ensures whole { OnOk result (IsWholeNow graph.now table.new) }
     ensures out { OnOk result (KeepsOut table.old table.new) }
+    ensures keeps { OnOk result (KeepsWanted graph.now graph.now table.old table.new) }
+    ensures turns { OnOk result (MakesNone table.old table.new) }
     ensures truth { (read : Key → Option Value) → KeepsTrue read graph.now graph.now table.old table.new result }
     ensures looked { OnOk result (table.new.looked ≡ table.old.looked) }
 {
@@ -215,6 +222,8 @@ fn look_running(
     requires running { IsRunning table.old key.now }
     ensures whole { OnOk result (IsWholeNow graph.new table.new) }
     ensures out { OnOk result (KeepsOut table.old table.new) }
+    ensures keeps { OnOk result (KeepsWanted graph.old graph.new table.old table.new) }
+    ensures turns { OnOk result (MakesNone table.old table.new) }
     ensures truth { KeepsTrue (leaves.read tree.now) graph.old graph.new table.old table.new result }
     ensures looked { OnOk result (table.new.looked ≡ table.old.looked) }
 {
@@ -265,6 +274,8 @@ fn look(
     requires whole { IsWholeBut key.now graph.old table.old }
     ensures whole { OnOk result (IsWholeNow graph.new table.new) }
     ensures out { OnOk result (KeepsOut table.old table.new) }
+    ensures keeps { OnOk result (KeepsWanted graph.old graph.new table.old table.new) }
+    ensures turns { OnOk result (MakesNone table.old table.new) }
     ensures truth { KeepsTrue (leaves.read tree.now) graph.old graph.new table.old table.new result }
     ensures looked { OnOk result (table.new.looked ≡ table.old.looked) }
 {
@@ -301,6 +312,8 @@ fn look_next(
     ensures none { IfOk result (λ more. more ≡ false → pending table.new ≡ []) }
     ensures forward { IfOk result (λ more. more ≡ true → (table.new.looked ≡ table.old.looked + 1) × (table.old.looked < 2 ^ 64)) }
     ensures out { OnOk result (KeepsOut table.old table.new) }
+    ensures keeps { OnOk result (KeepsWanted graph.old graph.new table.old table.new) }
+    ensures turns { OnOk result (MakesNone table.old table.new) }
     ensures truth { KeepsTrue (leaves.read tree.now) graph.old graph.new table.old table.new result }
 {
     let Some(key) = next_key(table)? else {
@@ -325,6 +338,8 @@ pub fn look_at_all(
     ensures whole { OnOk result (IsWholeNow graph.new table.new) }
     ensures none { OnOk result (pending table.new ≡ []) }
     ensures out { OnOk result (KeepsOut table.old table.new) }
+    ensures keeps { OnOk result (KeepsWanted graph.old graph.new table.old table.new) }
+    ensures turns { OnOk result (MakesNone table.old table.new) }
     ensures truth { KeepsTrue (leaves.read tree.now) graph.old graph.new table.old table.new result }
 {
     'looks: loop {

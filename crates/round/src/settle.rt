@@ -1,5 +1,5 @@
 //! Settling of nodes.
-ghost use Rattle.std.specs.Prelude.{◌≡◌, [], IfOk, OnOk, OnErr, IsTrue, None};
+ghost use Rattle.std.specs.Prelude.{◌≡◌, ◌∷◌, [], IfOk, OnOk, OnErr, IsTrue, None};
 ghost use Rattle.std.specs.Option.{is_some};
 ghost use Rattle.evaluation.specs.Value.{In};
 ghost use Rattle.keys.specs.declared.key.Key.{Key};
@@ -14,7 +14,8 @@ ghost use Rattle.evaluation.specs.Reply.{Reply, Done};
 ghost use Rattle.open_nodes.specs.Truths.{Leads};
 ghost use Rattle.round.specs.Looks.{HasPassed};
 ghost use Rattle.round.specs.Turning.{IsOutWith, ComesBack};
-ghost use Rattle.round.specs.Moves.{KeepsTrue, KeepsOut, Wants, IsWanted, IsWholeBut, IsWholeNow};
+ghost use Rattle.open_nodes.specs.Counted.{MakesNone};
+ghost use Rattle.round.specs.Moves.{KeepsTrue, KeepsTrueOf, KeepsOut, KeepsWanted, Wants, IsWanted, IsWholeBut, IsWholeNow};
 
 use crate::members::is_settled;
 use filetree::Tree;
@@ -39,7 +40,7 @@ fn read(
     requires closed { node_at table.old.nodes key.now ≡ None }
     ensures wants { OnOk result (Wants graph.old graph.new table.old table.new) }
     ensures wanted { OnOk result (IsWanted graph.new table.new key.now) }
-    ensures truth { KeepsTrue (leaves.read tree.now) graph.old graph.new table.old table.new result }
+    ensures truth { KeepsTrueOf (key.now ∷ []) (leaves.read tree.now) graph.old graph.new table.old table.new result }
     ensures looked { OnOk result (table.new.looked ≡ table.old.looked) }
 {
     let value = Arc::new(alloc, read_leaf(alloc, tree, key)?)?;
@@ -68,7 +69,7 @@ fn begin(alloc: Global, graph: &Graph, table: &mut Table, key: &Key) -> Result<(
     requires closed { node_at table.old.nodes key.now ≡ None }
     ensures wants { OnOk result (Wants graph.now graph.now table.old table.new) }
     ensures wanted { OnOk result (IsWanted graph.now table.new key.now) }
-    ensures truth { (files : Files) → leaves.read files key.now ≡ None → KeepsTrue (leaves.read files) graph.now graph.now table.old table.new result }
+    ensures truth { (files : Files) → leaves.read files key.now ≡ None → KeepsTrueOf (key.now ∷ []) (leaves.read files) graph.now graph.now table.old table.new result }
     ensures looked { OnOk result (table.new.looked ≡ table.old.looked) }
 {
     if has_record(graph, key) {
@@ -89,7 +90,7 @@ pub fn want(
 ) -> Result<(), Memory>
     ensures wants { OnOk result (Wants graph.old graph.new table.old table.new) }
     ensures wanted { OnOk result (IsWanted graph.new table.new key.now) }
-    ensures truth { KeepsTrue (leaves.read tree.now) graph.old graph.new table.old table.new result }
+    ensures truth { KeepsTrueOf (key.now ∷ []) (leaves.read tree.now) graph.old graph.new table.old table.new result }
     ensures looked { OnOk result (table.new.looked ≡ table.old.looked) }
 {
     if is_settled(graph, key) {
@@ -116,7 +117,7 @@ pub fn want_all(
 ) -> Result<(), Memory>
     ensures wants { OnOk result (Wants graph.old graph.new table.old table.new) }
     ensures wanted { OnOk result ((k : Key) → In k keys.now → IsWanted graph.new table.new k) }
-    ensures truth { KeepsTrue (leaves.read tree.now) graph.old graph.new table.old table.new result }
+    ensures truth { KeepsTrueOf keys.now (leaves.read tree.now) graph.old graph.new table.old table.new result }
     ensures looked { OnOk result (table.new.looked ≡ table.old.looked) }
 {
     for key in keys {
@@ -131,6 +132,8 @@ pub fn confirm(alloc: Global, graph: &mut Graph, table: &mut Table, key: &Key) -
     requires passed { HasPassed graph.old table.old key.now }
     ensures whole { OnOk result (IsWholeNow graph.new table.new) }
     ensures out { OnOk result (KeepsOut table.old table.new) }
+    ensures keeps { OnOk result (KeepsWanted graph.old graph.new table.old table.new) }
+    ensures turns { OnOk result (MakesNone table.old table.new) }
     ensures truth { (read : Key → Option Value) → KeepsTrue read graph.old graph.new table.old table.new result }
     ensures looked { OnOk result (table.new.looked ≡ table.old.looked) }
 {
@@ -151,6 +154,7 @@ pub fn end(
     requires out { (answers : List Value) × IsOutWith graph.old table.old key answers }
     ensures whole { OnOk result (IsWholeNow graph.new table.new) }
     ensures back { OnOk result (ComesBack table.old table.new key) }
+    ensures keeps { OnOk result (KeepsWanted graph.old graph.new table.old table.new) }
     ensures truth { (read : Key → Option Value) (next : Key → List Value → Reply Key Value) (answers : List Value) → IsOutWith graph.old table.old key answers → next key answers ≡ Done value → Leads next read graph.old graph.new table.old table.new result }
 {
     let shared = Arc::new(alloc, value)?;

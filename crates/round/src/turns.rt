@@ -5,11 +5,12 @@ ghost use Rattle.keys.specs.Keys.{key_cmp};
 ghost use Rattle.functions.specs.Next as leaves;
 ghost use Rattle.keys.specs.declared.key.Key.{Key};
 ghost use Rattle.keys.specs.declared.value.Value.{Value};
+ghost use Rattle.keys.specs.Jobs.{Made};
 ghost use Rattle.node.specs.Kept.{items_of};
 ghost use Rattle.open_nodes.specs.Nodes.{node_at, groups_of};
 ghost use Rattle.open_nodes.specs.Truths.{Leads};
 ghost use Rattle.open_nodes.specs.declared.table.Node.{Node};
-ghost use Rattle.round.specs.Moves.{KeepsTrue, IsWholeNow};
+ghost use Rattle.round.specs.Moves.{KeepsTrue, KeepsWanted, IsWholeNow};
 ghost use Rattle.round.specs.Turning.{IsOutWith, ComesBack, Hands};
 
 use crate::members::answers_to;
@@ -47,6 +48,7 @@ pub fn hand_out<R: Rules>(
 ) -> Result<Option<Job<R>>, Memory>
     requires whole { IsWholeNow graph.now table.old }
     ensures hands { IfOk result (Hands graph.now key.now table.old table.new) }
+    ensures keeps { OnOk result (KeepsWanted graph.now graph.now table.old table.new) }
     ensures truth { (read : Key → Option Value) → KeepsTrue read graph.now graph.now table.old table.new result }
 {
     if !is_among(&table.ready, key) {
@@ -62,8 +64,8 @@ pub fn hand_out<R: Rules>(
     }
 }
 
-// Takes a turn back.
-fn take<R: Rules>(
+/// Takes a turn back: its node ends, or asks its next group.
+pub fn take<R: Rules>(
     alloc: Global,
     graph: &mut Graph,
     table: &mut Table,
@@ -73,7 +75,9 @@ fn take<R: Rules>(
     requires out { IsOutWith graph.old table.old turned.asked.key turned.asked.answers }
     ensures whole { OnOk result (IsWholeNow graph.new table.new) }
     ensures back { OnOk result (ComesBack table.old table.new turned.asked.key) }
+    ensures keeps { OnOk result (KeepsWanted graph.old graph.new table.old table.new) }
     ensures truth { (read : Key → Option Value) → Leads R.next read graph.old graph.new table.old table.new result }
+    ensures made { OnOk result (turned.ending ≡ Made) }
 {
     match turned.settle()? {
         Step::End(key, value) => end(alloc, graph, table, key, value),

@@ -1,7 +1,7 @@
 //! What the program answers.
 use crate::devices::{Sink, Source, Turns};
 use lines::{ReaderInput, WriterOutput};
-use loader::{Edit, EditError, Session, command, serve_here};
+use loader::{Edit, EditError, Request, Session, Stop, command, serve_here};
 use std::alloc::{AllocError, Global};
 use std::test::Fail;
 
@@ -65,6 +65,40 @@ const SCRIPTS: [(&str, &str, &str); 12] = [
     ),
 ];
 
+// Lines, and what the journal of them tells.
+const JOURNALS: [(&str, &str, &str); 6] = [
+    (
+        "a first find, an edit elsewhere, an edit of the text, an edit with an equal text",
+        "{\"op\":\"put\",\"path\":\"a/BUILD\",\"text\":\"x = 1\"}\n{\"op\":\"find\",\"name\":\"a\"}\n{\"op\":\"put\",\"path\":\"b/BUILD\",\"text\":\"\"}\n{\"op\":\"find\",\"name\":\"a\"}\n{\"op\":\"put\",\"path\":\"a/BUILD\",\"text\":\"x = 2\"}\n{\"op\":\"find\",\"name\":\"a\"}\n{\"op\":\"put\",\"path\":\"a/BUILD\",\"text\":\"x = 2\"}\n{\"op\":\"find\",\"name\":\"a\"}\n",
+        "read 1 file a/BUILD.bazel\nread 1 file a/BUILD\nrun 1 lookup //a\nread 3 file a/BUILD\nrun 3 lookup //a\nread 4 file a/BUILD\n",
+    ),
+    (
+        "one of two files of a look-up comes, and is taken away again",
+        "{\"op\":\"put\",\"path\":\"a/BUILD\",\"text\":\"\"}\n{\"op\":\"find\",\"name\":\"a\"}\n{\"op\":\"put\",\"path\":\"a/BUILD.bazel\",\"text\":\"\"}\n{\"op\":\"find\",\"name\":\"a\"}\n{\"op\":\"del\",\"path\":\"a/BUILD.bazel\"}\n{\"op\":\"find\",\"name\":\"a\"}\n",
+        "read 1 file a/BUILD.bazel\nread 1 file a/BUILD\nrun 1 lookup //a\nread 2 file a/BUILD.bazel\nrun 2 lookup //a\nread 3 file a/BUILD.bazel\nrun 3 lookup //a\n",
+    ),
+    (
+        "a file that was taken away and put again between two requests is read, and nothing runs",
+        "{\"op\":\"put\",\"path\":\"a/BUILD\",\"text\":\"t\"}\n{\"op\":\"find\",\"name\":\"a\"}\n{\"op\":\"del\",\"path\":\"a/BUILD\"}\n{\"op\":\"put\",\"path\":\"a/BUILD\",\"text\":\"t\"}\n{\"op\":\"find\",\"name\":\"a\"}\n",
+        "read 1 file a/BUILD.bazel\nread 1 file a/BUILD\nrun 1 lookup //a\nread 3 file a/BUILD\n",
+    ),
+    (
+        "what is asked twice runs once, each package by itself",
+        "{\"op\":\"find\",\"name\":\"\"}\n{\"op\":\"find\",\"name\":\"\"}\n{\"op\":\"find\",\"name\":\"b\"}\n",
+        "read 0 file BUILD.bazel\nread 0 file BUILD\nrun 0 lookup //\nread 0 file b/BUILD.bazel\nread 0 file b/BUILD\nrun 0 lookup //b\n",
+    ),
+    (
+        "a package that is not asked again is not looked at",
+        "{\"op\":\"find\",\"name\":\"a\"}\n{\"op\":\"put\",\"path\":\"a/BUILD\",\"text\":\"\"}\n",
+        "read 0 file a/BUILD.bazel\nread 0 file a/BUILD\nrun 0 lookup //a\n",
+    ),
+    (
+        "what is refused runs nothing",
+        "{\"op\":\"find\",\"name\":\"x/\"}\n{\"op\":\"del\",\"path\":\"z\"}\n",
+        "",
+    ),
+];
+
 const RUN: [&str; 2] = ["loader", "run"];
 
 // The status, what was written and what was said of a stop.
@@ -121,6 +155,47 @@ fn scripts_are_answered(rt: HostRuntime) {
             assert_eq!(rt; ran.errors.len(), 0, "{name}");
         }
     }
+}
+
+#[test]
+fn the_journal_is_told_at_the_end(rt: HostRuntime) {
+    for (name, input, want) in JOURNALS {
+        let ran = run_on(
+            rt.alloc(),
+            &["loader", "run", "--runs"],
+            input.as_bytes(),
+            64,
+            Turns::new(0, false),
+            Turns::new(0, false),
+        );
+        assert_eq!(rt; ran.status, 0, "{name}");
+        assert_eq!(rt; ran.errors.as_slice(), want.as_bytes(), "{name}");
+    }
+}
+
+// A stop leaves a session that answers later requests, and what is settled is not run again.
+#[test]
+fn a_request_keeps_to_its_budget(rt: HostRuntime) -> Result<(), Fail> {
+    let mut session = Session::new(rt.alloc());
+    assert_eq!(rt; outcome(session.apply(&Edit::Put("a/BUILD", ""))), 1);
+    for budget in [0, 1, 0] {
+        match session.request(&Request::Find("a"), budget) {
+            Err(Stop::Budget) => {}
+            _ => assert!(rt; false, "{budget} turns"),
+        }
+    }
+    let reply = session.request(&Request::Find("a"), 2)?;
+    assert_eq!(rt; reply.text.as_str(), "{\"build\":\"BUILD\"}");
+    let turns = reply.runs.iter().map(|run| run.turns).sum::<u64>();
+    assert_eq!(rt; turns, 2);
+    let again = session.request(&Request::Find("a"), 0)?;
+    assert_eq!(rt; again.text.as_str(), "{\"build\":\"BUILD\"}");
+    assert_eq!(rt; again.runs.len(), 0);
+    let refused = session.request(&Request::Find("a/"), 0)?;
+    assert_eq!(rt; refused.text.as_str(), "{\"refused\":5}");
+    assert_eq!(rt; refused.runs.len(), 0);
+    assert_eq!(rt; session.version(), 1);
+    Ok(())
 }
 
 // A put line of a text of that many bytes.
@@ -310,6 +385,10 @@ fn words_are_read_before_the_input(rt: HostRuntime) {
     let rows = [
         (["loader", "run", "--workers=1"].as_slice(), 0),
         (["loader", "run", "--workers", "1"].as_slice(), 0),
+        (["loader", "run", "--runs", "--workers=1"].as_slice(), 0),
+        (["loader", "run", "--runs", "--runs"].as_slice(), 2),
+        (["loader", "run", "--runs=1"].as_slice(), 2),
+        (["loader", "--runs"].as_slice(), 2),
         (["loader"].as_slice(), 2),
         (["loader", "run", "--workers", "2"].as_slice(), 2),
         (["loader", "run", "--workers", "0"].as_slice(), 2),
@@ -334,7 +413,12 @@ fn words_are_read_before_the_input(rt: HostRuntime) {
         );
         assert_eq!(rt; ran.status, status, "{words:?}");
         assert_eq!(rt; ran.written.is_empty(), status == 2, "{words:?}");
-        assert_eq!(rt; ran.errors.is_empty(), status == 0, "{words:?}");
+        if status == 0 {
+            let told = ran.errors.starts_with(b"read 0 file x/BUILD.bazel\n");
+            assert_eq!(rt; told, words.contains(&"--runs"), "{words:?}");
+        } else {
+            assert!(rt; !ran.errors.is_empty(), "{words:?}");
+        }
     }
 }
 

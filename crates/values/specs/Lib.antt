@@ -1,4 +1,0 @@
-pub mod View
-pub mod Sized
-pub mod Wide
-pub mod Ended

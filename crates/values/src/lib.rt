@@ -1,21 +1,17 @@
 //! Values on a heap: what each operator and walk does with them, step by step as the language means it.
 #![tactic(auto)]
 
-mod binary;
-mod equal;
-mod halt;
-mod hashing;
-mod heap;
-mod index;
-mod lists;
-mod numbers;
 mod operators;
-mod order;
-mod steps;
 
-pub use halt::Halt;
-pub use heap::{Heap, Object};
-pub use meaning::{Builtin, Bytes, Entry, Key, Operator, Part, Val};
+pub use arithmetic::{is_true, negate, plus};
+pub use comparing::equal;
+pub use freezing::{Frozen, FrozenEntry, freeze, thaw};
+pub use heap::{Builtin, Bytes, Entry, Halt, Heap, Key, Object, Operator, Part, Val};
+pub use indexing::{index, items, set_index, slice};
+pub use operators::{binary, less};
+pub use printing::{print, text};
 
 #[cfg(test)]
 mod tests;
+#[cfg(test)]
+mod walk_tests;

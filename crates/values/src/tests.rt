@@ -1,11 +1,13 @@
 //! Calls with the values that the language's specification gives them.
-use crate::{Halt, Heap, Object, Val};
+use crate::{
+    Halt, Heap, Object, Operator, Val, binary, equal, index, is_true, items, less, negate,
+    set_index, slice,
+};
 use indexmap::IndexMap;
-use std::cmp::Ordering;
 use std::test::Fail;
 
 // A list of ints.
-fn list(heap: &mut Heap, ints: &[i64]) -> Result<Val, Halt> {
+pub fn list(heap: &mut Heap, ints: &[i64]) -> Result<Val, Halt> {
     let mut members = Vec::new(heap.alloc);
     for n in ints {
         members.push(Val::Int(*n))?;
@@ -14,13 +16,13 @@ fn list(heap: &mut Heap, ints: &[i64]) -> Result<Val, Halt> {
 }
 
 // A string.
-fn text(heap: &mut Heap, bytes: &str) -> Result<Val, Halt> {
+pub fn text(heap: &mut Heap, bytes: &str) -> Result<Val, Halt> {
     let bytes = Vec::from_slice(heap.alloc, bytes.as_bytes())?;
     heap.make_text(bytes)
 }
 
 // A list of lists, so many inside one another.
-fn nested(heap: &mut Heap, depth: u32) -> Result<Val, Halt> {
+pub fn nested(heap: &mut Heap, depth: u32) -> Result<Val, Halt> {
     let mut inner = list(heap, &[])?;
     for _i in 1..depth {
         let mut members = Vec::new(heap.alloc);
@@ -50,20 +52,39 @@ fn quotients_round_down(rt: HostRuntime) -> Result<(), Fail> {
         (i64::MAX, -1, -9223372036854775807, 0),
     ];
     for (x, y, quotient, rest) in rows {
-        assert_eq!(rt; heap.divide(Val::Int(x), Val::Int(y))?, Val::Int(quotient));
-        assert_eq!(rt; heap.remainder(Val::Int(x), Val::Int(y))?, Val::Int(rest));
+        assert_eq!(rt;
+            binary(&mut heap, Operator::Divide, Val::Int(x), Val::Int(y))?,
+            Val::Int(quotient)
+        );
+        assert_eq!(rt;
+            binary(&mut heap, Operator::Remainder, Val::Int(x), Val::Int(y))?,
+            Val::Int(rest)
+        );
     }
     assert_eq!(rt;
-        heap.divide(Val::Int(i64::MIN), Val::Int(-1)),
+        binary(
+            &mut heap,
+            Operator::Divide,
+            Val::Int(i64::MIN),
+            Val::Int(-1)
+        ),
         Err(Halt::Code(9))
     );
     assert_eq!(rt;
-        heap.remainder(Val::Int(i64::MIN), Val::Int(-1))?,
+        binary(
+            &mut heap,
+            Operator::Remainder,
+            Val::Int(i64::MIN),
+            Val::Int(-1)
+        )?,
         Val::Int(0)
     );
-    assert_eq!(rt; heap.divide(Val::Int(1), Val::Int(0)), Err(Halt::Code(10)));
     assert_eq!(rt;
-        heap.remainder(Val::Int(1), Val::Int(0)),
+        binary(&mut heap, Operator::Divide, Val::Int(1), Val::Int(0)),
+        Err(Halt::Code(10))
+    );
+    assert_eq!(rt;
+        binary(&mut heap, Operator::Remainder, Val::Int(1), Val::Int(0)),
         Err(Halt::Code(10))
     );
     Ok(())
@@ -73,32 +94,54 @@ fn quotients_round_down(rt: HostRuntime) -> Result<(), Fail> {
 fn sums_and_products(rt: HostRuntime) -> Result<(), Fail> {
     let mut heap = Heap::new(rt.alloc(), 100);
     assert_eq!(rt;
-        heap.add(Val::Int(i64::MAX), Val::Int(0))?,
+        binary(&mut heap, Operator::Add, Val::Int(i64::MAX), Val::Int(0))?,
         Val::Int(i64::MAX)
     );
     assert_eq!(rt;
-        heap.add(Val::Int(i64::MAX), Val::Int(1)),
+        binary(&mut heap, Operator::Add, Val::Int(i64::MAX), Val::Int(1)),
         Err(Halt::Code(9))
     );
     assert_eq!(rt;
-        heap.subtract(Val::Int(i64::MIN), Val::Int(1)),
+        binary(
+            &mut heap,
+            Operator::Subtract,
+            Val::Int(i64::MIN),
+            Val::Int(1)
+        ),
         Err(Halt::Code(9))
     );
     assert_eq!(rt;
-        heap.multiply(Val::Int(i64::MIN), Val::Int(-1)),
+        binary(
+            &mut heap,
+            Operator::Multiply,
+            Val::Int(i64::MIN),
+            Val::Int(-1)
+        ),
         Err(Halt::Code(9))
     );
-    assert_eq!(rt; heap.negate(Val::Int(i64::MIN)), Err(Halt::Code(9)));
-    assert_eq!(rt; heap.add(Val::Bool(true), Val::Int(1)), Err(Halt::Code(5)));
+    assert_eq!(rt; negate(&mut heap, Val::Int(i64::MIN)), Err(Halt::Code(9)));
+    assert_eq!(rt;
+        binary(&mut heap, Operator::Add, Val::Bool(true), Val::Int(1)),
+        Err(Halt::Code(5))
+    );
     let a = text(&mut heap, "a")?;
-    assert_eq!(rt; heap.multiply(a, Val::Bool(true)), Err(Halt::Code(5)));
-    let longest = heap.multiply(a, Val::Int(65536))?;
-    assert_eq!(rt; heap.multiply(Val::Int(65537), a), Err(Halt::Code(13)));
-    assert_eq!(rt; heap.add(longest, a), Err(Halt::Code(13)));
-    let empty = heap.multiply(a, Val::Int(-1))?;
-    assert!(rt; !heap.is_true(empty));
-    let many = heap.multiply(empty, Val::Int(i64::MAX))?;
-    assert!(rt; !heap.is_true(many));
+    assert_eq!(rt;
+        binary(&mut heap, Operator::Multiply, a, Val::Bool(true)),
+        Err(Halt::Code(5))
+    );
+    let longest = binary(&mut heap, Operator::Multiply, a, Val::Int(65536))?;
+    assert_eq!(rt;
+        binary(&mut heap, Operator::Multiply, Val::Int(65537), a),
+        Err(Halt::Code(13))
+    );
+    assert_eq!(rt;
+        binary(&mut heap, Operator::Add, longest, a),
+        Err(Halt::Code(13))
+    );
+    let empty = binary(&mut heap, Operator::Multiply, a, Val::Int(-1))?;
+    assert!(rt; !is_true(&heap, empty));
+    let many = binary(&mut heap, Operator::Multiply, empty, Val::Int(i64::MAX))?;
+    assert!(rt; !is_true(&heap, many));
     Ok(())
 }
 
@@ -108,16 +151,19 @@ fn an_index_counts_from_either_end(rt: HostRuntime) -> Result<(), Fail> {
     let x = list(&mut heap, &[10, 20, 30])?;
     let rows = [(0, 10), (1, 20), (2, 30), (-1, 30), (-2, 20), (-3, 10)];
     for (i, found) in rows {
-        assert_eq!(rt; heap.index(x, Val::Int(i))?, Val::Int(found));
+        assert_eq!(rt; index(&mut heap, x, Val::Int(i))?, Val::Int(found));
     }
-    assert_eq!(rt; heap.index(x, Val::Int(3)), Err(Halt::Code(8)));
-    assert_eq!(rt; heap.index(x, Val::Int(-4)), Err(Halt::Code(8)));
-    assert_eq!(rt; heap.index(x, Val::Bool(true)), Err(Halt::Code(5)));
-    assert_eq!(rt; heap.index(Val::Int(1), Val::Int(0)), Err(Halt::Code(5)));
-    heap.set_index(x, Val::Int(-1), Val::Int(40))?;
-    assert_eq!(rt; heap.index(x, Val::Int(2))?, Val::Int(40));
+    assert_eq!(rt; index(&mut heap, x, Val::Int(3)), Err(Halt::Code(8)));
+    assert_eq!(rt; index(&mut heap, x, Val::Int(-4)), Err(Halt::Code(8)));
+    assert_eq!(rt; index(&mut heap, x, Val::Bool(true)), Err(Halt::Code(5)));
     assert_eq!(rt;
-        heap.set_index(x, Val::Int(3), Val::Int(40)),
+        index(&mut heap, Val::Int(1), Val::Int(0)),
+        Err(Halt::Code(5))
+    );
+    set_index(&mut heap, x, Val::Int(-1), Val::Int(40))?;
+    assert_eq!(rt; index(&mut heap, x, Val::Int(2))?, Val::Int(40));
+    assert_eq!(rt;
+        set_index(&mut heap, x, Val::Int(3), Val::Int(40)),
         Err(Halt::Code(8))
     );
     Ok(())
@@ -139,11 +185,14 @@ fn slices_are_cut_to_the_range(rt: HostRuntime) -> Result<(), Fail> {
         (Val::Int(100), none, ""),
     ];
     for (from, to, part) in rows {
-        let made = heap.slice(x, from, to)?;
+        let made = slice(&mut heap, x, from, to)?;
         let wanted = text(&mut heap, part)?;
-        assert!(rt; heap.equal(made, wanted)?);
+        assert!(rt; equal(&mut heap, made, wanted)?);
     }
-    assert_eq!(rt; heap.slice(x, Val::Bool(true), none), Err(Halt::Code(5)));
+    assert_eq!(rt;
+        slice(&mut heap, x, Val::Bool(true), none),
+        Err(Halt::Code(5))
+    );
     Ok(())
 }
 
@@ -154,20 +203,20 @@ fn dictionaries_keep_the_order_of_their_keys(rt: HostRuntime) -> Result<(), Fail
     let d = heap.make(Object::Dict(IndexMap::new(alloc), false))?;
     let a = text(&mut heap, "a")?;
     let b = text(&mut heap, "b")?;
-    heap.set_index(d, a, Val::Int(1))?;
-    heap.set_index(d, b, Val::Int(2))?;
-    heap.set_index(d, a, Val::Int(3))?;
-    heap.set_index(d, Val::Int(1), Val::Int(4))?;
-    heap.set_index(d, Val::Bool(true), Val::Int(5))?;
+    set_index(&mut heap, d, a, Val::Int(1))?;
+    set_index(&mut heap, d, b, Val::Int(2))?;
+    set_index(&mut heap, d, a, Val::Int(3))?;
+    set_index(&mut heap, d, Val::Int(1), Val::Int(4))?;
+    set_index(&mut heap, d, Val::Bool(true), Val::Int(5))?;
     assert_eq!(rt;
-        heap.items(d)?.as_slice(),
+        items(&heap, d)?.as_slice(),
         [a, b, Val::Int(1), Val::Bool(true)].as_slice()
     );
-    assert_eq!(rt; heap.index(d, a)?, Val::Int(3));
-    assert_eq!(rt; heap.index(d, Val::Int(1))?, Val::Int(4));
-    assert_eq!(rt; heap.index(d, Val::Nothing), Err(Halt::Code(8)));
+    assert_eq!(rt; index(&mut heap, d, a)?, Val::Int(3));
+    assert_eq!(rt; index(&mut heap, d, Val::Int(1))?, Val::Int(4));
+    assert_eq!(rt; index(&mut heap, d, Val::Nothing), Err(Halt::Code(8)));
     let no_key = list(&mut heap, &[])?;
-    assert_eq!(rt; heap.index(d, no_key), Err(Halt::Code(5)));
+    assert_eq!(rt; index(&mut heap, d, no_key), Err(Halt::Code(5)));
     Ok(())
 }
 
@@ -177,11 +226,11 @@ fn what_is_frozen_or_iterated_does_not_change(rt: HostRuntime) -> Result<(), Fai
     let mut heap = Heap::new(alloc, 1000);
     let frozen = heap.make(Object::List(Vec::new(alloc), true))?;
     assert_eq!(rt;
-        heap.set_index(frozen, Val::Int(0), Val::Nothing),
+        set_index(&mut heap, frozen, Val::Int(0), Val::Nothing),
         Err(Halt::Code(6))
     );
     assert_eq!(rt;
-        heap.set_index(frozen, Val::Nothing, Val::Nothing),
+        set_index(&mut heap, frozen, Val::Nothing, Val::Nothing),
         Err(Halt::Code(5))
     );
     let x = list(&mut heap, &[1])?;
@@ -189,7 +238,7 @@ fn what_is_frozen_or_iterated_does_not_change(rt: HostRuntime) -> Result<(), Fai
         heap.iterated.push(place)?;
     }
     assert_eq!(rt;
-        heap.set_index(x, Val::Int(5), Val::Nothing),
+        set_index(&mut heap, x, Val::Int(5), Val::Nothing),
         Err(Halt::Code(7))
     );
     Ok(())
@@ -200,12 +249,12 @@ fn a_walk_enters_64_containers(rt: HostRuntime) -> Result<(), Fail> {
     let mut heap = Heap::new(rt.alloc(), 1000);
     let a = nested(&mut heap, 64)?;
     let b = nested(&mut heap, 64)?;
-    assert!(rt; heap.equal(a, b)?);
+    assert!(rt; equal(&mut heap, a, b)?);
     assert_eq!(rt; heap.steps, 936);
-    assert_eq!(rt; heap.compare(a, b)?, Ordering::Equal);
+    assert!(rt; !less(&mut heap, a, b)?);
     let c = nested(&mut heap, 65)?;
     let d = nested(&mut heap, 65)?;
-    assert_eq!(rt; heap.equal(c, d), Err(Halt::Code(12)));
+    assert_eq!(rt; equal(&mut heap, c, d), Err(Halt::Code(12)));
     Ok(())
 }
 
@@ -214,17 +263,17 @@ fn comparing_takes_a_step_a_pair(rt: HostRuntime) -> Result<(), Fail> {
     let mut heap = Heap::new(rt.alloc(), 8);
     let x = list(&mut heap, &[1])?;
     let y = list(&mut heap, &[2])?;
-    assert_eq!(rt; heap.compare(x, y)?, Ordering::Less);
+    assert!(rt; less(&mut heap, x, y)?);
     assert_eq!(rt; heap.steps, 5);
-    assert!(rt; !heap.equal(Val::Int(1), Val::Bool(true))?);
+    assert!(rt; !equal(&mut heap, Val::Int(1), Val::Bool(true))?);
     assert_eq!(rt; heap.steps, 4);
     let longer = list(&mut heap, &[1, 1])?;
-    assert!(rt; !heap.equal(x, longer)?);
+    assert!(rt; !equal(&mut heap, x, longer)?);
     assert_eq!(rt; heap.steps, 3);
-    assert_eq!(rt; heap.compare(x, longer)?, Ordering::Less);
+    assert!(rt; less(&mut heap, x, longer)?);
     assert_eq!(rt; heap.steps, 1);
-    assert_eq!(rt; heap.compare(x, Val::Int(1)), Err(Halt::Code(5)));
+    assert_eq!(rt; less(&mut heap, x, Val::Int(1)), Err(Halt::Code(5)));
     assert_eq!(rt; heap.steps, 0);
-    assert_eq!(rt; heap.equal(x, y), Err(Halt::Code(11)));
+    assert_eq!(rt; equal(&mut heap, x, y), Err(Halt::Code(11)));
     Ok(())
 }

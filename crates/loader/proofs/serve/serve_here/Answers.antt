@@ -1,4 +1,5 @@
-use Rattle.loader.proofs.Steps.{stopped_at_start, on_err}
+use Rattle.std.proofs.Common.{arith}
+use Rattle.loader.proofs.Steps.{stopped_at_start, between_at_start, on_err}
 use Rattle.loader.proofs.serve.serve_here.Goals as goal
 
 pub returns-in_err-pending-clause-err : goal.returns-in_err-pending-clause-err
@@ -7,5 +8,13 @@ returns-in_err-pending-clause-err g c = on_err _ (stopped_at_start _ _)
 pub returns-clause-ok : goal.returns-clause-ok
 returns-clause-ok g c =
     let done = c.if-branch.false in
-    let after = c.in_ok-serve_line.ensures.ok (g.R.Input.told c.args.reader.now) (g.W.Output.held c.args.writer.now) c.loop-line.invariant.between in
+    let after = c.in_ok-serve_line.ensures.ok (g.R.Input.told c.args.reader.now) (g.W.Output.held c.args.writer.now) c.loop-journal.invariant.between in
     rw done at after
+
+pub loop-journal-init : goal.loop-journal-init
+loop-journal-init g c = record {
+  between = between_at_start (g.R.Input.told c.args.reader.now) (g.W.Output.held c.args.writer.now) c.in_ok-pending.pending c.new-session.result c.new-journal.result.items c.in_ok-pending.ensures c.new-journal.ensures.items
+      c.new-session.ensures.lawful c.new-session.ensures.history.0 c.new-session.ensures.history.1 c.new-session.ensures.records c.new-session.ensures.state;
+  reader_counts = omega arith;
+  writer_counts = omega arith;
+}

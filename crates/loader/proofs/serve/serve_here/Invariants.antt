@@ -2,12 +2,12 @@ use Rattle.std.proofs.Common.{◌+◌, ◌≤◌, length}
 use Rattle.loader.specs.Served.{Between}
 use Rattle.loader.proofs.serve.serve_here.Given as goal
 
-abbrev pub invariant-loop-line : goal.invariant-loop-line
-invariant-loop-line g l = record {
-  between : Between (g.R.Input.told l.fn.reader) (g.R.Input.told l.reader) (g.W.Output.held l.fn.writer) (g.W.Output.held l.writer) l.pending l.session;
+abbrev pub invariant-loop-journal : goal.invariant-loop-journal
+invariant-loop-journal g l = record {
+  between : Between (g.R.Input.told l.fn.reader) (g.R.Input.told l.reader) (g.W.Output.held l.fn.writer) (g.W.Output.held l.writer) l.pending l.session l.journal.items;
   reader_counts : g.R.Input.failures l.fn.reader ≤ g.R.Input.failures l.reader;
   writer_counts : g.W.Output.failures l.fn.writer ≤ g.W.Output.failures l.writer;
 }
 
-abbrev pub decreases-loop-line : goal.decreases-loop-line
-decreases-loop-line g l = g.R.Input.left l.reader + length l.pending
+abbrev pub decreases-loop-journal : goal.decreases-loop-journal
+decreases-loop-journal g l = g.R.Input.left l.reader + length l.pending

@@ -1,4 +1,4 @@
-use Rattle.std.proofs.Common.{inl, inr, refl, subst, arith, ◌∙◌, sym}
+use Rattle.std.proofs.Common.{inr, subst, arith}
 use Rattle.node.specs.Graphs.{record_at}
 use Rattle.round.specs.Compared.{ComparesGroup}
 use Rattle.round.proofs.Checking.{group_at}

@@ -1,6 +1,7 @@
 use Rattle.std.proofs.Common.{◌-◌, ◌^◌}
 use Rattle.functions.specs.Next as leaves
-use Rattle.round.specs.Moves.{IsWholeNow, KeepsOut}
+use Rattle.open_nodes.specs.Counted.{MakesNone}
+use Rattle.round.specs.Moves.{IsWholeNow, KeepsOut, KeepsWanted}
 use Rattle.round.proofs.Wanting.{StaysTrue}
 use Rattle.round.proofs.look.look_at_all.Given as goal
 
@@ -8,6 +9,8 @@ abbrev pub invariant-looks : goal.invariant-looks
 invariant-looks l = record {
   whole : IsWholeNow l.graph l.table;
   out : KeepsOut l.fn.table l.table;
+  keeps : KeepsWanted l.fn.graph l.graph l.fn.table l.table;
+  turns : MakesNone l.fn.table l.table;
   truth : StaysTrue (leaves.read l.tree) l.fn.graph l.graph l.fn.table l.table;
 }
 

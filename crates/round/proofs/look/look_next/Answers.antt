@@ -1,7 +1,10 @@
-use Rattle.std.proofs.Common.{subst}
+use Rattle.std.proofs.Common.{ap, subst}
 use Rattle.functions.specs.Next as leaves
+use Rattle.open_nodes.specs.Counted.{turns_of}
+use Rattle.open_nodes.proofs.Counting.{counts_same, makes_on}
 use Rattle.round.specs.Looks.{IsNextKey}
-use Rattle.round.proofs.Looking.{next_true}
+use Rattle.round.proofs.Wanting.{wanted_same}
+use Rattle.round.proofs.Looking.{next_true, next_nodes}
 use Rattle.round.proofs.look.look_next.Goals as goal
 
 pub returns-in-Ok-clause-truth : goal.returns-in-Ok-clause-truth
@@ -11,3 +14,16 @@ returns-in-Ok-clause-truth c = λ next laws past t. c.in-Ok.ensures.truth next l
 pub returns-in-Err-clause-truth : goal.returns-in-Err-clause-truth
 returns-in-Err-clause-truth c = λ next laws past t. c.in-Err.ensures.truth next laws past
     (next_true c.args.graph.now c.args.table.now c.next_key.new.table c.in-Some.key (subst (IsNextKey c.args.table.now c.next_key.new.table) c.in-Some.is c.in_ok-key.ensures) (leaves.read c.args.tree.now) next laws past t)
+
+pub returns-in-Ok-clause-turns : goal.returns-in-Ok-clause-turns
+returns-in-Ok-clause-turns c =
+    let n = subst (IsNextKey c.args.table.now c.next_key.new.table) c.in-Some.is c.in_ok-key.ensures in
+    makes_on c.args.table.now c.next_key.new.table c.look-looked.new.table (counts_same c.args.table.now c.next_key.new.table n.1 (ap turns_of n.3)) c.in-Ok.ensures.turns
+
+pub returns-in-Ok-clause-keeps : goal.returns-in-Ok-clause-keeps
+returns-in-Ok-clause-keeps c = λ j i.
+    let n = subst (IsNextKey c.args.table.now c.next_key.new.table) c.in-Some.is c.in_ok-key.ensures in
+    c.in-Ok.ensures.keeps j (wanted_same c.args.graph.now c.args.table.now c.next_key.new.table n.1 j i)
+
+pub returns-in_default-clause-keeps : goal.returns-in_default-clause-keeps
+returns-in_default-clause-keeps c = wanted_same c.args.graph.now c.args.table.now c.next_key.new.table (next_nodes c.args.table.now c.next_key.new.table c.in_ok-key.field-0 c.in_ok-key.ensures)

@@ -1,6 +1,5 @@
-use Rattle.std.proofs.Common.{◌∙◌, sym, subst, List}
+use Rattle.std.proofs.Common.{◌∙◌, sym, subst}
 use Rattle.functions.specs.Next as leaves
-use Rattle.keys.specs.declared.key.Key.{Key}
 use Rattle.node.specs.Graphs.{record_at}
 use Rattle.open_nodes.specs.Nodes.{groups_of}
 use Rattle.round.specs.Looks.{IsLastGroup}

@@ -1,6 +1,8 @@
 use Rattle.std.proofs.Common.{◌∷◌, []}
 use Rattle.functions.specs.Next as leaves
-use Rattle.round.proofs.Looking.{still_there, still_current, all_wanted, watched_whole, watched_out, watched_true, again_whole, again_out, again_true, wanted_open}
+use Rattle.round.proofs.Looking.{still_there, still_current, all_wanted, watched_whole, watched_out, watched_keeps, watched_turns, watched_true, again_whole, again_turns, again_true, wanted_open}
+use Rattle.round.proofs.Wanting.{leads_err, wanted_on, wanted_same}
+use Rattle.round.proofs.Reaching.{missing_reached}
 use Rattle.round.proofs.look.wait_for.Goals as goal
 
 pub returns-in_ok-watch-in-Some-clause-whole : goal.returns-in_ok-watch-in-Some-clause-whole
@@ -29,8 +31,39 @@ returns-in_ok-watch-in-Some-clause-out c = λ keys o.
     (a.of_group.among c.in-Some.member.now c.in-Some.ensures.0) (wanted_open c.want_all.new.graph c.want_all.new.table c.in-Some.member.now (all c.in-Some.member.now c.in-Some.ensures.0) c.in-Some.ensures.1)
     c.in_ok-watch-in-Some.ensures.watches c.in_ok-watch-in-Some.ensures.pends c.in_ok-watch-in-Some.ensures.ready keys (w.out keys o)
 
+pub returns-in_ok-watch-in-Some-clause-turns : goal.returns-in_ok-watch-in-Some-clause-turns
+returns-in_ok-watch-in-Some-clause-turns c = λ made h.
+    let a = c.requires.awaiting in
+    let w = c.in_ok-want_all.ensures.wants in
+    let all = c.in_ok-want_all.ensures.wanted in
+    watched_turns c.want_all.new.graph c.want_all.new.table c.watch.new.table c.args.key.now c.in-Some.member.now a.node a.group
+    (w.whole (c.args.key.now ∷ []) c.requires.whole)
+    (still_there c.args.graph.now c.want_all.new.graph c.args.table.now c.want_all.new.table c.args.key.now c.args.missing.now a w all)
+    (still_current c.args.graph.now c.want_all.new.graph c.args.table.now c.want_all.new.table c.args.key.now c.args.missing.now a w all)
+    (all_wanted c.args.graph.now c.want_all.new.graph c.args.table.now c.want_all.new.table c.args.key.now c.args.missing.now a w all)
+    (a.of_group.among c.in-Some.member.now c.in-Some.ensures.0) (wanted_open c.want_all.new.graph c.want_all.new.table c.in-Some.member.now (all c.in-Some.member.now c.in-Some.ensures.0) c.in-Some.ensures.1)
+    c.in_ok-watch-in-Some.ensures.watches c.in_ok-watch-in-Some.ensures.pends c.in_ok-watch-in-Some.ensures.ready c.in_ok-watch-in-Some.ensures.runs made (w.turns made h)
+
+pub returns-in_ok-watch-in-Some-clause-keeps : goal.returns-in_ok-watch-in-Some-clause-keeps
+returns-in_ok-watch-in-Some-clause-keeps c = λ j i.
+    let a = c.requires.awaiting in
+    let w = c.in_ok-want_all.ensures.wants in
+    let all = c.in_ok-want_all.ensures.wanted in
+    watched_keeps c.want_all.new.graph c.want_all.new.table c.watch.new.table c.args.key.now c.in-Some.member.now a.node a.group
+    (w.whole (c.args.key.now ∷ []) c.requires.whole)
+    (still_there c.args.graph.now c.want_all.new.graph c.args.table.now c.want_all.new.table c.args.key.now c.args.missing.now a w all)
+    (still_current c.args.graph.now c.want_all.new.graph c.args.table.now c.want_all.new.table c.args.key.now c.args.missing.now a w all)
+    (all_wanted c.args.graph.now c.want_all.new.graph c.args.table.now c.want_all.new.table c.args.key.now c.args.missing.now a w all)
+    (a.of_group.among c.in-Some.member.now c.in-Some.ensures.0) (wanted_open c.want_all.new.graph c.want_all.new.table c.in-Some.member.now (all c.in-Some.member.now c.in-Some.ensures.0) c.in-Some.ensures.1)
+    c.in_ok-watch-in-Some.ensures.watches c.in_ok-watch-in-Some.ensures.pends c.in_ok-watch-in-Some.ensures.ready j (wanted_on c.args.graph.now c.want_all.new.graph c.args.table.now c.want_all.new.table j w i)
+
+pub returns-in_ok-look_again-in-None-clause-keeps : goal.returns-in_ok-look_again-in-None-clause-keeps
+returns-in_ok-look_again-in-None-clause-keeps c = λ j i.
+    wanted_same c.want_all.new.graph c.want_all.new.table c.look_again.new.table c.look_again.ensures.nodes j (wanted_on c.args.graph.now c.want_all.new.graph c.args.table.now c.want_all.new.table j c.in_ok-want_all.ensures.wants i)
+
 pub returns-in_ok-watch-in-Some-clause-truth : goal.returns-in_ok-watch-in-Some-clause-truth
 returns-in_ok-watch-in-Some-clause-truth c = λ next laws past t.
+    let reached = missing_reached next (leaves.read c.args.tree.now) laws past c.args.graph.now c.args.table.now c.args.key.now c.args.missing.now t c.requires.whole c.requires.awaiting in
     let a = c.requires.awaiting in
     let w = c.in_ok-want_all.ensures.wants in
     let all = c.in_ok-want_all.ensures.wanted in
@@ -41,7 +74,16 @@ returns-in_ok-watch-in-Some-clause-truth c = λ next laws past t.
     (all_wanted c.args.graph.now c.want_all.new.graph c.args.table.now c.want_all.new.table c.args.key.now c.args.missing.now a w all)
     (a.of_group.among c.in-Some.member.now c.in-Some.ensures.0) (wanted_open c.want_all.new.graph c.want_all.new.table c.in-Some.member.now (all c.in-Some.member.now c.in-Some.ensures.0) c.in-Some.ensures.1)
     c.in_ok-watch-in-Some.ensures.watches c.in_ok-watch-in-Some.ensures.pends c.in_ok-watch-in-Some.ensures.ready (leaves.read c.args.tree.now) c.in_ok-watch-in-Some.ensures.runs
-    next laws past (c.in_ok-want_all.ensures.truth next laws past t)
+    next laws past (c.in_ok-want_all.ensures.truth next laws past reached t)
+
+pub returns-in_err-want_all-clause-truth : goal.returns-in_err-want_all-clause-truth
+returns-in_err-want_all-clause-truth c = λ next. leads_err next (leaves.read c.args.tree.now) c.args.graph.now c.want_all.new.graph c.args.table.now c.want_all.new.table c.from_residual.result c.from_residual.ensures.0
+    (λ laws past t. c.in_err-want_all.ensures.truth next laws past
+    (missing_reached next (leaves.read c.args.tree.now) laws past c.args.graph.now c.args.table.now c.args.key.now c.args.missing.now t c.requires.whole c.requires.awaiting) t)
+
+pub returns-in_ok-look_again-in-None-clause-turns : goal.returns-in_ok-look_again-in-None-clause-turns
+returns-in_ok-look_again-in-None-clause-turns c = λ made h.
+    again_turns c.want_all.new.graph c.want_all.new.table c.look_again.new.table c.args.key.now c.in_ok-look_again-in-None.ensures.pends c.look_again.ensures.nodes made (c.in_ok-want_all.ensures.wants.turns made h)
 
 pub returns-in_ok-look_again-in-None-clause-whole : goal.returns-in_ok-look_again-in-None-clause-whole
 returns-in_ok-look_again-in-None-clause-whole c =
@@ -51,4 +93,15 @@ returns-in_ok-look_again-in-None-clause-whole c =
 pub returns-in_ok-look_again-in-None-clause-truth : goal.returns-in_ok-look_again-in-None-clause-truth
 returns-in_ok-look_again-in-None-clause-truth c = λ next laws past t.
     again_true c.want_all.new.graph c.want_all.new.table c.look_again.new.table c.args.key.now c.in_ok-look_again-in-None.ensures.pends c.look_again.ensures.nodes (leaves.read c.args.tree.now)
-    next laws past (c.in_ok-want_all.ensures.truth next laws past t)
+    next laws past (c.in_ok-want_all.ensures.truth next laws past
+    (missing_reached next (leaves.read c.args.tree.now) laws past c.args.graph.now c.args.table.now c.args.key.now c.args.missing.now t c.requires.whole c.requires.awaiting) t)
+
+pub returns-in_err-watch-in-Some-clause-truth : goal.returns-in_err-watch-in-Some-clause-truth
+returns-in_err-watch-in-Some-clause-truth c = λ next. leads_err next (leaves.read c.args.tree.now) c.args.graph.now c.want_all.new.graph c.args.table.now c.watch.new.table c.from_residual-in_err-watch-in-Some.result c.from_residual-in_err-watch-in-Some.ensures.0
+    (λ laws past t. (c.in_ok-want_all.ensures.truth next laws past
+    (missing_reached next (leaves.read c.args.tree.now) laws past c.args.graph.now c.args.table.now c.args.key.now c.args.missing.now t c.requires.whole c.requires.awaiting) t).after)
+
+pub returns-in_err-look_again-in-None-clause-truth : goal.returns-in_err-look_again-in-None-clause-truth
+returns-in_err-look_again-in-None-clause-truth c = λ next. leads_err next (leaves.read c.args.tree.now) c.args.graph.now c.want_all.new.graph c.args.table.now c.look_again.new.table c.from_residual-in_err-look_again-in-None.result c.from_residual-in_err-look_again-in-None.ensures.0
+    (λ laws past t. (c.in_ok-want_all.ensures.truth next laws past
+    (missing_reached next (leaves.read c.args.tree.now) laws past c.args.graph.now c.args.table.now c.args.key.now c.args.missing.now t c.requires.whole c.requires.awaiting) t).after)

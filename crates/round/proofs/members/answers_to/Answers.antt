@@ -1,12 +1,12 @@
-use Rattle.std.proofs.Common.{◌≡◌, ◌∙◌, sym, ap, subst, List, take, true, Some, None, ◌++◌, ◌∷◌, []}
+use Rattle.std.proofs.Common.{sym, subst, List, take}
 use Rattle.std.specs.declared.alloc.Global.{Global}
 use Rattle.std.specs.declared.vec.Vec.{Vec}
 use Rattle.keys.specs.Turns.{values}
 use Rattle.keys.specs.declared.key.Key.{Key}
 use Rattle.node.specs.Graphs.{record_at}
 use Rattle.node.specs.Kept.{items_of}
-use Rattle.round.specs.Members.{AnswersGroup, AreAnswers}
-use Rattle.round.proofs.Grouping.{taken_next, in_list, group_answered, items_next, member_of, answered_at}
+use Rattle.round.specs.Members.{AreAnswers}
+use Rattle.round.proofs.Grouping.{taken_next, in_list, items_next, member_of, answered_at}
 use Rattle.round.proofs.members.answers_to.Goals as goal
 
 pub returns-then-not-branch : goal.returns-then-not-branch

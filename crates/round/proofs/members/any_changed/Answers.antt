@@ -1,4 +1,4 @@
-use Rattle.std.proofs.Common.{◌≡◌, ◌∙◌, sym, ap, subst, List, true, false}
+use Rattle.std.proofs.Common.{◌≡◌, sym, subst, List, false}
 use Rattle.keys.specs.declared.key.Key.{Key}
 use Rattle.evaluation.specs.Value.{In}
 use Rattle.node.specs.Graphs.{record_at}

@@ -1,6 +1,4 @@
-use Rattle.std.proofs.Common.{sym, ap, Some}
-use Rattle.std.specs.Prelude.{IsSome}
-use Rattle.round.proofs.Confirming.{recorded, clean_members, confirmed_whole, confirmed_out, confirmed_true, is_recorded}
+use Rattle.round.proofs.Confirming.{clean_members, confirmed_whole, confirmed_out, confirmed_keeps, confirmed_turns, confirmed_true, is_recorded}
 use Rattle.round.proofs.settle.confirm.Goals as goal
 
 pub confirm-requires-clause-recorded : goal.confirm-requires-clause-recorded
@@ -15,6 +13,14 @@ returns-clause-whole c = confirmed_whole c.args.graph.now c.args.table.now c.arg
 
 pub returns-clause-out : goal.returns-clause-out
 returns-clause-out c = confirmed_out c.args.graph.now c.args.table.now c.args.key.now c.requires.passed c.requires.whole c.confirm.new.self c.leave.new.table
+    (c.in_ok-_groups.ensures.left c.requires.passed.node c.requires.passed.there) c.confirm.ensures.version c.confirm.ensures.confirmed
+
+pub returns-clause-turns : goal.returns-clause-turns
+returns-clause-turns c = confirmed_turns c.args.graph.now c.args.table.now c.args.key.now c.requires.passed c.requires.whole c.confirm.new.self c.leave.new.table
+    (c.in_ok-_groups.ensures.left c.requires.passed.node c.requires.passed.there) c.confirm.ensures.version c.confirm.ensures.confirmed
+
+pub returns-clause-keeps : goal.returns-clause-keeps
+returns-clause-keeps c = confirmed_keeps c.args.graph.now c.args.table.now c.args.key.now c.requires.passed c.requires.whole c.confirm.new.self c.leave.new.table
     (c.in_ok-_groups.ensures.left c.requires.passed.node c.requires.passed.there) c.confirm.ensures.version c.confirm.ensures.confirmed
 
 pub returns-clause-truth : goal.returns-clause-truth

@@ -1,9 +1,9 @@
-use Rattle.std.proofs.Common.{◌∙◌, sym, ap, subst}
+use Rattle.std.proofs.Common.{◌∙◌, sym, ap}
 use Rattle.std.specs.Arc.{arc_value}
 use Rattle.evaluation.specs.Reply.{Done}
 use Rattle.std.proofs.Common.{◌+◌}
 use Rattle.open_nodes.specs.Nodes.{groups_of}
-use Rattle.round.proofs.Ending.{ended_whole, ended_back, ended_true, end_sets, end_keeps, end_ready, count_is}
+use Rattle.round.proofs.Ending.{ended_whole, ended_keeps, ended_back, ended_turns, ended_true, end_sets, end_keeps, end_ready, count_is}
 use Rattle.round.proofs.settle.end.Goals as goal
 
 pub record-requires : goal.record-requires
@@ -17,13 +17,26 @@ returns-clause-whole c =
     (c.in_ok-groups.ensures.left o.node o.there) c.version.result (c.len.result + 1) c.in_ok-note.ensures c.record.ensures.version
     (end_sets c.args.graph.now c.record.new.self c.args.key (arc_value c.in_ok-shared.shared) c.in_ok-groups.groups.items (groups_of o.node) (c.in_ok-groups.ensures.groups o.node o.there) c.in_ok-record.ensures.recorded)
 
+pub returns-clause-keeps : goal.returns-clause-keeps
+returns-clause-keeps c =
+    let a = c.requires.out.0 in
+    let o = c.requires.out.1 in
+    ended_keeps c.args.graph.now c.record.new.self c.args.table.now c.leave.new.table c.note.new.table c.args.key (arc_value c.in_ok-shared.shared) a o c.requires.whole
+    (c.in_ok-groups.ensures.left o.node o.there) c.version.result (c.len.result + 1) c.in_ok-note.ensures c.record.ensures.version
+    (end_sets c.args.graph.now c.record.new.self c.args.key (arc_value c.in_ok-shared.shared) c.in_ok-groups.groups.items (groups_of o.node) (c.in_ok-groups.ensures.groups o.node o.there) c.in_ok-record.ensures.recorded)
+
 pub returns-clause-back : goal.returns-clause-back
 returns-clause-back c =
     let a = c.requires.out.0 in
-    let o = c.requires.out.1 in
-    ended_back c.args.graph.now c.record.new.self c.args.table.now c.leave.new.table c.note.new.table c.args.key (arc_value c.in_ok-shared.shared) a o c.requires.whole
-    (c.in_ok-groups.ensures.left o.node o.there) c.version.result (c.len.result + 1) c.in_ok-note.ensures c.record.ensures.version
-    (end_sets c.args.graph.now c.record.new.self c.args.key (arc_value c.in_ok-shared.shared) c.in_ok-groups.groups.items (groups_of o.node) (c.in_ok-groups.ensures.groups o.node o.there) c.in_ok-record.ensures.recorded)
+    let o = c.requires.out.1 in (
+      ended_back c.args.graph.now c.record.new.self c.args.table.now c.leave.new.table c.note.new.table c.args.key (arc_value c.in_ok-shared.shared) a o c.requires.whole
+          (c.in_ok-groups.ensures.left o.node o.there) c.version.result (c.len.result + 1) c.in_ok-note.ensures c.record.ensures.version
+          (end_sets c.args.graph.now c.record.new.self c.args.key (arc_value c.in_ok-shared.shared) c.in_ok-groups.groups.items (groups_of o.node) (c.in_ok-groups.ensures.groups o.node o.there) c.in_ok-record.ensures.recorded),
+      ended_turns c.args.graph.now c.record.new.self c.args.table.now c.leave.new.table c.note.new.table c.args.key (arc_value c.in_ok-shared.shared) a o c.requires.whole
+          (c.in_ok-groups.ensures.left o.node o.there) c.version.result (c.len.result + 1) c.in_ok-note.ensures c.record.ensures.version
+          (end_sets c.args.graph.now c.record.new.self c.args.key (arc_value c.in_ok-shared.shared) c.in_ok-groups.groups.items (groups_of o.node) (c.in_ok-groups.ensures.groups o.node o.there) c.in_ok-record.ensures.recorded)
+          (count_is c.in_ok-groups.groups (groups_of o.node) c.len.result c.len.ensures (c.in_ok-groups.ensures.groups o.node o.there)),
+    )
 
 pub returns-clause-truth : goal.returns-clause-truth
 returns-clause-truth c = λ read next answers o ended laws past t.

@@ -1,10 +1,9 @@
-use Rattle.std.proofs.Common.{◌≡◌, take, Ok, Result}
-use Rattle.texts.specs.declared.Memory.{Memory}
+use Rattle.std.proofs.Common.{◌≡◌, take}
 use Rattle.evaluation.specs.Value.{In}
 use Rattle.functions.specs.Next as leaves
 use Rattle.keys.specs.declared.key.Key.{Key}
-use Rattle.round.specs.Moves.{KeepsTrue, Wants, IsWanted}
-use Rattle.round.proofs.Wanting.{StaysTrue}
+use Rattle.round.specs.Moves.{Wants, IsWanted}
+use Rattle.round.proofs.Wanting.{StaysTrueOf}
 use Rattle.round.proofs.settle.want_all.Given as goal
 
 abbrev pub invariant-loop-key : goal.invariant-loop-key
@@ -12,5 +11,5 @@ invariant-loop-key l = record {
   wants : Wants l.fn.graph l.graph l.fn.table l.table;
   wanted : (k : Key) → In k (take l.key-index l.keys) → IsWanted l.graph l.table k;
   looked : l.table.looked ≡ l.fn.table.looked;
-  truth : StaysTrue (leaves.read l.tree) l.fn.graph l.graph l.fn.table l.table;
+  truth : StaysTrueOf l.keys (leaves.read l.tree) l.fn.graph l.graph l.fn.table l.table;
 }

@@ -1,4 +1,4 @@
-use Rattle.std.proofs.Common.{◌∙◌, sym, ap, subst, Option}
+use Rattle.std.proofs.Common.{◌∙◌, sym, subst}
 use Rattle.std.specs.Option.{option_map}
 use Rattle.keys.specs.Turns.{values}
 use Rattle.node.specs.Graphs.{record_at}
@@ -6,7 +6,7 @@ use Rattle.node.specs.Kept.{items_of}
 use Rattle.node.proofs.Joining.{in_has, has_in}
 use Rattle.node.proofs.Lists.{true_false}
 use Rattle.round.specs.Members.{Answers}
-use Rattle.round.proofs.Handing.{has_answers, handed_whole, handed_out, handed_more, handed_true}
+use Rattle.round.proofs.Handing.{has_answers, handed_whole, handed_keeps, handed_out, handed_more, handed_turns, handed_true}
 use Rattle.round.proofs.turns.hand_out.Goals as goal
 
 pub returns-then-not-is_among-clause-hands : goal.returns-then-not-is_among-clause-hands
@@ -25,6 +25,7 @@ returns-in_ok-share-in-Some-clause-hands g c =
           (subst (λ o. Answers (record_at c.args.graph.now) (items_of c.asked_groups.result.now) (option_map (λ v. values v.items) o)) c.in-Some.is c.in_ok-answers_to.ensures) c.new-job.ensures.answers,
       handed_whole c.args.graph.now c.args.table.now c.set_out.new.table c.args.key.now c.requires.whole i h.phase h.ready h.pends,
       handed_more c.args.graph.now c.args.table.now c.set_out.new.table c.args.key.now c.requires.whole i h.phase h.ready h.pends,
+      handed_turns c.args.graph.now c.args.table.now c.set_out.new.table c.args.key.now c.requires.whole i h.phase h.ready h.pends h.runs,
     )
 
 pub returns-in_ok-share-in-Some-clause-truth : goal.returns-in_ok-share-in-Some-clause-truth
@@ -32,3 +33,9 @@ returns-in_ok-share-in-Some-clause-truth g c = λ read.
     let i = in_has c.args.table.now.ready c.args.key.now (sym c.if-not-is_among.ensures) in
     let h = c.set_out.ensures in
     handed_true c.args.graph.now c.args.table.now c.set_out.new.table c.args.key.now c.requires.whole i h.phase h.ready h.pends read h.runs
+
+pub returns-in_ok-share-in-Some-clause-keeps : goal.returns-in_ok-share-in-Some-clause-keeps
+returns-in_ok-share-in-Some-clause-keeps g c =
+    let i = in_has c.args.table.now.ready c.args.key.now (sym c.if-not-is_among.ensures) in
+    let h = c.set_out.ensures in
+    handed_keeps c.args.graph.now c.args.table.now c.set_out.new.table c.args.key.now c.requires.whole i h.phase h.ready h.pends

@@ -1,0 +1,7 @@
+//! Arithmetic, joining and repeating, and what counts as true.
+#![tactic(auto)]
+
+mod numbers;
+mod operators;
+
+pub use operators::{add, divide, is_true, multiply, negate, plus, remainder, subtract};

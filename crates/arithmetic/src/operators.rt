@@ -1,0 +1,173 @@
+//! Arithmetic, joining and repeating.
+ghost use Rattle.std.specs.Prelude.{◌≡◌};
+ghost use Rattle.meaning.specs.Heap.{at};
+ghost use Rattle.meaning.specs.Operators.{add, subtract, multiply, divide, remainder, joins, repeats, negate, plus, is_true, object_is_true};
+ghost use Rattle.heap.specs.View.{store_of, Says};
+
+use crate::numbers;
+use heap::{Halt, Heap, Object, Val, joined, repeated};
+
+/// `a + b`
+pub fn add(heap: &mut Heap, a: Val, b: Val) -> Result<Val, Halt>
+    ensures { Says (add a b (store_of heap.old)) result (store_of heap.new) }
+{
+    match (a, b) {
+        (Val::Int(x), Val::Int(y)) => x.checked_add(y).map(Val::Int).ok_or(Halt::Code(9)),
+        (Val::At(x), Val::At(y)) => {
+            let made = join(heap, x, y)?;
+            Ok(made)
+        }
+        _ => Err(Halt::Code(5)),
+    }
+}
+
+// Two strings, lists or tuples, one after the other.
+fn join(heap: &mut Heap, a: usize, b: usize) -> Result<Val, Halt>
+    ensures { Says (joins (at a (store_of heap.old)) (at b (store_of heap.old)) (store_of heap.old)) result (store_of heap.new) }
+{
+    match (heap.objects.get(a), heap.objects.get(b)) {
+        (Some(Object::Text(x)), Some(Object::Text(y))) => {
+            let bytes = joined(heap.alloc, x.as_slice(), y.as_slice())?;
+            let made = heap.make_text(bytes)?;
+            Ok(made)
+        }
+        (Some(Object::List(x, _)), Some(Object::List(y, _))) => {
+            let members = joined(heap.alloc, x.as_slice(), y.as_slice())?;
+            let made = heap.make_list(members)?;
+            Ok(made)
+        }
+        (Some(Object::Tuple(x)), Some(Object::Tuple(y))) => {
+            let members = joined(heap.alloc, x.as_slice(), y.as_slice())?;
+            let made = heap.make_tuple(members)?;
+            Ok(made)
+        }
+        _ => Err(Halt::Code(5)),
+    }
+}
+
+/// `a - b`
+pub fn subtract(heap: &mut Heap, a: Val, b: Val) -> Result<Val, Halt>
+    ensures { Says (subtract a b (store_of heap.old)) result (store_of heap.new) }
+{
+    match (a, b) {
+        (Val::Int(x), Val::Int(y)) => x.checked_sub(y).map(Val::Int).ok_or(Halt::Code(9)),
+        _ => Err(Halt::Code(5)),
+    }
+}
+
+/// `a * b`
+pub fn multiply(heap: &mut Heap, a: Val, b: Val) -> Result<Val, Halt>
+    ensures { Says (multiply a b (store_of heap.old)) result (store_of heap.new) }
+{
+    match (a, b) {
+        (Val::Int(x), Val::Int(y)) => x.checked_mul(y).map(Val::Int).ok_or(Halt::Code(9)),
+        (Val::At(x), Val::Int(n)) => {
+            let made = repeat(heap, x, n)?;
+            Ok(made)
+        }
+        (Val::Int(n), Val::At(x)) => {
+            let made = repeat(heap, x, n)?;
+            Ok(made)
+        }
+        _ => Err(Halt::Code(5)),
+    }
+}
+
+// A string, list or tuple so many times over.
+fn repeat(heap: &mut Heap, a: usize, n: i64) -> Result<Val, Halt>
+    ensures { Says (repeats (at a (store_of heap.old)) n (store_of heap.old)) result (store_of heap.new) }
+{
+    match heap.object(a) {
+        Some(Object::Text(x)) => {
+            let bytes = repeated(heap.alloc, x.as_slice(), n)?;
+            let made = heap.make_text(bytes)?;
+            Ok(made)
+        }
+        Some(Object::List(x, _)) => {
+            let members = repeated(heap.alloc, x.as_slice(), n)?;
+            let made = heap.make_list(members)?;
+            Ok(made)
+        }
+        Some(Object::Tuple(x)) => {
+            let members = repeated(heap.alloc, x.as_slice(), n)?;
+            let made = heap.make_tuple(members)?;
+            Ok(made)
+        }
+        Some(Object::Dict(_, _)) => Err(Halt::Code(5)),
+        Some(Object::Function(_, _)) => Err(Halt::Code(5)),
+        None => Err(Halt::Code(5)),
+    }
+}
+
+/// `a // b`
+pub fn divide(heap: &mut Heap, a: Val, b: Val) -> Result<Val, Halt>
+    ensures { Says (divide a b (store_of heap.old)) result (store_of heap.new) }
+{
+    match (a, b) {
+        (Val::Int(x), Val::Int(y)) => {
+            let made = numbers::divide(x, y)?;
+            Ok(made)
+        }
+        _ => Err(Halt::Code(5)),
+    }
+}
+
+/// `a % b`
+pub fn remainder(heap: &mut Heap, a: Val, b: Val) -> Result<Val, Halt>
+    ensures { Says (remainder a b (store_of heap.old)) result (store_of heap.new) }
+{
+    match (a, b) {
+        (Val::Int(x), Val::Int(y)) => {
+            let made = numbers::remainder(x, y)?;
+            Ok(made)
+        }
+        _ => Err(Halt::Code(5)),
+    }
+}
+
+/// `-a`
+pub fn negate(heap: &mut Heap, a: Val) -> Result<Val, Halt>
+    ensures { Says (negate a (store_of heap.old)) result (store_of heap.new) }
+{
+    match a {
+        Val::Int(x) => x.checked_neg().map(Val::Int).ok_or(Halt::Code(9)),
+        _ => Err(Halt::Code(5)),
+    }
+}
+
+/// `+a`
+pub fn plus(heap: &mut Heap, a: Val) -> Result<Val, Halt>
+    ensures { Says (plus a (store_of heap.old)) result (store_of heap.new) }
+{
+    match a {
+        Val::Int(x) => Ok(Val::Int(x)),
+        _ => Err(Halt::Code(5)),
+    }
+}
+
+/// Whether a value counts as true.
+pub fn is_true(heap: &Heap, a: Val) -> bool
+    ensures { result ≡ is_true a (store_of heap.now) }
+{
+    match a {
+        Val::Nothing => false,
+        Val::Bool(b) => b,
+        Val::Int(n) => n != 0,
+        Val::Builtin(_) => true,
+        Val::At(place) => is_object_true(heap, place),
+    }
+}
+
+// Whether an object counts as true.
+fn is_object_true(heap: &Heap, place: usize) -> bool
+    ensures { result ≡ object_is_true (at place (store_of heap.now)) }
+{
+    match heap.objects.get(place) {
+        Some(Object::Text(bytes)) => !bytes.as_slice().is_empty(),
+        Some(Object::List(members, _)) => !members.is_empty(),
+        Some(Object::Tuple(members)) => !members.is_empty(),
+        Some(Object::Dict(entries, _)) => !entries.is_empty(),
+        Some(Object::Function(_, _)) => true,
+        None => false,
+    }
+}

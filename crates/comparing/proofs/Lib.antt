@@ -1,0 +1,4 @@
+pub mod Hashed
+pub mod Compared
+pub mod Membered
+pub mod Parts

@@ -1,0 +1,250 @@
+//! Comparing by `==`.
+ghost use Rattle.std.specs.Prelude.{◌≡◌, map, slice_get};
+ghost use Rattle.meaning.specs.Builtins.{builtin_number};
+ghost use Rattle.meaning.specs.Comparing.{equal, inner_equal, pair, pair_objects, equal_members, equal_entries, equal_entry, equal_found, visit_pair, members, entries};
+ghost use Rattle.heap.specs.View.{object_of, Says};
+ghost use Rattle.comparing.specs.Seen.{pair_seen};
+
+use heap::{Builtin, Entry, Halt, Key, Object, Val, found, object_at, spend, tick, val_at};
+use indexmap::IndexMap;
+
+/// What is left to compare of two values.
+#[derive(Drop)]
+pub enum Pair<'a> {
+    Settled(bool),
+    Members(&'a [Val], &'a [Val]),
+    Entries(&'a IndexMap<Key, Entry>, &'a IndexMap<Key, Entry>),
+}
+
+// The place of a built-in function among them.
+fn number(x: Builtin) -> u8
+    ensures { result ≡ builtin_number x }
+{
+    match x {
+        Builtin::Len => 0,
+        Builtin::Range => 1,
+        Builtin::Str => 2,
+        Builtin::Repr => 3,
+        Builtin::Type => 4,
+        Builtin::Sorted => 5,
+        Builtin::Reversed => 6,
+        Builtin::Enumerate => 7,
+        Builtin::Zip => 8,
+        Builtin::List => 9,
+        Builtin::Tuple => 10,
+        Builtin::Dict => 11,
+        Builtin::Bool => 12,
+        Builtin::Any => 13,
+        Builtin::All => 14,
+        Builtin::Min => 15,
+        Builtin::Max => 16,
+        Builtin::Fail => 17,
+        Builtin::Glob => 18,
+        Builtin::Filegroup => 19,
+        Builtin::Genrule => 20,
+        Builtin::Alias => 21,
+        Builtin::TestSuite => 22,
+        Builtin::PackageName => 23,
+    }
+}
+
+// What is left to compare of two values.
+fn make_pair<'a>(objects: &'a [Object], a: Val, b: Val) -> Pair<'a>
+    ensures { pair_seen result ≡ pair (map object_of objects.now) a b }
+{
+    match (a, b) {
+        (Val::Nothing, Val::Nothing) => Pair::Settled(true),
+        (Val::Bool(x), Val::Bool(y)) => Pair::Settled(x == y),
+        (Val::Int(x), Val::Int(y)) => Pair::Settled(x == y),
+        (Val::Builtin(x), Val::Builtin(y)) => Pair::Settled(number(x) == number(y)),
+        (Val::At(x), Val::At(y)) => pair_objects(objects, x, y),
+        _ => Pair::Settled(false),
+    }
+}
+
+// What is left to compare of two objects.
+fn pair_objects<'a>(objects: &'a [Object], a: usize, b: usize) -> Pair<'a>
+    ensures { pair_seen result ≡ pair_objects (slice_get (map object_of objects.now) a) (slice_get (map object_of objects.now) b) }
+{
+    match (object_at(objects, a), object_at(objects, b)) {
+        (Some(Object::Text(x)), Some(Object::Text(y))) => Pair::Settled(x == y),
+        (Some(Object::List(x, _)), Some(Object::List(y, _))) => {
+            if x.len() == y.len() {
+                Pair::Members(x.as_slice(), y.as_slice())
+            } else {
+                Pair::Settled(false)
+            }
+        }
+        (Some(Object::Tuple(x)), Some(Object::Tuple(y))) => {
+            if x.len() == y.len() {
+                Pair::Members(x.as_slice(), y.as_slice())
+            } else {
+                Pair::Settled(false)
+            }
+        }
+        (Some(Object::Dict(x, _)), Some(Object::Dict(y, _))) => {
+            if x.len() == y.len() {
+                Pair::Entries(x, y)
+            } else {
+                Pair::Settled(false)
+            }
+        }
+        (Some(Object::Function(l, f)), Some(Object::Function(m, g))) => Pair::Settled(
+            l == m && f == g,
+        ),
+        _ => Pair::Settled(false),
+    }
+}
+
+/// Whether two values are equal: each pair compared is a step, and so many containers more may be entered: fault 11 or
+/// 12.
+#[cycle(comparing)]
+#[tactic(auto, using(crate::proofs::Compared::equal_is))]
+pub fn equal(objects: &[Object], steps: &mut u64, a: Val, b: Val, left: u32) -> Result<bool, Halt>
+    ensures { Says (equal left (map object_of objects.now) a b steps.old) result steps.new }
+{
+    match make_pair(objects, a, b) {
+        Pair::Settled(same) => {
+            tick(steps)?;
+            Ok(same)
+        }
+        Pair::Members(xs, ys) => {
+            let same = equal_lists(objects, steps, xs, ys, left)?;
+            Ok(same)
+        }
+        Pair::Entries(xs, ys) => {
+            let same = equal_dicts(objects, steps, xs, ys, left)?;
+            Ok(same)
+        }
+    }
+}
+
+// Whether the members of two lists of one length are equal.
+#[cycle(comparing)]
+#[tactic(auto, using(crate::proofs::Compared::lists_deep, crate::proofs::Compared::lists_more))]
+fn equal_lists(
+    objects: &[Object],
+    steps: &mut u64,
+    xs: &[Val],
+    ys: &[Val],
+    left: u32,
+) -> Result<bool, Halt>
+    ensures { Says (visit_pair (inner_equal left (map object_of objects.now)) (members xs.now ys.now) steps.old) result steps.new }
+{
+    if left == 0 {
+        return Err(Halt::Code(12));
+    }
+    tick(steps)?;
+    let same = equal_members(objects, steps, xs, ys, left - 1)?;
+    Ok(same)
+}
+
+// Whether members are equal, up to the first that are not.
+#[cycle(comparing)]
+#[tactic(auto, using(crate::proofs::Compared::members_same, crate::proofs::Compared::members_differ, crate::proofs::Compared::members_first_over, crate::proofs::Compared::members_second_over))]
+fn equal_members(
+    objects: &[Object],
+    steps: &mut u64,
+    xs: &[Val],
+    ys: &[Val],
+    left: u32,
+) -> Result<bool, Halt>
+    ensures { Says (equal_members (equal left (map object_of objects.now)) xs.now ys.now steps.old) result steps.new }
+{
+    for i in 0..xs.len() {
+        let Some(x) = val_at(xs, i) else {
+            return Ok(true);
+        };
+        let Some(y) = val_at(ys, i) else {
+            return Ok(true);
+        };
+        match equal(objects, steps, x, y, left) {
+            Ok(true) => {}
+            Ok(false) => return Ok(false),
+            Err(halt) => return Err(halt),
+        }
+    }
+    Ok(true)
+}
+
+// Whether the entries of two dictionaries of one length are equal.
+#[cycle(comparing)]
+#[tactic(auto, using(crate::proofs::Compared::dicts_deep, crate::proofs::Compared::dicts_more))]
+fn equal_dicts(
+    objects: &[Object],
+    steps: &mut u64,
+    xs: &IndexMap<Key, Entry>,
+    ys: &IndexMap<Key, Entry>,
+    left: u32,
+) -> Result<bool, Halt>
+    ensures { Says (visit_pair (inner_equal left (map object_of objects.now)) (entries xs.now.entries ys.now.entries) steps.old) result steps.new }
+{
+    if left == 0 {
+        return Err(Halt::Code(12));
+    }
+    tick(steps)?;
+    let same = equal_entries(objects, steps, xs, ys, left - 1)?;
+    Ok(same)
+}
+
+// Whether the right has the keys of the left with equal values, up to the first that it has not.
+#[cycle(comparing)]
+#[tactic(auto, using(crate::proofs::Compared::entries_same, crate::proofs::Compared::entries_differ))]
+fn equal_entries(
+    objects: &[Object],
+    steps: &mut u64,
+    xs: &IndexMap<Key, Entry>,
+    ys: &IndexMap<Key, Entry>,
+    left: u32,
+) -> Result<bool, Halt>
+    ensures { Says (equal_entries (equal left (map object_of objects.now)) xs.now.entries ys.now.entries steps.old) result steps.new }
+{
+    for i in 0..xs.len() {
+        let Some((key, entry)) = xs.get_index(i) else {
+            return Ok(true);
+        };
+        match equal_entry(objects, steps, key, entry.value, ys, left) {
+            Ok(true) => {}
+            Ok(false) => return Ok(false),
+            Err(halt) => return Err(halt),
+        }
+    }
+    Ok(true)
+}
+
+// Whether the right has a key with an equal value.
+#[cycle(comparing)]
+fn equal_entry(
+    objects: &[Object],
+    steps: &mut u64,
+    key: &Key,
+    x: Val,
+    ys: &IndexMap<Key, Entry>,
+    left: u32,
+) -> Result<bool, Halt>
+    ensures { Says (equal_entry (equal left (map object_of objects.now)) key.now x ys.now.entries steps.old) result steps.new }
+{
+    spend(steps, key.parts.len())?;
+    let same = equal_found(objects, steps, x, found(ys, key), left)?;
+    Ok(same)
+}
+
+// Whether a value is equal to the one of an entry, if there is an entry.
+#[cycle(comparing)]
+fn equal_found(
+    objects: &[Object],
+    steps: &mut u64,
+    x: Val,
+    found: Option<Entry>,
+    left: u32,
+) -> Result<bool, Halt>
+    ensures { Says (equal_found (equal left (map object_of objects.now)) x found steps.old) result steps.new }
+{
+    match found {
+        Some(entry) => {
+            let same = equal(objects, steps, x, entry.value, left)?;
+            Ok(same)
+        }
+        None => Ok(false),
+    }
+}

@@ -1,0 +1,115 @@
+//! Keys of dictionaries.
+ghost use Rattle.std.specs.Prelude.{◌≡◌, map, IfOk};
+ghost use Rattle.meaning.specs.Hashing.{key, inner_key, along, part_key, visit_key, as_key, parts};
+ghost use Rattle.heap.specs.View.{object_of, SaysItems};
+ghost use Rattle.comparing.specs.Seen.{key_seen};
+
+use heap::{Halt, Object, Part, Val, tick};
+use std::alloc::Global;
+use texts::Memory;
+
+/// What a value is as a key.
+#[derive(Drop)]
+pub enum AsKey<'a> {
+    Part(Part),
+    Parts(&'a [Val]),
+    NoKey,
+}
+
+// What a value is as a key.
+fn as_key<'a>(objects: &'a [Object], x: Val) -> Result<AsKey<'a>, Memory>
+    ensures { IfOk result (λ k. key_seen k ≡ as_key (map object_of objects.now) x) }
+{
+    match x {
+        Val::Nothing => Ok(AsKey::Part(Part::Nothing)),
+        Val::Bool(b) => Ok(AsKey::Part(Part::Bool(b))),
+        Val::Int(n) => Ok(AsKey::Part(Part::Int(n))),
+        Val::Builtin(_) => Ok(AsKey::NoKey),
+        Val::At(place) => match objects.get(place) {
+            Some(Object::Text(bytes)) => Ok(AsKey::Part(Part::Text(bytes.share()?))),
+            Some(Object::Tuple(members)) => Ok(AsKey::Parts(members.as_slice())),
+            _ => Ok(AsKey::NoKey),
+        },
+    }
+}
+
+/// The parts of a key, each value visited being a step, where so many containers more may be entered: fault 5 for what
+/// is no key, 11 or 12.
+#[cycle(hashing)]
+#[tactic(auto, using(crate::proofs::Hashed::key_is))]
+pub fn key(
+    alloc: Global,
+    objects: &[Object],
+    steps: &mut u64,
+    x: Val,
+    left: u32,
+) -> Result<Vec<Part>, Halt>
+    ensures { SaysItems (key left (map object_of objects.now) x steps.old) result steps.new }
+{
+    match as_key(objects, x)? {
+        AsKey::Part(part) => {
+            let all = one_part(alloc, steps, part)?;
+            Ok(all)
+        }
+        AsKey::NoKey => {
+            tick(steps)?;
+            Err(Halt::Code(5))
+        }
+        AsKey::Parts(members) => {
+            let all = tuple_key(alloc, objects, steps, members, left)?;
+            Ok(all)
+        }
+    }
+}
+
+// A key of one part.
+fn one_part(alloc: Global, steps: &mut u64, x: Part) -> Result<Vec<Part>, Halt>
+    ensures { SaysItems (part_key x steps.old) result steps.new }
+{
+    tick(steps)?;
+    let mut all = Vec::new(alloc);
+    all.push(x)?;
+    Ok(all)
+}
+
+// The key of a tuple.
+#[cycle(hashing)]
+#[tactic(auto, using(crate::proofs::Hashed::tuple_deep, crate::proofs::Hashed::tuple_more))]
+fn tuple_key(
+    alloc: Global,
+    objects: &[Object],
+    steps: &mut u64,
+    members: &[Val],
+    left: u32,
+) -> Result<Vec<Part>, Halt>
+    ensures { SaysItems (visit_key (inner_key left (map object_of objects.now)) (parts members.now) steps.old) result steps.new }
+{
+    if left == 0 {
+        return Err(Halt::Code(12));
+    }
+    tick(steps)?;
+    let mut all = Vec::new(alloc);
+    all.push(Part::Tuple(members.len()))?;
+    let mut inner = along(alloc, objects, steps, members, left - 1)?;
+    all.append(&mut inner)?;
+    Ok(all)
+}
+
+// The parts of keys, one after another.
+#[cycle(hashing)]
+fn along(
+    alloc: Global,
+    objects: &[Object],
+    steps: &mut u64,
+    members: &[Val],
+    left: u32,
+) -> Result<Vec<Part>, Halt>
+    ensures { SaysItems (along (key left (map object_of objects.now)) members.now steps.old) result steps.new }
+{
+    let mut all = Vec::new(alloc);
+    for member in members.iter() {
+        let mut more = key(alloc, objects, steps, *member, left)?;
+        all.append(&mut more)?;
+    }
+    Ok(all)
+}

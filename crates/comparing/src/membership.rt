@@ -1,0 +1,128 @@
+//! `in`.
+ghost use Rattle.std.specs.Prelude.{◌≡◌, map};
+ghost use Rattle.meaning.specs.Comparing.{equal};
+ghost use Rattle.meaning.specs.Membership.{any_equal, is_part, text_has, object_has, hashed_has, has_key, has};
+ghost use Rattle.meaning.specs.Heap.{at};
+ghost use Rattle.heap.specs.View.{object_of, store_of, Says, Checks};
+
+use crate::equality::equal;
+use crate::walks::hash;
+use heap::{DEEPEST, Halt, Heap, Key, Object, Val, found, object_at, val_at};
+use memchr::memmem;
+
+// Whether a text is a part of another.
+#[tactic(auto, using(crate::proofs::Parts::part_found))]
+fn is_part(part: &[u8], whole: &[u8]) -> bool
+    ensures { result ≡ is_part part.now whole.now }
+{
+    memmem::find(whole, part).is_some()
+}
+
+// Whether a value is equal to one of the members, each being compared in order up to the first.
+#[tactic(auto, using(crate::proofs::Membered::any_same, crate::proofs::Membered::any_differ, crate::proofs::Membered::any_over))]
+fn any_equal(
+    objects: &[Object],
+    steps: &mut u64,
+    x: Val,
+    members: &[Val],
+    left: u32,
+) -> Result<bool, Halt>
+    ensures { Says (any_equal (equal left (map object_of objects.now)) x members.now steps.old) result steps.new }
+{
+    for i in 0..members.len() {
+        let Some(y) = val_at(members, i) else {
+            return Ok(false);
+        };
+        match equal(objects, steps, x, y, left) {
+            Ok(true) => return Ok(true),
+            Ok(false) => {}
+            Err(halt) => return Err(halt),
+        }
+    }
+    Ok(false)
+}
+
+/// `x in a`: whether it is a member of a list or tuple, a key of a dictionary, or a part of a string; else fault 5, and
+/// 11 or 12.
+pub fn has(heap: &mut Heap, x: Val, a: Val) -> Result<bool, Halt>
+    ensures { Says (has x a (store_of heap.old)) result (store_of heap.new) }
+{
+    match a {
+        Val::At(place) => {
+            let there = object_has(heap, place, x)?;
+            Ok(there)
+        }
+        _ => Err(Halt::Code(5)),
+    }
+}
+
+// Whether a value is in an object.
+fn object_has(heap: &mut Heap, a: usize, x: Val) -> Result<bool, Halt>
+    ensures { Says (object_has (at a (store_of heap.old)) x (store_of heap.old)) result (store_of heap.new) }
+{
+    match heap.objects.get(a) {
+        Some(Object::Text(whole)) => {
+            let there = text_has(heap.objects.as_slice(), whole.as_slice(), x)?;
+            Ok(there)
+        }
+        Some(Object::List(members, _)) => {
+            let there = any_equal(
+                heap.objects.as_slice(),
+                &mut heap.steps,
+                x,
+                members.as_slice(),
+                DEEPEST,
+            )?;
+            Ok(there)
+        }
+        Some(Object::Tuple(members)) => {
+            let there = any_equal(
+                heap.objects.as_slice(),
+                &mut heap.steps,
+                x,
+                members.as_slice(),
+                DEEPEST,
+            )?;
+            Ok(there)
+        }
+        Some(Object::Dict(_, _)) => {
+            let there = hashed_has(heap, a, x)?;
+            Ok(there)
+        }
+        Some(Object::Function(_, _)) => Err(Halt::Code(5)),
+        None => Err(Halt::Code(5)),
+    }
+}
+
+// Whether a value is a key of a dictionary.
+#[tactic(auto, unfolding(meaning::specs::Membership::hashed_has))]
+fn hashed_has(heap: &mut Heap, a: usize, x: Val) -> Result<bool, Halt>
+    ensures { Says (hashed_has (at a (store_of heap.old)) x (store_of heap.old)) result (store_of heap.new) }
+{
+    let key = hash(heap, x)?;
+    let there = has_key(heap, a, &key)?;
+    Ok(there)
+}
+
+// Whether a dictionary has a key.
+fn has_key(heap: &Heap, a: usize, key: &Key) -> Result<bool, Halt>
+    ensures { Says (has_key (at a (store_of heap.now)) key.now (store_of heap.now)) result (store_of heap.now) }
+{
+    match heap.objects.get(a) {
+        Some(Object::Dict(entries, _)) => Ok(found(entries, key).is_some()),
+        _ => Err(Halt::Code(5)),
+    }
+}
+
+// Whether a value is a part of a text.
+fn text_has(objects: &[Object], whole: &[u8], x: Val) -> Result<bool, Halt>
+    ensures { Checks (text_has (map object_of objects.now) whole.now x) result }
+{
+    match x {
+        Val::At(place) => match object_at(objects, place) {
+            Some(Object::Text(part)) => Ok(is_part(part.as_slice(), whole)),
+            _ => Err(Halt::Code(5)),
+        },
+        _ => Err(Halt::Code(5)),
+    }
+}

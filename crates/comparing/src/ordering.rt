@@ -1,0 +1,147 @@
+//! The order of values.
+ghost use Rattle.std.specs.Prelude.{◌≡◌, map, slice_get};
+ghost use Rattle.meaning.specs.Comparing.{equal, order, inner_order, sides, side_objects, visit_sides, listed, parting};
+ghost use Rattle.comparing.specs.Ended.{ended};
+ghost use Rattle.heap.specs.View.{object_of, Says};
+ghost use Rattle.comparing.specs.Seen.{SaysParting, sides_seen};
+
+use crate::equality::equal;
+use heap::{Halt, Object, Val, object_at, tick, val_at};
+use std::cmp::Ordering;
+
+/// What is left to order of two values.
+#[derive(Drop)]
+pub enum Sides<'a> {
+    Ordered(Ordering),
+    Listed(&'a [Val], &'a [Val]),
+    NoOrder,
+}
+
+/// Where two lists part.
+#[derive(Clone, Copy, Debug, PartialEq, Eq)]
+pub enum Parting {
+    SettledAs(Ordering),
+    Unequal(Val, Val),
+}
+
+// What is left to order of two values.
+fn make_sides<'a>(objects: &'a [Object], a: Val, b: Val) -> Sides<'a>
+    ensures { sides_seen result ≡ sides (map object_of objects.now) a b }
+{
+    match (a, b) {
+        (Val::Int(x), Val::Int(y)) => Sides::Ordered(x.cmp(&y)),
+        (Val::At(x), Val::At(y)) => side_objects(objects, x, y),
+        _ => Sides::NoOrder,
+    }
+}
+
+// What is left to order of two objects.
+fn side_objects<'a>(objects: &'a [Object], a: usize, b: usize) -> Sides<'a>
+    ensures { sides_seen result ≡ side_objects (slice_get (map object_of objects.now) a) (slice_get (map object_of objects.now) b) }
+{
+    match (object_at(objects, a), object_at(objects, b)) {
+        (Some(Object::Text(x)), Some(Object::Text(y))) => Sides::Ordered(
+            x.as_slice().cmp(y.as_slice()),
+        ),
+        (Some(Object::List(x, _)), Some(Object::List(y, _))) => Sides::Listed(
+            x.as_slice(),
+            y.as_slice(),
+        ),
+        (Some(Object::Tuple(x)), Some(Object::Tuple(y))) => Sides::Listed(
+            x.as_slice(),
+            y.as_slice(),
+        ),
+        _ => Sides::NoOrder,
+    }
+}
+
+/// The order of two values: each pair compared is a step, and so many containers more may be entered: fault 5, 11 or
+/// 12.
+#[cycle(ordering)]
+#[tactic(auto, using(crate::proofs::Compared::order_is))]
+pub fn order(
+    objects: &[Object],
+    steps: &mut u64,
+    a: Val,
+    b: Val,
+    left: u32,
+) -> Result<Ordering, Halt>
+    ensures { Says (order left (map object_of objects.now) a b steps.old) result steps.new }
+{
+    match make_sides(objects, a, b) {
+        Sides::Ordered(o) => {
+            tick(steps)?;
+            Ok(o)
+        }
+        Sides::Listed(xs, ys) => {
+            let o = order_lists(objects, steps, xs, ys, left)?;
+            Ok(o)
+        }
+        Sides::NoOrder => {
+            tick(steps)?;
+            Err(Halt::Code(5))
+        }
+    }
+}
+
+// The order of two lists.
+#[cycle(ordering)]
+#[tactic(auto, using(crate::proofs::Compared::sides_deep, crate::proofs::Compared::sides_more))]
+fn order_lists(
+    objects: &[Object],
+    steps: &mut u64,
+    xs: &[Val],
+    ys: &[Val],
+    left: u32,
+) -> Result<Ordering, Halt>
+    ensures { Says (visit_sides (inner_order left (map object_of objects.now)) (listed xs.now ys.now) steps.old) result steps.new }
+{
+    if left == 0 {
+        return Err(Halt::Code(12));
+    }
+    tick(steps)?;
+    match part(objects, steps, xs, ys, left - 1)? {
+        Parting::SettledAs(o) => Ok(o),
+        Parting::Unequal(x, y) => {
+            let o = order(objects, steps, x, y, left - 1)?;
+            Ok(o)
+        }
+    }
+}
+
+// Where two lists part.
+#[tactic(auto, using(crate::proofs::Compared::parts_same, crate::proofs::Compared::parts_differ, crate::proofs::Compared::parts_end, crate::proofs::Compared::parts_last, crate::proofs::Compared::parts_greater))]
+fn part(
+    objects: &[Object],
+    steps: &mut u64,
+    xs: &[Val],
+    ys: &[Val],
+    left: u32,
+) -> Result<Parting, Halt>
+    ensures { SaysParting (parting (equal left (map object_of objects.now)) xs.now ys.now steps.old) result steps.new }
+{
+    for i in 0..xs.len() {
+        let Some(x) = val_at(xs, i) else {
+            return Ok(Parting::SettledAs(at_end(ys, i)));
+        };
+        let Some(y) = val_at(ys, i) else {
+            return Ok(Parting::SettledAs(Ordering::Greater));
+        };
+        match equal(objects, steps, x, y, left) {
+            Ok(true) => {}
+            Ok(false) => return Ok(Parting::Unequal(x, y)),
+            Err(halt) => return Err(halt),
+        }
+    }
+    Ok(Parting::SettledAs(at_end(ys, xs.len())))
+}
+
+// The order by lengths, where the left ends at an index.
+fn at_end(ys: &[Val], i: usize) -> Ordering
+    ensures { result ≡ ended (slice_get ys.now i) }
+{
+    match val_at(ys, i) {
+        Some(_) => Ordering::Less,
+        None => Ordering::Equal,
+    }
+}

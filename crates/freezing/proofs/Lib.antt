@@ -1,0 +1,2 @@
+pub mod Froze
+pub mod Thawed

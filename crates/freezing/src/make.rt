@@ -1,0 +1,101 @@
+//! Making of frozen values.
+ghost use Rattle.std.specs.Prelude.{◌≡◌, map, IfOk};
+ghost use Rattle.meaning.specs.Freezing.{nothing, boolean, whole, built_in, text, list, tuple, dict, function};
+ghost use Rattle.freezing.specs.View.{frozen_of, entry_of, members_of, pairs_of};
+
+use crate::frozen::{Frozen, FrozenEntry};
+use heap::{Builtin, Bytes};
+use std::alloc::Global;
+use std::sync::Arc;
+use texts::Memory;
+
+impl Frozen {
+    /// `None`
+    pub fn nothing() -> Frozen
+        ensures { frozen_of result ≡ nothing }
+    {
+        Frozen::Nothing
+    }
+
+    /// A bool.
+    pub fn boolean(b: bool) -> Frozen
+        ensures { frozen_of result ≡ boolean b }
+    {
+        Frozen::Bool(b)
+    }
+
+    /// An int.
+    pub fn whole(n: i64) -> Frozen
+        ensures { frozen_of result ≡ whole n }
+    {
+        Frozen::Int(n)
+    }
+
+    /// A built-in function.
+    pub fn built_in(f: Builtin) -> Frozen
+        ensures { frozen_of result ≡ built_in f }
+    {
+        Frozen::Builtin(f)
+    }
+
+    /// A string.
+    pub fn text(bytes: Bytes) -> Frozen
+        ensures { frozen_of result ≡ text bytes }
+    {
+        Frozen::Text(bytes)
+    }
+
+    /// A list.
+    pub fn list(alloc: Global, members: Vec<Frozen>) -> Result<Frozen, Memory>
+        ensures { IfOk result (λ f. frozen_of f ≡ list (members_of (map frozen_of members.items))) }
+    {
+        Ok(Frozen::List(Arc::new(alloc, members)?))
+    }
+
+    /// A tuple.
+    pub fn tuple(alloc: Global, members: Vec<Frozen>) -> Result<Frozen, Memory>
+        ensures { IfOk result (λ f. frozen_of f ≡ tuple (members_of (map frozen_of members.items))) }
+    {
+        Ok(Frozen::Tuple(Arc::new(alloc, members)?))
+    }
+
+    /// A dictionary.
+    pub fn dict(alloc: Global, entries: Vec<FrozenEntry>) -> Result<Frozen, Memory>
+        ensures { IfOk result (λ f. frozen_of f ≡ dict (pairs_of (map entry_of entries.items))) }
+    {
+        Ok(Frozen::Dict(Arc::new(alloc, entries)?))
+    }
+
+    /// A function of a file: the file's label, and the name.
+    pub fn function(label: Bytes, name: Bytes) -> Frozen
+        ensures { frozen_of result ≡ function label name }
+    {
+        Frozen::Function(label, name)
+    }
+
+    /// The same value, shared.
+    pub fn share(&self) -> Result<Frozen, Memory>
+        ensures { IfOk result (λ f. frozen_of f ≡ frozen_of self.now) }
+    {
+        match self {
+            Frozen::Nothing => Ok(Frozen::Nothing),
+            Frozen::Bool(b) => Ok(Frozen::Bool(*b)),
+            Frozen::Int(n) => Ok(Frozen::Int(*n)),
+            Frozen::Builtin(f) => Ok(Frozen::Builtin(*f)),
+            Frozen::Text(bytes) => Ok(Frozen::Text(bytes.share()?)),
+            Frozen::List(members) => Ok(Frozen::List(Arc::try_clone(members)?)),
+            Frozen::Tuple(members) => Ok(Frozen::Tuple(Arc::try_clone(members)?)),
+            Frozen::Dict(entries) => Ok(Frozen::Dict(Arc::try_clone(entries)?)),
+            Frozen::Function(label, name) => Ok(Frozen::Function(label.share()?, name.share()?)),
+        }
+    }
+}
+
+impl FrozenEntry {
+    /// A key with its value.
+    pub fn new(key: Frozen, value: Frozen) -> FrozenEntry
+        ensures { entry_of result ≡ (frozen_of key, frozen_of value) }
+    {
+        FrozenEntry { key, value }
+    }
+}

@@ -1,0 +1,129 @@
+//! Frozen values on a heap.
+ghost use Rattle.std.specs.Prelude.{◌≡◌, ◌++◌, map, OnOk};
+ghost use Rattle.meaning.specs.Freezing.{tuple, frozen_key, frozen_keys, thaw, thaw_members, thaw_pairs, thaw_entry};
+ghost use Rattle.heap.specs.View.{store_of, Says, SaysItems};
+ghost use Rattle.freezing.specs.View.{frozen_of, entry_of, members_of, pairs_of, SaysSet};
+
+use crate::frozen::{Frozen, FrozenEntry};
+use heap::{Entry, Halt, Heap, Key, Object, Part, Val, set_entry};
+use indexmap::IndexMap;
+use texts::Memory;
+
+/// A frozen value on a heap, where its lists and dictionaries are frozen. It takes no steps.
+#[cycle(thawing)]
+pub fn thaw(heap: &mut Heap, f: &Frozen) -> Result<Val, Halt>
+    ensures { Says (thaw (frozen_of f.now) (store_of heap.old)) result (store_of heap.new) }
+{
+    let made = match f {
+        Frozen::Nothing => Val::Nothing,
+        Frozen::Bool(b) => Val::Bool(*b),
+        Frozen::Int(n) => Val::Int(*n),
+        Frozen::Builtin(b) => Val::Builtin(*b),
+        Frozen::Text(bytes) => heap.make(Object::Text(bytes.share()?))?,
+        Frozen::List(members) => {
+            let xs = thaw_members(heap, members.as_slice())?;
+            heap.make(Object::List(xs, true))?
+        }
+        Frozen::Tuple(members) => {
+            let xs = thaw_members(heap, members.as_slice())?;
+            heap.make(Object::Tuple(xs))?
+        }
+        Frozen::Dict(entries) => {
+            let mut all = IndexMap::new(heap.alloc);
+            thaw_entries(heap, entries.as_slice(), &mut all)?;
+            heap.make(Object::Dict(all, true))?
+        }
+        Frozen::Function(label, name) => heap.make(Object::Function(
+            label.share()?,
+            name.share()?,
+        ))?,
+    };
+    Ok(made)
+}
+
+// Members on a heap, in order.
+#[cycle(thawing)]
+fn thaw_members(heap: &mut Heap, members: &[Frozen]) -> Result<Vec<Val>, Halt>
+    ensures { SaysItems (thaw_members (members_of (map frozen_of members.now)) (store_of heap.old)) result (store_of heap.new) }
+{
+    let mut all = Vec::new(heap.alloc);
+    for f in members.iter() {
+        match thaw(heap, f) {
+            Ok(x) => all.push(x)?,
+            Err(halt) => return Err(halt),
+        }
+    }
+    Ok(all)
+}
+
+// Sets the entries of a dictionary, with their keys and values on a heap.
+#[cycle(thawing)]
+fn thaw_entries(
+    heap: &mut Heap,
+    entries: &[FrozenEntry],
+    all: &mut IndexMap<Key, Entry>,
+) -> Result<(), Halt>
+    ensures { SaysSet (thaw_pairs all.old.entries (pairs_of (map entry_of entries.now)) (store_of heap.old)) result all.new.entries (store_of heap.new) }
+{
+    for e in entries.iter() {
+        match thaw_entry(heap, e, all) {
+            Ok(()) => {}
+            Err(halt) => return Err(halt),
+        }
+    }
+    Ok(())
+}
+
+// Sets an entry, with its key and value on a heap.
+#[cycle(thawing)]
+fn thaw_entry(heap: &mut Heap, e: &FrozenEntry, all: &mut IndexMap<Key, Entry>) -> Result<(), Halt>
+    ensures { SaysSet (thaw_entry all.old.entries (entry_of e.now) (store_of heap.old)) result all.new.entries (store_of heap.new) }
+{
+    let mut parts = Vec::new(heap.alloc);
+    add_key(&e.key, &mut parts)?;
+    let key = thaw(heap, &e.key)?;
+    let value = thaw(heap, &e.value)?;
+    set_entry(all, Key { parts }, Entry { key, value })?;
+    Ok(())
+}
+
+// The parts of a key, behind others.
+#[cycle(keying)]
+fn add_key(f: &Frozen, all: &mut Vec<Part>) -> Result<(), Memory>
+    ensures { OnOk result (all.new.items ≡ all.old.items ++ frozen_key (frozen_of f.now)) }
+{
+    match f {
+        Frozen::Nothing => all.push(Part::Nothing)?,
+        Frozen::Bool(b) => all.push(Part::Bool(*b))?,
+        Frozen::Int(n) => all.push(Part::Int(*n))?,
+        Frozen::Text(bytes) => all.push(Part::Text(bytes.share()?))?,
+        Frozen::Tuple(members) => add_tuple(members.as_slice(), all)?,
+        Frozen::List(_) => {}
+        Frozen::Dict(_) => {}
+        Frozen::Builtin(_) => {}
+        Frozen::Function(_, _) => {}
+    }
+    Ok(())
+}
+
+// The parts of a tuple's key, behind others.
+#[cycle(keying)]
+#[tactic(auto, using(crate::proofs::Thawed::tuple_keyed))]
+fn add_tuple(members: &[Frozen], all: &mut Vec<Part>) -> Result<(), Memory>
+    ensures { OnOk result (all.new.items ≡ all.old.items ++ frozen_key (tuple (members_of (map frozen_of members.now)))) }
+{
+    all.push(Part::Tuple(members.len()))?;
+    add_keys(members, all)?;
+    Ok(())
+}
+
+// The parts of keys, behind others.
+#[cycle(keying)]
+fn add_keys(members: &[Frozen], all: &mut Vec<Part>) -> Result<(), Memory>
+    ensures { OnOk result (all.new.items ≡ all.old.items ++ frozen_keys (members_of (map frozen_of members.now))) }
+{
+    for f in members.iter() {
+        add_key(f, all)?;
+    }
+    Ok(())
+}

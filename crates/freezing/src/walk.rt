@@ -1,0 +1,204 @@
+//! The walk that freezes a value.
+ghost use Rattle.std.specs.Prelude.{map, slice_get};
+ghost use Rattle.meaning.specs.Freezing.{freeze, inner_freeze, at_once, visit_held, held_object, listed, tupled, mapped, freeze_members, freeze_entry, freeze_entries};
+ghost use Rattle.heap.specs.View.{object_of};
+ghost use Rattle.freezing.specs.View.{frozen_of, SaysFrozen, SaysMembers, SaysEntry, SaysEntries};
+
+use crate::frozen::{Frozen, FrozenEntry};
+use heap::{Entry, Halt, Key, Object, Val, object_at, tick, val_at};
+use indexmap::IndexMap;
+use std::alloc::Global;
+
+/// The tree of a value: each value visited is a step, and so many containers more may be entered: fault 11 or 12, or 5.
+#[cycle(freezing)]
+#[tactic(auto, using(crate::proofs::Froze::freeze_is))]
+pub fn freeze(
+    alloc: Global,
+    objects: &[Object],
+    steps: &mut u64,
+    x: Val,
+    left: u32,
+) -> Result<Frozen, Halt>
+    ensures { SaysFrozen (freeze left (map object_of objects.now) x steps.old) result steps.new }
+{
+    let f = match x {
+        Val::Nothing => settled(steps, Frozen::nothing())?,
+        Val::Bool(b) => settled(steps, Frozen::boolean(b))?,
+        Val::Int(n) => settled(steps, Frozen::whole(n))?,
+        Val::Builtin(f) => settled(steps, Frozen::built_in(f))?,
+        Val::At(place) => freeze_object(alloc, objects, steps, place, left)?,
+    };
+    Ok(f)
+}
+
+// A value that holds nothing else.
+fn settled(steps: &mut u64, f: Frozen) -> Result<Frozen, Halt>
+    ensures { SaysFrozen (at_once (frozen_of f) steps.old) result steps.new }
+{
+    tick(steps)?;
+    Ok(f)
+}
+
+// The tree of an object.
+#[cycle(freezing)]
+fn freeze_object(
+    alloc: Global,
+    objects: &[Object],
+    steps: &mut u64,
+    place: usize,
+    left: u32,
+) -> Result<Frozen, Halt>
+    ensures { SaysFrozen (visit_held (inner_freeze left (map object_of objects.now)) (held_object (slice_get (map object_of objects.now) place)) steps.old) result steps.new }
+{
+    let f = match object_at(objects, place) {
+        Some(Object::Text(bytes)) => settled(steps, Frozen::text(bytes.share()?))?,
+        Some(Object::List(members, _)) => freeze_list(
+            alloc,
+            objects,
+            steps,
+            members.as_slice(),
+            left,
+        )?,
+        Some(Object::Tuple(members)) => freeze_tuple(
+            alloc,
+            objects,
+            steps,
+            members.as_slice(),
+            left,
+        )?,
+        Some(Object::Dict(entries, _)) => freeze_dict(alloc, objects, steps, entries, left)?,
+        Some(Object::Function(label, name)) => settled(
+            steps,
+            Frozen::function(label.share()?, name.share()?),
+        )?,
+        None => {
+            tick(steps)?;
+            return Err(Halt::Code(5));
+        }
+    };
+    Ok(f)
+}
+
+// The tree of a list.
+#[cycle(freezing)]
+#[tactic(auto, using(crate::proofs::Froze::list_deep, crate::proofs::Froze::list_more))]
+fn freeze_list(
+    alloc: Global,
+    objects: &[Object],
+    steps: &mut u64,
+    members: &[Val],
+    left: u32,
+) -> Result<Frozen, Halt>
+    ensures { SaysFrozen (visit_held (inner_freeze left (map object_of objects.now)) (listed members.now) steps.old) result steps.new }
+{
+    if left == 0 {
+        return Err(Halt::Code(12));
+    }
+    tick(steps)?;
+    let fs = freeze_members(alloc, objects, steps, members, left - 1)?;
+    Ok(Frozen::list(alloc, fs)?)
+}
+
+// The tree of a tuple.
+#[cycle(freezing)]
+#[tactic(auto, using(crate::proofs::Froze::tuple_deep, crate::proofs::Froze::tuple_more))]
+fn freeze_tuple(
+    alloc: Global,
+    objects: &[Object],
+    steps: &mut u64,
+    members: &[Val],
+    left: u32,
+) -> Result<Frozen, Halt>
+    ensures { SaysFrozen (visit_held (inner_freeze left (map object_of objects.now)) (tupled members.now) steps.old) result steps.new }
+{
+    if left == 0 {
+        return Err(Halt::Code(12));
+    }
+    tick(steps)?;
+    let fs = freeze_members(alloc, objects, steps, members, left - 1)?;
+    Ok(Frozen::tuple(alloc, fs)?)
+}
+
+// The trees of members, in order.
+#[cycle(freezing)]
+fn freeze_members(
+    alloc: Global,
+    objects: &[Object],
+    steps: &mut u64,
+    members: &[Val],
+    left: u32,
+) -> Result<Vec<Frozen>, Halt>
+    ensures { SaysMembers (freeze_members (freeze left (map object_of objects.now)) members.now steps.old) result steps.new }
+{
+    let mut all = Vec::new(alloc);
+    for i in 0..members.len() {
+        let Some(x) = val_at(members, i) else {
+            return Ok(all);
+        };
+        match freeze(alloc, objects, steps, x, left) {
+            Ok(f) => all.push(f)?,
+            Err(halt) => return Err(halt),
+        }
+    }
+    Ok(all)
+}
+
+// The tree of a dictionary.
+#[cycle(freezing)]
+#[tactic(auto, using(crate::proofs::Froze::dict_deep, crate::proofs::Froze::dict_more))]
+fn freeze_dict(
+    alloc: Global,
+    objects: &[Object],
+    steps: &mut u64,
+    entries: &IndexMap<Key, Entry>,
+    left: u32,
+) -> Result<Frozen, Halt>
+    ensures { SaysFrozen (visit_held (inner_freeze left (map object_of objects.now)) (mapped entries.now.entries) steps.old) result steps.new }
+{
+    if left == 0 {
+        return Err(Halt::Code(12));
+    }
+    tick(steps)?;
+    let es = freeze_entries(alloc, objects, steps, entries, left - 1)?;
+    Ok(Frozen::dict(alloc, es)?)
+}
+
+// The trees of keys and values, in order.
+#[cycle(freezing)]
+fn freeze_entries(
+    alloc: Global,
+    objects: &[Object],
+    steps: &mut u64,
+    entries: &IndexMap<Key, Entry>,
+    left: u32,
+) -> Result<Vec<FrozenEntry>, Halt>
+    ensures { SaysEntries (freeze_entries (freeze left (map object_of objects.now)) entries.now.entries steps.old) result steps.new }
+{
+    let mut all = Vec::new(alloc);
+    for i in 0..entries.len() {
+        let Some((_key, entry)) = entries.get_index(i) else {
+            return Ok(all);
+        };
+        match freeze_entry(alloc, objects, steps, *entry, left) {
+            Ok(e) => all.push(e)?,
+            Err(halt) => return Err(halt),
+        }
+    }
+    Ok(all)
+}
+
+// The trees of a key and its value.
+#[cycle(freezing)]
+fn freeze_entry(
+    alloc: Global,
+    objects: &[Object],
+    steps: &mut u64,
+    entry: Entry,
+    left: u32,
+) -> Result<FrozenEntry, Halt>
+    ensures { SaysEntry (freeze_entry (freeze left (map object_of objects.now)) entry steps.old) result steps.new }
+{
+    let key = freeze(alloc, objects, steps, entry.key, left)?;
+    let value = freeze(alloc, objects, steps, entry.value, left)?;
+    Ok(FrozenEntry::new(key, value))
+}

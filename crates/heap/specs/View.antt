@@ -1,0 +1,45 @@
+-- What the heap in memory is to the definitions, and what a call that takes a step of them ensures.
+use Rattle.std.specs.Prelude.{◌≡◌, List, map, Result, Ok, Err}
+use Rattle.std.specs.declared.vec.Vec.{Vec}
+use Rattle.std.specs.declared.alloc.Global.{Global}
+use Rattle.meaning.specs.Outcome.{Out, gives, faults, Checked, good, bad}
+use Rattle.meaning.specs.Heap.{Obj, text, list, tuple, dict, function, Store}
+use Rattle.heap.specs.declared.heap.Object.{Object}
+use Rattle.heap.specs.declared.heap.Object.TheVariants as o
+use Rattle.heap.specs.declared.heap.Heap.{Heap}
+use Rattle.heap.specs.declared.halt.Halt.{Halt}
+use Rattle.heap.specs.declared.halt.Halt.TheVariants.{Code, Memory}
+
+abbrev pub object_of : Object → Obj
+object_of (o.Text bytes) = text bytes
+object_of (o.List members frozen) = list members.items frozen
+object_of (o.Tuple members) = tuple members.items
+object_of (o.Dict entries frozen) = dict entries.entries frozen
+object_of (o.Function label name) = function label name
+
+abbrev pub store_of : Heap → Store
+store_of h = record { heap = map object_of h.objects.items; iterated = h.iterated.items; steps = h.steps }
+
+-- the call gives what the definition gives, with the same state after it, or its fault; where memory is refused
+-- nothing is said
+abbrev pub Says : {S A : Type 0} → Out S A → Result A Halt → S → Type 0
+Says out (Ok a) s = out ≡ gives a s
+Says out (Err (Code c)) s = out ≡ faults c
+Says out (Err Memory) s = Unit {0}
+
+-- the same, of a list
+abbrev pub SaysItems : {S A : Type 0} → Out S (List A) → Result (Vec A Global) Halt → S → Type 0
+SaysItems out (Ok v) s = out ≡ gives v.items s
+SaysItems out (Err (Code c)) s = out ≡ faults c
+SaysItems out (Err Memory) s = Unit {0}
+
+-- the same, where there is no state
+abbrev pub Checks : {A : Type 0} → Checked A → Result A Halt → Type 0
+Checks out (Ok a) = out ≡ good a
+Checks out (Err (Code c)) = out ≡ bad c
+Checks out (Err Memory) = Unit {0}
+
+abbrev pub ChecksItems : {A : Type 0} → Checked (List A) → Result (Vec A Global) Halt → Type 0
+ChecksItems out (Ok v) = out ≡ good v.items
+ChecksItems out (Err (Code c)) = out ≡ bad c
+ChecksItems out (Err Memory) = Unit {0}

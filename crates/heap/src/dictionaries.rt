@@ -1,0 +1,66 @@
+//! Dictionaries, apart from any heap.
+ghost use Rattle.std.specs.Prelude.{◌≡◌, length, slice_get, IfOk, OnOk};
+ghost use Rattle.meaning.specs.Heap.{is_sized};
+ghost use Rattle.meaning.specs.Comparing.{found};
+ghost use Rattle.meaning.specs.Indexing.{with_key, keys_of};
+ghost use Rattle.meaning.specs.declared.val.Entry.{Entry};
+
+use crate::heap::LONGEST;
+use indexmap::IndexMap;
+use meaning::{Entry, Key, Val};
+use std::alloc::Global;
+use texts::Memory;
+
+/// What a dictionary has at a key.
+#[tactic(auto, using(crate::proofs::Keyed::lookup_found))]
+pub fn found(entries: &IndexMap<Key, Entry>, key: &Key) -> Option<Entry>
+    ensures { result ≡ found key.now entries.now.entries }
+{
+    entries.get(key).copied()
+}
+
+/// Sets a key, which keeps its place where it was there.
+#[tactic(auto, using(crate::proofs::Keyed::insert_with_key))]
+pub fn set_entry(entries: &mut IndexMap<Key, Entry>, key: Key, entry: Entry) -> Result<(), Memory>
+    ensures { OnOk result (entries.new.entries ≡ with_key key entry entries.old.entries) }
+{
+    entries.insert(key, entry)?;
+    Ok(())
+}
+
+/// Whether a dictionary with a key set is not too long.
+#[tactic(auto, using(crate::proofs::Keyed::with_key_length, crate::proofs::Keyed::lookup_found))]
+pub fn has_room(entries: &IndexMap<Key, Entry>, key: &Key) -> bool
+    ensures { (e : Entry) → result ≡ is_sized (length (with_key key.now e entries.now.entries)) }
+{
+    if entries.contains_key(key) {
+        entries.len() <= LONGEST
+    } else {
+        entries.len() < LONGEST
+    }
+}
+
+/// The keys of a dictionary, in order.
+#[tactic(auto, using(crate::proofs::Keyed::take_some, crate::proofs::Keyed::take_none, crate::proofs::Keyed::take_keys))]
+pub fn keys(alloc: Global, entries: &IndexMap<Key, Entry>) -> Result<Vec<Val>, Memory>
+    ensures { IfOk result (λ v. v.items ≡ keys_of entries.now.entries) }
+{
+    let mut all = Vec::new(alloc);
+    for i in 0..entries.len() {
+        if let Some(key) = key_at(entries, i) {
+            all.push(key)?;
+        }
+    }
+    Ok(all)
+}
+
+// The key at a place of the order.
+#[tactic(auto, using(crate::proofs::Keyed::key_there))]
+fn key_at(entries: &IndexMap<Key, Entry>, i: usize) -> Option<Val>
+    ensures { result ≡ slice_get (keys_of entries.now.entries) i }
+{
+    match entries.get_index(i) {
+        Some((_key, entry)) => Some(entry.key),
+        None => None,
+    }
+}

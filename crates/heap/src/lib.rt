@@ -1,0 +1,15 @@
+//! The heap that values stand on: objects, the steps that are left, and lists, texts and dictionaries apart from it.
+#![tactic(auto)]
+
+mod dictionaries;
+mod halt;
+mod heap;
+mod lists;
+mod steps;
+
+pub use dictionaries::{found, has_room, keys, set_entry};
+pub use halt::Halt;
+pub use heap::{DEEPEST, Heap, LONGEST, Object, object_at};
+pub use lists::{cut, joined, member, place, repeated, val_at};
+pub use meaning::{Builtin, Bytes, Entry, Key, Operator, Part, Val};
+pub use steps::{spend, tick};

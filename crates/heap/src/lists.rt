@@ -1,0 +1,152 @@
+//! Lists of bytes or members, apart from any heap.
+ghost use Rattle.std.specs.Prelude.{◌≡◌, ◌≤◌, ◌*◌, ◌++◌, not, length, slice_get, IfOk, IfSome};
+ghost use Rattle.meaning.specs.Heap.{is_sized};
+ghost use Rattle.meaning.specs.Operators.{repeated, times};
+ghost use Rattle.meaning.specs.Indexing.{place, member, bound, bound_or, cut, between};
+ghost use Rattle.heap.specs.Sized.{SizedAs, CutAs};
+
+use crate::halt::Halt;
+use crate::heap::LONGEST;
+use meaning::Val;
+use std::alloc::Global;
+use texts::Memory;
+
+/// One list after the other, or fault 13.
+pub fn joined<T: Copy>(alloc: Global, a: &[T], b: &[T]) -> Result<Vec<T>, Halt>
+    ensures { SizedAs (a.now ++ b.now) result }
+{
+    if a.len() > LONGEST || b.len() > LONGEST - a.len() {
+        return Err(Halt::Code(13));
+    }
+    let mut all = Vec::with_capacity(alloc, a.len() + b.len())?;
+    all.extend_from_slice(a)?;
+    all.extend_from_slice(b)?;
+    Ok(all)
+}
+
+/// A list so many times over, or fault 13; a negative number repeats nothing.
+pub fn repeated<T: Copy>(alloc: Global, a: &[T], n: i64) -> Result<Vec<T>, Halt>
+    ensures { SizedAs (repeated a.now n) result }
+{
+    if n <= 0 {
+        return Ok(Vec::new(alloc));
+    }
+    times_sized(alloc, a, n as usize)
+}
+
+// A list so many times over, or fault 13.
+#[tactic(auto, using(crate::proofs::Times::times_empty, crate::proofs::Times::times_length))]
+fn times_sized<T: Copy>(alloc: Global, a: &[T], n: usize) -> Result<Vec<T>, Halt>
+    ensures { SizedAs (times n a.now) result }
+{
+    if a.is_empty() {
+        return Ok(Vec::new(alloc));
+    }
+    if is_too_long(n, a.len()) {
+        return Err(Halt::Code(13));
+    }
+    let all = times(alloc, a, n)?;
+    Ok(all)
+}
+
+// Whether so many times a length is too long.
+fn is_too_long(n: usize, len: usize) -> bool
+    ensures { result ≡ not (is_sized (n * len)) }
+{
+    match n.checked_mul(len) {
+        Some(total) => total > LONGEST,
+        None => true,
+    }
+}
+
+// A list so many times over.
+#[tactic(auto, using(crate::proofs::Times::times_more))]
+fn times<T: Copy>(alloc: Global, a: &[T], n: usize) -> Result<Vec<T>, Memory>
+    ensures { IfOk result (λ v. v.items ≡ times n a.now) }
+{
+    let mut all = Vec::new(alloc);
+    for _i in 0..n {
+        all.extend_from_slice(a)?;
+    }
+    Ok(all)
+}
+
+/// The place that an index names among so many: negative from the end.
+pub fn place(i: i64, len: usize) -> Option<usize>
+    ensures { result ≡ place i len }
+{
+    if i >= 0 {
+        let at = i as usize;
+        if at < len { Some(at) } else { None }
+    } else {
+        let back = (-(i + 1)) as usize;
+        if back < len {
+            Some(len - 1 - back)
+        } else {
+            None
+        }
+    }
+}
+
+/// A member.
+pub fn val_at(xs: &[Val], i: usize) -> Option<Val>
+    ensures { result ≡ slice_get xs.now i }
+{
+    xs.get(i).copied()
+}
+
+/// What is at an index.
+pub fn member<T: Copy>(a: &[T], i: i64) -> Option<T>
+    ensures { result ≡ member a.now i }
+{
+    match place(i, a.len()) {
+        Some(at) => a.get(at).copied(),
+        None => None,
+    }
+}
+
+/// Where a bound cuts so many.
+pub fn bound(i: i64, len: usize) -> usize
+    ensures value { result ≡ bound i len }
+    ensures within { result ≤ len }
+{
+    if i >= 0 {
+        let at = i as usize;
+        if at < len { at } else { len }
+    } else {
+        let back = (-(i + 1)) as usize;
+        if back < len { len - 1 - back } else { 0 }
+    }
+}
+
+/// Where a bound cuts that may be `None`.
+pub fn bound_or(other: usize, x: Val, len: usize) -> Option<usize>
+    requires { other ≤ len }
+    ensures value { result ≡ bound_or other x len }
+    ensures within { IfSome result (λ i. i ≤ len) }
+{
+    match x {
+        Val::Nothing => Some(other),
+        Val::Int(i) => Some(bound(i, len)),
+        _ => None,
+    }
+}
+
+/// The part between two bounds.
+pub fn cut<T: Copy>(alloc: Global, a: &[T], from: Val, to: Val) -> Result<Vec<T>, Halt>
+    ensures { CutAs (cut a.now from to) result }
+{
+    let (Some(from), Some(to)) = (bound_or(0, from, a.len()), bound_or(a.len(), to, a.len())) else {
+        return Err(Halt::Code(5));
+    };
+    let part = between(a, from, to);
+    Ok(Vec::from_slice(alloc, part)?)
+}
+
+// What is between two places.
+fn between<T>(a: &[T], from: usize, to: usize) -> &[T]
+    requires { to ≤ length a.now }
+    ensures { result.now ≡ between a.now from to }
+{
+    if from <= to { &a[from..to] } else { &a[0..0] }
+}

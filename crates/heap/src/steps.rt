@@ -1,0 +1,27 @@
+//! The steps that are left.
+ghost use Rattle.meaning.specs.Outcome.{tick, spend};
+ghost use Rattle.heap.specs.View.{Says};
+
+use crate::halt::Halt;
+
+/// Takes one step, or fault 11.
+pub fn tick(steps: &mut u64) -> Result<(), Halt>
+    ensures { Says (tick steps.old) result steps.new }
+{
+    if *steps == 0 {
+        return Err(Halt::Code(11));
+    }
+    *steps -= 1;
+    Ok(())
+}
+
+/// Takes so many steps, or fault 11.
+pub fn spend(steps: &mut u64, n: usize) -> Result<(), Halt>
+    ensures { Says (spend n steps.old) result steps.new }
+{
+    if *steps < n as u64 {
+        return Err(Halt::Code(11));
+    }
+    *steps -= n as u64;
+    Ok(())
+}

@@ -1,0 +1,94 @@
+//! Change of a member or of what stands at a key.
+ghost use Rattle.meaning.specs.Heap.{at};
+ghost use Rattle.meaning.specs.Indexing.{set_index, set_object, set_member, set_key, may_change};
+ghost use Rattle.heap.specs.View.{store_of, Says};
+
+use crate::reading::as_int;
+use comparing::hash;
+use heap::{Entry, Halt, Heap, Key, Object, Val, has_room, place, set_entry};
+
+/// `a[i] = x`, tested in order: type (5), frozen (6), iterated (7), index (8), size (13).
+pub fn set_index(heap: &mut Heap, a: Val, i: Val, x: Val) -> Result<(), Halt>
+    ensures { Says (set_index a i x (store_of heap.old)) result (store_of heap.new) }
+{
+    match a {
+        Val::At(place) => {
+            set_object(heap, place, i, x)?;
+            Ok(())
+        }
+        _ => Err(Halt::Code(5)),
+    }
+}
+
+// Sets what an object has at an index.
+fn set_object(heap: &mut Heap, a: usize, i: Val, x: Val) -> Result<(), Halt>
+    ensures { Says (set_object a (at a (store_of heap.old)) i x (store_of heap.old)) result (store_of heap.new) }
+{
+    match heap.object(a) {
+        Some(Object::List(_, frozen)) => {
+            let frozen = *frozen;
+            let n = as_int(i)?;
+            may_change(heap, a, frozen)?;
+            set_member(heap, a, n, x)?;
+            Ok(())
+        }
+        Some(Object::Dict(_, frozen)) => {
+            let frozen = *frozen;
+            let key = hash(heap, i)?;
+            may_change(heap, a, frozen)?;
+            set_key(heap, a, key, Entry { key: i, value: x })?;
+            Ok(())
+        }
+        Some(Object::Text(_)) => Err(Halt::Code(5)),
+        Some(Object::Tuple(_)) => Err(Halt::Code(5)),
+        Some(Object::Function(_, _)) => Err(Halt::Code(5)),
+        None => Err(Halt::Code(5)),
+    }
+}
+
+// Whether what stands at a place may be changed: fault 6 where it is frozen, 7 where it is iterated.
+fn may_change(heap: &Heap, a: usize, frozen: bool) -> Result<(), Halt>
+    ensures { Says (may_change a frozen (store_of heap.now)) result (store_of heap.now) }
+{
+    if frozen {
+        return Err(Halt::Code(6));
+    }
+    if heap.iterated.as_slice().contains(&a) {
+        return Err(Halt::Code(7));
+    }
+    Ok(())
+}
+
+// Sets a member of a list.
+fn set_member(heap: &mut Heap, a: usize, i: i64, x: Val) -> Result<(), Halt>
+    ensures { Says (set_member a (at a (store_of heap.old)) i x (store_of heap.old)) result (store_of heap.new) }
+{
+    let Some(object) = heap.objects.get_mut(a) else {
+        return Err(Halt::Code(5));
+    };
+    let Object::List(members, _) = object else {
+        return Err(Halt::Code(5));
+    };
+    let Some(at) = place(i, members.len()) else {
+        return Err(Halt::Code(8));
+    };
+    members[at] = x;
+    Ok(())
+}
+
+// Sets a key of a dictionary.
+fn set_key(heap: &mut Heap, a: usize, key: Key, entry: Entry) -> Result<(), Halt>
+    ensures { Says (set_key a (at a (store_of heap.old)) key entry (store_of heap.old)) result (store_of heap.new) }
+{
+    let Some(object) = heap.objects.get_mut(a) else {
+        return Err(Halt::Code(5));
+    };
+    let Object::Dict(entries, _) = object else {
+        return Err(Halt::Code(5));
+    };
+    if !has_room(entries, &key) {
+        return Err(Halt::Code(13));
+    }
+    set_entry(entries, key, entry)?;
+    Ok(())
+}

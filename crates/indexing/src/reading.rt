@@ -1,0 +1,166 @@
+//! Index, slice and iteration.
+ghost use Rattle.std.specs.Prelude.{[], ◌∷◌};
+ghost use Rattle.meaning.specs.Heap.{at, makes_text};
+ghost use Rattle.meaning.specs.Indexing.{items, items_of, int_of, found_at, found_key, index, index_object, at_key, slice, slice_object};
+ghost use Rattle.heap.specs.View.{store_of, Says, Checks, ChecksItems};
+
+use comparing::hash;
+use heap::{Halt, Heap, Key, Object, Val, cut, found, keys, member};
+
+/// An int, and not a bool, or fault 5.
+pub fn as_int(x: Val) -> Result<i64, Halt>
+    ensures { Checks (int_of x) result }
+{
+    match x {
+        Val::Int(n) => Ok(n),
+        _ => Err(Halt::Code(5)),
+    }
+}
+
+// What is at an index of a list, or fault 8.
+fn found_at<T: Copy>(xs: &[T], i: Val) -> Result<T, Halt>
+    ensures { Checks (found_at xs.now i) result }
+{
+    let n = as_int(i)?;
+    match member(xs, n) {
+        Some(x) => Ok(x),
+        None => Err(Halt::Code(8)),
+    }
+}
+
+/// `a[i]`: fault 5, or 8 where nothing is there.
+pub fn index(heap: &mut Heap, a: Val, i: Val) -> Result<Val, Halt>
+    ensures { Says (index a i (store_of heap.old)) result (store_of heap.new) }
+{
+    match a {
+        Val::At(place) => {
+            let found = index_object(heap, place, i)?;
+            Ok(found)
+        }
+        _ => Err(Halt::Code(5)),
+    }
+}
+
+// What an object has at an index.
+fn index_object(heap: &mut Heap, a: usize, i: Val) -> Result<Val, Halt>
+    ensures { Says (index_object (at a (store_of heap.old)) i (store_of heap.old)) result (store_of heap.new) }
+{
+    match heap.object(a) {
+        Some(Object::Text(bytes)) => {
+            let byte = found_at(bytes.as_slice(), i)?;
+            let made = make_letter(heap, byte)?;
+            Ok(made)
+        }
+        Some(Object::List(members, _)) => {
+            let found = found_at(members.as_slice(), i)?;
+            Ok(found)
+        }
+        Some(Object::Tuple(members)) => {
+            let found = found_at(members.as_slice(), i)?;
+            Ok(found)
+        }
+        Some(Object::Dict(_, _)) => {
+            let found = found_key(heap, a, i)?;
+            Ok(found)
+        }
+        Some(Object::Function(_, _)) => Err(Halt::Code(5)),
+        None => Err(Halt::Code(5)),
+    }
+}
+
+// What a dictionary has at a key.
+#[tactic(auto, unfolding(meaning::specs::Indexing::found_key))]
+fn found_key(heap: &mut Heap, a: usize, i: Val) -> Result<Val, Halt>
+    ensures { Says (found_key (at a (store_of heap.old)) i (store_of heap.old)) result (store_of heap.new) }
+{
+    let key = hash(heap, i)?;
+    let found = at_key(heap, a, &key)?;
+    Ok(found)
+}
+
+// The value at a key.
+fn at_key(heap: &Heap, a: usize, key: &Key) -> Result<Val, Halt>
+    ensures { Says (at_key (at a (store_of heap.now)) key.now (store_of heap.now)) result (store_of heap.now) }
+{
+    match heap.objects.get(a) {
+        Some(Object::Dict(entries, _)) => match found(entries, key) {
+            Some(entry) => Ok(entry.value),
+            None => Err(Halt::Code(8)),
+        },
+        _ => Err(Halt::Code(5)),
+    }
+}
+
+// A string of one byte.
+fn make_letter(heap: &mut Heap, byte: u8) -> Result<Val, Halt>
+    ensures { Says (makes_text (byte ∷ []) (store_of heap.old)) result (store_of heap.new) }
+{
+    let mut bytes = Vec::new(heap.alloc);
+    bytes.push(byte)?;
+    let made = heap.make_text(bytes)?;
+    Ok(made)
+}
+
+/// `a[i:j]`, where a bound that is not given is `None`: fault 5.
+pub fn slice(heap: &mut Heap, a: Val, i: Val, j: Val) -> Result<Val, Halt>
+    ensures { Says (slice a i j (store_of heap.old)) result (store_of heap.new) }
+{
+    match a {
+        Val::At(place) => {
+            let made = slice_object(heap, place, i, j)?;
+            Ok(made)
+        }
+        _ => Err(Halt::Code(5)),
+    }
+}
+
+// The part of an object between two bounds.
+fn slice_object(heap: &mut Heap, a: usize, i: Val, j: Val) -> Result<Val, Halt>
+    ensures { Says (slice_object (at a (store_of heap.old)) i j (store_of heap.old)) result (store_of heap.new) }
+{
+    match heap.objects.get(a) {
+        Some(Object::Text(bytes)) => {
+            let part = cut(heap.alloc, bytes.as_slice(), i, j)?;
+            let made = heap.make_text(part)?;
+            Ok(made)
+        }
+        Some(Object::List(members, _)) => {
+            let part = cut(heap.alloc, members.as_slice(), i, j)?;
+            let made = heap.make_list(part)?;
+            Ok(made)
+        }
+        Some(Object::Tuple(members)) => {
+            let part = cut(heap.alloc, members.as_slice(), i, j)?;
+            let made = heap.make_tuple(part)?;
+            Ok(made)
+        }
+        _ => Err(Halt::Code(5)),
+    }
+}
+
+/// What an iteration goes over: the members, or a dictionary's keys; else fault 5.
+pub fn items(heap: &Heap, a: Val) -> Result<Vec<Val>, Halt>
+    ensures { ChecksItems (items a (store_of heap.now)) result }
+{
+    match a {
+        Val::At(place) => {
+            let all = object_items(heap, place)?;
+            Ok(all)
+        }
+        _ => Err(Halt::Code(5)),
+    }
+}
+
+// What an iteration over an object goes over.
+fn object_items(heap: &Heap, a: usize) -> Result<Vec<Val>, Halt>
+    ensures { ChecksItems (items_of (at a (store_of heap.now))) result }
+{
+    match heap.object(a) {
+        Some(Object::List(members, _)) => Ok(Vec::from_slice(heap.alloc, members.as_slice())?),
+        Some(Object::Tuple(members)) => Ok(Vec::from_slice(heap.alloc, members.as_slice())?),
+        Some(Object::Dict(entries, _)) => Ok(keys(heap.alloc, entries)?),
+        Some(Object::Text(_)) => Err(Halt::Code(5)),
+        Some(Object::Function(_, _)) => Err(Halt::Code(5)),
+        None => Err(Halt::Code(5)),
+    }
+}

@@ -1,0 +1,116 @@
+-- The journal so far, over an edit and over one more request.
+use Rattle.std.proofs.Common.{◌≡◌, ◌≢◌, ◌⊎◌, inl, inr, ℕ, ◌+◌, ◌≤◌, List, [], ◌∷◌, ◌++◌, map, Some, refl, sym, ◌∙◌, ap, subst, arith, append_assoc}
+use Rattle.std.proofs.lemmas.List.{append-nil, map-append}
+use Rattle.std.specs.List.{AllByRecursion}
+use Rattle.evaluation.specs.Graph.{Record, Marks}
+use Rattle.evaluation.specs.Value.{AllDiffer, In, first, after}
+use Rattle.filetree.specs.Files.{Files}
+use Rattle.functions.specs.Next.{next}
+use Rattle.keys.specs.declared.key.Key.{Key}
+use Rattle.keys.specs.declared.value.Value.{Value}
+use Rattle.node.specs.Graphs.{Recorded, record_at, IsTouched}
+use Rattle.node.specs.Laws.{IsLawfulFor}
+use Rattle.open_nodes.specs.declared.run.Run.{Run}
+use Rattle.round.specs.Call.{IsCall}
+use Rattle.loader.specs.Journal.{Asked, keys_of, place_of, leaves, AreItemsOf, AreItems}
+use Rattle.loader.specs.Linked.{turned_onto, IsLinked, IsToldBy}
+use Rattle.loader.proofs.Linking.{linked_edit}
+use Rattle.loader.proofs.Calling.{past_of, linked_call, items_call, item_now, item_late, item_of}
+
+pub turned_more : (earlier requests : List Asked) (request : Asked) → turned_onto earlier (requests ++ request ∷ []) ≡ request ∷ turned_onto earlier requests
+turned_more earlier [] request = refl
+turned_more earlier (q ∷ requests) request = turned_more (q ∷ earlier) requests request
+
+-- lists whose elements differ
+all_append : {X : Type 0} (P : X → Type 0) (xs ys : List X) → AllByRecursion P xs → ((y : X) → In y ys → P y) → AllByRecursion P (xs ++ ys)
+all_append P [] [] a f = tt
+all_append P [] (y ∷ ys) a f = (f y first, all_append P [] ys tt (λ z i. f z (after i)))
+all_append P (x ∷ xs) ys a f = (a.0, all_append P xs ys a.1 f)
+
+differ_append : {X : Type 0} (xs ys : List X) → AllDiffer xs → AllDiffer ys → ((x y : X) → In x xs → In y ys → x ≢ y) → AllDiffer (xs ++ ys)
+differ_append [] ys d e f = e
+differ_append (x ∷ xs) ys d e f = (all_append (λ j. x ≢ j) xs ys d.0 (λ y i. f x y first i), differ_append xs ys d.1 e (λ y z i j. f y z (after i) j))
+
+from_map : {X Y : Type 0} (f : X → Y) (xs : List X) (y : Y) → In y (map f xs) → (x : X) × In x xs × (f x ≡ y)
+from_map f (x ∷ xs) y first = (x, first, refl)
+from_map f (x ∷ xs) y (after i) = let r = from_map f xs y i in (r.0, after r.1, r.2)
+from_map f [] y i = elim i [ ]
+
+places_apart : (run : Run) (runs : List Run) → AllByRecursion (λ j. run.key ≢ j) (keys_of runs) → AllByRecursion (λ j. place_of run ≢ j) (map place_of runs)
+places_apart run [] a = tt
+places_apart run (r ∷ runs) a = (λ e. a.0 (ap (λ (p : Key × ℕ). p.0) e), places_apart run runs a.1)
+
+places_differ : (runs : List Run) → AllDiffer (keys_of runs) → AllDiffer (map place_of runs)
+places_differ [] d = tt
+places_differ (run ∷ runs) d = (places_apart run runs d.0, places_differ runs d.1)
+
+in_either : {X : Type 0} (xs ys : List X) {x : X} → In x (xs ++ ys) → In x xs ⊎ In x ys
+in_either [] ys i = inr i
+in_either (x ∷ xs) ys first = inl first
+in_either (x ∷ xs) ys (after i) = elim (in_either xs ys i) [ inl a ↦ inl (after a) | inr b ↦ inr b ]
+
+module _ (files : ℕ → Files) (paths : ℕ → List ℕ) where
+  -- the items of one more request
+  items_more : (earlier requests : List Asked) (runs : List Run) (request : Asked) (own : List Run) → AreItems files paths earlier requests runs → AreItemsOf files paths (turned_onto earlier requests) request own
+      → AreItems files paths earlier (requests ++ request ∷ []) (runs ++ own)
+  items_more earlier [] runs request own e of = (own, [], ap (λ r. r ++ own) e ∙ sym (append-nil own), of, refl)
+  items_more earlier (q ∷ requests) runs request own items of =
+      (items.0, items.1 ++ own, ap (λ r. r ++ own) items.2 ∙ append_assoc items.0 items.1 own, items.3, items_more (q ∷ earlier) requests items.1 request own items.4 of)
+
+  -- an edit
+  pub told_edit : (old new : Recorded) (path : List ℕ) → new.version ≡ old.version + 1 → Marks (record_at old) (record_at new) (IsTouched path) → IsLawfulFor next (leaves files paths) paths new
+      → (requests : List Asked) (runs : List Run) → IsToldBy files paths old requests runs → IsToldBy files paths new requests runs
+  told_edit old new path version marks law requests runs told = record {
+    journal = told.journal;
+    linked = linked_edit files paths old new path version marks law (turned_onto [] requests) told.linked;
+    dated = λ run i.
+        let r = told.dated run i in
+        let m = marks.kept run.key r.0 r.1 in
+        (record r.0 { dirty = m.0 }, m.1, r.2);
+  }
+
+  -- one more request
+  pub told_call : (old new : Recorded) (roots : List Key) (requests : List Asked) (runs own : List Run) → IsToldBy files paths old requests runs → IsCall next (leaves files paths old.version) (past_of files paths old roots) new own
+      → IsToldBy files paths new (requests ++ (record { version = old.version; roots = roots }) ∷ []) (runs ++ own)
+  told_call old new roots requests runs own told call = record {
+    journal = record { items = items_more [] requests runs request own told.journal.items (items_call files paths old new roots earlier linked own call); once = once };
+    linked = subst (λ (e : List Asked). IsLinked files paths new e) (sym (turned_more [] requests request)) (linked_call files paths old new roots earlier linked own call);
+    dated = λ run i. dated run (in_either runs own i);
+  }
+    where
+      request : Asked
+      request = record { version = old.version; roots = roots }
+
+      earlier : List Asked
+      earlier = turned_onto [] requests
+
+      linked : IsLinked files paths old (turned_onto [] requests)
+      linked = told.linked
+
+      late : (x y : Key × ℕ) → In x (map place_of runs) → In y (map place_of own) → x ≢ y
+      late x y i j e =
+          let a = from_map place_of runs x i in
+          let b = from_map place_of own y j in
+          let p : place_of a.0 ≡ place_of b.0 = a.2 ∙ e ∙ sym b.2 in
+          let k : a.0.key ≡ b.0.key = ap (λ (q : Key × ℕ). q.0) p in
+          let v : a.0.version ≡ b.0.version = ap (λ (q : Key × ℕ). q.1) p in
+          let r = told.dated a.0 a.1 in
+          let h = item_late files paths old new roots earlier linked own call b.0 b.1 r.0 (ap (record_at old) (sym k) ∙ r.1) in
+          let w = (item_of files paths old new roots earlier linked own call b.0 b.1).version in
+          let d = r.2 in
+          omega (arith, v, w, d, h)
+
+      once : AllDiffer (map place_of (runs ++ own))
+      once = subst AllDiffer (sym (map-append place_of runs own)) (differ_append (map place_of runs) (map place_of own) told.journal.once (places_differ own call.differ) late)
+
+      dated : (run : Run) → In run runs ⊎ In run own → (r : Record Key Value) × (record_at new run.key ≡ Some r) × (run.version ≤ r.settled_at)
+      dated run (inl i) =
+          let r = told.dated run i in
+          let d = r.2 in
+          let past = (linked.lawful.each run.key r.0 r.1).past.1 in
+          elim (call.after.since run.key) [ inl q ↦ (r.0, q ∙ r.1, d) | inr n ↦ (let s = n.3 in (n.0, n.1, omega arith)) ]
+      dated run (inr i) =
+          let n = (item_now files paths old new roots earlier linked own call run i).1 in
+          let w = (item_of files paths old new roots earlier linked own call run i).version in
+          let s = n.2 in
+          (n.0, n.1, omega arith)

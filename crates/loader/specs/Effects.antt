@@ -1,0 +1,77 @@
+-- What a line does: nothing to files and graph, an accepted edit, or a request that is evaluated.
+use Rattle.std.specs.Prelude.{◌≡◌, ℕ, List, [], ◌∷◌, ◌++◌, Option, Some, None, option_and_then, Ok, if◌then◌else◌}
+use Rattle.evaluation.specs.Graph.{Marks}
+use Rattle.functions.specs.Next.{next, read}
+use Rattle.keys.specs.declared.key.Key.{Key}
+use Rattle.keys.specs.declared.key.Key.TheVariants as key
+use Rattle.labels.specs.Paths.{is_package_name}
+use Rattle.lines.specs.Lines.{is_too_long}
+use Rattle.node.specs.Graphs.{record_at, IsTouched}
+use Rattle.open_nodes.specs.declared.run.Run.{Run}
+use Rattle.node.specs.Laws.{IsLawfulFor}
+use Rattle.open_nodes.specs.Truths.{Past, IsAfter}
+use Rattle.round.specs.Call.{Calls}
+use Rattle.loader.specs.State.{State, Edit, refusal_of}
+use Rattle.loader.specs.Held.{Held, files_of, path_of}
+use Rattle.loader.specs.Commands.{Command, change, ask, Request, find, data_of, command_of}
+use Rattle.loader.specs.Answers.{reply_line}
+use Rattle.loader.specs.Journal.{Asked}
+
+pub data Effect : Type 0 where
+  nothing : Effect
+  edited : Edit → Effect
+  asked : Asked → Effect
+
+-- the keys that a request asks for: of `find` one look-up
+abbrev pub request_roots : Request → List Key
+request_roots (find name) = key.Lookup name ∷ []
+
+-- a refused request is not evaluated
+abbrev pub request_effect : Request → ℕ → Effect
+request_effect (find name) version = if is_package_name name then asked (record { version = version; roots = request_roots (find name) }) else nothing
+
+abbrev pub edit_effect : Edit → Option ℕ → Effect
+edit_effect edit None = edited edit
+edit_effect edit (Some n) = nothing
+
+abbrev pub command_effect : Command → State → Effect
+command_effect (change edit) s = edit_effect edit (refusal_of edit s)
+command_effect (ask request) s = request_effect request s.version
+
+abbrev pub effect_if : Option Command → State → Effect
+effect_if None s = nothing
+effect_if (Some command) s = command_effect command s
+
+abbrev pub line_effect : List ℕ → State → Effect
+line_effect line s = if is_too_long line then nothing else effect_if (option_and_then command_of (data_of line)) s
+
+-- the effects of lines, from a state on
+abbrev pub effects : State → List (List ℕ) → List Effect
+effects s [] = []
+effects s (line ∷ lines) = line_effect line s ∷ effects (reply_line line s).1 lines
+
+-- the accepted edits
+abbrev pub edits_in : List Effect → List Edit
+edits_in [] = []
+edits_in (nothing ∷ effects) = edits_in effects
+edits_in (edited edit ∷ effects) = edit ∷ edits_in effects
+edits_in (asked request ∷ effects) = edits_in effects
+
+-- the requests that are evaluated
+abbrev pub requests_in : List Effect → List Asked
+requests_in [] = []
+requests_in (nothing ∷ effects) = requests_in effects
+requests_in (edited edit ∷ effects) = requests_in effects
+requests_in (asked request ∷ effects) = request ∷ requests_in effects
+
+-- what an effect makes of a session, with these runs
+abbrev pub Moves : Effect → Held → Held → List Run → Type 0
+Moves nothing old new runs = (new ≡ old) × (runs ≡ [])
+-- the edit's path is marked in the graph
+Moves (edited edit) old new runs = (runs ≡ []) × (new.began ≡ old.began) × (new.edits ≡ old.edits ++ edit ∷ []) × Marks (record_at old.graph) (record_at new.graph) (IsTouched (path_of edit))
+-- the law of a call holds on the graph
+Moves (asked request) old new runs = (new.began ≡ old.began) × (new.edits ≡ old.edits) × (request.version ≡ old.graph.version) × Calls next (read (files_of old)) request.roots old.graph new.graph (Ok runs)
+
+-- after a stop the graph is lawful for each history for which it was, no record is lost, and none that was settled has changed
+abbrev pub StopsAfter : List Key → Held → Held → Type 0
+StopsAfter roots old new = (past : Past (read (files_of old))) → past.entry ≡ old.graph → past.roots ≡ roots → IsLawfulFor next past.reads past.edits old.graph → IsAfter next (read (files_of old)) past new.graph

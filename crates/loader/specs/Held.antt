@@ -1,0 +1,59 @@
+-- What a contract sees of a session: the graph, and the history of the files for which it is lawful.
+use Rattle.std.specs.Prelude.{◌≡◌, ℕ, zero, suc, ◌+◌, List, [], ◌∷◌, length, take, ⊤}
+use Rattle.std.specs.FinMap as map
+use Rattle.filetree.specs.Files.{Files}
+use Rattle.functions.specs.Next.{next, read}
+use Rattle.node.specs.Graphs.{Recorded}
+use Rattle.node.specs.Laws.{IsLawfulFor}
+use Rattle.loader.specs.State.{State, Edit, put, del, changed_files}
+
+pub record Held : Type 0 where
+  -- the version at which it began, without files
+  pub began : ℕ
+  -- the edits accepted since then, the oldest first
+  pub edits : List Edit
+  pub graph : Recorded
+
+-- the files after these edits, from the oldest on
+abbrev pub files_after : Files → List Edit → Files
+files_after files [] = files
+files_after files (edit ∷ edits) = files_after (changed_files edit files) edits
+
+-- the present files
+abbrev pub files_of : Held → Files
+files_of h = files_after map.empty h.edits
+
+-- the present files, and their version
+abbrev pub state_of : Held → State
+state_of h = record { files = files_of h; version = h.graph.version }
+
+-- the path of the file that an edit changes
+abbrev pub path_of : Edit → List ℕ
+path_of (put path text) = path
+path_of (del path) = path
+
+-- the path of the edit of that number, counted from 1
+abbrev pub path_at : List Edit → ℕ → List ℕ
+path_at [] n = []
+path_at (edit ∷ edits) zero = []
+path_at (edit ∷ edits) (suc zero) = path_of edit
+path_at (edit ∷ edits) (suc (suc n)) = path_at edits (suc n)
+
+-- the history of edits from version 0 on: the files after the first u, and the path of the u-th
+abbrev pub files_at : List Edit → ℕ → Files
+files_at edits u = files_after map.empty (take u edits)
+
+-- `files u` are the files at version u, and `paths u` is the path of the edit to version u, where these edits are made from version n on
+abbrev pub Follows : (ℕ → Files) → (ℕ → List ℕ) → ℕ → List Edit → Type 0
+Follows files paths n [] = ⊤
+Follows files paths n (edit ∷ edits) = (files (suc n) ≡ changed_files edit (files n)) × (paths (suc n) ≡ path_of edit) × Follows files paths (suc n) edits
+
+-- a history that begins at a version without files
+pub record IsHistory (files : ℕ → Files) (paths : ℕ → List ℕ) (began : ℕ) (edits : List Edit) : Type 0 where
+  pub start : files began ≡ map.empty
+  pub follows : Follows files paths began edits
+
+-- the version counts the edits, and the graph is lawful for their history under the loading rules
+pub record IsLawful (h : Held) : Type 0 where
+  pub version : h.graph.version ≡ h.began + length h.edits
+  pub lawful : (files : ℕ → Files) (paths : ℕ → List ℕ) → IsHistory files paths h.began h.edits → IsLawfulFor next (λ u. read (files u)) paths h.graph

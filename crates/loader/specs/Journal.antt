@@ -1,0 +1,88 @@
+-- What a journal tells, by the requests and the history of the files alone: `files u` are the files at version u, and `paths u` is the path of
+-- the edit to version u.
+use Rattle.std.specs.Prelude.{◌≡◌, ◌≢◌, ◌⊎◌, ℕ, ◌<◌, ◌≤◌, List, [], ◌∷◌, ◌++◌, map, Option, Some, None}
+use Rattle.evaluation.specs.Graph.{Differs}
+use Rattle.evaluation.specs.Reached.{AsksGroup, Reached}
+use Rattle.evaluation.specs.Value.{AllDiffer, Grounded, HasValue, In}
+use Rattle.filetree.specs.Files.{Files}
+use Rattle.functions.specs.Next.{next, read}
+use Rattle.keys.specs.Cycles.{cycle}
+use Rattle.keys.specs.declared.key.Key.{Key}
+use Rattle.keys.specs.declared.value.Value.{Value}
+use Rattle.node.specs.Graphs.{IsTouched}
+use Rattle.open_nodes.specs.declared.run.Run.{Run}
+
+-- a request that is evaluated: the version at which it comes, and its root keys
+pub record Asked : Type 0 where
+  pub version : ℕ
+  pub roots : List Key
+
+abbrev pub keys_of : List Run → List Key
+keys_of runs = map (λ run. run.key) runs
+
+-- the key of an item, and its version
+abbrev pub place_of : Run → Key × ℕ
+place_of run = (run.key, run.version)
+
+module _ (files : ℕ → Files) (paths : ℕ → List ℕ) where
+  -- the leaves at a version
+  abbrev pub leaves : ℕ → Key → Option Value
+  leaves u = read (files u)
+
+  -- the request settles the key: its roots reach it at the files of its version
+  abbrev pub IsSettledBy : Key → Asked → Type 0
+  IsSettledBy k request = Reached next cycle (leaves request.version) request.roots k
+
+  -- none of the requests settles the key
+  abbrev pub IsNeverSettled : Key → List Asked → Type 0
+  IsNeverSettled k requests = (request : Asked) → In request requests → ¬ IsSettledBy k request
+
+  -- one of the requests settles the key
+  abbrev pub IsSettledOnce : Key → List Asked → Type 0
+  IsSettledOnce k requests = (request : Asked) × In request requests × IsSettledBy k request
+
+  -- of these requests, the newest first, the last one that settles the key comes at version u
+  pub data IsLastSettled (k : Key) (u : ℕ) : List Asked → Type 0 where
+    by_newest : {request : Asked} {earlier : List Asked} → IsSettledBy k request → request.version ≡ u → IsLastSettled k u (request ∷ earlier)
+    by_earlier : {request : Asked} {earlier : List Asked} → ¬ IsSettledBy k request → IsLastSettled k u earlier → IsLastSettled k u (request ∷ earlier)
+
+  -- settled at version u, k records j in a group: it asks one that has j
+  abbrev pub Records : ℕ → Key → Key → Type 0
+  Records u k j = (group : List Key) × AsksGroup next cycle (leaves u) k group × In j group
+
+  module _ (earlier : List Asked) where
+    -- k may run at version v: it was never settled before, or it was, and a key that it recorded when it was last settled has had two values since
+    pub data MayRun (k : Key) (v : ℕ) : Type 0 where
+      first_run : IsNeverSettled k earlier → MayRun k v
+      run_again : IsSettledOnce k earlier → ((u : ℕ) → IsLastSettled k u earlier → (j : Key) × Records u k j × Differs next cycle leaves j u v) → MayRun k v
+
+    -- the leaf k may be read at version v: it was never settled before, or it was, and an edit since it was last settled touches it
+    pub data MayBeRead (k : Key) (v : ℕ) : Type 0 where
+      first_read : IsNeverSettled k earlier → MayBeRead k v
+      read_again : IsSettledOnce k earlier → ((u : ℕ) → IsLastSettled k u earlier → (w : ℕ) × (u < w) × (w ≤ v) × IsTouched (paths w) k) → MayBeRead k v
+
+    -- the item of a request is of a key that the request settles, and justified: a leaf with no turns may be read, another key with turns may run
+    pub record IsItemOf (request : Asked) (run : Run) : Type 0 where
+      pub version : run.version ≡ request.version
+      pub settled : IsSettledBy run.key request
+      pub justified : ((x : Value) × (leaves request.version run.key ≡ Some x) × (run.turns ≡ 0) × MayBeRead run.key request.version)
+          ⊎ ((leaves request.version run.key ≡ None) × (0 < run.turns) × MayRun run.key request.version)
+
+    -- the items of a request miss no key that it settles for the first time, and no grounded one whose value is another than when it was last settled
+    pub record MissesNone (request : Asked) (runs : List Run) : Type 0 where
+      pub new : (k : Key) → IsSettledBy k request → IsNeverSettled k earlier → In k (keys_of runs)
+      pub changed : (k : Key) (u : ℕ) (v w : Value) → IsSettledBy k request → IsLastSettled k u earlier → Grounded next (leaves request.version) k v → HasValue next (leaves u) cycle k w → v ≢ w → In k (keys_of runs)
+
+    pub record AreItemsOf (request : Asked) (runs : List Run) : Type 0 where
+      pub each : (run : Run) → In run runs → IsItemOf request run
+      pub all : MissesNone request runs
+
+  -- the items of the requests, in their order, after these earlier requests, the newest first
+  abbrev pub AreItems : List Asked → List Asked → List Run → Type 0
+  AreItems earlier [] runs = runs ≡ []
+  AreItems earlier (request ∷ requests) runs = (own rest : List Run) × (runs ≡ own ++ rest) × AreItemsOf earlier request own × AreItems (request ∷ earlier) requests rest
+
+  -- the journal of the requests: the items of each in their order, and no key has two with one version
+  pub record IsJournal (requests : List Asked) (runs : List Run) : Type 0 where
+    pub items : AreItems [] requests runs
+    pub once : AllDiffer (map place_of runs)

@@ -1,0 +1,51 @@
+//! Edits, and why one is not made.
+ghost use Rattle.std.specs.Prelude.{◌≡◌};
+ghost use Rattle.loader.specs.Held as held;
+ghost use Rattle.loader.specs.Seen.{edit_seen};
+
+use thiserror::Error;
+
+/// A change of one file.
+#[derive(Drop)]
+pub enum Edit<'a> {
+    /// A text is put at a path. One that was there is replaced.
+    Put(&'a str, &'a str),
+    /// The file at a path is taken away.
+    Del(&'a str),
+}
+
+impl Edit<'_> {
+    /// The path of the file that is changed.
+    pub fn path(&self) -> &str
+        ensures { result.now ≡ held.path_of (edit_seen self.now) }
+    {
+        match self {
+            Edit::Put(path, _) => path,
+            Edit::Del(path) => path,
+        }
+    }
+}
+
+/// Why an edit was not made. Neither the files nor the version have changed.
+#[derive(Debug, Drop, Error)]
+pub enum EditError {
+    /// The first refusal: 2 for a bad path, 3 where a file is above the path or the path is a
+    /// directory, 4 for no such file, 7 for a text of over 262,144 bytes, 8 where the version would
+    /// pass 4,294,967,295.
+    #[error("refused: {0}")]
+    Refused(u64),
+    /// A growth was refused.
+    #[error("out of memory")]
+    Memory,
+}
+
+impl From<texts::Memory> for EditError {
+    ghost use Rattle.std.specs.Prelude.{◌≡◌};
+    ghost use Rattle.loader.specs.declared.edit.EditError.TheVariants.{Memory};
+
+    ghost from_gives = { λ _ e. e ≡ Memory };
+
+    fn from(_error: texts::Memory) -> EditError {
+        EditError::Memory
+    }
+}

@@ -1,0 +1,18 @@
+//! Requests and replies.
+use round::Run;
+
+/// A question about the present files.
+#[derive(Drop)]
+pub enum Request<'a> {
+    /// Which build file a package has, by the package's name.
+    Find(&'a str),
+}
+
+/// What is answered to a request.
+#[derive(Drop)]
+pub struct Reply {
+    /// The line that answers it, without its byte 10.
+    pub text: String,
+    /// What its evaluation read and ran, in the order in which it was settled. A refused request is not evaluated.
+    pub runs: Vec<Run>,
+}

@@ -1,0 +1,61 @@
+//! `repr` and `str`.
+ghost use Rattle.meaning.specs.Heap.{at};
+ghost use Rattle.meaning.specs.Printing.{repr, str, str_object};
+ghost use Rattle.meaning.specs.declared.val.Val.TheVariants.{At};
+ghost use Rattle.heap.specs.View.{store_of, Says};
+
+use crate::walk;
+use crate::written::Written;
+use heap::{DEEPEST, Halt, Heap, Object, Val};
+
+/// `repr(x)`, a new string: fault 11 or 12 as it goes, and 13 at its end.
+pub fn print(heap: &mut Heap, x: Val) -> Result<Val, Halt>
+    ensures { Says (repr x (store_of heap.old)) result (store_of heap.new) }
+{
+    let mut out = Written::new(heap.alloc);
+    walk::print(
+        heap.objects.as_slice(),
+        &mut heap.steps,
+        x,
+        DEEPEST,
+        &mut out,
+    )?;
+    let Written { bytes, long } = out;
+    if long {
+        return Err(Halt::Code(13));
+    }
+    let made = heap.make_text(bytes)?;
+    Ok(made)
+}
+
+/// `str(x)`, which of a string is itself: fault 11, 12 or 13.
+pub fn text(heap: &mut Heap, x: Val) -> Result<Val, Halt>
+    ensures { Says (str x (store_of heap.old)) result (store_of heap.new) }
+{
+    match x {
+        Val::At(place) => {
+            let made = object_text(heap, place)?;
+            Ok(made)
+        }
+        _ => {
+            let made = print(heap, x)?;
+            Ok(made)
+        }
+    }
+}
+
+// `str` of what stands at a place.
+fn object_text(heap: &mut Heap, place: usize) -> Result<Val, Halt>
+    ensures { Says (str_object (at place (store_of heap.old)) (At place) (store_of heap.old)) result (store_of heap.new) }
+{
+    match heap.object(place) {
+        Some(Object::Text(_)) => return Ok(Val::At(place)),
+        Some(Object::List(_, _)) => {}
+        Some(Object::Tuple(_)) => {}
+        Some(Object::Dict(_, _)) => {}
+        Some(Object::Function(_, _)) => {}
+        None => {}
+    }
+    let made = print(heap, Val::At(place))?;
+    Ok(made)
+}

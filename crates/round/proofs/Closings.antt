@@ -1,0 +1,334 @@
+-- A stall is closed: none of its nodes is grounded, and each is settled with the loop that it shows.
+use Rattle.std.proofs.Common.{◌≡◌, ◌≢◌, ◌⊎◌, inl, inr, true, false, List, [], ◌∷◌, ◌++◌, length, map, Option, Some, None, refl, sym, ◌∙◌, ap, subst}
+use Rattle.std.specs.Arc.{arc_value}
+use Rattle.std.specs.List.{AllByRecursion}
+use Rattle.evaluation.specs.Reply.{Reply}
+use Rattle.evaluation.specs.Value.{Grounded, AllGrounded, IsUngrounded, First, at_head, further, Walk, stay, step, Cyclic, Settles, leaf, run, closed, In, first, after, IsMember, AllDiffer}
+use Rattle.evaluation.specs.Value as value
+use Rattle.evaluation.specs.Graph.{Record}
+use Rattle.evaluation.specs.Journal.{RunIsJustified}
+use Rattle.evaluation.proofs.Stall.{never, stops_after, walk_on}
+use Rattle.evaluation.proofs.Closed.{stops_map}
+use Rattle.keys.specs.Cycles.{cycle}
+use Rattle.keys.specs.Turns.{NoCycle}
+use Rattle.keys.specs.declared.key.Key.{Key}
+use Rattle.keys.specs.declared.value.Value.{Value}
+use Rattle.node.specs.Batches.{asked, keys_of, SetsAll}
+use Rattle.node.specs.Graphs.{Recorded, record_at, present, IsTouched}
+use Rattle.node.specs.Kept.{items_of}
+use Rattle.node.specs.Laws.{IsLawfulFor, BatchKeepsLawful}
+use Rattle.node.specs.Writes.{stored}
+use Rattle.node.specs.declared.entry.Entry.{Entry}
+use Rattle.node.proofs.Lists.{some_is, none_some, true_false, in_split, in_left, in_right}
+use Rattle.open_nodes.specs.Nodes.{Records, node_at, groups_of, IsOpen, IsUnsettled, IsPlain, Stands}
+use Rattle.open_nodes.specs.Truths.{IsNext, Past, IsSince, IsAfter, IsDoing, IsOpenTruly, IsRunOf, run_keys, IsTold, IsTrueOf}
+use Rattle.open_nodes.specs.declared.run.Run.{Run}
+use Rattle.open_nodes.specs.declared.table.Node.{Node}
+use Rattle.open_nodes.specs.declared.table.Phase.{Phase}
+use Rattle.open_nodes.specs.declared.table.Phase.TheVariants as phase
+use Rattle.open_nodes.specs.declared.table.Table.{Table}
+use Rattle.open_nodes.proofs.Counting.{decide_in}
+use Rattle.open_nodes.proofs.Settlings.{now_is, clean_settles, plain_grounded, cycle_ungrounded, in_map}
+use Rattle.open_nodes.proofs.Wholes.{unsettled_not_clean}
+use Rattle.round.specs.Closing.{HasTurnedBy, HasTurned, stop_at, HasTaken, IsIdle}
+use Rattle.round.specs.Members.{plain_value}
+use Rattle.round.specs.Moves.{IsWholeNow}
+use Rattle.round.specs.Showing.{Chain, Ends, Shows, IsStall, AreEntries}
+use Rattle.round.specs.Showing as showing
+use Rattle.round.specs.declared.closing.Closing.{Closing}
+use Rattle.round.specs.declared.closing.Stall.{Stall}
+use Rattle.round.proofs.Grouping.{clean_cycle, items_length}
+use Rattle.round.proofs.Reaching.{AsksAfter, asks_last, check_asks}
+use Rattle.round.proofs.Stalled.{ComesBy, IsStopped, stop_among, stopped, all_closed, has_stop, is_stall}
+use Rattle.round.proofs.Walking.{chain_end}
+
+-- one element has the key
+same_by_key : {X : Type 0} (key : X → Key) (xs : List X) (x y : X) → AllDiffer (map key xs) → In x xs → In y xs → key x ≡ key y → x ≡ y
+same_by_key {X} key [] x y d i j e = elim i [ ]
+same_by_key {X} key (z ∷ xs) x y d i j e = go (λ a b. same_by_key key xs x y d.1 a b e) i refl j refl
+  where
+    apart : (ys : List X) → AllByRecursion (λ k. key z ≢ k) (map key ys) → (w : X) → In w ys → key z ≢ key w
+    apart [] a w m = elim m [ ]
+    apart (v ∷ ys) a w m = inner (λ h. apart ys a.1 w h) m refl
+      where
+        inner : (In w ys → key z ≢ key w) → {zs : List X} → In w zs → zs ≡ v ∷ ys → key z ≢ key w
+        inner below (first {xs = us}) q = let p : w ≡ v = cc in λ f. a.0 (f ∙ ap key p)
+        inner below (after {xs = us} h) q = let p : us ≡ ys = cc in below (subst (In w) p h)
+
+    go : (In x xs → In y xs → x ≡ y) → {us vs : List X} → In x us → us ≡ z ∷ xs → In y vs → vs ≡ z ∷ xs → x ≡ y
+    go below (first {xs = us}) p (first {xs = vs}) q = cc
+    go below (first {xs = us}) p (after {xs = vs} h) q = let r : x ≡ z = cc in let s : vs ≡ xs = cc in absurd (apart xs d.0 y (subst (In y) s h) (ap key (sym r) ∙ e))
+    go below (after {xs = us} h) p (first {xs = vs}) q = let r : y ≡ z = cc in let s : us ≡ xs = cc in absurd (apart xs d.0 x (subst (In x) s h) (ap key (sym r) ∙ sym e))
+    go below (after {xs = us} h) p (after {xs = vs} g) q = let r : us ≡ xs = cc in let s : vs ≡ xs = cc in below (subst (In x) r h) (subst (In y) s g)
+
+differ_join : (xs ys : List Key) → AllDiffer xs → AllDiffer ys → ((k : Key) → In k xs → In k ys → ⊥) → AllDiffer (xs ++ ys)
+differ_join [] ys d f n = f
+differ_join (x ∷ xs) ys d f n = (join xs d.0, differ_join xs ys d.1 f (λ k i. n k (after i)))
+  where
+    right : (zs : List Key) → ((k : Key) → In k zs → In k ys) → AllByRecursion (λ j. x ≢ j) zs
+    right [] m = tt
+    right (z ∷ zs) m = ((λ e. n x first (subst (λ k. In k ys) (sym e) (m z first))), right zs (λ k i. m k (after i)))
+
+    join : (zs : List Key) → AllByRecursion (λ j. x ≢ j) zs → AllByRecursion (λ j. x ≢ j) (zs ++ ys)
+    join [] a = right ys (λ k i. i)
+    join (z ∷ zs) a = (a.0, join zs a.1)
+
+map_join : {X Y : Type 0} (f : X → Y) (xs ys : List X) → map f (xs ++ ys) ≡ map f xs ++ map f ys
+map_join f [] ys = refl
+map_join f (x ∷ xs) ys = ap (λ zs. f x ∷ zs) (map_join f xs ys)
+
+module _ (old : Recorded) (start later : Table) (stall : Stall) (w : IsWholeNow old start) (idle : IsIdle start)
+    (t : HasTaken (record_at old) old.version start later stall) (none : (k : Key) → node_at later.nodes k ≡ None)
+    (next : Key → List Value → Reply Key Value) (read : Key → Option Value) (laws : IsNext next) (past : Past read) (h : IsTrueOf next read past old start.nodes start.runs.items) where
+  abbrev records : Records
+  records = record_at old
+
+  abbrev stopped_of : (c : Closing) → In c stall.closing.items → IsStopped records start.nodes stall.stops c
+  stopped_of c i = stopped old start later stall old.version w idle t none c i
+
+  opened : (c : Closing) (i : In c stall.closing.items) → IsOpenTruly next read past old c.key (stopped_of c i).node
+  opened c i = h.opened c.key (stopped_of c i).node (stopped_of c i).there
+
+  -- its turns come to the group that it waits for
+  comes : (c : Closing) (i : In c stall.closing.items) → AsksAfter next read laws past c.key [] (stopped_of c i).passed (stopped_of c i).group
+  comes c i = go s.node.phase (opened c i).doing s.come
+    where
+      s : IsStopped records start.nodes stall.stops c
+      s = stopped_of c i
+
+      go : (p : Phase) → IsDoing next read past c.key (groups_of s.node) p → ComesBy records c.key (groups_of s.node) p s.passed s.group → AsksAfter next read laws past c.key [] s.passed s.group
+      go (phase.Checking at) d b = check_asks next read laws past old start.nodes start.runs.items h c.key b.0 b.2 s.passed b.1 s.group b.3 b.4
+      go phase.Running d b = asks_last next read laws past d.asks s.passed s.group b
+      go phase.Out d b = absurd b
+
+  -- open, or known not to be grounded
+  abbrev Lost : Key → Type 0
+  Lost k = IsOpen start.nodes k ⊎ IsUngrounded next read k
+
+  grounded_of : (j : Key) → IsPlain records j → (v : Value) × Grounded next read j v
+  grounded_of j p = (p.0.value, plain_grounded next read laws past old h.after j p.0 p.1 p.2 p.3)
+
+  first_in : (before rest : List Key) (j : Key) → ((k : Key) → In k before → IsPlain records k) → Lost j → First next read Lost (before ++ j ∷ rest) j
+  first_in [] rest j p l = at_head l
+  first_in (k ∷ before) rest j p l = further (grounded_of k (p k first)).1 (first_in before rest j (λ x m. p x (after m)) l)
+
+  lost_stop : (c : Closing) (i : In c stall.closing.items) → Lost (stopped_of c i).stop
+  lost_stop c i = elim (s.wanted s.stop (stop_among records s.group s.stop s.is_stop)) [
+    | inl o ↦ inl o
+    | inr l ↦ let q = clean_cycle records s.stop l s.is_stop.4 in inr (cycle_ungrounded next read laws past old h.after s.stop q.0 q.1 q.2 q.3)
+  ]
+    where
+      s : IsStopped records start.nodes stall.stops c
+      s = stopped_of c i
+
+  stops_lost : (c : Closing) (i : In c stall.closing.items) → value.Stops next read Lost c.key [] ((stopped_of c i).passed ++ (stopped_of c i).group ∷ []) (stopped_of c i).stop
+  stops_lost c i = let s = stopped_of c i in let b = comes c i in
+      stops_after next read b.1 b.2 (subst (λ g. First next read Lost g s.stop) (sym s.is_stop.2) (first_in s.is_stop.0 s.is_stop.1 s.stop s.is_stop.3 (lost_stop c i)))
+
+  each_stops : (k : Key) → IsOpen start.nodes k → (gs : List (List Key)) × (j : Key) × value.Stops next read Lost k [] gs j
+  each_stops k o = let c = all_closed old start later stall old.version w idle t none k o in
+      subst (λ x. (gs : List (List Key)) × (j : Key) × value.Stops next read Lost x [] gs j) c.2 (_, _, stops_lost c.0 c.1)
+
+  open_no_leaf : (k : Key) → IsOpen start.nodes k → read k ≡ None
+  open_no_leaf k o = (h.opened k o.0 o.1).no_leaf
+
+  -- no open node is grounded
+  pub open_ungrounded : (k : Key) → IsOpen start.nodes k → IsUngrounded next read k
+  open_ungrounded k o v g = never next read (IsOpen start.nodes) open_no_leaf each_stops g o
+
+  closed_no_leaf : (c : Closing) → In c stall.closing.items → read c.key ≡ None
+  closed_no_leaf c i = (opened c i).no_leaf
+
+  closed_ungrounded : (c : Closing) → In c stall.closing.items → IsUngrounded next read c.key
+  closed_ungrounded c i = open_ungrounded c.key ((stopped_of c i).node, (stopped_of c i).there)
+
+  closed_stops : (c : Closing) (i : In c stall.closing.items) → value.Stops next read (IsUngrounded next read) c.key [] (items_of c.groups.items) (stopped_of c i).stop
+  closed_stops c i = subst (λ gs. value.Stops next read (IsUngrounded next read) c.key [] gs (stopped_of c i).stop) (sym (stopped_of c i).groups)
+      (stops_map next read (λ k l. elim l [ inl o ↦ open_ungrounded k o | inr u ↦ u ]) (stops_lost c i))
+
+  -- a chain of stops is a walk
+  walk_of : {k j : Key} {path : List Key} → Chain (stop_at stall.stops) k path j → Walk next read k path j
+  walk_of showing.stay = stay
+  walk_of (showing.step {k = k} {i = i} e c) =
+      let x = has_stop old start later stall old.version w idle t none k i e in
+      let same : (stopped_of x.0 x.1).stop ≡ i = some_is (sym (stopped_of x.0 x.1).stops_at ∙ ap (stop_at stall.stops) x.2 ∙ e) in
+      step (subst (λ y. read y ≡ None) x.2 (closed_no_leaf x.0 x.1))
+      (subst (λ y. value.Stops next read (IsUngrounded next read) k [] (items_of x.0.groups.items) y) same (subst (λ y. value.Stops next read (IsUngrounded next read) y [] (items_of x.0.groups.items) (stopped_of x.0 x.1).stop) x.2 (closed_stops x.0 x.1)))
+      (walk_of c)
+
+  -- what it shows is the value of the loop to which its walk comes
+  pub shows_cyclic : (k : Key) (v : Value) → ((j : Key) × (stop_at stall.stops k ≡ Some j)) → Shows (stop_at stall.stops) records k v → Cyclic next read cycle k v
+  shows_cyclic k v has s = go s.ends
+    where
+      joins : (r : Record Key Value) → records s.m ≡ Some r → r.dirty ≡ false → (NoCycle r.value → ⊥) → v ≡ r.value → Cyclic next read cycle k v
+      joins r e d n q = inner (clean_settles next read laws past old h.after s.m r e d) q
+        where
+          inner : {gs : List (List Key)} {x : Value} → Settles next read cycle s.m gs x → v ≡ x → Cyclic next read cycle k v
+          inner (leaf f) p = absurd (cycle_ungrounded next read laws past old h.after s.m r e d n _ (value.is_leaf f))
+          inner (run f u) p = absurd (cycle_ungrounded next read laws past old h.after s.m r e d n _ (value.has_run f u))
+          inner (closed f u c) p = record {
+            before = s.before ++ c.before;
+            m = c.m;
+            rest = c.rest;
+            comes = walk_on next read (walk_of s.comes) c.comes;
+            returns = c.returns;
+            once = c.once;
+            value = p ∙ c.value;
+          }
+
+      go : Ends (stop_at stall.stops) records s.m v → Cyclic next read cycle k v
+      go (inl e) = record { before = s.before; m = s.m; rest = e.0; comes = walk_of s.comes; returns = walk_of e.1; once = e.2; value = e.3 }
+      go (inr e) = elim (chain_end (stop_at stall.stops) s.comes) [
+        | inl q ↦ let u = is_stall old start later stall old.version w idle t none k has.0 has.1 in absurd (unsettled_not_clean (records s.m) e.0 (subst (IsUnsettled records) q.1 u.0) e.1 e.2)
+        | inr q ↦
+            let x = has_stop old start later stall old.version w idle t none q.0 s.m q.1 in
+            let same : (stopped_of x.0 x.1).stop ≡ s.m = some_is (sym (stopped_of x.0 x.1).stops_at ∙ ap (stop_at stall.stops) x.2 ∙ q.1) in
+            let n = clean_cycle records s.m (e.0, e.1, e.2) (subst (λ y. plain_value (records y) ≡ None) same (stopped_of x.0 x.1).is_stop.4) in
+            joins e.0 e.1 e.2 (subst (λ (r : Record Key Value). NoCycle r.value → ⊥) (some_is (sym n.1 ∙ e.1)) n.3) e.3
+      ]
+
+  -- the entries are stored
+  module _ (new : Recorded) (entries : List Entry) (a : AreEntries (stop_at stall.stops) records stall.closing.items entries)
+      (same_version : new.version ≡ old.version) (sets : SetsAll records (record_at new) entries old.version) (keeps : BatchKeepsLawful old new entries) where
+    abbrev closing_of : (e : Entry) → In e entries → Closing
+    closing_of e i = (a.each e i).0
+
+    abbrev closing_in : (e : Entry) (i : In e entries) → In (closing_of e i) stall.closing.items
+    closing_in e i = (a.each e i).1
+
+    key_is : (e : Entry) (i : In e entries) → e.key ≡ (closing_of e i).key
+    key_is e i = (a.each e i).2
+
+    its_open : (e : Entry) (i : In e entries) → node_at start.nodes e.key ≡ Some (stopped_of (closing_of e i) (closing_in e i)).node
+    its_open e i = ap (node_at start.nodes) (key_is e i) ∙ (stopped_of (closing_of e i) (closing_in e i)).there
+
+    truly : (e : Entry) (i : In e entries) → IsOpenTruly next read past old e.key (stopped_of (closing_of e i) (closing_in e i)).node
+    truly e i = h.opened e.key (stopped_of (closing_of e i) (closing_in e i)).node (its_open e i)
+
+    settles : (e : Entry) → In e entries → Settles next read cycle e.key (asked e) (arc_value e.value)
+    settles e i =
+        let x = a.each e i in
+        let s = stopped_of x.0 x.1 in
+        subst (λ k. Settles next read cycle k (asked e) (arc_value e.value)) (sym x.2) (subst (λ gs. Settles next read cycle x.0.key gs (arc_value e.value)) (sym x.3)
+        (closed (closed_no_leaf x.0 x.1) (closed_stops x.0 x.1) (shows_cyclic x.0.key (arc_value e.value) (s.stop, s.stops_at) (subst (λ k. Shows (stop_at stall.stops) records k (arc_value e.value)) x.2 x.4))))
+
+    reads_now : past.reads old.version ≡ read
+    reads_now = ap past.reads h.after.version ∙ now_is next read laws past
+
+    lawful : IsLawfulFor next past.reads past.edits new
+    lawful = keeps next past.reads past.edits h.after.lawful (λ e i. subst (λ f. Settles next f cycle e.key (asked e) (arc_value e.value)) (sym reads_now) (settles e i))
+
+    entry_of : (k : Key) → In k (keys_of entries) → (e : Entry) × In e entries × (e.key ≡ k)
+    entry_of k i = in_map (λ (e : Entry). e.key) entries i
+
+    unsettled_entry : (e : Entry) → In e entries → IsUnsettled records e.key
+    unsettled_entry e i = (w.holds e.key (stopped_of (closing_of e i) (closing_in e i)).node (its_open e i)).0
+
+    not_entry : (j : Key) (s : Record Key Value) → records j ≡ Some s → s.dirty ≡ false → In j (keys_of entries) → ⊥
+    not_entry j s e d i = let x = entry_of j i in unsettled_not_clean (records j) s (subst (IsUnsettled records) x.2 (unsettled_entry x.0 x.1)) e d
+
+    clean_stays : (j : Key) (s : Record Key Value) → records j ≡ Some s → s.dirty ≡ false → record_at new j ≡ Some s
+    clean_stays j s e d = sets.others j (not_entry j s e d) ∙ e
+
+    abbrev record_of : Entry → Record Key Value
+    record_of e = stored (records e.key) (arc_value e.value) (asked e) old.version
+
+    pub closed_after : IsAfter next read past new
+    closed_after = record {
+      version = same_version ∙ h.after.version;
+      lawful = lawful;
+      since = λ j. elim (decide_in j (keys_of entries)) [
+        | inl i ↦ let x = entry_of j i in subst (IsSince next read past new) x.2
+            (inr (record_of x.0, sets.there x.0 x.1, refl, h.after.version, ap (λ o. present o) (sym (truly x.0 x.1).same) ∙ unsettled_entry x.0 x.1, (truly x.0 x.1).reached))
+        | inr n ↦ elim (h.after.since j) [
+          | inl e ↦ inl (sets.others j n ∙ e)
+          | inr s ↦ inr (s.0, sets.others j n ∙ s.1, s.2, s.3, s.4, s.5)
+        ]
+      ];
+    }
+
+    -- a closed node that made turns was justified to
+    justified_by : (k : Key) (n : Node) → IsOpenTruly next read past old k n → HasTurned n true → RunIsJustified next cycle past.reads (λ u j. IsTouched (past.edits u) j) past.entry.version (record_at past.entry k)
+    justified_by k n o turned = go n.phase turned o.doing
+      where
+        go : (p : Phase) → HasTurnedBy p true → IsDoing next read past k (groups_of n) p → RunIsJustified next cycle past.reads (λ u j. IsTouched (past.edits u) j) past.entry.version (record_at past.entry k)
+        go (phase.Checking at) q d = absurd (true_false refl q)
+        go phase.Running q d = d.justified
+        go phase.Out q d = d.justified
+
+    run_stays : (x : Run) → IsRunOf next read past old x → IsRunOf next read past new x
+    run_stays x o = record { of_key = o.of_key; recorded = clean_stays x.key o.of_key o.recorded o.clean; clean = o.clean; version = o.version; item = o.item }
+
+    -- the entry of a closed node
+    its_entry : (c : Closing) → In c stall.closing.items → (e : Entry) × In e entries × (e.key ≡ c.key) × (asked e ≡ items_of c.groups.items)
+    its_entry c i =
+        let x = entry_of c.key (a.has c i) in
+        let y = a.each x.0 x.1 in
+        let same : y.0 ≡ c = same_by_key (λ (z : Closing). z.key) stall.closing.items y.0 c t.differ y.1 i (sym y.2 ∙ x.2) in
+        (x.0, x.1, x.2, y.3 ∙ ap (λ (z : Closing). items_of z.groups.items) same)
+
+    added_run : (x : Run) → In x t.added → IsRunOf next read past new x
+    added_run x i =
+        let r = t.added_each x i in
+        let e = its_entry r.closed r.among in
+        let key : e.0.key ≡ x.key = e.2 ∙ sym r.same_key in
+        record {
+          of_key = record_of e.0;
+          recorded = ap (record_at new) (sym key) ∙ sets.there e.0 e.1;
+          clean = refl;
+          version = r.now ∙ h.after.version;
+          item = inr (
+            ap read r.same_key ∙ closed_no_leaf r.closed r.among,
+            subst (λ k. RunIsJustified next cycle past.reads (λ u j. IsTouched (past.edits u) j) past.entry.version (record_at past.entry k)) (sym r.same_key)
+                (justified_by r.closed.key (stopped_of r.closed r.among).node (opened r.closed r.among) (r.turned (stopped_of r.closed r.among).node (stopped_of r.closed r.among).there)),
+            inr (subst (IsUngrounded next read) (sym r.same_key) (closed_ungrounded r.closed r.among), r.turns ∙ sym (items_length r.closed.groups.items) ∙ ap (λ (gs : List (List Key)). length gs) (sym e.3)),
+          );
+        }
+
+    abbrev all_runs : List Run
+    all_runs = start.runs.items ++ t.added
+
+    keys_joined : run_keys next read past all_runs ≡ run_keys next read past start.runs.items ++ run_keys next read past t.added
+    keys_joined = map_join (λ (x : Run). x.key) start.runs.items t.added
+
+    runs_apart : (k : Key) → In k (run_keys next read past start.runs.items) → In k (run_keys next read past t.added) → ⊥
+    runs_apart k i j =
+        let x = in_map (λ (z : Run). z.key) start.runs.items i in
+        let o = h.ran x.0 x.1 in
+        let y = in_map (λ (z : Run). z.key) t.added j in
+        let r = t.added_each y.0 y.1 in
+        not_entry k o.of_key (ap records (sym x.2) ∙ o.recorded) o.clean (subst (λ z. In z (keys_of entries)) (sym r.same_key ∙ y.2) (a.has r.closed r.among))
+
+    told_more : (j : Key) (r : Record Key Value) → IsTold next read past start.runs.items j r → IsTold next read past all_runs j r
+    told_more j r (inl i) = inl (subst (In j) (sym keys_joined) (in_left (run_keys next read past t.added) i))
+    told_more j r (inr o) = inr o
+
+    told_entry : (e : Entry) (i : In e entries) (r : Record Key Value) → IsTold next read past all_runs e.key r
+    told_entry e i r = go n.phase refl (w.holds e.key n (its_open e i)).1
+      where
+        n : Node
+        n = (stopped_of (closing_of e i) (closing_in e i)).node
+
+        ungrounded_entry : IsUngrounded next read e.key
+        ungrounded_entry = subst (IsUngrounded next read) (sym (key_is e i)) (closed_ungrounded (closing_of e i) (closing_in e i))
+
+        has_run : HasTurned n true → IsTold next read past all_runs e.key r
+        has_run q = inl (subst (In e.key) (sym keys_joined) (in_right (run_keys next read past start.runs.items)
+            (subst (λ k. In k (run_keys next read past t.added)) (sym (key_is e i)) (t.added_all (closing_of e i) (closing_in e i) n (stopped_of (closing_of e i) (closing_in e i)).there q))))
+
+        go : (p : Phase) → n.phase ≡ p → Stands records e.key (groups_of n) p → IsTold next read past all_runs e.key r
+        go (phase.Checking at) q s = inr (s.0, sym (truly e i).same ∙ s.1, inr ungrounded_entry)
+        go phase.Running q s = has_run (subst (λ p. HasTurnedBy p true) (sym q) refl)
+        go phase.Out q s = has_run (subst (λ p. HasTurnedBy p true) (sym q) refl)
+
+    pub closed_true : IsTrueOf next read past new later.nodes later.runs.items
+    closed_true = subst (λ (x : List Run). IsTrueOf next read past new later.nodes x) (sym t.runs) (record {
+      after = closed_after;
+      opened = λ k n e. absurd (none_some (sym (none k) ∙ e));
+      ran = λ x i. elim (in_split i start.runs.items t.added refl) [ inl j ↦ run_stays x (h.ran x j) | inr j ↦ added_run x j ];
+      differ = subst AllDiffer (sym keys_joined) (differ_join (run_keys next read past start.runs.items) (run_keys next read past t.added) h.differ t.added_differ runs_apart);
+      told = λ j r e. elim (decide_in j (keys_of entries)) [
+        | inl i ↦ let x = entry_of j i in subst (λ k. IsTold next read past all_runs k r) x.2 (told_entry x.0 x.1 r)
+        | inr n ↦ told_more j r (h.told j r (sym (sets.others j n) ∙ e))
+      ];
+    })

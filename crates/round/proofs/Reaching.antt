@@ -1,0 +1,81 @@
+-- The group that a node waits for is one that it asks at these files, so its members are reached.
+use Rattle.std.proofs.Common.{◌≡◌, ◌≤◌, List, [], ◌∷◌, ◌++◌, take, Option, Some, sym, ◌∙◌, ap, subst}
+use Rattle.evaluation.specs.Reply.{Reply, Ask}
+use Rattle.evaluation.specs.Value.{AllGrounded, In, IsMember}
+use Rattle.evaluation.specs.Graph.{Record, IsLawful}
+use Rattle.evaluation.specs.Choices.{Comes, stay, asks}
+use Rattle.evaluation.specs.Reached.{AsksGroup, member}
+use Rattle.evaluation.proofs.Passing.{pass_comes}
+use Rattle.evaluation.proofs.Pruned.{Same}
+use Rattle.evaluation.proofs.Touch.{each_member}
+use Rattle.keys.specs.Cycles.{cycle}
+use Rattle.keys.proofs.CycleLaws.{turned}
+use Rattle.keys.specs.declared.key.Key.{Key}
+use Rattle.keys.specs.declared.value.Value.{Value}
+use Rattle.node.specs.Graphs.{Recorded, record_at}
+use Rattle.node.proofs.Lists.{some_is, in_left}
+use Rattle.open_nodes.specs.Nodes.{Nodes, node_at, groups_of, pending, IsStill, Stands, Holds, IsCurrent, IsWhole}
+use Rattle.open_nodes.specs.Truths.{IsNext, Past, AreReached, Asks, nothing, last, more, IsDoing, IsTrueOf}
+use Rattle.open_nodes.specs.declared.run.Run.{Run}
+use Rattle.open_nodes.specs.declared.table.Node.{Node}
+use Rattle.open_nodes.specs.declared.table.Phase.{Phase}
+use Rattle.open_nodes.specs.declared.table.Phase.TheVariants as phase
+use Rattle.open_nodes.specs.declared.table.Table.{Table}
+use Rattle.open_nodes.proofs.Settlings.{now_is, plain}
+use Rattle.round.specs.Looks.{IsAwaiting}
+
+module _ (next : Key → List Value → Reply Key Value) (read : Key → Option Value) (laws : IsNext next) (past : Past read) where
+  -- k comes through the groups, and asks the group next
+  abbrev pub AsksAfter : Key → List Value → List (List Key) → List Key → Type 0
+  AsksAfter k a passed group = (b : List Value) × Comes next cycle read k a passed b × (next k b ≡ Ask group)
+
+  pub asks_last : {k : Key} {a : List Value} {gs : List (List Key)} → Asks next read past k a gs → (passed : List (List Key)) (group : List Key) → gs ≡ passed ++ group ∷ [] → AsksAfter k a passed group
+  asks_last nothing [] group e = cc
+  asks_last nothing (x ∷ p) group e = cc
+  asks_last {a = a} (last {group = y} f) [] group e = let q : y ≡ group = cc in (a, stay, cc)
+  asks_last (last {group = y} f) (x ∷ []) group e = cc
+  asks_last (last {group = y} f) (x ∷ z ∷ p) group e = cc
+  asks_last {a = a} (more {group = y} f g s) [] group e = let q : y ≡ group = cc in (a, stay, cc)
+  asks_last (more {group = y} {vs = vs} {groups = ys} f g s) (x ∷ p) group e =
+      let q : y ≡ x = cc in
+      let u : ys ≡ p ++ group ∷ [] = cc in
+      let r = asks_last s p group u in
+      (r.0, asks (cc) (subst (λ (z : List Key). AllGrounded next read z vs) q g) r.1, r.2)
+
+  module _ (graph : Recorded) (nodes : Nodes) (runs : List Run) (t : IsTrueOf next read past graph nodes runs) where
+    -- a record's group, where the members of those before it did not change since the record was settled
+    pub check_asks : (k : Key) (r : Record Key Value) → record_at graph k ≡ Some r → (passed rest : List (List Key)) (group : List Key) → r.groups ≡ passed ++ group ∷ rest
+        → ((j : Key) → IsMember j passed → IsStill (record_at graph) r.settled_at j) → AsksAfter k [] passed group
+    check_asks k r e passed rest group q still = subst (λ (f : Key → Option Value). (b : List Value) × Comes next cycle f k [] passed b × (next k b ≡ Ask group)) (ap past.reads t.after.version ∙ now_is next read laws past)
+        (pass_comes next cycle turned (past.reads r.settled_at) (past.reads graph.version) (plain next read laws past r.settled_at) (plain next read laws past graph.version) law.settled passed rest group q
+        (each_member (Same next cycle turned (past.reads r.settled_at) (past.reads graph.version) (plain next read laws past r.settled_at) (plain next read laws past graph.version)) passed (λ j m.
+        let s = still j m in
+        let d = law.depends j (m.0, subst (In m.0) (sym q) (in_left (group ∷ rest) m.1), m.2) in
+        let same : s.0 ≡ d.of_j = some_is (sym s.1 ∙ d.recorded) in
+        (d.of_j.value, d.unchanged (subst (λ (x : Record Key Value). x.changed_at ≤ r.settled_at) same s.3), (d.of_j.groups, (t.after.lawful.each j d.of_j d.recorded).clean (ap (λ (x : Record Key Value). x.dirty) (sym same) ∙ s.2))))))
+      where
+        law : IsLawful next cycle past.reads (record_at graph) graph.version k r
+        law = t.after.lawful.each k r e
+
+    pub current_comes : (k : Key) (n : Node) → node_at nodes k ≡ Some n → Holds (record_at graph) nodes → (group : List Key) → IsCurrent (record_at graph) k (groups_of n) n.phase group
+        → (passed : List (List Key)) × AsksAfter k [] passed group
+    current_comes k n there holds group current = go n.phase (holds k n there).1 (t.opened k n there).doing current
+      where
+        go : (p : Phase) → Stands (record_at graph) k (groups_of n) p → IsDoing next read past k (groups_of n) p → IsCurrent (record_at graph) k (groups_of n) p group → (passed : List (List Key)) × AsksAfter k [] passed group
+        go (phase.Checking at) s d c = let same : s.0 ≡ c.0 = some_is (sym s.1 ∙ c.2) in (
+          take at c.0.groups,
+          check_asks k c.0 c.2 (take at c.0.groups) c.1 group c.3
+              (λ j m. subst (λ (x : Record Key Value). IsStill (record_at graph) x.settled_at j) same (s.3 j (subst (λ (x : Record Key Value). IsMember j (take at x.groups)) (sym same) m))),
+        )
+        go phase.Running s d c = (c.0, asks_last d.asks c.0 group c.1)
+        go phase.Out s d c = absurd c
+
+    pub current_asked : (k : Key) (n : Node) → node_at nodes k ≡ Some n → Holds (record_at graph) nodes → (group : List Key) → IsCurrent (record_at graph) k (groups_of n) n.phase group → AsksGroup next cycle read k group
+    current_asked k n there holds group current = let c = current_comes k n there holds group current in
+        record { no_leaf = (t.opened k n there).no_leaf; passed = c.0; answers = c.1.0; comes = c.1.1; asks = c.1.2 }
+
+  -- what a node waits for is reached
+  pub missing_reached : (graph : Recorded) (table : Table) (k : Key) (missing : List Key) → IsTrueOf next read past graph table.nodes table.runs.items
+      → IsWhole (record_at graph) table.nodes table.ready.keys (k ∷ pending table) → IsAwaiting graph table k missing → AreReached next read past missing
+  missing_reached graph table k missing t w a j i =
+      member (t.opened k a.node a.there).reached (current_asked graph table.nodes table.runs.items t k a.node a.there w.holds a.group a.current) (a.of_group.among j i)

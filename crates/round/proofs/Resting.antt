@@ -1,0 +1,125 @@
+-- An evaluation on one thread, between two turns.
+use Rattle.std.proofs.Common.{◌≡◌, ◌⊎◌, inl, inr, ℕ, true, false, cond, List, [], ◌∷◌, Option, Some, None, Result, Ok, Err, IsErr, refl, sym, ◌∙◌, ap, subst}
+use Rattle.evaluation.specs.Reply.{Reply}
+use Rattle.evaluation.specs.Value.{In, first, after, AllDiffer}
+use Rattle.evaluation.specs.Graph.{Record}
+use Rattle.evaluation.specs.Reached.{root, member}
+use Rattle.evaluation.proofs.Asked.{asked_recorded}
+use Rattle.keys.specs.Cycles.{cycle}
+use Rattle.keys.specs.declared.key.Key.{Key}
+use Rattle.keys.specs.declared.value.Value.{Value}
+use Rattle.node.specs.Graphs.{Recorded, record_at, present}
+use Rattle.node.proofs.Lists.{none_some, true_false}
+use Rattle.open_nodes.specs.Nodes.{Records, node_at, IsOpen, IsUnsettled, IsClean, AreOut}
+use Rattle.open_nodes.specs.Counted.{turns_of, HasMade}
+use Rattle.open_nodes.specs.Truths.{IsNext, Past, IsReached, AreReached, IsAfter, IsTrueOf, run_keys}
+use Rattle.open_nodes.specs.declared.table.Table.{Table}
+use Rattle.open_nodes.proofs.Counting.{none_made, all_made}
+use Rattle.open_nodes.proofs.Settlings.{clean_settles}
+use Rattle.open_nodes.proofs.Wholes.{unsettled_not_clean}
+use Rattle.round.specs.Call.{IsCall, IsHistory}
+use Rattle.round.specs.Here.{IsFresh, IsAfterSince, LeadsSince}
+use Rattle.round.specs.Moves.{IsWholeNow, IsWanted}
+
+module _ (graph : Recorded) (table : Table) (f : IsFresh table) where
+  none_open : (k : Key) → IsOpen table.nodes k → ⊥
+  none_open k o = none_some (sym (f.none_open k) ∙ o.1)
+
+  pub fresh_whole : IsWholeNow graph table
+  fresh_whole = record {
+    holds = λ k n e. absurd (none_open k (n, e));
+    ready_now = λ k i. elim (subst (In k) f.none_ready i) [ ];
+    blocked = λ k n e p. absurd (none_open k (n, e));
+  }
+
+  pub fresh_out : (keys : List Key) → AreOut table.nodes keys
+  fresh_out keys k n e p = absurd (none_open k (n, e))
+
+  pub fresh_made : HasMade table 0
+  fresh_made = none_made table none_open f.no_runs
+
+  pub fresh_true : (next : Key → List Value → Reply Key Value) (read : Key → Option Value) (roots : List Key) (past : Past read) → IsHistory next read past roots graph → IsTrueOf next read past graph table.nodes table.runs.items
+  fresh_true next read roots past h = record {
+    after = record {
+      version = ap (λ (g : Recorded). g.version) (sym h.at_entry);
+      lawful = h.lawful;
+      since = λ k. inl (ap (λ g. record_at g k) (sym h.at_entry));
+    };
+    opened = λ k n e. absurd (none_open k (n, e));
+    ran = λ x i. elim (subst (In x) f.no_runs i) [ ];
+    differ = subst (λ xs. AllDiffer (run_keys next read past xs)) (sym f.no_runs) tt;
+    told = λ k r e. inr (r, ap (λ g. record_at g k) h.at_entry ∙ e, inl refl);
+  }
+
+-- the roots are reached
+pub roots_reached : (next : Key → List Value → Reply Key Value) (read : Key → Option Value) (roots : List Key) (past : Past read) (graph : Recorded) → IsHistory next read past roots graph → AreReached next read past roots
+roots_reached next read roots past graph h k i = root (subst (In k) (sym h.of_roots) i)
+
+pub since_err : {X E : Type 0} (next : Key → List Value → Reply Key Value) (read : Key → Option Value) (roots : List Key) (old graph : Recorded) (table : Table) (r : Result X E) → IsErr r → IsAfterSince next read roots old graph → LeadsSince next read roots old graph table r
+since_err next read roots old graph table (Ok x) e h = absurd (true_false e refl)
+since_err next read roots old graph table (Err x) e h = h
+
+-- where the roots are settled, all that they reach is
+pub all_settled : (next : Key → List Value → Reply Key Value) (read : Key → Option Value) (laws : IsNext next) (past : Past read) (graph : Recorded) → IsAfter next read past graph
+    → ((k : Key) → In k past.roots → IsClean (record_at graph) k) → (k : Key) → IsReached next read past k → IsClean (record_at graph) k
+all_settled next read laws past graph a settled k (root i) = settled k i
+all_settled next read laws past graph a settled k (member {k = j} {group = g} r q i) =
+    let c = all_settled next read laws past graph a settled j r in
+    let d = (a.lawful.each j c.0 c.1).depends k (g, asked_recorded next cycle read (clean_settles next read laws past graph a j c.0 c.1 c.2) q, i) in
+    (d.of_j, d.recorded, go d.of_j.dirty refl d.dirty_above c.2)
+  where
+    go : {x y : _} → (b : _) → x ≡ b → (x ≡ true → y ≡ true) → y ≡ false → x ≡ false
+    go false e f n = e
+    go true e f n = absurd (true_false (f e) n)
+
+-- all of the keys are settled, or one is not
+decide_settled : (records : Records) (keys : List Key) → ((k : Key) → In k keys → IsClean records k) ⊎ ((k : Key) × In k keys × IsUnsettled records k)
+decide_settled records [] = inl (λ k i. elim i [ ])
+decide_settled records (x ∷ keys) = go (present (records x)) refl (decide_settled records keys)
+  where
+    is_clean : (o : Option (Record Key Value)) (v : Value) → present o ≡ Some v → (s : Record Key Value) × (o ≡ Some s) × (s.dirty ≡ false)
+    is_clean None v e = absurd (none_some e)
+    is_clean (Some s) v e = by s.dirty refl
+      where
+        by : (b : _) → s.dirty ≡ b → (r : Record Key Value) × (Some s ≡ Some r) × (r.dirty ≡ false)
+        by false q = (s, refl, q)
+        by true q = absurd (none_some (sym (ap (λ b. cond b None (Some s.value)) q) ∙ e))
+
+    both : IsClean records x → ((k : Key) → In k keys → IsClean records k) → (k : Key) → In k (x ∷ keys) → IsClean records k
+    both c f k i = inner i refl
+      where
+        inner : {ys : List Key} → In k ys → ys ≡ x ∷ keys → IsClean records k
+        inner (first {xs = zs}) e = let q : k ≡ x = cc in subst (IsClean records) (sym q) c
+        inner (after {xs = zs} h) e = let q : zs ≡ keys = cc in f k (subst (In k) q h)
+
+    go : (o : Option Value) → present (records x) ≡ o → ((k : Key) → In k keys → IsClean records k) ⊎ ((k : Key) × In k keys × IsUnsettled records k) → ((k : Key) → In k (x ∷ keys) → IsClean records k) ⊎ ((k : Key) × In k (x ∷ keys) × IsUnsettled records k)
+    go None e r = inr (x, first, e)
+    go (Some v) e (inl f) = inl (both (is_clean (records x) v e) f)
+    go (Some v) e (inr u) = inr (u.0, after u.1, u.2)
+
+-- where a node is open, a root is
+pub root_open : (next : Key → List Value → Reply Key Value) (read : Key → Option Value) (laws : IsNext next) (past : Past read) (graph : Recorded) (table : Table) → IsWholeNow graph table → IsTrueOf next read past graph table.nodes table.runs.items
+    → (k : Key) → IsOpen table.nodes k → (j : Key) × In j past.roots × IsUnsettled (record_at graph) j
+root_open next read laws past graph table w t k o = elim (decide_settled (record_at graph) past.roots) [
+  | inr u ↦ u
+  | inl f ↦ let c = all_settled next read laws past graph t.after f k (t.opened k o.0 o.1).reached in
+      absurd (unsettled_not_clean (record_at graph k) c.0 (w.holds k o.0 o.1).0 c.1 c.2)
+]
+
+-- at the end: no node is open
+module _ (next : Key → List Value → Reply Key Value) (read : Key → Option Value) (laws : IsNext next) (past : Past read) (graph : Recorded) (table : Table)
+    (none : (k : Key) → node_at table.nodes k ≡ None) where
+  pub call_ends : (roots : List Key) → past.roots ≡ roots → ((k : Key) → In k roots → IsWanted graph table k) → IsTrueOf next read past graph table.nodes table.runs.items → IsCall next read past graph table.runs.items
+  call_ends roots e wanted t = record {
+    after = t.after;
+    answered = λ k i. elim (wanted k (subst (In k) e i)) [
+      | inl o ↦ absurd (none_some (sym (none k) ∙ o.1))
+      | inr c ↦ (c.0, c.1, c.2, (c.0.groups, clean_settles next read laws past graph t.after k c.0 c.1 c.2))
+    ];
+    ran = t.ran;
+    differ = t.differ;
+    told = t.told;
+  }
+
+pub ends_made : (table : Table) (made : ℕ) → ((k : Key) → node_at table.nodes k ≡ None) → HasMade table made → made ≡ turns_of table.runs.items
+ends_made table made none h = all_made table made (λ k o. none_some (sym (none k) ∙ o.1)) h

@@ -1,0 +1,31 @@
+//! Closing of stalls.
+ghost use Rattle.std.specs.Prelude.{◌≡◌, OnOk, None, Option};
+ghost use Rattle.keys.specs.declared.key.Key.{Key};
+ghost use Rattle.keys.specs.declared.value.Value.{Value};
+ghost use Rattle.open_nodes.specs.Counted.{MakesNone};
+ghost use Rattle.open_nodes.specs.Nodes.{node_at};
+ghost use Rattle.round.specs.Closing.{IsIdle};
+ghost use Rattle.round.specs.Moves.{KeepsTrue, KeepsWanted, IsWholeNow};
+
+use crate::closing::close_all;
+use crate::loops::entries_of;
+use node::Graph;
+use open_nodes::Table;
+use std::alloc::Global;
+use texts::Memory;
+
+/// Settles all open nodes at a stall, each with the value of the loop to which it leads. Where a growth is refused the
+/// graph is as before.
+pub fn close_cycles(alloc: Global, graph: &mut Graph, table: &mut Table) -> Result<(), Memory>
+    requires whole { IsWholeNow graph.old table.old }
+    requires idle { IsIdle table.old }
+    ensures none { OnOk result ((k : Key) → node_at table.new.nodes k ≡ None) }
+    ensures keeps { OnOk result (KeepsWanted graph.old graph.new table.old table.new) }
+    ensures turns { OnOk result (MakesNone table.old table.new) }
+    ensures truth { (read : Key → Option Value) → KeepsTrue read graph.old graph.new table.old table.new result }
+{
+    let stall = close_all(alloc, graph, table)?;
+    let entries = entries_of(alloc, graph, stall)?;
+    graph.record_all(entries)?;
+    Ok(())
+}

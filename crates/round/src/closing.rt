@@ -1,0 +1,177 @@
+//! The nodes that a stall closes.
+ghost use Rattle.std.specs.Prelude.{◌≡◌, ◌+◌, ◌∷◌, ◌++◌, [], ℕ, true, false, IfOk, OnOk, Some, None, take, IsTrue};
+ghost use Rattle.std.specs.BTreeMap.{btree_map_len};
+ghost use Rattle.evaluation.specs.Graph.{Record};
+ghost use Rattle.keys.specs.declared.key.Key.{Key};
+ghost use Rattle.keys.specs.declared.value.Value.{Value};
+ghost use Rattle.node.specs.Graphs.{record_at};
+ghost use Rattle.node.specs.Kept.{items_of};
+ghost use Rattle.open_nodes.specs.Nodes.{node_at, Holds};
+ghost use Rattle.open_nodes.specs.Steps.{HasNoted};
+ghost use Rattle.open_nodes.specs.declared.table.Table.{Table};
+ghost use Rattle.round.specs.Looks.{IsLastGroup};
+ghost use Rattle.round.specs.Closing.{ClosesWith, StopsIn, PutsStop, HasTurned, HasTaken};
+
+use crate::look::recorded_groups;
+use crate::members::{first_stop, share_all};
+use keys::Key;
+use node::Graph;
+use open_nodes::{Node, Phase, Table, note};
+use std::alloc::Global;
+use std::collections::BTreeMap;
+use texts::Memory;
+
+/// A node that is closed.
+#[derive(Drop)]
+pub struct Closing {
+    /// The node.
+    pub key: Key,
+    /// Its groups, up to the one that it waits for.
+    pub groups: Vec<Vec<Key>>,
+}
+
+/// The nodes that are closed, and the member at which each stops.
+#[derive(Drop)]
+pub struct Stall {
+    /// The nodes.
+    pub closing: Vec<Closing>,
+    /// The first member of its last group that has no value, of each node.
+    pub stops: BTreeMap<Key, Key>,
+}
+
+// The groups of a key's record, up to the one at a place.
+fn groups_up_to(alloc: Global, graph: &Graph, key: &Key, at: usize) -> Result<Vec<Vec<Key>>, Memory>
+    ensures { IfOk result (λ groups. (r : Record Key Value) → record_at graph.now key.now ≡ Some r → items_of groups.items ≡ take (at + 1) r.groups) }
+{
+    let mut groups = Vec::new(alloc);
+    for group in recorded_groups(graph, key) {
+        if groups.len() > at {
+            return Ok(groups);
+        }
+        groups.push(share_all(alloc, group.as_slice())?)?;
+    }
+    Ok(groups)
+}
+
+// The groups of a node up to the one that it waits for, and whether its turns asked them.
+fn groups_to_close(
+    alloc: Global,
+    graph: &Graph,
+    key: &Key,
+    node: Node,
+) -> Result<(Vec<Vec<Key>>, bool), Memory>
+    ensures groups { IfOk result (λ found. ClosesWith (record_at graph.now) key.now node (items_of found.0.items)) }
+    ensures turned { IfOk result (λ found. HasTurned node found.1) }
+{
+    let Node {
+        groups,
+        watchers: _,
+        phase,
+    } = node;
+    match phase {
+        Phase::Checking(at) => Ok((groups_up_to(alloc, graph, key, at)?, false)),
+        Phase::Running => Ok((groups, true)),
+        Phase::Out => Ok((groups, true)),
+    }
+}
+
+// The last of some groups.
+fn last_of<'a>(groups: &'a [Vec<Key>]) -> &'a [Key]
+    ensures { IsLastGroup (items_of groups.now) result.now }
+{
+    match groups.last() {
+        None => &[],
+        Some(group) => group.as_slice(),
+    }
+}
+
+// The first member of the last group that is not settled with a value, or that is settled as a cycle.
+fn stop_in(graph: &Graph, groups: &[Vec<Key>]) -> Result<Option<Key>, Memory>
+    ensures { IfOk result (StopsIn (record_at graph.now) (items_of groups.now)) }
+{
+    match first_stop(graph, last_of(groups)) {
+        None => Ok(None),
+        Some(member) => Ok(Some(member.share()?)),
+    }
+}
+
+// Notes the run of a node that made turns.
+fn note_turned(
+    table: &mut Table,
+    key: &Key,
+    version: u32,
+    turned: bool,
+    turns: u64,
+) -> Result<(), Memory>
+    ensures yes { IsTrue turned → OnOk result (HasNoted table.old table.new (record { key = key.now; version = version; turns = turns })) }
+    ensures no { turned ≡ false → OnOk result (table.new ≡ table.old) }
+{
+    if turned {
+        note(table, key, version, turns)?;
+    }
+    Ok(())
+}
+
+// The member at which a node stops is put into the map, if there is one.
+fn put_stop(stops: &mut BTreeMap<Key, Key>, key: &Key, stop: Option<Key>) -> Result<(), Memory>
+    ensures { OnOk result (PutsStop stops.old stops.new key.now stop) }
+{
+    if let Some(member) = stop {
+        stops.insert(key.share()?, member)?;
+    }
+    Ok(())
+}
+
+// A node is put among those that are closed.
+fn put_closing(
+    stall: &mut Stall,
+    key: Key,
+    groups: Vec<Vec<Key>>,
+    stop: Option<Key>,
+) -> Result<(), Memory>
+    ensures closing { OnOk result (stall.new.closing.items ≡ stall.old.closing.items ++ record { key = key; groups = groups } ∷ []) }
+    ensures stops { OnOk result (PutsStop stall.old.stops stall.new.stops key stop) }
+{
+    put_stop(&mut stall.stops, &key, stop)?;
+    stall.closing.push(Closing { key, groups })?;
+    Ok(())
+}
+
+// Takes the least of the open nodes out; false where there is none.
+fn close_next(
+    alloc: Global,
+    graph: &Graph,
+    table: &mut Table,
+    stall: &mut Stall,
+) -> Result<bool, Memory>
+    ensures taken { OnOk result ((start : Table) → Holds (record_at graph.now) start.nodes → HasTaken (record_at graph.now) graph.now.version start table.old stall.old → HasTaken (record_at graph.now) graph.now.version start table.new stall.new) }
+    ensures none { IfOk result (λ more. more ≡ false → (k : Key) → node_at table.new.nodes k ≡ None) }
+    ensures fewer { IfOk result (λ more. more ≡ true → btree_map_len table.new.nodes + 1 ≡ btree_map_len table.old.nodes) }
+{
+    let Some((key, node)) = table.nodes.pop_first() else {
+        return Ok(false);
+    };
+    let (groups, turned) = groups_to_close(alloc, graph, &key, node)?;
+    note_turned(table, &key, graph.version(), turned, groups.len() as u64)?;
+    let stop = stop_in(graph, groups.as_slice())?;
+    put_closing(stall, key, groups, stop)?;
+    Ok(true)
+}
+
+/// Takes all open nodes out, in their order, and notes the runs of those that made turns.
+pub fn close_all(alloc: Global, graph: &Graph, table: &mut Table) -> Result<Stall, Memory>
+    ensures taken { IfOk result (λ stall. Holds (record_at graph.now) table.old.nodes → HasTaken (record_at graph.now) graph.now.version table.old table.new stall) }
+    ensures none { OnOk result ((k : Key) → node_at table.new.nodes k ≡ None) }
+{
+    let mut stall = Stall {
+        closing: Vec::new(alloc),
+        stops: BTreeMap::new(alloc),
+    };
+    'nodes: loop {
+        match close_next(alloc, graph, table, &mut stall) {
+            Ok(true) => {}
+            Ok(false) => return Ok(stall),
+            Err(error) => return Err(error),
+        }
+    }
+}

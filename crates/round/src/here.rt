@@ -1,0 +1,259 @@
+//! An evaluation on one thread.
+ghost use Rattle.std.specs.Prelude.{◌≡◌, ◌+◌, ◌≤◌, ℕ, [], true, false, IfOk, OnOk, Some, None, Option};
+ghost use Rattle.std.specs.Prelude.{List, IfSome, IfNone, IfErr, IsErrOf, Ok, Err};
+ghost use Rattle.evaluation.specs.Reply.{Reply};
+ghost use Rattle.evaluation.specs.Value.{In};
+ghost use Rattle.functions.specs.Next as leaves;
+ghost use Rattle.keys.specs.declared.key.Key.{Key};
+ghost use Rattle.keys.specs.declared.value.Value.{Value};
+ghost use Rattle.node.specs.Graphs.{record_at};
+ghost use Rattle.open_nodes.specs.Counted.{HasMade, turns_of};
+ghost use Rattle.open_nodes.specs.Nodes.{pending, AreOut};
+ghost use Rattle.open_nodes.specs.Truths.{Leads};
+ghost use Rattle.round.specs.Closing.{IsIdle};
+ghost use Rattle.round.specs.Call.{Calls, HasOpenRoot};
+ghost use Rattle.round.specs.Here.{IsFresh, IsResting, TurnsOnce, LeadsSince, Finishes};
+ghost use Rattle.round.specs.Moves.{KeepsTrue, IsWholeNow};
+
+use crate::close::close_cycles;
+use crate::look::look_at_all;
+use crate::settle::want_all;
+use crate::stop::Stop;
+use crate::turns::{hand_out, take};
+use filetree::Tree;
+use keys::{Key, Rules};
+use node::Graph;
+use open_nodes::{Run, Table};
+use std::alloc::Global;
+use std::collections::BTreeSet;
+use texts::Memory;
+
+// The roots are wanted, and what can be settled without a turn is.
+fn open(
+    alloc: Global,
+    graph: &mut Graph,
+    tree: &Tree,
+    table: &mut Table,
+    roots: &[Key],
+) -> Result<(), Memory>
+    requires fresh { IsFresh table.old }
+    ensures resting { OnOk result (IsResting graph.new table.new roots.now 0) }
+    ensures truth { (next : Key → List Value → Reply Key Value) → LeadsSince next (leaves.read tree.now) roots.now graph.old graph.new table.new result }
+{
+    want_all(alloc, graph, tree, table, roots)?;
+    look_at_all(alloc, graph, tree, table)?;
+    Ok(())
+}
+
+// The least of the keys.
+fn first_of(keys: &BTreeSet<Key>) -> Result<Option<Key>, Memory>
+    ensures some { IfOk result (λ k. IfSome k (λ key. In key keys.now.keys)) }
+    ensures none { IfOk result (λ k. IfNone k (keys.now.keys ≡ [])) }
+{
+    match keys.first() {
+        None => Ok(None),
+        Some(key) => Ok(Some(key.share()?)),
+    }
+}
+
+// Makes the next turn of the node with this key.
+fn turn<R: Rules>(
+    alloc: Global,
+    graph: &mut Graph,
+    tree: &Tree,
+    rules: &mut R,
+    table: &mut Table,
+    key: &Key,
+) -> Result<(), Memory>
+    requires whole { IsWholeNow graph.old table.old }
+    requires ready { In key.now table.old.ready.keys }
+    ensures turns { OnOk result (TurnsOnce graph.old graph.new table.old table.new) }
+    ensures counted { OnOk result (R.turns rules.new ≡ R.turns rules.old + 1) }
+    ensures at_most { (R.turns rules.old ≤ R.turns rules.new) × (R.turns rules.new ≤ R.turns rules.old + 1) }
+    ensures truth { Leads R.next (leaves.read tree.now) graph.old graph.new table.old table.new result }
+{
+    match hand_out(alloc, graph, table, key)? {
+        None => unreachable!(),
+        Some(job) => {
+            let turned = job.make(rules);
+            take(alloc, graph, table, turned)?;
+            look_at_all(alloc, graph, tree, table)?;
+            Ok(())
+        }
+    }
+}
+
+// The runs of an evaluation in which no turn can be made any more: what is open is closed.
+fn finish(alloc: Global, graph: &mut Graph, mut table: Table) -> Result<Vec<Run>, Memory>
+    requires whole { IsWholeNow graph.old table }
+    requires idle { IsIdle table }
+    ensures made { IfOk result (λ runs. (made : ℕ) → HasMade table made → made ≡ turns_of runs.items) }
+    ensures law { IfOk result (λ runs. (read : Key → Option Value) (next : Key → List Value → Reply Key Value) → Finishes {E = Stop} next read graph.old graph.new table (Ok runs.items)) }
+    ensures stopped { IfErr result (λ e. (read : Key → Option Value) (next : Key → List Value → Reply Key Value) → Finishes next read graph.old graph.new table (Err e)) }
+{
+    close_cycles(alloc, graph, &mut table)?;
+    let Table {
+        nodes: _,
+        ready: _,
+        work: _,
+        looked: _,
+        runs,
+    } = table;
+    Ok(runs)
+}
+
+/// Evaluates the roots over the graph on one thread, in at most `budget` turns of the rules. Each root is settled then
+/// with its value at the tree's files; the runs are those of this call, in the order in which their nodes were settled.
+///
+/// A node with a record that is marked checks the groups of its record in their order: where no member has changed since,
+/// it is settled without a turn, and at the first group with a changed member it runs. Where no turn can be made any
+/// more, the open nodes lead into loops, and are settled with these.
+///
+/// `Stop::Budget` where the budget is spent and a root is still open; `Stop::Memory` where a growth was refused. After
+/// a stop the graph is lawful for the same history, no record is lost, and only nodes that were settled have new ones.
+/// That the tree is the last of the history for which the graph is lawful is the caller's condition.
+pub fn evaluate_here<R: Rules>(
+    alloc: Global,
+    graph: &mut Graph,
+    tree: &Tree,
+    roots: &[Key],
+    rules: &mut R,
+    budget: u64,
+) -> Result<Vec<Run>, Stop>
+    ensures law { IfOk result (λ runs. Calls R.next (leaves.read tree.now) roots.now graph.old graph.new (Ok runs.items)) }
+    ensures stopped { IfErr result (λ e. Calls R.next (leaves.read tree.now) roots.now graph.old graph.new (Err e)) }
+    ensures turns { IfOk result (λ runs. R.turns rules.new ≡ R.turns rules.old + turns_of runs.items) }
+    ensures budget { IsErrOf result Stop.Budget → (R.turns rules.new ≡ R.turns rules.old + budget) × HasOpenRoot R.next (leaves.read tree.now) roots.now graph.old graph.new }
+    ensures at_most { (R.turns rules.old ≤ R.turns rules.new) × (R.turns rules.new ≤ R.turns rules.old + budget) }
+{
+    let mut table = Table::new(alloc);
+    open(alloc, graph, tree, &mut table, roots)?;
+    for _made in 0..budget {
+        match first_of(&table.ready)? {
+            None => return Ok(finish(alloc, graph, table)?),
+            Some(key) => turn(alloc, graph, tree, rules, &mut table, &key)?,
+        }
+    }
+    match first_of(&table.ready)? {
+        None => Ok(finish(alloc, graph, table)?),
+        Some(_) => Err(Stop::Budget),
+    }
+}
+
+#[cfg(test)]
+mod tests {
+    use super::*;
+    use functions::Loading;
+    use keys::{BuildName, Value};
+    use std::test::Fail;
+    use texts::Text;
+
+    // Puts a text at a path, and marks what that reaches.
+    fn put(graph: &mut Graph, tree: &mut Tree, path: &str, text: &str) -> Result<(), Fail> {
+        tree.put(path, text)?;
+        graph.touch(path)?;
+        Ok(())
+    }
+
+    // Looks a package up, and tells its build file and how many items and turns that took.
+    fn find(
+        alloc: Global,
+        graph: &mut Graph,
+        tree: &Tree,
+        name: &str,
+    ) -> Result<(Option<BuildName>, usize, u64), Fail> {
+        let roots = [Key::Lookup(Text::new(alloc, name)?)];
+        let mut rules = Loading::new(alloc);
+        let runs = evaluate_here(alloc, graph, tree, &roots, &mut rules, 10)?;
+        let mut turns = 0;
+        for run in &runs {
+            if run.version != graph.version() {
+                return Err(Fail::from(Stop::Budget));
+            }
+            turns += run.turns;
+        }
+        match graph.get(&roots[0]) {
+            Some(value) => match &**value {
+                Value::Lookup(found) => Ok((*found, runs.len(), turns)),
+                _ => Err(Fail::from(Stop::Budget)),
+            },
+            None => Err(Fail::from(Stop::Budget)),
+        }
+    }
+
+    #[test]
+    fn only_what_an_edit_reaches_runs_again(rt: HostRuntime) -> Result<(), Fail> {
+        let alloc = rt.alloc();
+        let mut graph = Graph::new(alloc);
+        let mut tree = Tree::new(alloc);
+        put(&mut graph, &mut tree, "a/BUILD", "x")?;
+        assert!(rt; find(alloc, &mut graph, &tree, "a")? == (Some(BuildName::Build), 3, 2));
+        assert!(rt; find(alloc, &mut graph, &tree, "a")? == (Some(BuildName::Build), 0, 0));
+        // an edit elsewhere reaches nothing
+        put(&mut graph, &mut tree, "b/x", "")?;
+        assert!(rt; find(alloc, &mut graph, &tree, "a")? == (Some(BuildName::Build), 0, 0));
+        // the file is read again, and its equal text stops the change there
+        put(&mut graph, &mut tree, "a/BUILD", "x")?;
+        assert!(rt; find(alloc, &mut graph, &tree, "a")? == (Some(BuildName::Build), 1, 0));
+        // another text makes the look-up run
+        put(&mut graph, &mut tree, "a/BUILD", "y")?;
+        assert!(rt; find(alloc, &mut graph, &tree, "a")? == (Some(BuildName::Build), 2, 2));
+        put(&mut graph, &mut tree, "a/BUILD.bazel", "")?;
+        assert!(rt; find(alloc, &mut graph, &tree, "a")? == (Some(BuildName::BuildBazel), 2, 2));
+        assert!(rt; find(alloc, &mut graph, &tree, "b")? == (None, 3, 2));
+        assert_eq!(rt; graph.counts().records, 6);
+        Ok(())
+    }
+
+    #[test]
+    fn a_spent_budget_leaves_a_graph_that_goes_on(rt: HostRuntime) -> Result<(), Fail> {
+        let alloc = rt.alloc();
+        let mut graph = Graph::new(alloc);
+        let mut tree = Tree::new(alloc);
+        put(&mut graph, &mut tree, "a/BUILD", "x")?;
+        let roots = [
+            Key::Lookup(Text::new(alloc, "a")?),
+            Key::Lookup(Text::new(alloc, "b")?),
+        ];
+        for budget in 0..5 {
+            let mut rules = Loading::new(alloc);
+            match evaluate_here(alloc, &mut graph, &tree, &roots, &mut rules, budget) {
+                Ok(_) => assert_eq!(rt; budget, 3),
+                Err(Stop::Budget) => assert!(rt; budget < 3),
+                Err(Stop::Memory) => return Err(Fail::from(Stop::Memory)),
+            }
+            if budget == 3 {
+                break;
+            }
+        }
+        assert!(rt; graph.get(&roots[0]).is_some());
+        assert!(rt; graph.get(&roots[1]).is_some());
+        Ok(())
+    }
+
+    #[test]
+    fn without_roots_and_for_leaves_no_turn_is_made(rt: HostRuntime) -> Result<(), Fail> {
+        let alloc = rt.alloc();
+        let mut graph = Graph::new(alloc);
+        let mut tree = Tree::new(alloc);
+        put(&mut graph, &mut tree, "a/BUILD", "x")?;
+        let mut rules = Loading::new(alloc);
+        assert_eq!(rt;
+            evaluate_here(alloc, &mut graph, &tree, &[], &mut rules, 0)?.len(),
+            0
+        );
+        let roots = [
+            Key::File(Text::new(alloc, "a/BUILD")?),
+            Key::Listing(Text::new(alloc, "a")?),
+        ];
+        assert_eq!(rt;
+            evaluate_here(alloc, &mut graph, &tree, &roots, &mut rules, 0)?.len(),
+            2
+        );
+        assert_eq!(rt;
+            evaluate_here(alloc, &mut graph, &tree, &roots, &mut rules, 0)?.len(),
+            0
+        );
+        Ok(())
+    }
+}

@@ -1,0 +1,127 @@
+//! The loops that the nodes of a stall show.
+ghost use Rattle.std.specs.Prelude.{◌≡◌, [], IfOk, OnOk, Some, None, Option};
+ghost use Rattle.std.specs.Arc.{arc_value};
+ghost use Rattle.evaluation.specs.Value.{In, AllDiffer};
+ghost use Rattle.keys.specs.Cycles.{cycle};
+ghost use Rattle.keys.specs.declared.key.Key.{Key};
+ghost use Rattle.node.specs.Graphs.{record_at};
+ghost use Rattle.round.specs.Closing.{stop_at, closing_keys};
+ghost use Rattle.round.specs.declared.closing.Closing.{Closing};
+ghost use Rattle.round.specs.Showing.{HasWalked, IsFrom, value_in, shown_at, EndsWith, ShowsAll, IsStall, IsShowing, Shows, AreEntries};
+
+use crate::closing::{Closing, Stall};
+use keys::{Key, Names, Value};
+use node::{Entry, Graph};
+use std::alloc::Global;
+use std::collections::BTreeMap;
+use std::sync::Arc;
+use texts::Memory;
+
+// Walks along the stops, and takes them out, up to a key that has none.
+fn walk(
+    alloc: Global,
+    stops: &mut BTreeMap<Key, Key>,
+    start: &Key,
+) -> Result<(Vec<Key>, Key), Memory>
+    ensures { IfOk result (λ walked. HasWalked stops.old stops.new start.now walked.0.items walked.1) }
+{
+    let mut path = Vec::new(alloc);
+    let mut at = start.share()?;
+    'steps: loop {
+        match stops.remove(&at) {
+            None => return Ok((path, at)),
+            Some(next) => {
+                path.push(at)?;
+                at = next;
+            }
+        }
+    }
+}
+
+// The part of a path from the key on.
+fn from_key<'a>(path: &'a [Key], key: &Key) -> &'a [Key]
+    ensures { IsFrom path.now key.now result.now }
+{
+    for place in 0..path.len() {
+        if path[place] == *key {
+            return &path[place..];
+        }
+    }
+    &[]
+}
+
+// The value that the members of a loop share.
+fn loop_value(alloc: Global, _members: &[Key]) -> Value
+    ensures { result ≡ cycle _members.now }
+{
+    Value::Cycle(Names::new(Vec::new(alloc)))
+}
+
+// What a path shows that comes to the key.
+fn end_value(
+    alloc: Global,
+    graph: &Graph,
+    shown: &BTreeMap<Key, Arc<Value>>,
+    path: &[Key],
+    end: &Key,
+) -> Result<Arc<Value>, Memory>
+    ensures { IfOk result (λ v. EndsWith (shown_at shown.now end.now) (value_in (record_at graph.now end.now)) path.now end.now (arc_value v)) }
+{
+    if let Some(value) = shown.get(end) {
+        return Ok(Arc::try_clone(value)?);
+    }
+    if let Some(value) = graph.get(end) {
+        return Ok(Arc::try_clone(value)?);
+    }
+    Ok(Arc::new(alloc, loop_value(alloc, from_key(path, end)))?)
+}
+
+// The keys of a path show the value.
+fn show_all(
+    shown: &mut BTreeMap<Key, Arc<Value>>,
+    path: &[Key],
+    value: &Arc<Value>,
+) -> Result<(), Memory>
+    ensures { OnOk result (ShowsAll shown.old shown.new path.now (arc_value value.now)) }
+{
+    for key in path {
+        shown.insert(key.share()?, Arc::try_clone(value)?)?;
+    }
+    Ok(())
+}
+
+// The value that a node shows.
+fn value_of(
+    alloc: Global,
+    graph: &Graph,
+    stops: &mut BTreeMap<Key, Key>,
+    shown: &mut BTreeMap<Key, Arc<Value>>,
+    key: &Key,
+) -> Result<Arc<Value>, Memory>
+    ensures { IfOk result (λ v. (all : Key → Option Key) → IsStall all (record_at graph.now) → IsShowing all (record_at graph.now) stops.old shown.old
+        → ((j : Key) × (all key.now ≡ Some j)) → IsShowing all (record_at graph.now) stops.new shown.new × Shows all (record_at graph.now) key.now (arc_value v)) }
+{
+    let (path, end) = walk(alloc, stops, key)?;
+    let value = end_value(alloc, graph, shown, path.as_slice(), &end)?;
+    show_all(shown, path.as_slice(), &value)?;
+    Ok(value)
+}
+
+/// The entries of closed nodes, each with the value that it shows.
+pub fn entries_of(alloc: Global, graph: &Graph, stall: Stall) -> Result<Vec<Entry>, Memory>
+    ensures { IfOk result (λ entries. IsStall (stop_at stall.stops) (record_at graph.now) → ((c : Closing) → In c stall.closing.items → (j : Key) × (stop_at stall.stops c.key ≡ Some j)) → AllDiffer (closing_keys stall.closing.items)
+        → AreEntries (stop_at stall.stops) (record_at graph.now) stall.closing.items entries.items) }
+{
+    let Stall {
+        mut closing,
+        mut stops,
+    } = stall;
+    let mut shown = BTreeMap::new(alloc);
+    let mut entries = Vec::new(alloc);
+    while let Some(item) = closing.pop() {
+        let Closing { key, groups } = item;
+        let value = value_of(alloc, graph, &mut stops, &mut shown, &key)?;
+        entries.push(Entry { key, value, groups })?;
+    }
+    Ok(entries)
+}
