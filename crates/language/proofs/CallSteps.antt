@@ -11,7 +11,7 @@ use Rattle.meaning.specs.Outcome.{gives, faults, Does, and_then, ◌>>=◌, chec
 use Rattle.meaning.specs.Heap.{Obj, text, dict, Entries, Store, at, makes, makes_text, makes_list, makes_tuple, makes_dict, is_sized}
 use Rattle.meaning.specs.Printing.{print, repr, str_object, str}
 use Rattle.meaning.specs.Comparing.{same_text}
-use Rattle.meaning.specs.Indexing.{items, hash}
+use Rattle.meaning.specs.Indexing.{with_key, items, hash}
 use Rattle.meaning.specs.Functions.{Named, the_items, length_of, len, range_count, numbers, range_list, range_by, range, type_of, plain_order, are_alike, sort_from, turned, sorted_list, sorted_by, sorted, numbered, zipped, each_items, makes_tuples, best, best_of, extreme, grows, add_all, pair_of, add_each, entries_of, dict_from, is_twice, add_named, dict_of, one, at_most_one, truth_of, plain, unnamed, builtin}
 use Rattle.meaning.specs.Freezing as z
 use Rattle.meaning.specs.Freezing.{Fz, Fzs, Pairs, thaw, thaw_members, thaw_pairs}
@@ -168,14 +168,14 @@ mutual
   thaw_down (z.text bytes) s = d_makes _ s
   thaw_down (z.list fs) s = d_then s.steps (thaw_members fs s) _ (thaw_members_down fs s) λ xs t. d_makes _ t
   thaw_down (z.tuple fs) s = d_then s.steps (thaw_members fs s) _ (thaw_members_down fs s) λ xs t. d_makes _ t
-  thaw_down (z.dict ps) s = d_then s.steps (thaw_pairs ps s) _ (thaw_pairs_down ps s) λ xs t. d_makes _ t
+  thaw_down (z.dict ps) s = d_then s.steps (thaw_pairs [] ps s) _ (thaw_pairs_down ps [] s) λ xs t. d_makes _ t
   thaw_down (z.function label name) s = d_makes _ s
 
   pub thaw_members_down : (fs : Fzs) → Lowers (thaw_members fs)
   thaw_members_down z.no_members s = d_pure _ s
   thaw_members_down (z.member f fs) s = d_then s.steps (thaw f s) _ (thaw_down f s) λ x t. d_then t.steps (thaw_members fs t) _ (thaw_members_down fs t) λ xs u. d_pure _ u
 
-  pub thaw_pairs_down : (ps : Pairs) → Lowers (thaw_pairs ps)
-  thaw_pairs_down z.no_pairs s = d_pure _ s
-  thaw_pairs_down (z.pair k f ps) s =
-      d_then s.steps (thaw k s) _ (thaw_down k s) λ x t. d_then t.steps (thaw f t) _ (thaw_down f t) λ y u. d_then u.steps (thaw_pairs ps u) _ (thaw_pairs_down ps u) λ es w. d_pure _ w
+  pub thaw_pairs_down : (ps : Pairs) (es : Entries) → Lowers (thaw_pairs es ps)
+  thaw_pairs_down z.no_pairs es s = d_pure _ s
+  thaw_pairs_down (z.pair k f ps) es s =
+      d_then s.steps (thaw k s) _ (thaw_down k s) λ x t. d_then t.steps (thaw f t) _ (thaw_down f t) λ y u. thaw_pairs_down ps (with_key (z.frozen_key k) (record { key = x; value = y }) es) u

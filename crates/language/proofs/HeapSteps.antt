@@ -2,7 +2,7 @@
 use Rattle.std.proofs.Common.{◌≡◌, ℕ, ℤ, ◌≤◌, arith, List, [], ◌∷◌, Bool, true, false, Option, Some, None, refl}
 use Rattle.std.specs.Prelude.{if◌then◌else◌, ◌+ℤ◌, ◌-ℤ◌, ◌*ℤ◌, neg_ℤ, length}
 use Rattle.std.specs.declared.cmp.Ordering.{Ordering}
-use Rattle.std.specs.Ordering.{is_lt, is_le, is_gt, is_ge}
+use Rattle.std.specs.Ordering.{is_le, is_gt, is_ge}
 use Rattle.meaning.specs.declared.key.Part.{Part}
 use Rattle.meaning.specs.declared.val.Val.{Val}
 use Rattle.meaning.specs.declared.val.Val.TheVariants as v
@@ -16,8 +16,8 @@ use Rattle.meaning.specs.Operators.{joins, add, subtract, multiply, repeats, div
 use Rattle.meaning.specs.Hashing.{key}
 use Rattle.meaning.specs.Comparing.{equal, order, equals, compares, found}
 use Rattle.meaning.specs.Indexing.{hash, at_key, found_key, found_at, value_of, index_object, index, cut, slice_object, slice, is_iterated, may_change, set_place, set_member, with_key, puts_sized, set_key, set_object, set_index, int_of, place}
-use Rattle.meaning.specs.Membership.{any_equal, part_of, text_has, object_has, has}
-use Rattle.meaning.specs.Binary.{test, binary}
+use Rattle.meaning.specs.Membership.{any_equal, text_has, has_key, hashed_has, object_has, has}
+use Rattle.meaning.specs.Binary.{less, test, binary}
 use Rattle.language.proofs.WalkSteps.{LeavesAtMost, Falling, key_falls, equal_falls, order_falls, any_equal_falls}
 
 abbrev pub HeapAtMost : {A : Type 0} → ℕ → Out Store A → Type 0
@@ -212,19 +212,19 @@ set_index_down a i x s = d_fault 5 _
 
 -- ---- operators
 
-part_of_down : (whole : List ℕ) (object : Option Obj) → Lowers (part_of whole object)
-part_of_down whole (Some (text part)) s = d_pure _ s
-part_of_down whole object s = d_fault 5 _
+has_key_down : (object : Option Obj) (k : List Part) → Lowers (has_key object k)
+has_key_down (Some (dict es f)) k s = d_pure _ s
+has_key_down object k s = d_fault 5 _
 
-text_has_down : (whole : List ℕ) (x : Val) → Lowers (text_has whole x)
-text_has_down whole (v.At a) s = part_of_down whole (at a s) s
-text_has_down whole x s = d_fault 5 _
+hashed_has_down : (object : Option Obj) (x : Val) → Lowers (hashed_has object x)
+unfolding hashed_has
+hashed_has_down object x s = d_then s.steps (hash x s) (has_key object) (hash_down x s) λ k t. has_key_down object k t
 
 object_has_down : (object : Option Obj) (x : Val) → Lowers (object_has object x)
-object_has_down (Some (text whole)) x s = text_has_down whole x s
+object_has_down (Some (text whole)) x s = d_checked (text_has s.heap whole x) s
 object_has_down (Some (list xs f)) x s = d_walks (λ heap. any_equal (equal 64 heap) x xs) (λ heap. any_equal_falls (equal 64 heap) (equal_falls 64 heap) x xs) s
 object_has_down (Some (tuple xs)) x s = d_walks (λ heap. any_equal (equal 64 heap) x xs) (λ heap. any_equal_falls (equal 64 heap) (equal_falls 64 heap) x xs) s
-object_has_down (Some (dict es f)) x s = d_then s.steps (hash x s) _ (hash_down x s) λ k t. d_pure _ t
+object_has_down (Some (dict es f)) x s = hashed_has_down (Some (dict es f)) x s
 object_has_down object x s = d_fault 5 _
 
 has_down : (x a : Val) → Lowers (has x a)
@@ -240,7 +240,7 @@ test_down holds a b s = d_then s.steps (compares a b s) _ (d_walks (λ heap. ord
 pub binary_down : (op : Operator) (a b : Val) → Lowers (binary op a b)
 binary_down o.Equal a b s = d_then s.steps (equals a b s) _ (equals_down a b s) λ c t. d_pure _ t
 binary_down o.NotEqual a b s = d_then s.steps (equals a b s) _ (equals_down a b s) λ c t. d_pure _ t
-binary_down o.Less a b s = test_down is_lt a b s
+binary_down o.Less a b s = d_then s.steps (less a b s) _ (d_then s.steps (compares a b s) _ (d_walks (λ heap. order 64 heap a b) (λ heap. order_falls 64 heap a b) s) λ q t. d_pure _ t) λ c t. d_pure _ t
 binary_down o.LessEqual a b s = test_down is_le a b s
 binary_down o.Greater a b s = test_down is_gt a b s
 binary_down o.GreaterEqual a b s = test_down is_ge a b s

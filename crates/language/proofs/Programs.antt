@@ -9,7 +9,9 @@ use Rattle.tree.specs.Tree.{Fi}
 use Rattle.meaning.specs.Hashing.{key}
 use Rattle.meaning.specs.Comparing.{equal, order}
 use Rattle.meaning.specs.Indexing.{found_key}
-use Rattle.meaning.specs.Printing.{print}
+use Rattle.std.specs.Fmt.{digits}
+use Rattle.meaning.specs.Membership.{hashed_has}
+use Rattle.meaning.specs.Printing.{print, int_text}
 use Rattle.meaning.specs.Freezing.{freeze}
 use Rattle.language.specs.Modules.{Loaded, exports}
 use Rattle.language.specs.World.{Attribute, several, Target, Ends, ended, failed, waits, tick}
@@ -28,7 +30,7 @@ use Rattle.language.proofs.Parsed.{parsed}
 
 -- the outcome, with all definitions laid out; and how the file's evaluation ends from so many steps
 unfoldable pub evaluated : Env → Outcome
-unfolding evaluate tick read bind need_names arguments glob rule package_call apply apply_method call key found_key equal order print freeze
+unfolding evaluate tick read bind need_names arguments glob rule package_call apply apply_method call key found_key hashed_has equal order print int_text digits freeze
 evaluated = evaluate
 
 unfoldable pub ran : ℕ → Env → Ends Outcome

@@ -4,7 +4,8 @@ use Rattle.tree.specs.Tree as t
 use Rattle.tree.specs.Tree.{Suite, Fn}
 use Rattle.meaning.specs.Freezing as z
 use Rattle.meaning.specs.Operators.{times}
-use Rattle.meaning.specs.Printing.{decimal}
+use Rattle.std.specs.Fmt.{digits}
+use Rattle.meaning.specs.Printing.{int_text}
 use Rattle.language.specs.Modules.{Loaded}
 use Rattle.language.proofs.Programs.{AllGive, is, code, expression, Shown, tags, at_build, at_bzl, of_text, build, outcome, shown}
 
@@ -26,7 +27,8 @@ nesting = refl
 
 -- a module of the functions f0 to fk, each calling the one before it on the line behind that one's
 name : ℕ → List ℕ
-name k = codes "f" ++ decimal (pos k)
+unfolding int_text digits
+name k = codes "f" ++ int_text (pos k)
 
 body : ℕ → Suite
 unfolding name

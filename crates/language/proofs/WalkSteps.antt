@@ -1,6 +1,6 @@
 -- Walks never have more steps left than they began with.
 use Rattle.std.proofs.Common.{ℕ, zero, suc, ◌≤◌, ◌-◌, ◌==◌, arith, List, [], ◌∷◌, Bool, true, false, Option, Some, None}
-use Rattle.std.specs.Prelude.{if◌then◌else◌, nat_lt, length}
+use Rattle.std.specs.Prelude.{codes, if◌then◌else◌, nat_lt, length}
 use Rattle.std.specs.declared.cmp.Ordering.{Ordering}
 use Rattle.meaning.specs.declared.key.Part.{Part}
 use Rattle.meaning.specs.declared.val.Val.{Val}
@@ -11,9 +11,9 @@ use Rattle.meaning.specs.Hashing.{AsKey, part, parts, no_key, as_key, along, vis
 use Rattle.meaning.specs.Comparing.{Pair, settled, members, entries, pair, found, equal_members, equal_found, equal_entry, equal_entries, visit_pair, equal, Sides, ordered, listed, no_order, sides, Parting, settled_as, unequal, parting, order_parted, visit_sides, order}
 use Rattle.meaning.specs.Membership.{any_equal}
 use Rattle.meaning.specs.Printing as p
-use Rattle.meaning.specs.Printing.{Shown, shown, texts, entry_texts, visit_shown, print}
+use Rattle.meaning.specs.Printing.{Shown, shown, following, separated, tuple_end, pair_text, container, visit_shown, print}
 use Rattle.meaning.specs.Freezing as z
-use Rattle.meaning.specs.Freezing.{Held, held, freeze_members, freeze_entries, visit_held, freeze, Fz, Fzs, Pairs}
+use Rattle.meaning.specs.Freezing.{Held, held, freeze_members, freeze_entry, freeze_entries, visit_held, freeze, Fz, Fzs, Pairs}
 
 abbrev pub LeavesAtMost : {A : Type 0} → ℕ → Out ℕ A → Type 0
 LeavesAtMost n (gives a s) = s ≤ n
@@ -144,21 +144,26 @@ order_falls (suc d) heap x y n = visit_sides_falls (equal d heap) (order d heap)
 
 -- ---- printing
 
-texts_falls : (f : Val → Does ℕ (List ℕ)) → ((x : Val) → Falling (f x)) → (xs : List Val) → Falling (texts f xs)
-texts_falls f h [] n = w_gives _ n
-texts_falls f h (x ∷ xs) n = w_then n (f x n) _ (h x n) λ t m. w_then m (texts f xs m) _ (texts_falls f h xs m) λ _ k. w_gives _ k
+following_falls : {A : Type 0} (f : A → Does ℕ (List ℕ)) → ((x : A) → Falling (f x)) → (xs : List A) → Falling (following f xs)
+following_falls f h [] n = w_gives _ n
+following_falls f h (x ∷ xs) n = w_then n (f x n) _ (h x n) λ t m. w_then m (following f xs m) _ (following_falls f h xs m) λ _ k. w_gives _ k
 
-entry_texts_falls : (f : Val → Does ℕ (List ℕ)) → ((x : Val) → Falling (f x)) → (es : Entries) → Falling (entry_texts f es)
-entry_texts_falls f h [] n = w_gives _ n
-entry_texts_falls f h (e ∷ es) n =
-    w_then n (f e.1.key n) _ (h e.1.key n) λ t m. w_then m (f e.1.value m) _ (h e.1.value m) λ u k. w_then k (entry_texts f es k) _ (entry_texts_falls f h es k) λ _ i. w_gives _ i
+separated_falls : {A : Type 0} (f : A → Does ℕ (List ℕ)) → ((x : A) → Falling (f x)) → (xs : List A) → Falling (separated f xs)
+separated_falls f h [] n = w_gives _ n
+separated_falls f h (x ∷ xs) n = w_then n (f x n) _ (h x n) λ t m. w_then m (following f xs m) _ (following_falls f h xs m) λ _ k. w_gives _ k
+
+pair_text_falls : (f : Val → Does ℕ (List ℕ)) → ((x : Val) → Falling (f x)) → (e : List Part × Entry) → Falling (pair_text f e)
+pair_text_falls f h e n = w_then n (f e.1.key n) _ (h e.1.key n) λ t m. w_then m (f e.1.value m) _ (h e.1.value m) λ u k. w_gives _ k
+
+container_falls : (before : List ℕ) (inner : Does ℕ (List ℕ)) (behind : List ℕ) → Falling inner → Falling (container before inner behind)
+container_falls before inner behind h n = w_then n (tick n) _ (w_tick n) λ _ m. w_then m (inner m) _ (h m) λ t k. w_gives _ k
 
 visit_shown_falls : (f : Val → Does ℕ (List ℕ)) → ((x : Val) → Falling (f x)) → (x : Shown) → Falling (visit_shown (Some f) x)
 visit_shown_falls f h (p.written t) n = w_then n (tick n) _ (w_tick n) λ _ m. w_gives _ m
 visit_shown_falls f h p.absent n = w_then n (tick n) _ (w_tick n) λ _ m. w_fault 5 m
-visit_shown_falls f h (p.listed xs) n = w_then n (tick n) _ (w_tick n) λ _ m. w_then m (texts f xs m) _ (texts_falls f h xs m) λ _ k. w_gives _ k
-visit_shown_falls f h (p.tupled xs) n = w_then n (tick n) _ (w_tick n) λ _ m. w_then m (texts f xs m) _ (texts_falls f h xs m) λ _ k. w_gives _ k
-visit_shown_falls f h (p.mapped es) n = w_then n (tick n) _ (w_tick n) λ _ m. w_then m (entry_texts f es m) _ (entry_texts_falls f h es m) λ _ k. w_gives _ k
+visit_shown_falls f h (p.listed xs) n = container_falls (codes "[") (separated f xs) (codes "]") (separated_falls f h xs) n
+visit_shown_falls f h (p.tupled xs) n = container_falls (codes "(") (separated f xs) (tuple_end xs) (separated_falls f h xs) n
+visit_shown_falls f h (p.mapped es) n = container_falls (codes "{") (separated (pair_text f) es) (codes "}") (separated_falls (pair_text f) (pair_text_falls f h) es) n
 
 visit_last_shown_falls : (x : Shown) → Falling (visit_shown None x)
 visit_last_shown_falls (p.written t) n = w_then n (tick n) _ (w_tick n) λ _ m. w_gives _ m
@@ -181,7 +186,8 @@ freeze_members_falls f h (x ∷ xs) n = w_then n (f x n) _ (h x n) λ t m. w_the
 freeze_entries_falls : (f : Val → Does ℕ Fz) → ((x : Val) → Falling (f x)) → (es : Entries) → Falling (freeze_entries f es)
 freeze_entries_falls f h [] n = w_gives _ n
 freeze_entries_falls f h (e ∷ es) n =
-    w_then n (f e.1.key n) _ (h e.1.key n) λ t m. w_then m (f e.1.value m) _ (h e.1.value m) λ u k. w_then k (freeze_entries f es k) _ (freeze_entries_falls f h es k) λ _ i. w_gives _ i
+    w_then n (freeze_entry f e.1 n) _ (w_then n (f e.1.key n) _ (h e.1.key n) λ t m. w_then m (f e.1.value m) _ (h e.1.value m) λ u k. w_gives _ k) λ q m.
+    w_then m (freeze_entries f es m) _ (freeze_entries_falls f h es m) λ _ i. w_gives _ i
 
 visit_held_falls : (f : Val → Does ℕ Fz) → ((x : Val) → Falling (f x)) → (x : Held) → Falling (visit_held (Some f) x)
 visit_held_falls f h (z.settled t) n = w_then n (tick n) _ (w_tick n) λ _ m. w_gives _ m

@@ -7,7 +7,7 @@ use Rattle.tree.specs.Tree as t
 use Rattle.tree.specs.Tree.{Ld, It, Tp, Fn, Pa, Bound}
 use Rattle.meaning.specs.declared.val.Val.{Val}
 use Rattle.meaning.specs.Heap.{walks, makes, function}
-use Rattle.meaning.specs.Freezing.{Fz, freeze, freeze_members, thaw}
+use Rattle.meaning.specs.Freezing.{Fz, freezes, freeze, freeze_members, thaw}
 use Rattle.language.specs.Sorting.{in_order}
 use Rattle.language.specs.Modules.{Frozen, Defaults, Body, Loaded, exported, all_bodies, each_once}
 use Rattle.language.specs.World.{World, Target, Site, Here, at_line, Ends, ended, failed, waits, Runs, ◌>>=◌, pure, fault, or_fault, on_heap, tick}
@@ -109,7 +109,7 @@ frozen_names [] here = pure []
 frozen_names (x ∷ xs) here =
     (λ w. or_fault 4 (file_slot x (names_at here.label w.files)) here w) >>= λ bound.
     or_fault 4 bound here >>= λ y.
-    on_heap here (walks λ heap. freeze 64 heap y) >>= λ f.
+    on_heap here (freezes y) >>= λ f.
     frozen_names xs here >>= λ fs.
     pure (record { name = x; value = f } ∷ fs)
 
