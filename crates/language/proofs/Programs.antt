@@ -28,7 +28,7 @@ use Rattle.language.proofs.Parsed.{parsed}
 
 -- ---- programs
 
--- the outcome, with all definitions laid out; and how the file's evaluation ends from so many steps
+-- The outcome, with all definitions laid out (one that becomes `unfoldable` has to be named here, too); and how the file's evaluation ends from so many steps
 unfoldable pub evaluated : Env → Outcome
 unfolding evaluate tick read bind need_names arguments glob rule package_call apply apply_method call key found_key hashed_has equal order print int_text digits freeze
 evaluated = evaluate
