@@ -106,6 +106,46 @@ def one_edit(files):
           f"{sorted(edits)[150] * 1e6:.0f} and {sorted(asks)[150] * 1e6:.0f} microseconds (median of 300)")
 
 
+def marks(lookups):
+    """Edits and finds beside a graph of so many look-ups: each edit reaches one of them, and its find runs that one."""
+    session = Session()
+    lines = [line(op="put", path=f"d{n // 100}/p{n % 100}/BUILD", text="") for n in range(lookups)]
+    session.load("".join(lines).encode())
+    finds = [line(op="find", name=f"d{n // 100}/p{n % 100}") for n in range(lookups)]
+    session.load("".join(finds).encode())
+    edits, asks, again = [], [], []
+    for turn in range(300):
+        n = turn * 7919 % lookups
+        edit = line(op="put", path=f"d{n // 100}/p{n % 100}/BUILD", text=str(turn)).encode()
+        ask = finds[n].encode()
+        start = time.perf_counter()
+        session.ask(edit)
+        edited = time.perf_counter()
+        session.ask(ask)
+        asked = time.perf_counter()
+        session.ask(ask)
+        edits.append(edited - start)
+        asks.append(asked - edited)
+        again.append(time.perf_counter() - asked)
+    session.close()
+    print(f"beside {lookups} look-ups that were evaluated, through two pipes: an edit of one {sorted(edits)[150] * 1e6:.0f}, "
+          f"its find {sorted(asks)[150] * 1e6:.0f}, the same find again {sorted(again)[150] * 1e6:.0f} microseconds (median of 300)")
+
+
+def finds_again(folder):
+    """Finds without a change, against parsing them."""
+    file, puts, times = os.path.join(folder, "again"), 1000, 200
+    with open(file, "w") as lines:
+        for n in range(puts):
+            lines.write(line(op="put", path=f"d{n // 100}/p{n % 100}/BUILD", text=""))
+        for _ in range(times):
+            for n in range(puts):
+                lines.write(line(op="find", name=f"d{n // 100}/p{n % 100}"))
+    served, parsed = seconds(LOADER, file), seconds(PARSE_ONLY, file)
+    print(f"{times} finds without a change of each of {puts} packages: {served:.3f} s, only parsed in {parsed:.3f} s: "
+          f"{served / parsed:.2f} times")
+
+
 def long_line():
     session = Session()
     start = time.perf_counter()
