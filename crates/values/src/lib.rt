@@ -10,8 +10,3 @@ pub use heap::{Builtin, Bytes, Entry, Halt, Heap, Key, Object, Operator, Part, V
 pub use indexing::{index, items, set_index, slice};
 pub use operators::{binary, less};
 pub use printing::{print, text};
-
-#[cfg(test)]
-mod tests;
-#[cfg(test)]
-mod walk_tests;

@@ -1,36 +1,11 @@
-//! Calls with the values that the language's specification gives them.
-use crate::{
+//! Operators, index, slice, change and iteration.
+use crate::made::{list, nested, text};
+use indexmap::IndexMap;
+use std::test::Fail;
+use values::{
     Halt, Heap, Object, Operator, Val, binary, equal, index, is_true, items, less, negate,
     set_index, slice,
 };
-use indexmap::IndexMap;
-use std::test::Fail;
-
-// A list of ints.
-pub fn list(heap: &mut Heap, ints: &[i64]) -> Result<Val, Halt> {
-    let mut members = Vec::new(heap.alloc);
-    for n in ints {
-        members.push(Val::Int(*n))?;
-    }
-    heap.make_list(members)
-}
-
-// A string.
-pub fn text(heap: &mut Heap, bytes: &str) -> Result<Val, Halt> {
-    let bytes = Vec::from_slice(heap.alloc, bytes.as_bytes())?;
-    heap.make_text(bytes)
-}
-
-// A list of lists, so many inside one another.
-pub fn nested(heap: &mut Heap, depth: u32) -> Result<Val, Halt> {
-    let mut inner = list(heap, &[])?;
-    for _i in 1..depth {
-        let mut members = Vec::new(heap.alloc);
-        members.push(inner)?;
-        inner = heap.make_list(members)?;
-    }
-    Ok(inner)
-}
 
 #[test]
 fn quotients_round_down(rt: HostRuntime) -> Result<(), Fail> {
