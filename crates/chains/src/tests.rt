@@ -23,6 +23,9 @@ fn shown(graph: &Graph, key: &Key) -> &'static str {
 
 // Sets a file, or takes it away where the text is `-`, and marks what that reaches.
 fn set(graph: &mut Graph, tree: &mut Tree, path: &str, text: &str) -> Result<(), Fail> {
+    if graph.version() == u32::MAX {
+        return Err(Fail::from(Stop::Memory));
+    }
     if text == "-" {
         tree.del(path)?;
     } else {
@@ -45,9 +48,9 @@ fn look(
     }
     let mut rules = Chains::new(alloc);
     let runs = evaluate_here(alloc, graph, tree, roots.as_slice(), &mut rules, 100)?;
-    let mut turns = 0;
+    let mut turns: u64 = 0;
     for run in &runs {
-        turns += run.turns;
+        turns = run.turns.saturating_add(turns);
     }
     let mut text = String::new(alloc);
     for root in &roots {
@@ -147,16 +150,18 @@ fn each_budget_that_is_spent_is_gone_on_from(rt: HostRuntime) -> Result<(), Fail
         set(&mut graph, &mut tree, path, text)?;
     }
     let roots = [Key::Lookup(Text::new(alloc, "w")?)];
-    let mut spent = 0;
+    let mut spent = false;
     for budget in 0..20 {
         let mut rules = Chains::new(alloc);
         match evaluate_here(alloc, &mut graph, &tree, &roots, &mut rules, budget) {
             Ok(_) => break,
-            Err(Stop::Budget) => spent += 1,
+            Err(Stop::Budget) => {
+                spent = budget > 3;
+            }
             Err(Stop::Memory) => return Err(Fail::from(Stop::Memory)),
         }
     }
-    assert!(rt; spent > 3);
+    assert!(rt; spent);
     assert!(rt; shown(&graph, &roots[0]) == "c");
     Ok(())
 }

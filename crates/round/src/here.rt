@@ -150,6 +150,9 @@ mod tests {
 
     // Puts a text at a path, and marks what that reaches.
     fn put(graph: &mut Graph, tree: &mut Tree, path: &str, text: &str) -> Result<(), Fail> {
+        if graph.version() == u32::MAX {
+            return Err(Fail::from(Stop::Memory));
+        }
         tree.put(path, text)?;
         graph.touch(path)?;
         Ok(())
@@ -165,12 +168,12 @@ mod tests {
         let roots = [Key::Lookup(Text::new(alloc, name)?)];
         let mut rules = Loading::new(alloc);
         let runs = evaluate_here(alloc, graph, tree, &roots, &mut rules, 10)?;
-        let mut turns = 0;
+        let mut turns: u64 = 0;
         for run in &runs {
             if run.version != graph.version() {
                 return Err(Fail::from(Stop::Budget));
             }
-            turns += run.turns;
+            turns = run.turns.saturating_add(turns);
         }
         match graph.get(&roots[0]) {
             Some(value) => match &**value {
