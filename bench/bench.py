@@ -225,6 +225,9 @@ def main():
         throughput(folder)
         for files in (1_000, 100_000):
             one_edit(files)
+        for lookups in (1_000, 100_000):
+            marks(lookups)
+        finds_again(folder)
 
 
 if __name__ == "__main__":
