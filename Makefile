@@ -16,16 +16,22 @@ build:
 test:
 	rt ci
 
-# Each allocation of the program refused in turn, over the example, and each of the parser over two files. Needs cc and
-# python3.
+# Each allocation of the program refused in turn, over the example, each of the parser over two files, and each of a
+# script of values and of one of edits and look-ups. Needs cc and python3.
 allocations: build
 	@cd crates/parse_times && rt run > build.log 2>&1 || { tail -n 30 build.log; exit 1; }
+	@cd crates/value_times && rt run > build.log 2>&1 || { tail -n 30 build.log; exit 1; }
+	@cd crates/graph_times && rt run > build.log 2>&1 || { tail -n 30 build.log; exit 1; }
 	python3 tests/allocations.py
 	python3 tests/parse_allocations.py
+	python3 tests/script_allocations.py
 
 # Times of the program; prints a table. Needs python3.
 bench: build
 	@cd crates/parse_only && rt run < /dev/null > build.log 2>&1 || { tail -n 30 build.log; exit 1; }
 	@cd crates/tree_times && rt run > build.log 2>&1 || { tail -n 30 build.log; exit 1; }
 	@cd crates/parse_times && rt run > build.log 2>&1 || { tail -n 30 build.log; exit 1; }
+	@cd crates/graph_times && rt run > build.log 2>&1 || { tail -n 30 build.log; exit 1; }
+	@cd crates/value_times && rt run > build.log 2>&1 || { tail -n 30 build.log; exit 1; }
 	python3 bench/bench.py
+	python3 bench/values.py

@@ -13,6 +13,7 @@ import time
 
 HERE = os.path.dirname(os.path.abspath(__file__))
 LOADER = [os.path.join(HERE, "../crates/cli/out/cli"), "run"]
+GRAPH_TIMES = os.path.join(HERE, "../crates/graph_times/out/graph_times")
 TREE_TIMES = os.path.join(HERE, "../crates/tree_times/out/tree_times")
 PARSE_TIMES = os.path.join(HERE, "../crates/parse_times/out/parse_times")
 PARSE_ONLY = [os.path.join(HERE, "../crates/parse_only/out/parse_only")]
@@ -165,6 +166,11 @@ def tree_times():
         print(subprocess.run([TREE_TIMES, files], capture_output=True, text=True, check=True).stdout, end="")
 
 
+def graph_times():
+    for packages in ("1000", "100000"):
+        print(subprocess.run([GRAPH_TIMES, packages], capture_output=True, text=True, check=True).stdout, end="")
+
+
 def function(n):
     """A function of some ten lines, with most of the forms."""
     return f'''def rule_{n}(name, srcs = [], deps = None):
@@ -221,6 +227,7 @@ def main():
     with tempfile.TemporaryDirectory() as folder:
         parse_times(folder)
         tree_times()
+        graph_times()
         long_line()
         throughput(folder)
         for files in (1_000, 100_000):

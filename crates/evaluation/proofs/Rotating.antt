@@ -154,6 +154,48 @@ text_exact x y e f = exact_bytes x y (go (slice_cmp nat_cmp x y) (slice_cmp nat_
     go a Greater h e f = cc
     go Greater b h e f = cc
 
+-- a first least text with those before it, each of them greater, and those after it
+pub rotated_from : (before : List (List ℕ)) (least : List ℕ) (rest : List (List ℕ)) → is_least text_le least (before ++ least ∷ rest) ≡ true → AllByRecursion (λ a. text_le a least ≡ false) before
+    → rotated (before ++ least ∷ rest) ≡ least ∷ (rest ++ before)
+rotated_from before least rest l greater = passes text_le text_total text_trans text_exact (before ++ least ∷ rest) [] before least rest l (go before greater)
+  where
+    not_least : (a : List ℕ) → text_le a least ≡ false → is_least text_le a (before ++ least ∷ rest) ≡ false
+    not_least a g = decide (is_least text_le a (before ++ least ∷ rest)) refl
+      where
+        decide : (b : Bool) → is_least text_le a (before ++ least ∷ rest) ≡ b → is_least text_le a (before ++ least ∷ rest) ≡ false
+        decide false h = h
+        decide true h = absurd (no (sym (least_at text_le text_total text_trans text_exact (in_middle before least rest) h) ∙ g))
+          where
+            no : true ≡ false → ⊥
+            no e = cc
+
+    go : (ps : List (List ℕ)) → AllByRecursion (λ a. text_le a least ≡ false) ps → AllByRecursion (λ a. is_least text_le a (before ++ least ∷ rest) ≡ false) ps
+    go [] g = tt
+    go (p ∷ ps) g = (not_least p g.0, go ps g.1)
+
+-- a text that comes after those so far: the least stays
+pub least_stays : (least : List ℕ) (seen : List (List ℕ)) (x : List ℕ) → is_least text_le least seen ≡ true → text_le least x ≡ true → is_least text_le least (seen ++ x ∷ []) ≡ true
+least_stays least seen x l h = least_join text_le text_total text_trans text_exact least seen (x ∷ []) l (and_true h refl)
+
+-- or it is the least from then on, and those so far are greater
+pub least_moves : (least : List ℕ) (seen : List (List ℕ)) (x : List ℕ) → is_least text_le least seen ≡ true → text_le least x ≡ false → is_least text_le x (seen ++ x ∷ []) ≡ true
+least_moves least seen x l h = least_join text_le text_total text_trans text_exact x seen (x ∷ [])
+    (least_below text_le text_total text_trans text_exact seen (text_total least x h) l) (and_true (to_itself text_le text_total text_trans text_exact x) refl)
+
+pub greater_than : (least : List ℕ) (seen : List (List ℕ)) (x : List ℕ) → is_least text_le least seen ≡ true → text_le least x ≡ false → AllByRecursion (λ a. text_le a x ≡ false) seen
+greater_than least [] x l h = tt
+greater_than least (a ∷ seen) x l h = let p = both (text_le least a) (is_least text_le least seen) l in (decide (text_le a x) refl p.0, greater_than least seen x p.1 h)
+  where
+    no : true ≡ false → ⊥
+    no e = cc
+
+    decide : (b : Bool) → text_le a x ≡ b → text_le least a ≡ true → text_le a x ≡ false
+    decide false e f = e
+    decide true e f = absurd (no (sym (text_trans least a x f e) ∙ h))
+
+pub least_alone : (x : List ℕ) → is_least text_le x (x ∷ []) ≡ true
+least_alone x = and_true (to_itself text_le text_total text_trans text_exact x) refl
+
 pub rotated_turned : (x : List ℕ) (xs : List (List ℕ)) → AllDiffer (x ∷ xs) → rotated (x ∷ xs) ≡ rotated (xs ++ x ∷ [])
 rotated_turned x xs d = from_least_turned text_le text_total text_trans text_exact x xs d
 

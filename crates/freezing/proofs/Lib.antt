@@ -1,2 +1,4 @@
 pub mod Froze
 pub mod Thawed
+pub mod Sames
+pub mod Shallow

@@ -1,1 +1,4 @@
 pub mod View
+pub mod Same
+pub mod SameLaws
+pub mod Stored

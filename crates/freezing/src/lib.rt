@@ -3,10 +3,14 @@
 
 mod frozen;
 mod make;
+mod same;
 mod thawing;
+mod value;
 mod values;
 mod walk;
 
 pub use frozen::{Frozen, FrozenEntry};
+pub use same::same_frozen;
 pub use thawing::thaw;
+pub use value::FrozenValue;
 pub use values::freeze;

@@ -33,11 +33,10 @@ pub fn set_entry(entries: &mut IndexMap<Key, Entry>, key: Key, entry: Entry) -> 
 pub fn has_room(entries: &IndexMap<Key, Entry>, key: &Key) -> bool
     ensures { (e : Entry) → result ≡ is_sized (length (with_key key.now e entries.now.entries)) }
 {
-    if entries.contains_key(key) {
-        entries.len() <= LONGEST
-    } else {
-        entries.len() < LONGEST
+    if entries.len() < LONGEST {
+        return true;
     }
+    entries.len() == LONGEST && entries.contains_key(key)
 }
 
 /// The keys of a dictionary, in order.

@@ -66,10 +66,10 @@ abbrev pub error_of : Option ℕ → EditError
 error_of (Some n) = Refused n
 error_of None = Memory
 
--- a copy of the files with the edit made, or the first refusal; want of memory tells nothing
-abbrev pub Copies : Edit → Files → Result Files TreeError → Type 0
-Copies edit files (Ok copy) = (files_refusal edit files ≡ None) × (copy ≡ changed_files edit files)
-Copies edit files (Err e) = (n : ℕ) → edits.refusal_of e ≡ Some n → files_refusal edit files ≡ Some n
+-- the edit is made of the files; or they stay as they are, and the error tells the first refusal or want of memory
+abbrev pub EditsFiles : {A : Type 0} → Edit → Files → Files → Result A TreeError → Type 0
+EditsFiles edit before after (Ok _) = (files_refusal edit before ≡ None) × (after ≡ changed_files edit before)
+EditsFiles edit before after (Err e) = (after ≡ before) × ((n : ℕ) → edits.refusal_of e ≡ Some n → files_refusal edit before ≡ Some n)
 
 -- the edit is made, and its version told; or its first refusal is told, or memory was refused, and nothing changes
 abbrev pub Applies : Edit → State → State → Result ℕ EditError → Type 0

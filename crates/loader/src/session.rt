@@ -55,16 +55,15 @@ impl Model for Session {
     ghost invariant = { λ s. (s.tree ≡ files_of (record { began = s.began; edits = s.accepted; graph = s.graph })) × IsLawful (record { began = s.began; edits = s.accepted; graph = s.graph }) };
 }
 
-// A copy of the files with an edit made, which shares the rest.
-fn edited(tree: &Tree, edit: &Edit<'_>) -> Result<Tree, TreeError>
-    ensures { state.Copies (edit_seen edit.now) tree.now result }
+// Makes an edit of the files, or leaves them as they are.
+fn edit_files(tree: &mut Tree, edit: &Edit<'_>) -> Result<(), TreeError>
+    ensures { state.EditsFiles (edit_seen edit.now) tree.old tree.new result }
 {
-    let mut copy = tree.copy()?;
     match edit {
-        Edit::Put(path, text) => copy.put(path, text)?,
-        Edit::Del(path) => copy.del(path)?,
+        Edit::Put(path, text) => tree.put(path, text)?,
+        Edit::Del(path) => tree.del(path)?,
     }
-    Ok(copy)
+    Ok(())
 }
 
 impl Session {
@@ -102,7 +101,8 @@ impl Session {
     }
 
     /// Makes an edit, and answers the new version. The records that reach a leaf which the edit touches are marked as
-    /// dirty. What is refused changes nothing.
+    /// dirty. What is refused changes nothing: what is reached is found out first, then the files are changed in place,
+    /// and the marks take no memory.
     pub fn apply(&mut self, edit: &Edit<'_>) -> Result<u32, EditError>
         ensures applies { state.Applies (edit_seen edit.now) (state_of self.old) (state_of self.new) result }
         ensures history { OnOk result ((self.new.began ≡ self.old.began) × (self.new.edits ≡ self.old.edits ++ edit_seen edit.now ∷ [])) }
@@ -113,10 +113,13 @@ impl Session {
         if self.graph.version() == u32::MAX {
             return Err(EditError::Refused(self.files_refusal(edit).unwrap_or(8)));
         }
-        match edited(&self.tree, edit) {
-            Ok(tree) => Ok(self.accept(tree, edit)?),
-            Err(error) => Err(refused_as(&error)),
+        let reached = self.graph.reached_by(edit.path())?;
+        if let Err(error) = edit_files(&mut self.tree, edit) {
+            return Err(refused_as(&error));
         }
+        let version = self.graph.mark(reached.as_slice());
+        self.accepted.add(edit);
+        Ok(version)
     }
 
     // The first refusal by the path, the text and the files.
@@ -127,23 +130,6 @@ impl Session {
             Edit::Put(path, text) => self.tree.put_refusal(path, text),
             Edit::Del(path) => self.tree.del_refusal(path),
         }
-    }
-
-    // Marks what an edit reaches, and then puts the edited files in place.
-    fn accept(&mut self, tree: Tree, edit: &Edit<'_>) -> Result<u32, Memory>
-        requires version { self.old.graph.version < u32.MAX }
-        requires edited { tree ≡ state.changed_files (edit_seen edit.now) (files_of self.old) }
-        ensures version { IfOk result (λ v. v ≡ self.new.graph.version) }
-        ensures changed { OnOk result (state_of self.new ≡ state.changed (edit_seen edit.now) (state_of self.old)) }
-        ensures history { OnOk result ((self.new.began ≡ self.old.began) × (self.new.edits ≡ self.old.edits ++ edit_seen edit.now ∷ [])) }
-        ensures marks { OnOk result (Marks (record_at self.old.graph) (record_at self.new.graph) (IsTouched (path_of (edit_seen edit.now)))) }
-        ensures lawful { IsLawful self.new }
-        ensures refused { OnErr result (self.new ≡ self.old) }
-    {
-        let version = self.graph.touch(edit.path())?;
-        self.tree = tree;
-        self.accepted.add(edit);
-        Ok(version)
     }
 
     /// The answer to a request by its evaluation over the graph, in at most `budget` turns, and what that ran: a graph

@@ -6,6 +6,7 @@ pub mod Joining
 pub mod Rewriting
 pub mod Storing
 pub mod Readying
+pub mod Collecting
 pub mod Lawfulness
 pub mod Touching
 pub mod Batching

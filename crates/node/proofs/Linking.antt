@@ -80,7 +80,7 @@ module _ (users : Users) (leaves : List Key) (old new : Records) (marked : List 
   abbrev IsLeaf : Key → Type 0
   IsLeaf k = In k leaves
 
-  reaches : {k : Key} → IsReached users leaves k → Reaches (seen old) IsLeaf k
+  pub reaches : {k : Key} → IsReached users leaves k → Reaches (seen old) IsLeaf k
   reaches (at_leaf i) = leaf i
   reaches (by_user {j = j} {k = k} r i) = let p = linked.used j k i in through (is_seen old k p.0 p.1) p.2 (reaches r)
 

@@ -1,5 +1,5 @@
 -- Marks are spread a key at a time.
-use Rattle.std.proofs.Common.{◌≡◌, ◌⊎◌, inl, inr, ℕ, ◌+◌, ◌<◌, ◌≤◌, Bool, true, false, List, [], ◌∷◌, ◌++◌, Some, refl, sym, ◌∙◌, ap, subst, length, take, drop, arith, add-one, append-nil, append_assoc, slice_index_or}
+use Rattle.std.proofs.Common.{◌≡◌, ◌⊎◌, inl, inr, ℕ, ◌+◌, ◌<◌, ◌≤◌, true, false, List, [], ◌∷◌, ◌++◌, Some, refl, sym, ◌∙◌, ap, subst, length, take, drop, arith, add-one, append-nil, append_assoc, slice_index_or}
 use Rattle.std.specs.BTreeMap.{Updates, IsOrdered}
 use Rattle.std.proofs.lemmas.List.{take-append-le, length-append}
 use Rattle.std.proofs.Math.ListN.{take-append-drop}
@@ -9,7 +9,7 @@ use Rattle.keys.specs.declared.key.Key.{Key}
 use Rattle.keys.specs.Keys.{key_cmp}
 use Rattle.node.specs.declared.kept.Kept.{Kept}
 use Rattle.node.specs.Kept.{Records, Users, kept_at, users_at}
-use Rattle.node.specs.Marks.{IsDirty, IsReached, at_leaf, by_user, Marked, HasReached, HasReachedSome, HasReachedAll, HasSpread, HasPassed, Undoing}
+use Rattle.node.specs.Marks.{IsDirty, IsReached, at_leaf, by_user, Marked, HasReached, HasReachedSome, HasReachedAll, HasSpread, HasPassed}
 use Rattle.node.proofs.Lists.{in_split, in_left, in_right, in_one, not_in, some_is, true_false, same_or_key}
 
 module _ (old new : Records) (before now : List Key) (key : Key) where
@@ -101,7 +101,7 @@ module _ {X : Type 0} where
   in_take : {x : X} (n : ℕ) (xs : List X) → In x (take n xs) → In x xs
   in_take {x} n xs i = subst (In x) (take-append-drop n xs) (in_left (drop n xs) i)
 
-  one_more : (xs : List X) (n : ℕ) (d : X) → n < length xs → take (n + 1) xs ≡ take n xs ++ slice_index_or xs n d ∷ []
+  pub one_more : (xs : List X) (n : ℕ) (d : X) → n < length xs → take (n + 1) xs ≡ take n xs ++ slice_index_or xs n d ∷ []
   one_more xs n d h = rw add-one (take-suc xs n d h)
 
   pub in_at : (xs : List X) (n : ℕ) (d : X) → n < length xs → In (slice_index_or xs n d) xs
@@ -128,43 +128,6 @@ passed_none users records j i = elim i [ ]
 pub all_passed : (users : Users) (records : Records) (marked : List Key) (at : ℕ) → HasPassed users records (take at marked) → length marked ≤ at → HasPassed users records marked
 all_passed users records marked at p h = subst (HasPassed users records) (take_all at marked h) p
 
--- a mark is taken away
-module _ (original records newer : Records) (rest : List Key) (key : Key) (e : Kept) (had : kept_at records key ≡ Some e) (u : Updates key_cmp records newer key (Some (record e { dirty = false }))) where
-  pub undo_more : Undoing original records (rest ++ key ∷ []) → Undoing original newer rest
-  undo_more h = record {
-    each = λ k i. elim (same_or_key records newer key _ u k) [
-      | inl q ↦ let p = h.each k (in_left (key ∷ []) i) in (p.0, p.1, p.2, false, there k q p.0 p.3 p.4)
-      | inr q ↦ let p = h.each k (in_left (key ∷ []) i) in (p.0, p.1, p.2, p.3, q ∙ p.4)
-    ];
-    rest = λ k. elim (same_or_key records newer key _ u k) [
-      | inl q ↦ let p = h.each k (subst (λ x. In x (rest ++ key ∷ [])) q (in_right rest first)) in inr (there k q p.0 p.3 p.4 ∙ unmarked p.0 p.2 ∙ sym p.1)
-      | inr q ↦ elim (h.rest k) [
-        | inl a ↦ elim (in_split a rest (key ∷ []) refl) [
-          | inl b ↦ inl b
-          | inr b ↦ let p = h.each k (in_right rest b) in inr (there k (sym (in_one b)) p.0 p.3 p.4 ∙ unmarked p.0 p.2 ∙ sym p.1)
-        ]
-        | inr p ↦ inr (q ∙ p)
-      ]
-    ];
-  }
-    where
-      there : (k : Key) → key ≡ k → (x : Kept) (b : Bool) → kept_at records k ≡ Some (record x { dirty = b }) → kept_at newer k ≡ Some (record x { dirty = false })
-      there k q x b p =
-          let s : e ≡ record x { dirty = b } = some_is (sym had ∙ ap (kept_at records) q ∙ p) in
-          ap (kept_at newer) (sym q) ∙ u.1 ∙ ap (λ (y : Kept). Some (record y { dirty = false })) s
-
-      unmarked : (x : Kept) → x.dirty ≡ false → Some (record x { dirty = false }) ≡ Some x
-      unmarked x c = ap (λ b. Some (record x { dirty = b })) (sym c)
-
-pub undone : (original records : Records) → Undoing original records [] → (k : Key) → kept_at records k ≡ kept_at original k
-undone original records h k = elim (h.rest k) [ inl i ↦ absurd (not_in i refl) | inr p ↦ p ]
-
-pub undoing : (users : Users) (leaves : List Key) (old new : Records) (marked : List Key) → Marked users leaves old new marked → Undoing old new marked
-undoing users leaves old new marked m = record {
-  each = λ k i. let p = m.each k i in (p.0, p.1, p.2, true, p.3);
-  rest = m.rest;
-}
-
 -- one more of the keys that are gone over
 module _ (old new : Records) (before now : List Key) (keys left more : List Key) (key : Key) (e : left ≡ key ∷ more) where
   in_rest : {k : Key} {zs : List Key} → In k zs → zs ≡ key ∷ more → (key ≡ k) ⊎ In k more
@@ -185,15 +148,6 @@ module _ (old new : Records) (before now : List Key) (keys left more : List Key)
 
 pub none_left : (records : Records) (keys left : List Key) → left ≡ [] → ((k : Key) → In k keys → In k left ⊎ IsDirty records k) → HasReachedAll records keys
 none_left records keys left e f k i = elim (f k i) [ inl a ↦ absurd (not_in a e) | inr d ↦ d ]
-
--- the last listed record has its mark taken away
-pub undo_popped : (original records newer : Records) (marked rest : List Key) (key : Key) → marked ≡ rest ++ key ∷ []
-    → ((e : Kept) → kept_at records key ≡ Some e → Updates key_cmp records newer key (Some (record e { dirty = false })))
-    → Undoing original records marked → Undoing original newer rest
-undo_popped original records newer marked rest key e u h =
-    let m : Undoing original records (rest ++ key ∷ []) = subst (Undoing original records) e h in
-    let p = m.each key (in_right rest first) in
-    undo_more original records newer rest key (record p.0 { dirty = p.3 }) p.4 (u (record p.0 { dirty = p.3 }) p.4) m
 
 pub in_at_is : {X : Type 0} (xs : List X) (n : ℕ) (d x : X) → x ≡ slice_index_or xs n d → n < length xs → In x xs
 in_at_is xs n d x e h = subst (λ y. In y xs) (sym e) (in_at xs n d h)

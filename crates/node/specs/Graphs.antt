@@ -1,9 +1,9 @@
 -- What a contract sees of a graph, and what is true of its parts.
-use Rattle.std.specs.Prelude.{◌≡◌, ◌≢◌, ℕ, List, map, Option, Some, None, true, false, if◌then◌else◌}
+use Rattle.std.specs.Prelude.{◌≡◌, ◌≢◌, ◌⊎◌, ℕ, List, map, Option, Some, None, true, false, if◌then◌else◌}
 use Rattle.std.specs.Option.{option_map}
 use Rattle.std.specs.Map.{lookup}
 use Rattle.std.specs.BTreeMap.{is_at, IsOrdered}
-use Rattle.evaluation.specs.Graph.{Record}
+use Rattle.evaluation.specs.Graph.{Record, Reaches}
 use Rattle.evaluation.specs.Value.{In, IsMember}
 use Rattle.keys.specs.Keys.{key_cmp}
 use Rattle.keys.specs.declared.key.Key.{Key}
@@ -57,3 +57,8 @@ pub record Sets (old new : Key → Option (Record Key Value)) (k : Key) (r : Rec
 pub record HasStored (old new : Records) (users : Users) (k : Key) (r : Record Key Value) : Type 0 where
   pub sets : Sets (seen old) (seen new) k r
   pub linked : IsLinked new users
+
+-- these are the keys whose records an edit that touches these leaves is to mark: clean so far, and they reach one of the leaves
+pub record AreReached (records : Key → Option (Record Key Value)) (touched : Key → Type 0) (keys : List Key) : Type 0 where
+  pub each : (k : Key) → In k keys → (r : Record Key Value) × (records k ≡ Some r) × (r.dirty ≡ false) × Reaches records touched k
+  pub all : (k : Key) (r : Record Key Value) → records k ≡ Some r → Reaches records touched k → (r.dirty ≡ true) ⊎ In k keys

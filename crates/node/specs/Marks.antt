@@ -1,5 +1,5 @@
 -- What marks are spread along reverse edges.
-use Rattle.std.specs.Prelude.{◌≡◌, ◌⊎◌, Bool, true, false, List, [], ◌∷◌, ◌++◌, Some}
+use Rattle.std.specs.Prelude.{◌≡◌, ◌⊎◌, Bool, true, false, List, [], ◌∷◌, ◌++◌, Some, None}
 use Rattle.std.specs.BTreeMap.{Updates, IsOrdered}
 use Rattle.evaluation.specs.Value.{In}
 use Rattle.keys.specs.declared.key.Key.{Key}
@@ -48,7 +48,8 @@ pub record HasSpread (users : Users) (old new : Records) (before after : List Ke
 abbrev pub HasPassed : Users → Records → List Key → Type 0
 HasPassed users records keys = (j : Key) → In j keys → (k : Key) → In k (users_at users j) → IsDirty records k
 
--- the listed records were clean, and nothing but their marks and those of no others has changed
-pub record Undoing (original records : Records) (marked : List Key) : Type 0 where
-  pub each : (k : Key) → In k marked → (e : Kept) × (kept_at original k ≡ Some e) × (e.dirty ≡ false) × (d : Bool) × (kept_at records k ≡ Some (record e { dirty = d }))
-  pub rest : (k : Key) → In k marked ⊎ (kept_at records k ≡ kept_at original k)
+-- the marks of these keys' records are set to this, and nothing else changes
+pub record SetsMarks (dirty : Bool) (old new : Records) (keys : List Key) : Type 0 where
+  pub each : (k : Key) → In k keys → (e : Kept) → kept_at old k ≡ Some e → kept_at new k ≡ Some (record e { dirty = dirty })
+  pub none : (k : Key) → kept_at old k ≡ None → kept_at new k ≡ None
+  pub rest : (k : Key) → In k keys ⊎ (kept_at new k ≡ kept_at old k)

@@ -1,5 +1,5 @@
 //! The graph of records.
-ghost use Rattle.std.specs.Prelude.{◌≡◌, ◌+◌, ◌<◌, [], length, IfSome, IfNone, IfOk, OnOk, OnErr, map, IsSome, IsTrue, Some, false};
+ghost use Rattle.std.specs.Prelude.{◌≡◌, ℕ, List, ◌+◌, ◌<◌, [], length, IfSome, IfNone, IfOk, OnOk, OnErr, map, IsSome, IsTrue, Some, false};
 ghost use Rattle.std.specs.Option.{option_map};
 ghost use Rattle.std.specs.Arc.{arc_value};
 ghost use Rattle.evaluation.specs.Graph.{Record, Marks};
@@ -11,14 +11,14 @@ ghost use Rattle.node.specs.Counts.{edges_of};
 ghost use Rattle.node.specs.Batches.{keys_of, HasReadyEntries, SetsAll};
 ghost use Rattle.node.specs.Laws.{IsAlwaysLawful, TouchKeepsLawful, SettlingKeepsLawful, BatchKeepsLawful};
 ghost use Rattle.node.specs.Writes.{HasReadyMembers, stored, is_ready_group, are_ready};
-ghost use Rattle.node.specs.Graphs.{record_at, present, IsTouched, HasCleanMembers, Sets};
+ghost use Rattle.node.specs.Graphs.{record_at, present, IsTouched, AreReached, HasCleanMembers, Sets};
 
 use crate::batch::store_all;
 use crate::counts::{Counts, edges};
 use crate::entry::Entry;
 use crate::kept::{Kept, Records, Users};
 use crate::leaves::touched;
-use crate::marks::{mark_from, unmark_all};
+use crate::marks::{mark_from, set_all};
 use crate::settling::{settle, store};
 use keys::{Key, Value};
 use std::alloc::Global;
@@ -140,10 +140,47 @@ impl Graph {
         }
     }
 
-    /// Takes in an edit of the path: one version more, and each record is marked that reaches a leaf which the edit
-    /// touches: the path's file, and the listing of each directory that it lies below, the root among them. Nothing else changes. A graph that is lawful for a history of the files is lawful for the history with
-    /// this edit. That the version is below its last value is the caller's condition. The new version, or `Memory` where
-    /// a growth was refused, and then nothing has changed.
+    /// The keys whose records an edit of the path is to mark: not dirty so far, and they reach a leaf which the edit
+    /// touches. These leaves are the path's file, and the listing of each directory that it lies below, the root among
+    /// them. The cost follows what is reached. Nothing changes. `Memory` where a growth was refused.
+    pub fn reached_by(&mut self, path: &str) -> Result<Vec<Key>, Memory>
+        ensures reached { IfOk result (λ keys. AreReached (record_at self.old) (IsTouched path.now) keys.items) }
+        ensures same { self.new ≡ self.old }
+    {
+        let leaves = touched(self.alloc, path)?;
+        let mut marked = Vec::new(self.alloc);
+        let spread = mark_from(
+            &mut self.records,
+            &self.users,
+            &mut marked,
+            leaves.as_slice(),
+        );
+        set_all(&mut self.records, marked.as_slice(), false);
+        spread?;
+        Ok(marked)
+    }
+
+    /// Takes in an edit: one version more, and the records of these keys are marked. They must be what `reached_by`
+    /// answers for the edit's path at the present graph. Nothing else changes, and no memory is taken. A graph that is
+    /// lawful for a history of the files is lawful for the history with this edit. That the version is below its last
+    /// value is the caller's condition. The new version.
+    pub fn mark(&mut self, reached: &[Key]) -> u32
+        requires below { self.old.version < u32.MAX }
+        requires reached { (path : List ℕ) × AreReached (record_at self.old) (IsTouched path) reached.now }
+        ensures version { result ≡ self.old.version + 1 }
+        ensures moved { self.new.version ≡ self.old.version + 1 }
+        ensures marks { (path : List ℕ) → AreReached (record_at self.old) (IsTouched path) reached.now → Marks (record_at self.old) (record_at self.new) (IsTouched path) }
+        ensures lawful { (path : List ℕ) → AreReached (record_at self.old) (IsTouched path) reached.now → TouchKeepsLawful self.old self.new path }
+    {
+        set_all(&mut self.records, reached, true);
+        self.version += 1;
+        self.version
+    }
+
+    /// Takes in an edit of the path: what `reached_by` answers is marked. One version more, and each record is marked
+    /// that reaches a leaf which the edit touches. Nothing else changes. A graph that is lawful for a history of the
+    /// files is lawful for the history with this edit. That the version is below its last value is the caller's
+    /// condition. The new version, or `Memory` where a growth was refused, and then nothing has changed.
     pub fn touch(&mut self, path: &str) -> Result<u32, Memory>
         requires { self.old.version < u32.MAX }
         ensures version { IfOk result (λ v. v ≡ self.old.version + 1) }
@@ -152,23 +189,9 @@ impl Graph {
         ensures lawful { OnOk result (TouchKeepsLawful self.old self.new path.now) }
         ensures refused { OnErr result (self.new ≡ self.old) }
     {
-        let leaves = touched(self.alloc, path)?;
-        let mut marked = Vec::new(self.alloc);
-        match mark_from(
-            &mut self.records,
-            &self.users,
-            &mut marked,
-            leaves.as_slice(),
-        ) {
-            Ok(()) => {
-                self.version += 1;
-                Ok(self.version)
-            }
-            Err(error) => {
-                unmark_all(&mut self.records, marked);
-                Err(error)
-            }
-        }
+        let reached = self.reached_by(path)?;
+        let version = self.mark(reached.as_slice());
+        Ok(version)
     }
 
     // Whether each member of a group is the key or has a record that is not dirty.

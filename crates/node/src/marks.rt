@@ -4,7 +4,7 @@ ghost use Rattle.std.specs.BTreeMap.{Updates, IsOrdered};
 ghost use Rattle.keys.specs.Keys.{key_cmp};
 ghost use Rattle.keys.specs.declared.key.Key.{Key};
 ghost use Rattle.node.specs.Kept.{Records, kept_at, users_at, cleans, cost};
-ghost use Rattle.node.specs.Marks.{HasReached, HasReachedAll, HasReachedSome, HasSpread, HasPassed, IsDirty, Marked, Undoing};
+ghost use Rattle.node.specs.Marks.{HasReached, HasReachedAll, HasReachedSome, HasSpread, HasPassed, IsDirty, Marked, SetsMarks};
 ghost use Rattle.node.specs.declared.kept.Kept.{Kept};
 
 use crate::kept::{Records, Users};
@@ -23,14 +23,14 @@ fn mark(records: &mut Records, key: &Key)
     }
 }
 
-// Takes the mark of a record away.
-fn clear(records: &mut Records, key: &Key)
-    ensures updates { (e : Kept) → kept_at records.old key.now ≡ Some e → Updates key_cmp records.old records.new key.now (Some (record e { dirty = false })) }
+// Sets or takes away the mark of a key's record, if it has one.
+fn set(records: &mut Records, key: &Key, dirty: bool)
+    ensures updates { (e : Kept) → kept_at records.old key.now ≡ Some e → Updates key_cmp records.old records.new key.now (Some (record e { dirty = dirty })) }
     ensures absent { kept_at records.old key.now ≡ None → records.new.entries ≡ records.old.entries }
-    ensures ordered { IsOrdered key_cmp records.new }
+    ensures ordered { IsOrdered key_cmp records.old → IsOrdered key_cmp records.new }
 {
     if let Some(kept) = records.get_mut(key) {
-        kept.dirty = false;
+        kept.dirty = dirty;
     }
 }
 
@@ -87,14 +87,13 @@ fn spread(records: &mut Records, users: &Users, marked: &mut Vec<Key>) -> Result
     Ok(())
 }
 
-/// Takes the marks of the listed records away.
-pub fn unmark_all(records: &mut Records, mut marked: Vec<Key>)
-    ensures undone { (original : Records) → Undoing original records.old marked.items → (k : Key) → kept_at records.new k ≡ kept_at original k }
+/// Sets or takes away the marks of these keys' records.
+pub fn set_all(records: &mut Records, keys: &[Key], dirty: bool)
+    ensures sets { SetsMarks dirty records.old records.new keys.now }
     ensures ordered { IsOrdered key_cmp records.old → IsOrdered key_cmp records.new }
 {
-    while let Some(key) = marked.pop() {
-        clear(records, &key);
-        drop(key);
+    for key in keys {
+        set(records, key, dirty);
     }
 }
 

@@ -58,13 +58,8 @@ module _ (graph : Recorded) (before later : Table) (k : Key) (w : IsWhole (recor
         (λ j d i. elim (removed.keeps j i) [ inl a ↦ a | inr q ↦ absurd (d q) ])
         (λ j d i. i) (λ o. absurd (o refl)))
 
-    pub handed_out : (answers job : List Value) → (slice : List (List Key)) → ((x : Node) → node_at before.nodes k ≡ Some x → slice ≡ groups_of x) → AreAnswers (record_at graph) slice answers → job ≡ answers → IsOutWith graph later k job
-    handed_out answers job slice e a q = record {
-      node = m;
-      there = (h n there).1;
-      out = refl;
-      answered = subst (AreAnswers (record_at graph) (groups_of n)) (sym q) (subst (λ gs. AreAnswers (record_at graph) gs answers) (e n there) a);
-    }
+    pub handed_with : (job : List Value) → ((x : Node) → node_at before.nodes k ≡ Some x → AreAnswers (record_at graph) (groups_of x) job) → IsOutWith graph later k job
+    handed_with job a = record { node = m; there = (h n there).1; out = refl; answered = a n there }
 
     pub handed_more : (keys : List Key) → AreOut before.nodes keys → AreOut later.nodes (k ∷ keys)
     handed_more keys out j x e f = elim (decide_key k j) [

@@ -11,3 +11,7 @@ pub mod Walking
 pub mod Stalled
 pub mod Closings
 pub mod Resting
+pub mod Rounding
+pub mod Rotations
+pub mod Framing
+pub mod Pausing

@@ -1,5 +1,5 @@
 -- An evaluation on one thread, between two turns.
-use Rattle.std.proofs.Common.{◌≡◌, ◌⊎◌, inl, inr, ℕ, true, false, cond, List, [], ◌∷◌, Option, Some, None, Result, Ok, Err, IsErr, refl, sym, ◌∙◌, ap, subst}
+use Rattle.std.proofs.Common.{◌≡◌, ◌⊎◌, inl, inr, ℕ, true, false, cond, List, [], ◌∷◌, Option, Some, None, refl, sym, ◌∙◌, ap, subst}
 use Rattle.evaluation.specs.Reply.{Reply}
 use Rattle.evaluation.specs.Value.{In, first, after, AllDiffer}
 use Rattle.evaluation.specs.Graph.{Record}
@@ -18,7 +18,7 @@ use Rattle.open_nodes.proofs.Counting.{none_made, all_made}
 use Rattle.open_nodes.proofs.Settlings.{clean_settles}
 use Rattle.open_nodes.proofs.Wholes.{unsettled_not_clean}
 use Rattle.round.specs.Call.{IsCall, IsHistory}
-use Rattle.round.specs.Here.{IsFresh, IsAfterSince, LeadsSince}
+use Rattle.round.specs.Since.{IsFresh}
 use Rattle.round.specs.Moves.{IsWholeNow, IsWanted}
 
 module _ (graph : Recorded) (table : Table) (f : IsFresh table) where
@@ -54,10 +54,6 @@ module _ (graph : Recorded) (table : Table) (f : IsFresh table) where
 -- the roots are reached
 pub roots_reached : (next : Key → List Value → Reply Key Value) (read : Key → Option Value) (roots : List Key) (past : Past read) (graph : Recorded) → IsHistory next read past roots graph → AreReached next read past roots
 roots_reached next read roots past graph h k i = root (subst (In k) (sym h.of_roots) i)
-
-pub since_err : {X E : Type 0} (next : Key → List Value → Reply Key Value) (read : Key → Option Value) (roots : List Key) (old graph : Recorded) (table : Table) (r : Result X E) → IsErr r → IsAfterSince next read roots old graph → LeadsSince next read roots old graph table r
-since_err next read roots old graph table (Ok x) e h = absurd (true_false e refl)
-since_err next read roots old graph table (Err x) e h = h
 
 -- where the roots are settled, all that they reach is
 pub all_settled : (next : Key → List Value → Reply Key Value) (read : Key → Option Value) (laws : IsNext next) (past : Past read) (graph : Recorded) → IsAfter next read past graph

@@ -6,4 +6,8 @@ pub mod Turning
 pub mod Call
 pub mod Closing
 pub mod Showing
+pub mod Since
 pub mod Here
+pub mod Rounds
+pub mod Frames
+pub mod Paused

@@ -6,12 +6,11 @@ use Rattle.keys.specs.declared.key.Key.{Key}
 use Rattle.keys.specs.declared.value.Value.{Value}
 use Rattle.node.specs.Graphs.{Recorded, record_at}
 use Rattle.open_nodes.specs.Nodes.{node_at, groups_of, AreOut}
-use Rattle.open_nodes.specs.Counted.{MakesNone, MakesMore}
+use Rattle.open_nodes.specs.Counted.{MakesMore}
 use Rattle.open_nodes.specs.declared.table.Node.{Node}
 use Rattle.open_nodes.specs.declared.table.Phase.TheVariants as phase
 use Rattle.open_nodes.specs.declared.table.Table.{Table}
 use Rattle.round.specs.Members.{AreAnswers}
-use Rattle.round.specs.Moves.{IsWholeNow}
 
 -- the job of the key is out, with these answers to the groups that its turns asked
 pub record IsOutWith (graph : Recorded) (table : Table) (k : Key) (answers : List Value) : Type 0 where
@@ -24,7 +23,7 @@ pub record IsOutWith (graph : Recorded) (table : Table) (k : Key) (answers : Lis
 abbrev pub ComesBack : Table → Table → Key → Type 0
 ComesBack before later k = ((keys : List Key) → AreOut before.nodes (k ∷ keys) → AreOut later.nodes keys) × MakesMore 1 before later
 
--- a job that is ready is handed out, with all answers so far; a key that is not ready has none
-abbrev pub Hands : Recorded → Key → Table → Table → Option Asked → Type 0
-Hands graph k before later (Some job) = (job.key ≡ k) × IsOutWith graph later k job.answers × IsWholeNow graph later × ((keys : List Key) → AreOut before.nodes keys → AreOut later.nodes (k ∷ keys)) × MakesNone before later
-Hands graph k before later None = In k before.ready.keys → ⊥
+-- the next turn of a key that is ready, with all answers so far; a key that is not ready has none
+abbrev pub NextJob : Recorded → Key → Table → Option Asked → Type 0
+NextJob graph k table (Some job) = In k table.ready.keys × (job.key ≡ k) × ((n : Node) → node_at table.nodes k ≡ Some n → AreAnswers (record_at graph) (groups_of n) job.answers)
+NextJob graph k table None = In k table.ready.keys → ⊥

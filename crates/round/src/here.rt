@@ -1,56 +1,34 @@
 //! An evaluation on one thread.
-ghost use Rattle.std.specs.Prelude.{◌≡◌, ◌+◌, ◌≤◌, ℕ, [], true, false, IfOk, OnOk, Some, None, Option};
-ghost use Rattle.std.specs.Prelude.{List, IfSome, IfNone, IfErr, IsErrOf, Ok, Err};
+ghost use Rattle.std.specs.Prelude.{◌≡◌, ◌+◌, ◌≤◌, ℕ, List, [], Option, IfOk, IfErr, IfSome, IfNone, OnOk, IsErrOf, Ok, Err};
 ghost use Rattle.evaluation.specs.Reply.{Reply};
 ghost use Rattle.evaluation.specs.Value.{In};
 ghost use Rattle.functions.specs.Next as leaves;
 ghost use Rattle.keys.specs.declared.key.Key.{Key};
 ghost use Rattle.keys.specs.declared.value.Value.{Value};
-ghost use Rattle.node.specs.Graphs.{record_at};
+ghost use Rattle.texts.specs.declared.memory.Memory.{Memory};
 ghost use Rattle.open_nodes.specs.Counted.{HasMade, turns_of};
-ghost use Rattle.open_nodes.specs.Nodes.{pending, AreOut};
 ghost use Rattle.open_nodes.specs.Truths.{Leads};
-ghost use Rattle.round.specs.Closing.{IsIdle};
 ghost use Rattle.round.specs.Call.{Calls, HasOpenRoot};
-ghost use Rattle.round.specs.Here.{IsFresh, IsResting, TurnsOnce, LeadsSince, Finishes};
-ghost use Rattle.round.specs.Moves.{KeepsTrue, IsWholeNow};
+ghost use Rattle.round.specs.Here.{TurnsOnce, Finishes};
+ghost use Rattle.round.specs.Rounds.{standing, StandsBeside, IsStalled};
+ghost use Rattle.round.specs.declared.stop.Stop.{Stop};
 
-use crate::close::close_cycles;
-use crate::look::look_at_all;
-use crate::settle::want_all;
+use crate::members::share_all;
+use crate::rounds::Round;
 use crate::stop::Stop;
-use crate::turns::{hand_out, take};
 use filetree::Tree;
 use keys::{Key, Rules};
 use node::Graph;
-use open_nodes::{Run, Table};
+use open_nodes::Run;
 use std::alloc::Global;
-use std::collections::BTreeSet;
 use texts::Memory;
 
-// The roots are wanted, and what can be settled without a turn is.
-fn open(
-    alloc: Global,
-    graph: &mut Graph,
-    tree: &Tree,
-    table: &mut Table,
-    roots: &[Key],
-) -> Result<(), Memory>
-    requires fresh { IsFresh table.old }
-    ensures resting { OnOk result (IsResting graph.new table.new roots.now 0) }
-    ensures truth { (next : Key → List Value → Reply Key Value) → LeadsSince next (leaves.read tree.now) roots.now graph.old graph.new table.new result }
+// The least key that is ready, as one of its own.
+fn next_key<R: Rules>(round: &Round<R>) -> Result<Option<Key>, Memory>
+    ensures some { IfOk result (λ k. IfSome k (λ key. In key (standing round.now).table.ready.keys)) }
+    ensures none { IfOk result (λ k. IfNone k ((standing round.now).table.ready.keys ≡ [])) }
 {
-    want_all(alloc, graph, tree, table, roots)?;
-    look_at_all(alloc, graph, tree, table)?;
-    Ok(())
-}
-
-// The least of the keys.
-fn first_of(keys: &BTreeSet<Key>) -> Result<Option<Key>, Memory>
-    ensures some { IfOk result (λ k. IfSome k (λ key. In key keys.now.keys)) }
-    ensures none { IfOk result (λ k. IfNone k (keys.now.keys ≡ [])) }
-{
-    match keys.first() {
+    match round.ready() {
         None => Ok(None),
         Some(key) => Ok(Some(key.share()?)),
     }
@@ -58,48 +36,42 @@ fn first_of(keys: &BTreeSet<Key>) -> Result<Option<Key>, Memory>
 
 // Makes the next turn of the node with this key.
 fn turn<R: Rules>(
-    alloc: Global,
+    round: &mut Round<R>,
     graph: &mut Graph,
     tree: &Tree,
     rules: &mut R,
-    table: &mut Table,
     key: &Key,
 ) -> Result<(), Memory>
-    requires whole { IsWholeNow graph.old table.old }
-    requires ready { In key.now table.old.ready.keys }
-    ensures turns { OnOk result (TurnsOnce graph.old graph.new table.old table.new) }
+    requires beside { StandsBeside graph.old round.old }
+    requires ready { In key.now (standing round.old).table.ready.keys }
+    ensures turns { OnOk result (TurnsOnce graph.old graph.new round.old round.new) }
     ensures counted { OnOk result (R.turns rules.new ≡ R.turns rules.old + 1) }
     ensures at_most { (R.turns rules.old ≤ R.turns rules.new) × (R.turns rules.new ≤ R.turns rules.old + 1) }
-    ensures truth { Leads R.next (leaves.read tree.now) graph.old graph.new table.old table.new result }
+    ensures truth { Leads R.next (leaves.read tree.now) graph.old graph.new round.old.table round.new.table result }
 {
-    match hand_out(alloc, graph, table, key)? {
+    match round.hand_out(graph, key)? {
         None => unreachable!(),
         Some(job) => {
             let turned = job.make(rules);
-            take(alloc, graph, table, turned)?;
-            look_at_all(alloc, graph, tree, table)?;
+            round.take_own(graph, tree, turned)?;
             Ok(())
         }
     }
 }
 
 // The runs of an evaluation in which no turn can be made any more: what is open is closed.
-fn finish(alloc: Global, graph: &mut Graph, mut table: Table) -> Result<Vec<Run>, Memory>
-    requires whole { IsWholeNow graph.old table }
-    requires idle { IsIdle table }
-    ensures made { IfOk result (λ runs. (made : ℕ) → HasMade table made → made ≡ turns_of runs.items) }
-    ensures law { IfOk result (λ runs. (read : Key → Option Value) (next : Key → List Value → Reply Key Value) → Finishes {E = Stop} next read graph.old graph.new table (Ok runs.items)) }
-    ensures stopped { IfErr result (λ e. (read : Key → Option Value) (next : Key → List Value → Reply Key Value) → Finishes next read graph.old graph.new table (Err e)) }
+fn close<R: Rules>(mut round: Round<R>, graph: &mut Graph) -> Result<Vec<Run>, Memory>
+    requires beside { StandsBeside graph.old round }
+    requires stalled { IsStalled (standing round) }
+    ensures made { IfOk result (λ runs. (made : ℕ) → HasMade round.table made → made ≡ turns_of runs.items) }
+    ensures law { IfOk result (λ runs. (read : Key → Option Value) (next : Key → List Value → Reply Key Value) → Finishes {E = Stop} next read graph.old graph.new (standing round) (Ok runs.items)) }
+    ensures stopped { IfErr result (λ e. (read : Key → Option Value) (next : Key → List Value → Reply Key Value) → Finishes {E = Memory} next read graph.old graph.new (standing round) (Err e)) }
 {
-    close_cycles(alloc, graph, &mut table)?;
-    let Table {
-        nodes: _,
-        ready: _,
-        work: _,
-        looked: _,
-        runs,
-    } = table;
-    Ok(runs)
+    round.close_cycles(graph)?;
+    match round.finish() {
+        Ok(runs) => Ok(runs),
+        Err(_) => unreachable!(),
+    }
 }
 
 /// Evaluates the roots over the graph on one thread, in at most `budget` turns of the rules. Each root is settled then
@@ -126,16 +98,16 @@ pub fn evaluate_here<R: Rules>(
     ensures budget { IsErrOf result Stop.Budget → (R.turns rules.new ≡ R.turns rules.old + budget) × HasOpenRoot R.next (leaves.read tree.now) roots.now graph.old graph.new }
     ensures at_most { (R.turns rules.old ≤ R.turns rules.new) × (R.turns rules.new ≤ R.turns rules.old + budget) }
 {
-    let mut table = Table::new(alloc);
-    open(alloc, graph, tree, &mut table, roots)?;
+    let roots = share_all(alloc, roots)?;
+    let mut round: Round<R> = Round::open(alloc, graph, tree, roots)?;
     for _made in 0..budget {
-        match first_of(&table.ready)? {
-            None => return Ok(finish(alloc, graph, table)?),
-            Some(key) => turn(alloc, graph, tree, rules, &mut table, &key)?,
+        match next_key(&round)? {
+            None => return Ok(close(round, graph)?),
+            Some(key) => turn(&mut round, graph, tree, rules, &key)?,
         }
     }
-    match first_of(&table.ready)? {
-        None => Ok(finish(alloc, graph, table)?),
+    match next_key(&round)? {
+        None => Ok(close(round, graph)?),
         Some(_) => Err(Stop::Budget),
     }
 }

@@ -7,10 +7,12 @@ mod here;
 mod look;
 mod loops;
 mod members;
+mod rounds;
 mod settle;
 mod stop;
 mod turns;
 
 pub use here::evaluate_here;
 pub use open_nodes::Run;
+pub use rounds::{NotTaken, Round};
 pub use stop::Stop;

@@ -19,6 +19,7 @@ ghost use Rattle.open_nodes.specs.declared.table.Phase.TheVariants as phase;
 ghost use Rattle.keys.specs.declared.key.Key.{Key};
 ghost use Rattle.open_nodes.specs.declared.table.Phase.TheVariants as phase;
 ghost use Rattle.round.specs.Compared.{ComparesGroup, Compares};
+ghost use Rattle.round.specs.Frames.{KeepsFrame};
 ghost use Rattle.std.specs.Prelude.{Option};
 ghost use Rattle.keys.specs.declared.value.Value.{Value};
 ghost use Rattle.open_nodes.specs.Nodes.{node_at, groups_of, pending};
@@ -52,6 +53,7 @@ fn wait_for(
     ensures out { OnOk result (KeepsOut table.old table.new) }
     ensures keeps { OnOk result (KeepsWanted graph.old graph.new table.old table.new) }
     ensures turns { OnOk result (MakesNone table.old table.new) }
+    ensures frame { OnOk result (KeepsFrame graph.old graph.new table.old table.new) }
     ensures truth { KeepsTrue (leaves.read tree.now) graph.old graph.new table.old table.new result }
     ensures looked { OnOk result (table.new.looked ≡ table.old.looked) }
 {
@@ -163,6 +165,7 @@ fn check(
     ensures out { OnOk result (KeepsOut table.old table.new) }
     ensures keeps { OnOk result (KeepsWanted graph.old graph.new table.old table.new) }
     ensures turns { OnOk result (MakesNone table.old table.new) }
+    ensures frame { OnOk result (KeepsFrame graph.old graph.new table.old table.new) }
     ensures truth { KeepsTrue (leaves.read tree.now) graph.old graph.new table.old table.new result }
     ensures looked { OnOk result (table.new.looked ≡ table.old.looked) }
 {
@@ -198,6 +201,7 @@ fn look_settled(graph: &Graph, table: &mut Table, key: &Key, group: &[Key]) -> R
     ensures out { OnOk result (KeepsOut table.old table.new) }
     ensures keeps { OnOk result (KeepsWanted graph.now graph.now table.old table.new) }
     ensures turns { OnOk result (MakesNone table.old table.new) }
+    ensures frame { OnOk result (KeepsFrame graph.now graph.now table.old table.new) }
     ensures truth { (read : Key → Option Value) → KeepsTrue read graph.now graph.now table.old table.new result }
     ensures looked { OnOk result (table.new.looked ≡ table.old.looked) }
 {
@@ -224,6 +228,7 @@ fn look_running(
     ensures out { OnOk result (KeepsOut table.old table.new) }
     ensures keeps { OnOk result (KeepsWanted graph.old graph.new table.old table.new) }
     ensures turns { OnOk result (MakesNone table.old table.new) }
+    ensures frame { OnOk result (KeepsFrame graph.old graph.new table.old table.new) }
     ensures truth { KeepsTrue (leaves.read tree.now) graph.old graph.new table.old table.new result }
     ensures looked { OnOk result (table.new.looked ≡ table.old.looked) }
 {
@@ -276,6 +281,7 @@ fn look(
     ensures out { OnOk result (KeepsOut table.old table.new) }
     ensures keeps { OnOk result (KeepsWanted graph.old graph.new table.old table.new) }
     ensures turns { OnOk result (MakesNone table.old table.new) }
+    ensures frame { OnOk result (KeepsFrame graph.old graph.new table.old table.new) }
     ensures truth { KeepsTrue (leaves.read tree.now) graph.old graph.new table.old table.new result }
     ensures looked { OnOk result (table.new.looked ≡ table.old.looked) }
 {
@@ -314,6 +320,7 @@ fn look_next(
     ensures out { OnOk result (KeepsOut table.old table.new) }
     ensures keeps { OnOk result (KeepsWanted graph.old graph.new table.old table.new) }
     ensures turns { OnOk result (MakesNone table.old table.new) }
+    ensures frame { OnOk result (KeepsFrame graph.old graph.new table.old table.new) }
     ensures truth { KeepsTrue (leaves.read tree.now) graph.old graph.new table.old table.new result }
 {
     let Some(key) = next_key(table)? else {
@@ -340,6 +347,7 @@ pub fn look_at_all(
     ensures out { OnOk result (KeepsOut table.old table.new) }
     ensures keeps { OnOk result (KeepsWanted graph.old graph.new table.old table.new) }
     ensures turns { OnOk result (MakesNone table.old table.new) }
+    ensures frame { OnOk result (KeepsFrame graph.old graph.new table.old table.new) }
     ensures truth { KeepsTrue (leaves.read tree.now) graph.old graph.new table.old table.new result }
 {
     'looks: loop {

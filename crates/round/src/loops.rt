@@ -1,8 +1,11 @@
 //! The loops that the nodes of a stall show.
-ghost use Rattle.std.specs.Prelude.{◌≡◌, [], IfOk, OnOk, Some, None, Option};
+ghost use Rattle.std.specs.Prelude.{◌≡◌, ◌≤◌, ◌++◌, [], length, take, drop, IfOk, OnOk, Some, None, Option};
+ghost use Rattle.std.specs.List.{filter_map};
+ghost use Rattle.std.specs.Option.{option_map};
+ghost use Rattle.evaluation.specs.Rotated.{rotated, text_le};
 ghost use Rattle.std.specs.Arc.{arc_value};
 ghost use Rattle.evaluation.specs.Value.{In, AllDiffer};
-ghost use Rattle.keys.specs.Cycles.{cycle};
+ghost use Rattle.keys.specs.Cycles.{cycle, label_of};
 ghost use Rattle.keys.specs.declared.key.Key.{Key};
 ghost use Rattle.node.specs.Graphs.{record_at};
 ghost use Rattle.round.specs.Closing.{stop_at, closing_keys};
@@ -15,7 +18,7 @@ use node::{Entry, Graph};
 use std::alloc::Global;
 use std::collections::BTreeMap;
 use std::sync::Arc;
-use texts::Memory;
+use texts::{Memory, Text};
 
 // Walks along the stops, and takes them out, up to a key that has none.
 fn walk(
@@ -50,11 +53,70 @@ fn from_key<'a>(path: &'a [Key], key: &Key) -> &'a [Key]
     &[]
 }
 
-// The value that the members of a loop share.
-fn loop_value(alloc: Global, _members: &[Key]) -> Value
-    ensures { result ≡ cycle _members.now }
+// The label by which a loop names a key. No kind of key that there is has one yet.
+fn label(key: &Key) -> Option<&Text>
+    ensures { option_map (λ t. t.now) result ≡ label_of key.now }
 {
-    Value::Cycle(Names::new(Vec::new(alloc)))
+    match key {
+        Key::File(_) => None,
+        Key::Listing(_) => None,
+        Key::Lookup(_) => None,
+    }
+}
+
+// The labels of a loop's members, of those that have one.
+fn labels_of(alloc: Global, members: &[Key]) -> Result<Vec<Text>, Memory>
+    ensures { IfOk result (λ labels. labels.items ≡ filter_map label_of members.now) }
+{
+    let mut labels = Vec::new(alloc);
+    for member in members {
+        match label(member) {
+            Some(text) => labels.push(text.share()?)?,
+            None => {}
+        }
+    }
+    Ok(labels)
+}
+
+// Whether a text is not after another by bytes.
+fn is_not_after(a: &Text, b: &Text) -> bool
+    ensures { result ≡ text_le a.now b.now }
+{
+    a <= b
+}
+
+// The place of the first least label, and 0 where there is none.
+fn least_place(labels: &[Text]) -> usize
+    ensures within { result ≤ length labels.now }
+    ensures least { rotated labels.now ≡ drop result labels.now ++ take result labels.now }
+{
+    if labels.is_empty() {
+        return 0;
+    }
+    let mut best = 0;
+    for at in 1..labels.len() {
+        if !is_not_after(&labels[best], &labels[at]) {
+            best = at;
+        }
+    }
+    best
+}
+
+// The labels from the least one on, and then those before it.
+fn rotate(mut labels: Vec<Text>) -> Vec<Text>
+    ensures { result.items ≡ rotated labels.items }
+{
+    let place = least_place(labels.as_slice());
+    labels.rotate_left(place);
+    labels
+}
+
+// The value that the members of a loop share.
+fn loop_value(alloc: Global, members: &[Key]) -> Result<Value, Memory>
+    ensures { IfOk result (λ v. v ≡ cycle members.now) }
+{
+    let labels = labels_of(alloc, members)?;
+    Ok(Value::Cycle(Names::new(rotate(labels))))
 }
 
 // What a path shows that comes to the key.
@@ -73,7 +135,8 @@ fn end_value(
     if let Some(value) = graph.get(end) {
         return Ok(Arc::try_clone(value)?);
     }
-    Ok(Arc::new(alloc, loop_value(alloc, from_key(path, end)))?)
+    let value = loop_value(alloc, from_key(path, end))?;
+    Ok(Arc::new(alloc, value)?)
 }
 
 // The keys of a path show the value.

@@ -12,6 +12,7 @@ ghost use Rattle.keys.specs.declared.value.Value.{Value};
 ghost use Rattle.std.specs.Prelude.{List};
 ghost use Rattle.evaluation.specs.Reply.{Reply, Done};
 ghost use Rattle.open_nodes.specs.Truths.{Leads};
+ghost use Rattle.round.specs.Frames.{KeepsFrame};
 ghost use Rattle.round.specs.Looks.{HasPassed};
 ghost use Rattle.round.specs.Turning.{IsOutWith, ComesBack};
 ghost use Rattle.open_nodes.specs.Counted.{MakesNone};
@@ -56,8 +57,8 @@ fn has_record(graph: &Graph, key: &Key) -> bool
     graph.settled_at(key).is_some()
 }
 
-// Whether a key is open.
-fn is_open(nodes: &Nodes, key: &Key) -> bool
+/// Whether a key is open.
+pub fn is_open(nodes: &Nodes, key: &Key) -> bool
     ensures { result ≡ is_some (node_at nodes.now key.now) }
 {
     nodes.get(key).is_some()
@@ -134,6 +135,7 @@ pub fn confirm(alloc: Global, graph: &mut Graph, table: &mut Table, key: &Key) -
     ensures out { OnOk result (KeepsOut table.old table.new) }
     ensures keeps { OnOk result (KeepsWanted graph.old graph.new table.old table.new) }
     ensures turns { OnOk result (MakesNone table.old table.new) }
+    ensures frame { OnOk result (KeepsFrame graph.old graph.new table.old table.new) }
     ensures truth { (read : Key → Option Value) → KeepsTrue read graph.old graph.new table.old table.new result }
     ensures looked { OnOk result (table.new.looked ≡ table.old.looked) }
 {
@@ -155,6 +157,7 @@ pub fn end(
     ensures whole { OnOk result (IsWholeNow graph.new table.new) }
     ensures back { OnOk result (ComesBack table.old table.new key) }
     ensures keeps { OnOk result (KeepsWanted graph.old graph.new table.old table.new) }
+    ensures frame { OnOk result (KeepsFrame graph.old graph.new table.old table.new) }
     ensures truth { (read : Key → Option Value) (next : Key → List Value → Reply Key Value) (answers : List Value) → IsOutWith graph.old table.old key answers → next key answers ≡ Done value → Leads next read graph.old graph.new table.old table.new result }
 {
     let shared = Arc::new(alloc, value)?;

@@ -1,23 +1,21 @@
-use Rattle.std.proofs.Common.{◌≡◌, ◌+◌, ◌≤◌, ℕ, ◌∙◌, ap, subst, arith}
+use Rattle.std.proofs.Common.{◌≡◌, ◌+◌, ◌≤◌, ℕ, List, ◌∙◌, ap, sym, subst, arith}
 use Rattle.evaluation.specs.Value.{In}
 use Rattle.functions.specs.Next as leaves
+use Rattle.keys.specs.declared.key.Key.{Key}
 use Rattle.node.proofs.Lists.{on_err}
 use Rattle.open_nodes.specs.Truths.{IsNext}
+use Rattle.round.specs.Since.{IsTrueSince}
 use Rattle.round.proofs.Resting.{root_open}
 use Rattle.round.proofs.here.evaluate_here.Goals as goal
 
-pub returns-in_err-finish-in-None-clause-stopped : goal.returns-in_err-finish-in-None-clause-stopped
-returns-in_err-finish-in-None-clause-stopped g c =
-    let laws : IsNext g.R.Rules.next = record { groups_differ = g.met.R.Rules.groups_differ; ends_plain = g.met.R.Rules.ends_plain } in
-    on_err c.from_residual-in_err-finish-in-None.result (λ past h. c.in_err-finish-in-None.ensures.stopped (leaves.read c.args.tree.now) g.R.Rules.next laws past (c.loop-made.invariant.truth laws past h))
-
-pub returns-in-None-clause-law : goal.returns-in-None-clause-law
-returns-in-None-clause-law g c = λ past h.
-    let laws : IsNext g.R.Rules.next = record { groups_differ = g.met.R.Rules.groups_differ; ends_plain = g.met.R.Rules.ends_plain } in
-    c.in_ok-finish-in-None.ensures.law (leaves.read c.args.tree.now) g.R.Rules.next laws past (λ k i. c.loop-made.invariant.resting.wanted k (subst (In k) h.of_roots i)) (c.loop-made.invariant.truth laws past h)
-
-pub returns-in-None-clause-turns : goal.returns-in-None-clause-turns
-returns-in-None-clause-turns g c = c.loop-made.invariant.counted ∙ ap (λ n. g.R.Rules.turns c.args.rules.now + n) (c.in_ok-finish-in-None.ensures.made c.loop-made._made c.loop-made.invariant.resting.made)
+pub loop-made-init : goal.loop-made-init
+loop-made-init g c =
+    let o = c.in_ok-round.ensures in
+    record {
+      resting = record { beside = o.beside; none_out = o.begins.1; same_roots = o.begins.0 ∙ c.in_ok-roots.ensures; made = o.made };
+      truth = subst (λ (rs : List Key). IsTrueSince g.R.Rules.next (leaves.read c.args.tree.now) rs c.args.graph.now c.open.new.graph c.in_ok-round.round.table) c.in_ok-roots.ensures (o.truth g.R.Rules.next);
+      counted = omega (arith);
+    }
 
 one_more : (a b base n : ℕ) → a ≡ b + 1 → b ≡ base + n → a ≡ base + (n + 1)
 one_more a b base n e f = omega (arith, e, f)
@@ -32,28 +30,67 @@ loop-made-preserved g c = record {
   counted = one_more (g.R.Rules.turns c.turn.new.rules) (g.R.Rules.turns c.loop-made.rules) (g.R.Rules.turns c.args.rules.now) c.loop-made._made c.in_ok-turn-in-Some.ensures.counted c.loop-made.invariant.counted;
 }
 
-pub returns-in_err-finish-in-None-2-clause-stopped : goal.returns-in_err-finish-in-None-2-clause-stopped
-returns-in_err-finish-in-None-2-clause-stopped g c =
-    let laws : IsNext g.R.Rules.next = record { groups_differ = g.met.R.Rules.groups_differ; ends_plain = g.met.R.Rules.ends_plain } in
-    on_err c.from_residual-in_err-finish-in-None-2.result (λ past h. c.in_err-finish-in-None-2.ensures.stopped (leaves.read c.args.tree.now) g.R.Rules.next laws past (c.loop-made.invariant.truth laws past h))
+pub close-requires-clause-stalled : goal.close-requires-clause-stalled
+close-requires-clause-stalled g c κs within = (rw c.in-None.is at c.in_ok-next_key.ensures.none, c.loop-made.invariant.resting.none_out)
 
-pub returns-in_ok-finish-in-None-2-clause-law : goal.returns-in_ok-finish-in-None-2-clause-law
-returns-in_ok-finish-in-None-2-clause-law g c = λ past h.
-    let laws : IsNext g.R.Rules.next = record { groups_differ = g.met.R.Rules.groups_differ; ends_plain = g.met.R.Rules.ends_plain } in
-    c.in_ok-finish-in-None-2.ensures.law (leaves.read c.args.tree.now) g.R.Rules.next laws past (λ k i. c.loop-made.invariant.resting.wanted k (subst (In k) h.of_roots i)) (c.loop-made.invariant.truth laws past h)
+pub close-requires-in-None-2-clause-stalled : goal.close-requires-in-None-2-clause-stalled
+close-requires-in-None-2-clause-stalled g c κs within = (rw c.in-None-2.is at c.in_ok-next_key-2.ensures.none, c.loop-made.invariant.resting.none_out)
 
-pub returns-in_ok-finish-in-None-2-clause-turns : goal.returns-in_ok-finish-in-None-2-clause-turns
-returns-in_ok-finish-in-None-2-clause-turns g c =
-    c.loop-made.invariant.counted ∙ ap (λ n. g.R.Rules.turns c.args.rules.now + n) (c.in_ok-finish-in-None-2.ensures.made c.loop-made._made c.loop-made.invariant.resting.made)
+pub returns-in_err-close-in-None-clause-stopped : goal.returns-in_err-close-in-None-clause-stopped
+returns-in_err-close-in-None-clause-stopped g c =
+    let laws : IsNext g.R.Rules.next = record { groups_differ = g.met.R.Rules.groups_differ; ends_plain = g.met.R.Rules.ends_plain } in
+    on_err c.from_residual-in_err-close-in-None.result (λ past h. c.in_err-close-in-None.ensures.stopped (leaves.read c.args.tree.now) g.R.Rules.next laws past (c.loop-made.invariant.truth laws past h))
+
+pub returns-in-None-clause-law : goal.returns-in-None-clause-law
+returns-in-None-clause-law g c = λ past h.
+    let laws : IsNext g.R.Rules.next = record { groups_differ = g.met.R.Rules.groups_differ; ends_plain = g.met.R.Rules.ends_plain } in
+    c.in_ok-close-in-None.ensures.law (leaves.read c.args.tree.now) g.R.Rules.next laws past (h.of_roots ∙ sym c.loop-made.invariant.resting.same_roots) (c.loop-made.invariant.truth laws past h)
+
+pub returns-in-None-clause-turns : goal.returns-in-None-clause-turns
+returns-in-None-clause-turns g c = c.loop-made.invariant.counted ∙ ap (λ n. g.R.Rules.turns c.args.rules.now + n) (c.in_ok-close-in-None.ensures.made c.loop-made._made c.loop-made.invariant.resting.made)
+
+pub returns-in_err-close-in-None-2-clause-stopped : goal.returns-in_err-close-in-None-2-clause-stopped
+returns-in_err-close-in-None-2-clause-stopped g c =
+    let laws : IsNext g.R.Rules.next = record { groups_differ = g.met.R.Rules.groups_differ; ends_plain = g.met.R.Rules.ends_plain } in
+    on_err c.from_residual-in_err-close-in-None-2.result (λ past h. c.in_err-close-in-None-2.ensures.stopped (leaves.read c.args.tree.now) g.R.Rules.next laws past (c.loop-made.invariant.truth laws past h))
+
+pub returns-in_ok-close-in-None-2-clause-law : goal.returns-in_ok-close-in-None-2-clause-law
+returns-in_ok-close-in-None-2-clause-law g c = λ past h.
+    let laws : IsNext g.R.Rules.next = record { groups_differ = g.met.R.Rules.groups_differ; ends_plain = g.met.R.Rules.ends_plain } in
+    c.in_ok-close-in-None-2.ensures.law (leaves.read c.args.tree.now) g.R.Rules.next laws past (h.of_roots ∙ sym c.loop-made.invariant.resting.same_roots) (c.loop-made.invariant.truth laws past h)
+
+pub returns-in_ok-close-in-None-2-clause-turns : goal.returns-in_ok-close-in-None-2-clause-turns
+returns-in_ok-close-in-None-2-clause-turns g c =
+    c.loop-made.invariant.counted ∙ ap (λ n. g.R.Rules.turns c.args.rules.now + n) (c.in_ok-close-in-None-2.ensures.made c.loop-made._made c.loop-made.invariant.resting.made)
 
 pub returns-in-Some-2-clause-budget : goal.returns-in-Some-2-clause-budget
 returns-in-Some-2-clause-budget g c = λ e. (
   same_count c.loop-made._made c.args.budget (g.R.Rules.turns c.args.rules.now) (g.R.Rules.turns c.loop-made.rules) c.loop-made.invariant.counted c.loop-made.auto._made-end c.loop-made-test.false,
   λ past h.
       let laws : IsNext g.R.Rules.next = record { groups_differ = g.met.R.Rules.groups_differ; ends_plain = g.met.R.Rules.ends_plain } in
-      let r = c.loop-made.invariant.resting in
-      let i : In c.in-Some-2.field-0 c.loop-made.table.ready.keys = rw c.in-Some-2.is at c.in_ok-first_of-2.ensures.some in
-      let o = r.whole.ready_now c.in-Some-2.field-0 i in
-      let f = root_open g.R.Rules.next (leaves.read c.args.tree.now) laws past c.loop-made.graph c.loop-made.table r.whole (c.loop-made.invariant.truth laws past h) c.in-Some-2.field-0 (o.0, o.1) in
+      let whole = c.loop-made.invariant.resting.beside.0.whole in
+      let i : In c.in-Some-2.field-0 c.loop-made.round.table.ready.keys = rw c.in-Some-2.is at c.in_ok-next_key-2.ensures.some in
+      let o = whole.ready_now c.in-Some-2.field-0 i in
+      let f = root_open g.R.Rules.next (leaves.read c.args.tree.now) laws past c.loop-made.graph c.loop-made.round.table whole (c.loop-made.invariant.truth laws past h) c.in-Some-2.field-0 (o.0, o.1) in
       (f.0, subst (In f.0) h.of_roots f.1, f.2),
 )
+
+pub returns-in_err-next_key-clause-stopped : goal.returns-in_err-next_key-clause-stopped
+returns-in_err-next_key-clause-stopped g c =
+    let laws : IsNext g.R.Rules.next = record { groups_differ = g.met.R.Rules.groups_differ; ends_plain = g.met.R.Rules.ends_plain } in
+    on_err c.from_residual-in_err-next_key.result (λ past h. (c.loop-made.invariant.truth laws past h).after)
+
+pub returns-in_err-next_key-2-clause-stopped : goal.returns-in_err-next_key-2-clause-stopped
+returns-in_err-next_key-2-clause-stopped g c =
+    let laws : IsNext g.R.Rules.next = record { groups_differ = g.met.R.Rules.groups_differ; ends_plain = g.met.R.Rules.ends_plain } in
+    on_err c.from_residual-in_err-next_key-2.result (λ past h. (c.loop-made.invariant.truth laws past h).after)
+
+pub returns-in_err-turn-in-Some-clause-stopped : goal.returns-in_err-turn-in-Some-clause-stopped
+returns-in_err-turn-in-Some-clause-stopped g c =
+    let laws : IsNext g.R.Rules.next = record { groups_differ = g.met.R.Rules.groups_differ; ends_plain = g.met.R.Rules.ends_plain } in
+    on_err c.from_residual-in_err-turn-in-Some.result (λ past h. c.in_err-turn-in-Some.ensures.truth laws past (c.loop-made.invariant.truth laws past h))
+
+pub returns-in-Some-2-clause-stopped : goal.returns-in-Some-2-clause-stopped
+returns-in-Some-2-clause-stopped g c = λ past h.
+    let laws : IsNext g.R.Rules.next = record { groups_differ = g.met.R.Rules.groups_differ; ends_plain = g.met.R.Rules.ends_plain } in
+    (c.loop-made.invariant.truth laws past h).after

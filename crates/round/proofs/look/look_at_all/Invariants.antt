@@ -1,6 +1,7 @@
 use Rattle.std.proofs.Common.{◌-◌, ◌^◌}
 use Rattle.functions.specs.Next as leaves
 use Rattle.open_nodes.specs.Counted.{MakesNone}
+use Rattle.round.specs.Frames.{KeepsFrame}
 use Rattle.round.specs.Moves.{IsWholeNow, KeepsOut, KeepsWanted}
 use Rattle.round.proofs.Wanting.{StaysTrue}
 use Rattle.round.proofs.look.look_at_all.Given as goal
@@ -11,6 +12,7 @@ invariant-looks l = record {
   out : KeepsOut l.fn.table l.table;
   keeps : KeepsWanted l.fn.graph l.graph l.fn.table l.table;
   turns : MakesNone l.fn.table l.table;
+  frame : KeepsFrame l.fn.graph l.graph l.fn.table l.table;
   truth : StaysTrue (leaves.read l.tree) l.fn.graph l.graph l.fn.table l.table;
 }
 

@@ -1,3 +1,4 @@
+use Rattle.round.proofs.Framing.{frame_same, frame_on}
 use Rattle.std.proofs.Common.{ap, subst}
 use Rattle.functions.specs.Next as leaves
 use Rattle.open_nodes.specs.Counted.{turns_of}
@@ -27,3 +28,11 @@ returns-in-Ok-clause-keeps c = λ j i.
 
 pub returns-in_default-clause-keeps : goal.returns-in_default-clause-keeps
 returns-in_default-clause-keeps c = wanted_same c.args.graph.now c.args.table.now c.next_key.new.table (next_nodes c.args.table.now c.next_key.new.table c.in_ok-key.field-0 c.in_ok-key.ensures)
+
+pub returns-in-Ok-clause-frame : goal.returns-in-Ok-clause-frame
+returns-in-Ok-clause-frame c =
+    let n = subst (IsNextKey c.args.table.now c.next_key.new.table) c.in-Some.is c.in_ok-key.ensures in
+    frame_on c.args.graph.now c.args.graph.now c.look-looked.new.graph c.args.table.now c.next_key.new.table c.look-looked.new.table (frame_same c.args.graph.now c.args.table.now c.next_key.new.table n.1) c.in-Ok.ensures.frame
+
+pub returns-in_default-clause-frame : goal.returns-in_default-clause-frame
+returns-in_default-clause-frame c = frame_same c.args.graph.now c.args.table.now c.next_key.new.table (next_nodes c.args.table.now c.next_key.new.table c.in_ok-key.field-0 c.in_ok-key.ensures)

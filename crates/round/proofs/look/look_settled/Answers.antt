@@ -1,3 +1,5 @@
+use Rattle.std.proofs.Common.{refl}
+use Rattle.round.proofs.Framing.{frame_same}
 use Rattle.std.proofs.Common.{ap}
 use Rattle.open_nodes.specs.Counted.{turns_of}
 use Rattle.open_nodes.proofs.Counting.{counts_same}
@@ -18,3 +20,9 @@ returns-in_ok-put_ready-in-None-clause-turns c = counts_same c.args.table.now c.
 
 pub returns-in_ok-put_ready-in-None-clause-keeps : goal.returns-in_ok-put_ready-in-None-clause-keeps
 returns-in_ok-put_ready-in-None-clause-keeps c = wanted_same c.args.graph.now c.args.table.now c.put_ready.new.table c.put_ready.ensures.nodes
+
+pub returns-in-Some-clause-frame : goal.returns-in-Some-clause-frame
+returns-in-Some-clause-frame c = frame_same c.args.graph.now c.args.table.now c.args.table.now refl
+
+pub returns-in_ok-put_ready-in-None-clause-frame : goal.returns-in_ok-put_ready-in-None-clause-frame
+returns-in_ok-put_ready-in-None-clause-frame c = frame_same c.args.graph.now c.args.table.now c.put_ready.new.table c.put_ready.ensures.nodes

@@ -1,3 +1,4 @@
+use Rattle.round.proofs.Framing.{frame_on, frame_wants, frame_watch, frame_same}
 use Rattle.std.proofs.Common.{◌∷◌, []}
 use Rattle.functions.specs.Next as leaves
 use Rattle.round.proofs.Looking.{still_there, still_current, all_wanted, watched_whole, watched_out, watched_keeps, watched_turns, watched_true, again_whole, again_turns, again_true, wanted_open}
@@ -105,3 +106,16 @@ pub returns-in_err-look_again-in-None-clause-truth : goal.returns-in_err-look_ag
 returns-in_err-look_again-in-None-clause-truth c = λ next. leads_err next (leaves.read c.args.tree.now) c.args.graph.now c.want_all.new.graph c.args.table.now c.look_again.new.table c.from_residual-in_err-look_again-in-None.result c.from_residual-in_err-look_again-in-None.ensures.0
     (λ laws past t. (c.in_ok-want_all.ensures.truth next laws past
     (missing_reached next (leaves.read c.args.tree.now) laws past c.args.graph.now c.args.table.now c.args.key.now c.args.missing.now t c.requires.whole c.requires.awaiting) t).after)
+
+pub returns-in_ok-watch-in-Some-clause-frame : goal.returns-in_ok-watch-in-Some-clause-frame
+returns-in_ok-watch-in-Some-clause-frame c =
+    let w = c.in_ok-want_all.ensures.wants in
+    let all = c.in_ok-want_all.ensures.wanted in
+    frame_on c.args.graph.now c.want_all.new.graph c.want_all.new.graph c.args.table.now c.want_all.new.table c.watch.new.table (frame_wants c.args.graph.now c.want_all.new.graph c.args.table.now c.want_all.new.table w)
+    (frame_watch c.want_all.new.graph c.want_all.new.table c.watch.new.table c.in-Some.member.now c.args.key.now
+    (wanted_open c.want_all.new.graph c.want_all.new.table c.in-Some.member.now (all c.in-Some.member.now c.in-Some.ensures.0) c.in-Some.ensures.1) c.in_ok-watch-in-Some.ensures.watches)
+
+pub returns-in_ok-look_again-in-None-clause-frame : goal.returns-in_ok-look_again-in-None-clause-frame
+returns-in_ok-look_again-in-None-clause-frame c =
+    frame_on c.args.graph.now c.want_all.new.graph c.want_all.new.graph c.args.table.now c.want_all.new.table c.look_again.new.table (frame_wants c.args.graph.now c.want_all.new.graph c.args.table.now c.want_all.new.table c.in_ok-want_all.ensures.wants)
+    (frame_same c.want_all.new.graph c.want_all.new.table c.look_again.new.table c.look_again.ensures.nodes)

@@ -1,4 +1,6 @@
-use Rattle.round.proofs.Confirming.{clean_members, confirmed_whole, confirmed_out, confirmed_keeps, confirmed_turns, confirmed_true, is_recorded}
+use Rattle.std.proofs.Common.{refl}
+use Rattle.round.proofs.Framing.{frame_left, checks_no_turn}
+use Rattle.round.proofs.Confirming.{clean_members, confirmed_whole, confirmed_out, confirmed_keeps, confirmed_turns, confirmed_true, is_recorded, recorded}
 use Rattle.round.proofs.settle.confirm.Goals as goal
 
 pub confirm-requires-clause-recorded : goal.confirm-requires-clause-recorded
@@ -26,3 +28,10 @@ returns-clause-keeps c = confirmed_keeps c.args.graph.now c.args.table.now c.arg
 pub returns-clause-truth : goal.returns-clause-truth
 returns-clause-truth c = λ read. confirmed_true c.args.graph.now c.args.table.now c.args.key.now c.requires.passed c.requires.whole c.confirm.new.self c.leave.new.table
     (c.in_ok-_groups.ensures.left c.requires.passed.node c.requires.passed.there) c.confirm.ensures.version c.confirm.ensures.confirmed c.confirm.ensures.lawful read
+
+pub returns-clause-frame : goal.returns-clause-frame
+returns-clause-frame c =
+    let p = c.requires.passed in
+    let r = recorded c.args.graph.now c.args.table.now c.args.key.now p c.requires.whole in
+    frame_left c.args.graph.now c.confirm.new.self c.args.table.now c.leave.new.table c.leave.new.table c.args.key.now p.node _ p.there (checks_no_turn p.node p.at p.checking) (c.requires.whole.holds c.args.key.now p.node p.there).0
+    (c.in_ok-_groups.ensures.left p.node p.there) refl (c.confirm.ensures.confirmed r.0 r.1)

@@ -1,3 +1,4 @@
+use Rattle.round.proofs.Framing.{frame_left, out_no_turn}
 use Rattle.std.proofs.Common.{◌∙◌, sym, ap}
 use Rattle.std.specs.Arc.{arc_value}
 use Rattle.evaluation.specs.Reply.{Done}
@@ -46,3 +47,9 @@ returns-clause-truth c = λ read next answers o ended laws past t.
     c.version.ensures (count_is c.in_ok-groups.groups (groups_of o.node) c.len.result c.len.ensures (c.in_ok-groups.ensures.groups o.node o.there))
     (end_keeps c.args.graph.now c.record.new.self c.args.key (arc_value c.in_ok-shared.shared) c.in_ok-groups.groups.items (groups_of o.node) (c.in_ok-groups.ensures.groups o.node o.there) c.in_ok-record.ensures.lawful)
     next (ended ∙ ap (λ v. Done v) (sym c.in_ok-shared.ensures.ok)) read laws past t
+
+pub returns-clause-frame : goal.returns-clause-frame
+returns-clause-frame c =
+    let o = c.requires.out.1 in
+    frame_left c.args.graph.now c.record.new.self c.args.table.now c.leave.new.table c.note.new.table c.args.key o.node _ o.there (out_no_turn o.node o.out) (c.requires.whole.holds c.args.key o.node o.there).0
+    (c.in_ok-groups.ensures.left o.node o.there) c.in_ok-note.ensures.nodes c.in_ok-record.ensures.recorded

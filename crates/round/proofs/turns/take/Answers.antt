@@ -1,3 +1,7 @@
+use Rattle.round.specs.Paused.{IsPaused}
+use Rattle.round.proofs.Pausing.{asked_paused}
+use Rattle.round.proofs.Wanting.{leads_err}
+use Rattle.round.proofs.Framing.{frame_asked, out_no_turn}
 use Rattle.std.proofs.Common.{◌∙◌, sym, ap, subst}
 use Rattle.keys.specs.declared.key.Key.{Key}
 use Rattle.evaluation.specs.Reply.{Ask}
@@ -5,41 +9,64 @@ use Rattle.round.specs.Turning.{IsOutWith, ComesBack}
 use Rattle.round.proofs.Handing.{asked_whole, asked_keeps, asked_back, asked_turns, asked_true}
 use Rattle.round.proofs.turns.take.Goals as goal
 
-pub returns-in-End-clause-truth : goal.returns-in-End-clause-truth
-returns-in-End-clause-truth g c = λ read.
+pub returns-in_ok-end-in-End-clause-truth : goal.returns-in_ok-end-in-End-clause-truth
+returns-in_ok-end-in-End-clause-truth g c = λ read.
     let step = rw c.in-End.is at c.in_ok-key.ensures.step in
-    c.end.ensures.truth read g.R.Rules.next c.args.turned.asked.answers
+    c.in_ok-end-in-End.ensures.truth read g.R.Rules.next c.args.turned.asked.answers
     (subst (λ (k : Key). IsOutWith c.args.graph.now c.args.table.now k c.args.turned.asked.answers) (sym step.0) c.requires.out)
     (ap (λ (k : Key). g.R.Rules.next k c.args.turned.asked.answers) step.0 ∙ step.1)
+
+pub returns-in_err-end-in-End-clause-truth : goal.returns-in_err-end-in-End-clause-truth
+returns-in_err-end-in-End-clause-truth g c = λ read.
+    let step = rw c.in-End.is at c.in_ok-key.ensures.step in
+    leads_err g.R.Rules.next read c.args.graph.now c.end.new.graph c.args.table.now c.end.new.table c.from_residual-in_err-end-in-End.result c.from_residual-in_err-end-in-End.ensures.0
+    (λ laws past t. c.in_err-end-in-End.ensures.truth read g.R.Rules.next c.args.turned.asked.answers
+    (subst (λ (k : Key). IsOutWith c.args.graph.now c.args.table.now k c.args.turned.asked.answers) (sym step.0) c.requires.out)
+    (ap (λ (k : Key). g.R.Rules.next k c.args.turned.asked.answers) step.0 ∙ step.1) laws past t)
 
 pub returns-in_ok-ask-in-Wait-clause-whole : goal.returns-in_ok-ask-in-Wait-clause-whole
 returns-in_ok-ask-in-Wait-clause-whole g c =
     let step = rw c.in-Wait.is at c.in_ok-key.ensures.step in
-    let same = c.in_ok-key-in-Wait.ensures ∙ c.key.ensures ∙ step.0 in
+    let same = c.key.ensures ∙ step.0 in
     let o = subst (λ (k : Key). IsOutWith c.args.graph.now c.args.table.now k c.args.turned.asked.answers) (sym same) c.requires.out in
-    asked_whole c.args.graph.now c.args.table.now c.ask.new.table c.in_ok-key-in-Wait.key c.args.turned.asked.answers o c.requires.whole c.into_group.result.items c.in_ok-ask-in-Wait.ensures.asked c.in_ok-ask-in-Wait.ensures.pends
+    asked_whole c.args.graph.now c.args.table.now c.ask.new.table c.key.result.now c.args.turned.asked.answers o c.requires.whole c.in_ok-group-in-Wait.group.items c.in_ok-ask-in-Wait.ensures.asked c.in_ok-ask-in-Wait.ensures.pends
 
 pub returns-in_ok-ask-in-Wait-clause-keeps : goal.returns-in_ok-ask-in-Wait-clause-keeps
 returns-in_ok-ask-in-Wait-clause-keeps g c =
     let step = rw c.in-Wait.is at c.in_ok-key.ensures.step in
-    let same = c.in_ok-key-in-Wait.ensures ∙ c.key.ensures ∙ step.0 in
+    let same = c.key.ensures ∙ step.0 in
     let o = subst (λ (k : Key). IsOutWith c.args.graph.now c.args.table.now k c.args.turned.asked.answers) (sym same) c.requires.out in
-    asked_keeps c.args.graph.now c.args.table.now c.ask.new.table c.in_ok-key-in-Wait.key c.args.turned.asked.answers o c.requires.whole c.into_group.result.items c.in_ok-ask-in-Wait.ensures.asked c.in_ok-ask-in-Wait.ensures.pends
+    asked_keeps c.args.graph.now c.args.table.now c.ask.new.table c.key.result.now c.args.turned.asked.answers o c.requires.whole c.in_ok-group-in-Wait.group.items c.in_ok-ask-in-Wait.ensures.asked c.in_ok-ask-in-Wait.ensures.pends
 
 pub returns-in_ok-ask-in-Wait-clause-back : goal.returns-in_ok-ask-in-Wait-clause-back
 returns-in_ok-ask-in-Wait-clause-back g c =
     let step = rw c.in-Wait.is at c.in_ok-key.ensures.step in
-    let same = c.in_ok-key-in-Wait.ensures ∙ c.key.ensures ∙ step.0 in
+    let same = c.key.ensures ∙ step.0 in
     let o = subst (λ (k : Key). IsOutWith c.args.graph.now c.args.table.now k c.args.turned.asked.answers) (sym same) c.requires.out in
     subst (λ (k : Key). ComesBack c.args.table.now c.ask.new.table k) same (
-      asked_back c.args.graph.now c.args.table.now c.ask.new.table c.in_ok-key-in-Wait.key c.args.turned.asked.answers o c.requires.whole c.into_group.result.items c.in_ok-ask-in-Wait.ensures.asked c.in_ok-ask-in-Wait.ensures.pends,
-      asked_turns c.args.graph.now c.args.table.now c.ask.new.table c.in_ok-key-in-Wait.key c.args.turned.asked.answers o c.requires.whole c.into_group.result.items c.in_ok-ask-in-Wait.ensures.asked c.in_ok-ask-in-Wait.ensures.pends,
+      asked_back c.args.graph.now c.args.table.now c.ask.new.table c.key.result.now c.args.turned.asked.answers o c.requires.whole c.in_ok-group-in-Wait.group.items c.in_ok-ask-in-Wait.ensures.asked c.in_ok-ask-in-Wait.ensures.pends,
+      asked_turns c.args.graph.now c.args.table.now c.ask.new.table c.key.result.now c.args.turned.asked.answers o c.requires.whole c.in_ok-group-in-Wait.group.items c.in_ok-ask-in-Wait.ensures.asked c.in_ok-ask-in-Wait.ensures.pends,
     )
 
 pub returns-in_ok-ask-in-Wait-clause-truth : goal.returns-in_ok-ask-in-Wait-clause-truth
 returns-in_ok-ask-in-Wait-clause-truth g c = λ read laws past t.
     let step = rw c.in-Wait.is at c.in_ok-key.ensures.step in
-    let same = c.in_ok-key-in-Wait.ensures ∙ c.key.ensures ∙ step.0 in
+    let same = c.key.ensures ∙ step.0 in
     let o = subst (λ (k : Key). IsOutWith c.args.graph.now c.args.table.now k c.args.turned.asked.answers) (sym same) c.requires.out in
-    asked_true c.args.graph.now c.args.table.now c.ask.new.table c.in_ok-key-in-Wait.key c.args.turned.asked.answers o c.requires.whole c.into_group.result.items c.in_ok-ask-in-Wait.ensures.asked c.in_ok-ask-in-Wait.ensures.pends
-    g.R.Rules.next (ap (λ (k : Key). g.R.Rules.next k c.args.turned.asked.answers) same ∙ step.2 ∙ ap (λ group. Ask group) (sym c.into_group.ensures)) read laws past t
+    asked_true c.args.graph.now c.args.table.now c.ask.new.table c.key.result.now c.args.turned.asked.answers o c.requires.whole c.in_ok-group-in-Wait.group.items c.in_ok-ask-in-Wait.ensures.asked c.in_ok-ask-in-Wait.ensures.pends
+    g.R.Rules.next (ap (λ (k : Key). g.R.Rules.next k c.args.turned.asked.answers) same ∙ step.2 ∙ ap (λ group. Ask group) (sym (c.in_ok-group-in-Wait.ensures ∙ c.group.ensures))) read laws past t
+
+pub returns-in_ok-ask-in-Wait-clause-frame : goal.returns-in_ok-ask-in-Wait-clause-frame
+returns-in_ok-ask-in-Wait-clause-frame g c =
+    let step = rw c.in-Wait.is at c.in_ok-key.ensures.step in
+    let same = c.key.ensures ∙ step.0 in
+    let o = subst (λ (k : Key). IsOutWith c.args.graph.now c.args.table.now k c.args.turned.asked.answers) (sym same) c.requires.out in
+    frame_asked c.args.graph.now c.args.table.now c.ask.new.table c.key.result.now o.node c.in_ok-group-in-Wait.group.items o.there (out_no_turn o.node o.out) c.in_ok-ask-in-Wait.ensures.asked
+
+pub returns-in_ok-ask-in-Wait-clause-paused : goal.returns-in_ok-ask-in-Wait-clause-paused
+returns-in_ok-ask-in-Wait-clause-paused g c =
+    let step = rw c.in-Wait.is at c.in_ok-key.ensures.step in
+    let same = c.key.ensures ∙ step.0 in
+    let o = subst (λ (k : Key). IsOutWith c.args.graph.now c.args.table.now k c.args.turned.asked.answers) (sym same) c.requires.out in
+    subst (λ (k : Key). IsPaused c.args.graph.now c.ask.new.table k c.in-Wait.waiting) same
+    (asked_paused c.args.graph.now c.args.table.now c.ask.new.table c.key.result.now c.args.turned.asked.answers o c.in_ok-group-in-Wait.group.items c.in_ok-ask-in-Wait.ensures.asked c.in-Wait.waiting (sym c.key.ensures) step.1)

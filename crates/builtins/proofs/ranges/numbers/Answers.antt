@@ -1,0 +1,46 @@
+use Rattle.std.proofs.Common.{length, length-append, FitsSigned, w64, to_z, refl, sym, subst, ◌∙◌, ap, arith, rules}
+use Rattle.std.proofs.lemmas.Int.{to_z-of_z}
+use Rattle.meaning.specs.declared.val.Val.{Val}
+use Rattle.builtins.proofs.Spanned.{range_ends, range_goes, range_last, range_long, past_the_end}
+use Rattle.builtins.proofs.ranges.numbers.Goals as goal
+
+pub loop-members-init : goal.loop-members-init
+loop-members-init c = rw c.new-members.ensures.items refl
+
+pub returns-then-len-ge-LONGEST : goal.returns-then-len-ge-LONGEST
+returns-then-len-ge-LONGEST c =
+    let f : FitsSigned w64 c.args.from = c.ranges.from in
+    let g : FitsSigned w64 c.args.to = c.ranges.to in
+    let h : FitsSigned w64 c.args.step = c.ranges.step in
+    let here = simp to_z-of_z at (sym c.lies_before.ensures ∙ c.loop-members-test.true) in
+    (refl, range_long c.loop-members.members.items _ (to_z w64 c.loop-members.next-bits) c.args.to c.args.step c.requires (simp to_z-of_z at c.loop-members.invariant) here (omega arith))
+
+pub loop-members-smaller : goal.loop-members-smaller
+loop-members-smaller c = omega (arith, ap length c.in_ok-push.ensures.items, length-append {A = Val})
+
+pub loop-members-preserved : goal.loop-members-preserved
+loop-members-preserved c =
+    let f : FitsSigned w64 c.args.from = c.ranges.from in
+    let g : FitsSigned w64 c.args.to = c.ranges.to in
+    let h : FitsSigned w64 c.args.step = c.ranges.step in
+    let here = simp to_z-of_z at (sym c.lies_before.ensures ∙ c.loop-members-test.true) in
+    let sum = simp to_z-of_z at c.in-Some.ensures in
+    let k : FitsSigned w64 c.in-Some.n = subst (FitsSigned w64) (sym sum.1) sum.0 in
+    simp to_z-of_z (range_goes c.loop-members.members.items _ (to_z w64 c.loop-members.next-bits) c.args.to c.args.step c.requires (simp to_z-of_z at c.loop-members.invariant) c.push.new.self.items here c.in_ok-push.ensures.items c.in-Some.n sum.1)
+
+pub returns-in-None : goal.returns-in-None
+returns-in-None c =
+    let f : FitsSigned w64 c.args.from = c.ranges.from in
+    let g : FitsSigned w64 c.args.to = c.ranges.to in
+    let h : FitsSigned w64 c.args.step = c.ranges.step in
+    let here = simp to_z-of_z at (sym c.lies_before.ensures ∙ c.loop-members-test.true) in
+    range_last c.loop-members.members.items _ (to_z w64 c.loop-members.next-bits) c.args.to c.args.step c.requires (simp to_z-of_z at c.loop-members.invariant) c.push.new.self.items here c.in_ok-push.ensures.items
+    (past_the_end (to_z w64 c.loop-members.next-bits) c.args.to c.args.step (search rules) c.ranges.to c.requires (simp to_z-of_z at c.in-None.ensures))
+
+pub returns : goal.returns
+returns c =
+    let f : FitsSigned w64 c.args.from = c.ranges.from in
+    let g : FitsSigned w64 c.args.to = c.ranges.to in
+    let h : FitsSigned w64 c.args.step = c.ranges.step in
+    let there = simp to_z-of_z at (sym c.lies_before.ensures ∙ c.loop-members-test.false) in
+    range_ends c.loop-members.members.items _ (to_z w64 c.loop-members.next-bits) c.args.to c.args.step c.requires (simp to_z-of_z at c.loop-members.invariant) there

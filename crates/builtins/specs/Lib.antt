@@ -1,0 +1,4 @@
+pub mod Seen
+pub mod Parts
+pub mod Spans
+pub mod Ranks

@@ -1,0 +1,119 @@
+//! Calls of built-in functions.
+ghost use Rattle.std.specs.Prelude.{[], ◌∷◌, ◌≤◌, length};
+ghost use Rattle.meaning.specs.Functions.{builtin, unnamed, plain};
+ghost use Rattle.heap.specs.View.{store_of, Says};
+
+use crate::dictionaries::dict;
+use crate::lists::{list, no_list, no_tuple, reversed, tuple};
+use crate::numbering::enumerate;
+use crate::orders::{max, min};
+use crate::plain::{len, truth, type_of};
+use crate::ranges::range;
+use crate::sorting::sorted;
+use crate::truths::{all, any};
+use crate::zipping::zip;
+use heap::{Builtin, Halt, Heap, Val};
+use printing::{print, text};
+use texts::Text;
+
+/// What a built-in function that is no package call gives of its arguments, those without a name and those by name; or
+/// its fault: 5, 11, 12, 13, 24 or 25.
+pub fn builtin(heap: &mut Heap, f: Builtin, xs: &[Val], names: &[(Text, Val)]) -> Result<Val, Halt>
+    ensures { Says (builtin f xs.now names.now (store_of heap.old)) result (store_of heap.new) }
+{
+    match f {
+        Builtin::Sorted => Ok(sorted(heap, xs, names)?),
+        Builtin::Dict => Ok(dict(heap, xs, names)?),
+        _ => Ok(unnamed(heap, f, xs, names)?),
+    }
+}
+
+// What a function gives that takes no names.
+fn unnamed(heap: &mut Heap, f: Builtin, xs: &[Val], names: &[(Text, Val)]) -> Result<Val, Halt>
+    ensures { Says (unnamed f xs.now names.now (store_of heap.old)) result (store_of heap.new) }
+{
+    if !names.is_empty() {
+        return Err(Halt::Code(25));
+    }
+    match xs {
+        [] => Ok(of_none(heap, f)?),
+        [x] => Ok(of_one(heap, f, *x)?),
+        [_, _, ..] => Ok(of_several(heap, f, xs)?),
+    }
+}
+
+// What a function gives without arguments.
+fn of_none(heap: &mut Heap, f: Builtin) -> Result<Val, Halt>
+    ensures { Says (plain f [] (store_of heap.old)) result (store_of heap.new) }
+{
+    match f {
+        Builtin::List => Ok(no_list(heap)?),
+        Builtin::Tuple => Ok(no_tuple(heap)?),
+        Builtin::Bool => Ok(Val::Bool(false)),
+        Builtin::Zip => Ok(zip(heap, &[])?),
+        Builtin::Len => Err(Halt::Code(25)),
+        Builtin::Range => Err(Halt::Code(25)),
+        Builtin::Str => Err(Halt::Code(25)),
+        Builtin::Repr => Err(Halt::Code(25)),
+        Builtin::Type => Err(Halt::Code(25)),
+        Builtin::Reversed => Err(Halt::Code(25)),
+        Builtin::Enumerate => Err(Halt::Code(25)),
+        Builtin::Any => Err(Halt::Code(25)),
+        Builtin::All => Err(Halt::Code(25)),
+        Builtin::Min => Err(Halt::Code(25)),
+        Builtin::Max => Err(Halt::Code(25)),
+        Builtin::Fail => Err(Halt::Code(25)),
+        _ => Err(Halt::Code(5)),
+    }
+}
+
+// What a function gives of one argument.
+fn of_one(heap: &mut Heap, f: Builtin, x: Val) -> Result<Val, Halt>
+    ensures { Says (plain f (x ∷ []) (store_of heap.old)) result (store_of heap.new) }
+{
+    match f {
+        Builtin::Len => Ok(len(heap, x)?),
+        Builtin::Range => Ok(range(heap, &[x])?),
+        Builtin::Str => Ok(text(heap, x)?),
+        Builtin::Repr => Ok(print(heap, x)?),
+        Builtin::Type => Ok(type_of(heap, x)?),
+        Builtin::Reversed => Ok(reversed(heap, x)?),
+        Builtin::Enumerate => Ok(enumerate(heap, x)?),
+        Builtin::Zip => Ok(zip(heap, &[x])?),
+        Builtin::List => Ok(list(heap, x)?),
+        Builtin::Tuple => Ok(tuple(heap, x)?),
+        Builtin::Bool => Ok(truth(heap, x)),
+        Builtin::Any => Ok(any(heap, x)?),
+        Builtin::All => Ok(all(heap, x)?),
+        Builtin::Min => Ok(min(heap, &[x])?),
+        Builtin::Max => Ok(max(heap, &[x])?),
+        Builtin::Fail => Err(Halt::Code(24)),
+        _ => Err(Halt::Code(5)),
+    }
+}
+
+// What a function gives of two arguments or more.
+fn of_several(heap: &mut Heap, f: Builtin, xs: &[Val]) -> Result<Val, Halt>
+    requires { 2 ≤ length xs.now }
+    ensures { Says (plain f xs.now (store_of heap.old)) result (store_of heap.new) }
+{
+    match f {
+        Builtin::Range => Ok(range(heap, xs)?),
+        Builtin::Zip => Ok(zip(heap, xs)?),
+        Builtin::Min => Ok(min(heap, xs)?),
+        Builtin::Max => Ok(max(heap, xs)?),
+        Builtin::Len => Err(Halt::Code(25)),
+        Builtin::Str => Err(Halt::Code(25)),
+        Builtin::Repr => Err(Halt::Code(25)),
+        Builtin::Type => Err(Halt::Code(25)),
+        Builtin::Reversed => Err(Halt::Code(25)),
+        Builtin::Enumerate => Err(Halt::Code(25)),
+        Builtin::List => Err(Halt::Code(25)),
+        Builtin::Tuple => Err(Halt::Code(25)),
+        Builtin::Bool => Err(Halt::Code(25)),
+        Builtin::Any => Err(Halt::Code(25)),
+        Builtin::All => Err(Halt::Code(25)),
+        Builtin::Fail => Err(Halt::Code(25)),
+        _ => Err(Halt::Code(5)),
+    }
+}

@@ -1,0 +1,185 @@
+//! `dict`.
+ghost use Rattle.std.specs.Prelude.{◌≡◌, [], map, IfOk};
+ghost use Rattle.meaning.specs.Heap.{at, makes_dict};
+ghost use Rattle.meaning.specs.declared.val.Val.TheVariants.{At};
+ghost use Rattle.meaning.specs.Functions.{dict_of, dict_from, entries_of, add_all, add_each, add_named, grows, pair_of, object_pair, two_of};
+ghost use Rattle.heap.specs.View.{store_of, Says, Checks};
+ghost use Rattle.builtins.specs.Seen.{SaysEntries, pairs_of};
+
+use crate::names::is_twice;
+use comparing::hash;
+use heap::{Bytes, Entry, Halt, Heap, Key, LONGEST, Object, Val, has_room, set_entry};
+use indexing::items;
+use indexmap::IndexMap;
+use std::alloc::Global;
+use texts::{Memory, Text};
+
+/// `dict(..)`: fault 25, 5, 11, 12 or 13.
+pub fn dict(heap: &mut Heap, xs: &[Val], names: &[(Text, Val)]) -> Result<Val, Halt>
+    ensures { Says (dict_of xs.now names.now (store_of heap.old)) result (store_of heap.new) }
+{
+    if xs.len() > 1 || is_twice(heap.alloc, names)? {
+        return Err(Halt::Code(25));
+    }
+    let mut entries = IndexMap::new(heap.alloc);
+    add_from(heap, &mut entries, xs)?;
+    add_named(heap, &mut entries, names)?;
+    let made = make_dict(heap, entries)?;
+    Ok(made)
+}
+
+// A new dictionary, or fault 13.
+fn make_dict(heap: &mut Heap, entries: IndexMap<Key, Entry>) -> Result<Val, Halt>
+    ensures { Says (makes_dict entries.entries (store_of heap.old)) result (store_of heap.new) }
+{
+    if entries.len() > LONGEST {
+        return Err(Halt::Code(13));
+    }
+    let made = heap.make(Object::Dict(entries, false))?;
+    Ok(made)
+}
+
+// Adds what the arguments without a name give to a dictionary that is empty.
+fn add_from(heap: &mut Heap, entries: &mut IndexMap<Key, Entry>, xs: &[Val]) -> Result<(), Halt>
+    requires { entries.old.entries ≡ [] }
+    ensures { SaysEntries (dict_from xs.now (store_of heap.old)) result entries.new.entries (store_of heap.new) }
+{
+    match xs {
+        [] => Ok(()),
+        [Val::At(place)] => {
+            add_object(heap, entries, *place)?;
+            Ok(())
+        }
+        _ => Err(Halt::Code(5)),
+    }
+}
+
+// Adds what an object gives to a dictionary that is empty.
+fn add_object(heap: &mut Heap, entries: &mut IndexMap<Key, Entry>, place: usize) -> Result<(), Halt>
+    requires { entries.old.entries ≡ [] }
+    ensures { SaysEntries (entries_of (at place (store_of heap.old)) (At place) (store_of heap.old)) result entries.new.entries (store_of heap.new) }
+{
+    if let Some(Object::Dict(others, _)) = heap.object(place) {
+        let pairs = pairs(heap.alloc, others)?;
+        add_all(heap, entries, pairs.as_slice())?;
+        return Ok(());
+    }
+    let members = items(heap, Val::At(place))?;
+    add_each(heap, entries, members.as_slice())?;
+    Ok(())
+}
+
+// The keys of a dictionary with their values.
+#[tactic(auto, using(crate::proofs::Paired::pairs_more, crate::proofs::Paired::pairs_end, crate::proofs::Paired::pairs_last))]
+fn pairs(alloc: Global, entries: &IndexMap<Key, Entry>) -> Result<Vec<(Val, Val)>, Memory>
+    ensures { IfOk result (λ v. v.items ≡ pairs_of entries.now.entries) }
+{
+    let mut all = Vec::new(alloc);
+    for i in 0..entries.len() {
+        let Some((_key, entry)) = entries.get_index(i) else {
+            return Ok(all);
+        };
+        all.push((entry.key, entry.value))?;
+    }
+    Ok(all)
+}
+
+// Adds pairs.
+fn add_all(
+    heap: &mut Heap,
+    entries: &mut IndexMap<Key, Entry>,
+    pairs: &[(Val, Val)],
+) -> Result<(), Halt>
+    ensures { SaysEntries (add_all pairs.now entries.old.entries (store_of heap.old)) result entries.new.entries (store_of heap.new) }
+{
+    for pair in pairs.iter() {
+        add(heap, entries, pair.0, pair.1)?;
+    }
+    Ok(())
+}
+
+// Adds the pairs that values are.
+fn add_each(
+    heap: &mut Heap,
+    entries: &mut IndexMap<Key, Entry>,
+    members: &[Val],
+) -> Result<(), Halt>
+    ensures { SaysEntries (add_each members.now entries.old.entries (store_of heap.old)) result entries.new.entries (store_of heap.new) }
+{
+    for member in members.iter() {
+        let pair = pair(heap, *member)?;
+        add(heap, entries, pair.0, pair.1)?;
+    }
+    Ok(())
+}
+
+// Adds the arguments by name.
+fn add_named(
+    heap: &mut Heap,
+    entries: &mut IndexMap<Key, Entry>,
+    names: &[(Text, Val)],
+) -> Result<(), Halt>
+    ensures { SaysEntries (add_named names.now entries.old.entries (store_of heap.old)) result entries.new.entries (store_of heap.new) }
+{
+    for named in names.iter() {
+        let text = Bytes::of_text(named.0.share()?);
+        let key = heap.make(Object::Text(text))?;
+        add(heap, entries, key, named.1)?;
+    }
+    Ok(())
+}
+
+// Sets a key of a dictionary that is being made: fault 5, 11, 12 or 13.
+fn add(heap: &mut Heap, entries: &mut IndexMap<Key, Entry>, k: Val, x: Val) -> Result<(), Halt>
+    ensures { SaysEntries (grows k x entries.old.entries (store_of heap.old)) result entries.new.entries (store_of heap.new) }
+{
+    let key = hash(heap, k)?;
+    if !has_room(entries, &key) {
+        return Err(Halt::Code(13));
+    }
+    set_entry(entries, key, Entry { key: k, value: x })?;
+    Ok(())
+}
+
+// The two members of a list or tuple, or fault 5.
+fn pair(heap: &Heap, x: Val) -> Result<(Val, Val), Halt>
+    ensures { Checks (pair_of x (store_of heap.now)) result }
+{
+    match x {
+        Val::At(place) => {
+            let pair = object_pair(heap, place)?;
+            Ok(pair)
+        }
+        _ => Err(Halt::Code(5)),
+    }
+}
+
+// The two members of an object, or fault 5.
+fn object_pair(heap: &Heap, place: usize) -> Result<(Val, Val), Halt>
+    ensures { Checks (object_pair (at place (store_of heap.now))) result }
+{
+    match heap.object(place) {
+        Some(Object::List(members, _)) => {
+            let pair = two_of(members.as_slice())?;
+            Ok(pair)
+        }
+        Some(Object::Tuple(members)) => {
+            let pair = two_of(members.as_slice())?;
+            Ok(pair)
+        }
+        Some(Object::Text(_)) => Err(Halt::Code(5)),
+        Some(Object::Dict(_, _)) => Err(Halt::Code(5)),
+        Some(Object::Function(_, _)) => Err(Halt::Code(5)),
+        None => Err(Halt::Code(5)),
+    }
+}
+
+// Two members, or fault 5.
+fn two_of(members: &[Val]) -> Result<(Val, Val), Halt>
+    ensures { Checks (two_of members.now) result }
+{
+    match members {
+        [k, x] => Ok((*k, *x)),
+        _ => Err(Halt::Code(5)),
+    }
+}

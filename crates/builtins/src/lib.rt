@@ -1,0 +1,16 @@
+//! The functions that every file has, the package calls aside.
+#![tactic(auto)]
+
+mod calls;
+mod dictionaries;
+mod lists;
+mod names;
+mod numbering;
+mod orders;
+mod plain;
+mod ranges;
+mod sorting;
+mod truths;
+mod zipping;
+
+pub use calls::builtin;

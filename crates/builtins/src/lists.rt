@@ -1,0 +1,52 @@
+//! New lists and tuples.
+ghost use Rattle.std.specs.Prelude.{[]};
+ghost use Rattle.meaning.specs.Heap.{makes_list, makes_tuple};
+ghost use Rattle.builtins.specs.Parts.{list_from, tuple_from, reversed_from};
+ghost use Rattle.heap.specs.View.{store_of, Says};
+
+use heap::{Halt, Heap, Val};
+use indexing::items;
+
+/// `list()`
+pub fn no_list(heap: &mut Heap) -> Result<Val, Halt>
+    ensures { Says (makes_list [] (store_of heap.old)) result (store_of heap.new) }
+{
+    let made = heap.make_list(Vec::new(heap.alloc))?;
+    Ok(made)
+}
+
+/// `list(x)`: fault 5.
+pub fn list(heap: &mut Heap, x: Val) -> Result<Val, Halt>
+    ensures { Says (list_from x (store_of heap.old)) result (store_of heap.new) }
+{
+    let members = items(heap, x)?;
+    let made = heap.make_list(members)?;
+    Ok(made)
+}
+
+/// `tuple()`
+pub fn no_tuple(heap: &mut Heap) -> Result<Val, Halt>
+    ensures { Says (makes_tuple [] (store_of heap.old)) result (store_of heap.new) }
+{
+    let made = heap.make_tuple(Vec::new(heap.alloc))?;
+    Ok(made)
+}
+
+/// `tuple(x)`: fault 5.
+pub fn tuple(heap: &mut Heap, x: Val) -> Result<Val, Halt>
+    ensures { Says (tuple_from x (store_of heap.old)) result (store_of heap.new) }
+{
+    let members = items(heap, x)?;
+    let made = heap.make_tuple(members)?;
+    Ok(made)
+}
+
+/// `reversed(x)`: fault 5.
+pub fn reversed(heap: &mut Heap, x: Val) -> Result<Val, Halt>
+    ensures { Says (reversed_from x (store_of heap.old)) result (store_of heap.new) }
+{
+    let mut members = items(heap, x)?;
+    members.reverse();
+    let made = heap.make_list(members)?;
+    Ok(made)
+}

@@ -1,0 +1,137 @@
+//! Ints and strings in order: `min` and `max`.
+ghost use Rattle.std.specs.Prelude.{◌≡◌, ◌∷◌, Some, option_map, is_some};
+ghost use Rattle.std.specs.Ordering.{is_lt, is_gt};
+ghost use Rattle.meaning.specs.Heap.{at};
+ghost use Rattle.meaning.specs.Functions.{plain_order, texts_order, as_text, text_at, is_int, all_so, are_alike, best, best_of, extreme};
+ghost use Rattle.heap.specs.View.{store_of, Says};
+ghost use Rattle.builtins.specs.Ranks.{is_better};
+
+use heap::{Halt, Heap, Object, Val};
+use indexing::items;
+use std::cmp::Ordering;
+
+/// `min(..)`: fault 25 or 5.
+pub fn min(heap: &Heap, xs: &[Val]) -> Result<Val, Halt>
+    ensures { Says (extreme is_lt xs.now (store_of heap.now)) result (store_of heap.now) }
+{
+    let found = extreme(heap, xs, false)?;
+    Ok(found)
+}
+
+/// `max(..)`: fault 25 or 5.
+pub fn max(heap: &Heap, xs: &[Val]) -> Result<Val, Halt>
+    ensures { Says (extreme is_gt xs.now (store_of heap.now)) result (store_of heap.now) }
+{
+    let found = extreme(heap, xs, true)?;
+    Ok(found)
+}
+
+// The first of the least of the arguments or of the one's members, or of the greatest.
+fn extreme(heap: &Heap, xs: &[Val], greatest: bool) -> Result<Val, Halt>
+    ensures { Says (extreme (is_better greatest) xs.now (store_of heap.now)) result (store_of heap.now) }
+{
+    match xs {
+        [] => Err(Halt::Code(25)),
+        [x] => {
+            let members = items(heap, *x)?;
+            let found = best_of(heap, members.as_slice(), greatest)?;
+            Ok(found)
+        }
+        [_, _, ..] => {
+            let found = best_of(heap, xs, greatest)?;
+            Ok(found)
+        }
+    }
+}
+
+// The first of the least, or of the greatest.
+fn best_of(heap: &Heap, xs: &[Val], greatest: bool) -> Result<Val, Halt>
+    ensures { Says (best_of (is_better greatest) xs.now (store_of heap.now)) result (store_of heap.now) }
+{
+    match xs {
+        [] => Err(Halt::Code(25)),
+        [x, others @ ..] => {
+            if !are_alike(heap, xs) {
+                return Err(Halt::Code(5));
+            }
+            Ok(best(heap, *x, others, greatest))
+        }
+    }
+}
+
+// The first of the least or greatest of a value and others.
+fn best(heap: &Heap, x: Val, others: &[Val], greatest: bool) -> Val
+    ensures { result ≡ best (is_better greatest) (plain_order (store_of heap.now)) x others.now }
+{
+    let mut found = x;
+    for y in others.iter() {
+        if is_better(plain_order(heap, *y, found), greatest) {
+            found = *y;
+        }
+    }
+    found
+}
+
+// Whether an order makes a value better.
+fn is_better(o: Ordering, greatest: bool) -> bool
+    ensures { result ≡ is_better greatest o }
+{
+    if greatest { o.is_gt() } else { o.is_lt() }
+}
+
+/// Whether values are all ints, or all strings.
+pub fn are_alike(heap: &Heap, xs: &[Val]) -> bool
+    ensures { result ≡ are_alike (store_of heap.now) xs.now }
+{
+    are_ints(xs) || are_texts(heap, xs)
+}
+
+/// Whether values are all ints.
+pub fn are_ints(xs: &[Val]) -> bool
+    ensures { result ≡ all_so is_int xs.now }
+{
+    for x in xs.iter() {
+        let Val::Int(_) = x else {
+            return false;
+        };
+    }
+    true
+}
+
+// Whether values are all strings.
+fn are_texts(heap: &Heap, xs: &[Val]) -> bool
+    ensures { result ≡ all_so (λ x. is_some (as_text (store_of heap.now) x)) xs.now }
+{
+    for x in xs.iter() {
+        if text_of(heap, *x).is_none() {
+            return false;
+        }
+    }
+    true
+}
+
+// The order of two ints or two strings.
+fn plain_order(heap: &Heap, x: Val, y: Val) -> Ordering
+    ensures { result ≡ plain_order (store_of heap.now) x y }
+{
+    match (x, y) {
+        (Val::Int(a), Val::Int(b)) => a.cmp(&b),
+        _ => match (text_of(heap, x), text_of(heap, y)) {
+            (Some(a), Some(b)) => a.cmp(b),
+            _ => Ordering::Equal,
+        },
+    }
+}
+
+/// The bytes of a string.
+pub fn text_of<'a>(heap: &'a Heap, x: Val) -> Option<&'a [u8]>
+    ensures { as_text (store_of heap.now) x ≡ option_map (λ t. t.now) result }
+{
+    match x {
+        Val::At(place) => match heap.object(place) {
+            Some(Object::Text(bytes)) => Some(bytes.as_slice()),
+            _ => None,
+        },
+        _ => None,
+    }
+}

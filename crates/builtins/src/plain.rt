@@ -1,0 +1,87 @@
+//! Functions of one value.
+ghost use Rattle.std.specs.Prelude.{◌≡◌, IfOk, ◌<◌, ◌^◌};
+ghost use Rattle.meaning.specs.Outcome.{gives};
+ghost use Rattle.meaning.specs.Heap.{at};
+ghost use Rattle.meaning.specs.Operators.{is_true};
+ghost use Rattle.meaning.specs.Functions.{len, length_of, type_of, object_type, truth_of};
+ghost use Rattle.heap.specs.View.{store_of, Says, Checks};
+ghost use Rattle.builtins.specs.Seen.{ChecksBytes};
+ghost use Rattle.builtins.specs.Parts.{type_text};
+
+use arithmetic::is_true;
+use heap::{Halt, Heap, Object, Val};
+
+/// `len(x)`: fault 5.
+pub fn len(heap: &Heap, x: Val) -> Result<Val, Halt>
+    ensures { Says (len x (store_of heap.now)) result (store_of heap.now) }
+{
+    match x {
+        Val::At(place) => {
+            let n = object_length(heap, place)?;
+            Ok(Val::Int(n as i64))
+        }
+        _ => Err(Halt::Code(5)),
+    }
+}
+
+// How many bytes or members an object has.
+fn object_length(heap: &Heap, place: usize) -> Result<usize, Halt>
+    ensures value { Checks (length_of (at place (store_of heap.now))) result }
+    ensures within { IfOk result (λ n. n < 2 ^ 63) }
+{
+    match heap.object(place) {
+        Some(Object::Text(bytes)) => Ok(bytes.as_slice().len()),
+        Some(Object::List(members, _)) => Ok(members.len()),
+        Some(Object::Tuple(members)) => Ok(members.len()),
+        Some(Object::Dict(entries, _)) => Ok(entries.len()),
+        Some(Object::Function(_, _)) => Err(Halt::Code(5)),
+        None => Err(Halt::Code(5)),
+    }
+}
+
+/// `type(x)`, a new string.
+pub fn type_of(heap: &mut Heap, x: Val) -> Result<Val, Halt>
+    ensures { Says (type_text x (store_of heap.old)) result (store_of heap.new) }
+{
+    let name = type_name(heap, x)?;
+    let bytes = Vec::from_slice(heap.alloc, name)?;
+    let made = heap.make_text(bytes)?;
+    Ok(made)
+}
+
+// The name of a value's type.
+fn type_name(heap: &Heap, x: Val) -> Result<&'static [u8], Halt>
+    ensures { ChecksBytes (type_of x (store_of heap.now)) result }
+{
+    match x {
+        Val::Nothing => Ok(b"NoneType"),
+        Val::Bool(_) => Ok(b"bool"),
+        Val::Int(_) => Ok(b"int"),
+        Val::Builtin(_) => Ok(b"function"),
+        Val::At(place) => {
+            let name = object_type(heap, place)?;
+            Ok(name)
+        }
+    }
+}
+
+// The name of an object's type.
+fn object_type(heap: &Heap, place: usize) -> Result<&'static [u8], Halt>
+    ensures { ChecksBytes (object_type (at place (store_of heap.now))) result }
+{
+    match heap.object(place) {
+        Some(Object::Text(_)) => Ok(b"string"),
+        Some(Object::List(_, _)) => Ok(b"list"),
+        Some(Object::Tuple(_)) => Ok(b"tuple"),
+        Some(Object::Dict(_, _)) => Ok(b"dict"),
+        Some(Object::Function(_, _)) => Ok(b"function"),
+        None => Err(Halt::Code(5)),
+    }
+}
+
+/// `bool(x)`
+pub fn truth(heap: &Heap, x: Val) -> Val
+    ensures { truth_of (is_true x (store_of heap.now)) (store_of heap.now) ≡ gives result (store_of heap.now) }
+{
+    Val::Bool(is_true(heap, x))
+}

@@ -1,0 +1,77 @@
+//! `range`.
+ghost use Rattle.std.specs.Prelude.{◌≡◌};
+ghost use Rattle.meaning.specs.Functions.{range, range_by, range_list, range_count, numbers};
+ghost use Rattle.heap.specs.View.{store_of, Says};
+ghost use Rattle.heap.specs.Sized.{SizedAs};
+ghost use Rattle.builtins.specs.Spans.{lies_before, IsNonzero};
+
+use heap::{Halt, Heap, LONGEST, Val};
+use std::alloc::Global;
+
+/// `range(to)`, `range(from, to)` or `range(from, to, step)`: fault 25, 5 or 13.
+pub fn range(heap: &mut Heap, xs: &[Val]) -> Result<Val, Halt>
+    ensures { Says (range xs.now (store_of heap.old)) result (store_of heap.new) }
+{
+    match xs {
+        [to] => Ok(range_by(heap, Val::Int(0), *to, Val::Int(1))?),
+        [from, to] => Ok(range_by(heap, *from, *to, Val::Int(1))?),
+        [from, to, step] => Ok(range_by(heap, *from, *to, *step)?),
+        _ => Err(Halt::Code(25)),
+    }
+}
+
+// The list of a range by its three values.
+fn range_by(heap: &mut Heap, from: Val, to: Val, step: Val) -> Result<Val, Halt>
+    ensures { Says (range_by from to step (store_of heap.old)) result (store_of heap.new) }
+{
+    let Val::Int(step) = step else {
+        return Err(Halt::Code(5));
+    };
+    if step == 0 {
+        return Err(Halt::Code(25));
+    }
+    match (from, to) {
+        (Val::Int(from), Val::Int(to)) => {
+            let made = make_range(heap, from, to, step)?;
+            Ok(made)
+        }
+        _ => Err(Halt::Code(5)),
+    }
+}
+
+// The list of a range.
+fn make_range(heap: &mut Heap, from: i64, to: i64, step: i64) -> Result<Val, Halt>
+    requires { IsNonzero step }
+    ensures { Says (range_list from to step (store_of heap.old)) result (store_of heap.new) }
+{
+    let members = numbers(heap.alloc, from, to, step)?;
+    let made = heap.make_list(members)?;
+    Ok(made)
+}
+
+// The numbers of a range, or fault 13.
+fn numbers(alloc: Global, from: i64, to: i64, step: i64) -> Result<Vec<Val>, Halt>
+    requires { IsNonzero step }
+    ensures { SizedAs (numbers (range_count from to step) from step) result }
+{
+    let mut members = Vec::new(alloc);
+    let mut next = from;
+    while lies_before(next, to, step) {
+        if members.len() >= LONGEST {
+            return Err(Halt::Code(13));
+        }
+        members.push(Val::Int(next))?;
+        match next.checked_add(step) {
+            Some(n) => next = n,
+            None => return Ok(members),
+        }
+    }
+    Ok(members)
+}
+
+// Whether a number lies before the end of a range.
+fn lies_before(n: i64, to: i64, step: i64) -> bool
+    ensures { result ≡ lies_before n to step }
+{
+    if step > 0 { n < to } else { n > to }
+}

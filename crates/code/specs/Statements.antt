@@ -1,0 +1,61 @@
+-- The plain tree that a statement, a function or a file of code is.
+use Rattle.std.specs.Prelude.{List, map}
+use Rattle.std.specs.Arc.{arc_value}
+use Rattle.tree.specs.Tree.{St, Suite, Branches, Br, Pa, Fn, Tp, It, Ld, Fi, pass, break, continue, return, eval, assign, augment, if_else, for_each, more_branches, branch, stmt, def}
+use Rattle.tree.specs.Statements.{suite_of, branches_of}
+use Rattle.code.specs.View.{shared_tree, bound_tree}
+use Rattle.code.specs.declared.stmt.Branch.{Branch, fold-Branch}
+use Rattle.code.specs.declared.stmt.Stmt.TheOpen.{Stmt-F, Branch-F}
+use Rattle.code.specs.declared.stmt.Stmt.{Stmt, fold-Stmt}
+use Rattle.code.specs.declared.stmt.Param.{Param}
+use Rattle.code.specs.declared.stmt.Def.{Def}
+use Rattle.code.specs.declared.stmt.Top.{Top}
+use Rattle.code.specs.declared.stmt.Top.TheVariants as tops
+use Rattle.code.specs.declared.stmt.LoadItem.{LoadItem}
+use Rattle.code.specs.declared.stmt.LoadStmt.{LoadStmt}
+use Rattle.code.specs.declared.stmt.File.{File}
+
+abbrev pub stmt_step : Stmt-F St Br → St
+stmt_step (Stmt-F.Pass l) = pass l
+stmt_step (Stmt-F.Break l) = break l
+stmt_step (Stmt-F.Continue l) = continue l
+stmt_step (Stmt-F.Return l e) = return l (bound_tree e)
+stmt_step (Stmt-F.Eval l e) = eval l (shared_tree e)
+stmt_step (Stmt-F.Assign l t e) = assign l (shared_tree t) (shared_tree e)
+stmt_step (Stmt-F.Augment l t o e) = augment l (shared_tree t) o (shared_tree e)
+stmt_step (Stmt-F.If l c body bs ss) = if_else (more_branches (branch l (shared_tree c) (suite_of (arc_value body).items)) (branches_of (arc_value bs).items)) (suite_of (arc_value ss).items)
+stmt_step (Stmt-F.For l t e ss) = for_each l (shared_tree t) (shared_tree e) (suite_of (arc_value ss).items)
+
+abbrev pub branch_step : Branch-F St Br → Br
+branch_step b = branch b.line (shared_tree b.condition) (suite_of (arc_value b.body).items)
+
+abbrev pub stmt_of : Stmt → St
+stmt_of = fold-Stmt St Br stmt_step branch_step
+
+abbrev pub branch_of : Branch → Br
+branch_of = fold-Branch St Br stmt_step branch_step
+
+abbrev pub stmts_of : List Stmt → Suite
+stmts_of ss = suite_of (map stmt_of ss)
+
+abbrev pub branch_trees : List Branch → Branches
+branch_trees bs = branches_of (map branch_of bs)
+
+abbrev pub param_of : Param → Pa
+param_of p = record { name = p.name; default = bound_tree p.default }
+
+abbrev pub fn_of : Def → Fn
+fn_of d = record { line = d.line; name = d.name; params = map param_of d.params.items; body = stmts_of (arc_value d.body).items }
+
+abbrev pub top_of : Top → Tp
+top_of (tops.Stmt s) = stmt (stmt_of s)
+top_of (tops.Def d) = def (fn_of (arc_value d))
+
+abbrev pub item_of : LoadItem → It
+item_of i = record { local = i.local; exported = i.exported }
+
+abbrev pub load_of : LoadStmt → Ld
+load_of l = record { line = l.line; label = l.label; items = map item_of l.items.items }
+
+abbrev pub file_of : File → Fi
+file_of f = record { leading = f.leading; loads = map load_of f.loads.items; tops = map top_of f.tops.items }

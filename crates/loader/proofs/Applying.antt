@@ -1,0 +1,19 @@
+-- An edit that is made.
+use Rattle.std.proofs.Common.{◌≡◌, ◌∙◌, ap, sym, subst, refl, ℕ, ◌<◌, List, None}
+use Rattle.filetree.specs.Files.{Files}
+use Rattle.keys.specs.declared.key.Key.{Key}
+use Rattle.node.specs.Graphs.{Recorded, record_at, IsTouched, AreReached}
+use Rattle.loader.specs.State.{Edit, files_refusal, or_version_refusal, refusal_of, version_limit}
+use Rattle.loader.specs.Held.{Held, files_of, state_of}
+
+-- no refusal by the files, and none by the version
+pub not_refused : (edit : Edit) (h : Held) (tree : Files) → tree ≡ files_of h → files_refusal edit tree ≡ None → h.graph.version < version_limit → refusal_of edit (state_of h) ≡ None
+not_refused edit h tree e n v = ap (λ r. or_version_refusal r h.graph.version) (ap (files_refusal edit) (sym e) ∙ n) ∙ below
+  where
+    below : or_version_refusal None h.graph.version ≡ None
+    below = rw (Rattle.std.proofs.lemmas.Bool.lt-ltb h.graph.version version_limit v) refl
+
+-- what is reached at an equal graph
+pub is_reached : (old now : Recorded) (path : List ℕ) (keys listed : List Key) → now ≡ old → listed ≡ keys → AreReached (record_at old) (IsTouched path) keys → AreReached (record_at now) (IsTouched path) listed
+is_reached old now path keys listed e l r =
+    subst (λ (g : Recorded). AreReached (record_at g) (IsTouched path) listed) (sym e) (subst (AreReached (record_at old) (IsTouched path)) (sym l) r)

@@ -1,0 +1,40 @@
+use Rattle.std.proofs.Common.{◌∙◌, ap, sym, subst, List, ℕ, ◌+◌, ◌<◌, arith}
+use Rattle.node.specs.Graphs.{Recorded, record_at, IsTouched, AreReached}
+use Rattle.node.specs.Laws.{TouchKeepsLawful}
+use Rattle.loader.specs.State.{Edit, changed, changed_files}
+use Rattle.loader.specs.Held.{Held, files_of, state_of, path_of}
+use Rattle.loader.specs.Seen.{edit_seen}
+use Rattle.loader.proofs.Histories.{accepted, accepted_state}
+use Rattle.loader.proofs.Applying.{not_refused, is_reached}
+use Rattle.loader.proofs.session.Session.apply.Goals as goal
+
+pub invariant_of-self-2 : goal.invariant_of-self-2
+invariant_of-self-2 c =
+    let inside = c.self.inside in
+    let h : Held = record { began = inside.began; edits = inside.accepted; graph = inside.graph } in
+    let edit : Edit = edit_seen c.args.edit.now in
+    let graph : Recorded = c.reached_by.new.self in
+    let path : List ℕ = c.path.result.now in
+    let reached : AreReached (record_at graph) (IsTouched path) c.as_slice.result.now =
+    is_reached inside.graph graph path c.in_ok-reached.reached.items c.as_slice.result.now c.reached_by.ensures.same c.as_slice.ensures.value c.in_ok-reached.ensures.reached in
+    accepted h c.mark-version.new.self c.add.new.self edit c.add.ensures (c.mark-version.ensures.moved ∙ ap (λ (g : Recorded). g.version + 1) c.reached_by.ensures.same) c.edit_files.new.tree
+    (c.in_default.ensures.1 ∙ ap (changed_files edit) c.self.invariant.0)
+    c.self.invariant.1
+    (subst (λ (g : Recorded). TouchKeepsLawful g c.mark-version.new.self (path_of edit)) c.reached_by.ensures.same
+    (subst (λ (p : List ℕ). TouchKeepsLawful graph c.mark-version.new.self p) c.path.ensures (c.mark-version.ensures.lawful path reached)))
+
+pub returns-clause-applies : goal.returns-clause-applies
+returns-clause-applies c =
+    let inside = c.self.inside in
+    let below : c.args.self.now.graph.version < 4294967295 =
+    omega (arith, c.mark-version.type_inv, c.mark-version.ensures.version, ap (λ (g : Recorded). g.version) c.reached_by.ensures.same, ap (λ (x : Held). x.graph.version) c.self.view_is) in
+    let h : Held = record { began = inside.began; edits = inside.accepted; graph = inside.graph } in
+    let edit : Edit = edit_seen c.args.edit.now in (
+      not_refused edit c.args.self.now inside.tree (c.self.invariant.0 ∙ ap files_of c.self.view_is) c.in_default.ensures.0 below,
+      accepted_state h c.mark-version.new.self c.add.new.self edit c.add.ensures (c.mark-version.ensures.moved ∙ ap (λ (g : Recorded). g.version + 1) c.reached_by.ensures.same)
+          ∙ ap (λ (x : Held). changed edit (state_of x)) c.self.view_is,
+      c.mark-version.ensures.version ∙ sym c.mark-version.ensures.moved,
+    )
+
+pub returns-clause-lawful : goal.returns-clause-lawful
+returns-clause-lawful c = (invariant_of-self-2 c).1

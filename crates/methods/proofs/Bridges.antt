@@ -1,0 +1,45 @@
+-- The methods as they are called one by one are those of the definition.
+use Rattle.std.proofs.Common.{◌≡◌, ℕ, List, [], ◌∷◌, Bool, map, Some, refl, ap, ◌∙◌}
+use Rattle.std.specs.Prelude.{codes, if◌then◌else◌}
+use Rattle.meaning.specs.declared.val.Val.{Val}
+use Rattle.meaning.specs.Outcome.{Does, ◌>>=◌, pure, fault}
+use Rattle.meaning.specs.Heap.{Entries, Store, list, dict, makes_list}
+use Rattle.meaning.specs.Comparing.{same_text}
+use Rattle.meaning.specs.Indexing.{keys_of}
+use Rattle.meaning.specs.Methods.{list_method, dict_method, text_method, makes_items}
+use Rattle.methods.specs.Cases.{of_list, of_dict, of_text, entry_tuple, entry_tuples, entry_list, get_other}
+
+pub list_same : (a : ℕ) (members : List Val) (f : Bool) (name : List ℕ) (xs : List Val) → list_method a (list members f) name xs ≡ of_list a (Some (list members f)) name xs
+list_same a members f name [] = refl
+list_same a members f name (x ∷ []) = refl
+list_same a members f name (x ∷ y ∷ ys) = refl
+
+pub text_same : (bytes name : List ℕ) (xs : List Val) → text_method bytes name xs ≡ of_text bytes name xs
+text_same bytes name [] = refl
+text_same bytes name (x ∷ []) = refl
+text_same bytes name (x ∷ y ∷ ys) = refl
+
+items_same : (es : Entries) → makes_items es ≡ entry_tuples (entry_list es)
+items_same [] = refl
+items_same (e ∷ es) = ap (λ m. entry_tuple e.1 >>= λ t. m >>= λ ts. pure (t ∷ ts)) (items_same es)
+
+values_same : (es : Entries) → map (λ e. e.1.value) es ≡ map (λ e. e.value) (entry_list es)
+values_same [] = refl
+values_same (e ∷ es) = ap (λ l. e.1.value ∷ l) (values_same es)
+
+-- one of the four by its name
+abbrev in_turn : List ℕ → Does Store Val → Does Store Val → Does Store Val → Does Store Val → Does Store Val
+in_turn name get keys values items =
+    if same_text name (codes "get") then get
+    else (if same_text name (codes "keys") then keys
+    else (if same_text name (codes "values") then values
+    else (if same_text name (codes "items") then items else fault 5)))
+
+pub dict_same : (es : Entries) (f : Bool) (name : List ℕ) (xs : List Val) → dict_method es name xs ≡ of_dict (Some (dict es f)) name xs
+unfolding get_other
+dict_same es f name [] =
+    ap (λ (m : Does Store Val). in_turn name (fault 25) (makes_list (keys_of es)) (makes_list (map (λ e. e.1.value) es)) m) (ap (λ m. m >>= makes_list) (items_same es))
+    ∙ ap (λ l. in_turn name (fault 25) (makes_list (keys_of es)) (makes_list l) (entry_tuples (entry_list es) >>= makes_list)) (values_same es)
+dict_same es f name (x ∷ []) = refl
+dict_same es f name (x ∷ y ∷ []) = refl
+dict_same es f name (x ∷ y ∷ z ∷ zs) = refl

@@ -1,0 +1,5 @@
+pub mod Room
+pub mod Endings
+pub mod Split
+pub mod Joined
+pub mod Bridges

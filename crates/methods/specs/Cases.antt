@@ -1,0 +1,116 @@
+-- The methods of what stands at a place, one by one.
+use Rattle.std.specs.Prelude.{ℕ, List, [], ◌∷◌, ◌++◌, length, map, Option, Some, if◌then◌else◌, codes, unwrap_or}
+use Rattle.meaning.specs.declared.key.Part.{Part}
+use Rattle.meaning.specs.declared.val.Val.{Val}
+use Rattle.meaning.specs.declared.val.Val.TheVariants as v
+use Rattle.meaning.specs.declared.val.Entry.{Entry}
+use Rattle.meaning.specs.Outcome.{Does, ◌>>=◌, ◌>>◌, pure, fault, Checked, good, bad, checked}
+use Rattle.meaning.specs.Heap.{Entries, Obj, list, dict, Store, at, is_sized, puts, makes_list, makes_tuple, makes_text}
+use Rattle.meaning.specs.Comparing.{same_text, found}
+use Rattle.meaning.specs.Operators.{add}
+use Rattle.meaning.specs.Indexing.{hash, keys_of, value_of}
+use Rattle.meaning.specs.Membership.{begins}
+use Rattle.meaning.specs.Functions.{the_items}
+use Rattle.meaning.specs.Methods.{adds, add_in_place, nothing_after, the_bytes, ends, stripped, split, replace, joins_items}
+
+-- members at the end of a list that may be changed, or fault 13
+abbrev pub extended : ℕ → Option Obj → List Val → Does Store (Unit {0})
+extended a (Some (list members f)) more = if is_sized (length (members ++ more)) then puts a (list (members ++ more) f) else fault 13
+extended a object more = fault 5
+
+-- `+`, in place where both are lists
+abbrev pub objects_added : ℕ → Option Obj → ℕ → Option Obj → Does Store Val
+objects_added a x b y = add_in_place a x b y (add (v.At a) (v.At b))
+
+abbrev pub added : Val → Val → Does Store Val
+added (v.At a) (v.At b) = λ s. objects_added a (at a s) b (at b s) s
+added x y = add x y
+
+abbrev pub append_to : ℕ → Option Obj → List Val → Does Store Val
+append_to a object (x ∷ []) = nothing_after (adds a object (x ∷ []))
+append_to a object xs = fault 25
+
+-- members that were taken, behind those of the list
+abbrev pub with_members : ℕ → Option Obj → List Val → Does Store Val
+with_members a object ys = nothing_after (adds a object ys)
+
+abbrev pub extend_to : ℕ → Option Obj → List Val → Does Store Val
+extend_to a object (x ∷ []) = the_items x >>= with_members a object
+extend_to a object xs = fault 25
+
+abbrev pub of_list : ℕ → Option Obj → List ℕ → List Val → Does Store Val
+of_list a object name xs =
+    if same_text name (codes "append") then append_to a object xs
+    else (if same_text name (codes "extend") then extend_to a object xs else fault 5)
+
+abbrev pub entry_list : Entries → List Entry
+entry_list entries = map (λ e. e.1) entries
+
+-- a key and its value, as a new tuple
+abbrev pub entry_tuple : Entry → Does Store Val
+entry_tuple e = makes_tuple (e.key ∷ e.value ∷ [])
+
+abbrev pub entry_tuples : List Entry → Does Store (List Val)
+entry_tuples [] = pure []
+entry_tuples (e ∷ es) = entry_tuple e >>= λ t. entry_tuples es >>= λ ts. pure (t ∷ ts)
+
+abbrev pub found_other : Option Obj → Val → List Part → Does Store Val
+found_other (Some (dict entries f)) other k = pure (unwrap_or (value_of (found k entries)) other)
+found_other object other k = fault 5
+
+-- the value at a key, or another
+unfoldable pub get_other : Option Obj → Val → Val → Does Store Val
+get_other object k other = hash k >>= found_other object other
+
+abbrev pub get_of : Option Obj → List Val → Does Store Val
+get_of object (k ∷ []) = get_other object k v.Nothing
+get_of object (k ∷ other ∷ []) = get_other object k other
+get_of object xs = fault 25
+
+abbrev pub get_at : Option Obj → List Val → Does Store Val
+get_at (Some (dict entries f)) xs = get_of (Some (dict entries f)) xs
+get_at object xs = fault 5
+
+abbrev pub keys_at : Option Obj → Does Store Val
+keys_at (Some (dict entries f)) = makes_list (keys_of entries)
+keys_at object = fault 5
+
+abbrev pub values_at : Option Obj → Does Store Val
+values_at (Some (dict entries f)) = makes_list (map (λ e. e.value) (entry_list entries))
+values_at object = fault 5
+
+abbrev pub items_at : Option Obj → Does Store Val
+items_at (Some (dict entries f)) = entry_tuples (entry_list entries) >>= makes_list
+items_at object = fault 5
+
+abbrev pub without_arguments : List Val → Checked (Unit {0})
+without_arguments [] = good tt
+without_arguments (x ∷ xs) = bad 25
+
+abbrev pub alone : Does Store Val → List Val → Does Store Val
+alone m xs = checked (without_arguments xs) >> m
+
+abbrev pub of_dict : Option Obj → List ℕ → List Val → Does Store Val
+of_dict object name xs =
+    if same_text name (codes "get") then get_at object xs
+    else (if same_text name (codes "keys") then alone (keys_at object) xs
+    else (if same_text name (codes "values") then alone (values_at object) xs
+    else (if same_text name (codes "items") then alone (items_at object) xs else fault 5)))
+
+-- the bytes of the only argument
+abbrev pub only_text : List Val → Does Store (List ℕ)
+only_text (x ∷ []) = the_bytes x
+only_text xs = fault 25
+
+-- `split` by what the only argument says
+abbrev pub split_only : List ℕ → List Val → Does Store Val
+split_only whole xs = only_text xs >>= split whole
+
+abbrev pub of_text : List ℕ → List ℕ → List Val → Does Store Val
+of_text bytes name xs =
+    if same_text name (codes "startswith") then (only_text xs >>= λ t. pure (v.Bool (begins t bytes)))
+    else (if same_text name (codes "endswith") then (only_text xs >>= λ t. pure (v.Bool (ends t bytes)))
+    else (if same_text name (codes "join") then joins_items bytes xs
+    else (if same_text name (codes "split") then split_only bytes xs
+    else (if same_text name (codes "replace") then replace bytes xs
+    else (if same_text name (codes "strip") then alone (makes_text (stripped bytes)) xs else fault 5)))))

@@ -1,0 +1,87 @@
+//! Calls of methods.
+ghost use Rattle.std.specs.Prelude.{◌≡◌};
+ghost use Rattle.meaning.specs.Heap.{at};
+ghost use Rattle.meaning.specs.Methods.{method, object_method, has_method};
+ghost use Rattle.heap.specs.View.{store_of, Says};
+
+use crate::dictionaries::dict_method;
+use crate::lists::list_method;
+use crate::names::is_name;
+use crate::strings::text_method;
+use heap::{Halt, Heap, Object, Val};
+use texts::Text;
+
+/// `x.name(..)`, by its plain and its named arguments. No method takes a named one. Fault 5 for an unknown method, then
+/// 25, then 5 for a wrong type, and the faults of the method: 6, 7, 11, 12 or 13.
+pub fn method(
+    heap: &mut Heap,
+    x: Val,
+    name: &str,
+    xs: &[Val],
+    named: &[(Text, Val)],
+) -> Result<Val, Halt>
+    ensures { Says (method x name.now xs.now named.now (store_of heap.old)) result (store_of heap.new) }
+{
+    match x {
+        Val::At(place) => {
+            if !named.is_empty() {
+                if has_method(heap, place, name) {
+                    return Err(Halt::Code(25));
+                }
+                return Err(Halt::Code(5));
+            }
+            let made = object_method(heap, place, name, xs)?;
+            Ok(made)
+        }
+        _ => Err(Halt::Code(5)),
+    }
+}
+
+// A method of what stands at a place.
+#[tactic(auto, using(crate::proofs::Bridges::text_same, crate::proofs::Bridges::list_same, crate::proofs::Bridges::dict_same))]
+fn object_method(heap: &mut Heap, a: usize, name: &str, xs: &[Val]) -> Result<Val, Halt>
+    ensures { Says (object_method a (at a (store_of heap.old)) name.now xs.now (store_of heap.old)) result (store_of heap.new) }
+{
+    match heap.object(a) {
+        Some(Object::Text(bytes)) => {
+            let whole = bytes.share()?;
+            let made = text_method(heap, whole.as_slice(), name, xs)?;
+            Ok(made)
+        }
+        Some(Object::List(_, _)) => {
+            let made = list_method(heap, a, name, xs)?;
+            Ok(made)
+        }
+        Some(Object::Dict(_, _)) => {
+            let made = dict_method(heap, a, name, xs)?;
+            Ok(made)
+        }
+        Some(Object::Tuple(_)) => Err(Halt::Code(5)),
+        Some(Object::Function(_, _)) => Err(Halt::Code(5)),
+        None => Err(Halt::Code(5)),
+    }
+}
+
+// Whether what stands at a place has such a method.
+fn has_method(heap: &Heap, a: usize, name: &str) -> bool
+    ensures { result ≡ has_method (at a (store_of heap.now)) name.now }
+{
+    match heap.object(a) {
+        Some(Object::Text(_)) => {
+            is_name(name, "startswith")
+                || is_name(name, "endswith")
+                || is_name(name, "join")
+                || is_name(name, "split")
+                || is_name(name, "replace")
+                || is_name(name, "strip")
+        }
+        Some(Object::List(_, _)) => is_name(name, "append") || is_name(name, "extend"),
+        Some(Object::Dict(_, _)) => {
+            is_name(name, "get")
+                || is_name(name, "keys")
+                || is_name(name, "values")
+                || is_name(name, "items")
+        }
+        _ => false,
+    }
+}

@@ -1,0 +1,163 @@
+//! The methods of dictionaries.
+ghost use Rattle.std.specs.Prelude.{◌≡◌, map, IfOk};
+ghost use Rattle.meaning.specs.Heap.{at};
+ghost use Rattle.methods.specs.Cases.{entry_list, entry_tuple, entry_tuples, get_at, get_other, found_other, keys_at, values_at, items_at, of_dict};
+ghost use Rattle.heap.specs.View.{store_of, Says, SaysItems};
+
+use crate::names::{is_name, no_arguments};
+use comparing::hash;
+use heap::{Entry, Halt, Heap, Key, Object, Val, found, keys};
+use indexmap::IndexMap;
+use std::alloc::Global;
+use texts::Memory;
+
+/// A method of a dictionary: fault 5, 11, 12, 13 or 25.
+pub fn dict_method(heap: &mut Heap, a: usize, name: &str, xs: &[Val]) -> Result<Val, Halt>
+    ensures { Says (of_dict (at a (store_of heap.old)) name.now xs.now (store_of heap.old)) result (store_of heap.new) }
+{
+    if is_name(name, "get") {
+        let made = get(heap, a, xs)?;
+        return Ok(made);
+    }
+    if is_name(name, "keys") {
+        no_arguments(xs)?;
+        let made = all_keys(heap, a)?;
+        return Ok(made);
+    }
+    if is_name(name, "values") {
+        no_arguments(xs)?;
+        let made = all_values(heap, a)?;
+        return Ok(made);
+    }
+    if is_name(name, "items") {
+        no_arguments(xs)?;
+        let made = all_items(heap, a)?;
+        return Ok(made);
+    }
+    Err(Halt::Code(5))
+}
+
+// `get(k)` or `get(k, other)`
+fn get(heap: &mut Heap, a: usize, xs: &[Val]) -> Result<Val, Halt>
+    ensures { Says (get_at (at a (store_of heap.old)) xs.now (store_of heap.old)) result (store_of heap.new) }
+{
+    match heap.object(a) {
+        Some(Object::Dict(_, _)) => {
+            let (k, other) = match xs {
+                [k] => (*k, Val::Nothing),
+                [k, other] => (*k, *other),
+                _ => return Err(Halt::Code(25)),
+            };
+            let found = get_or_else(heap, a, k, other)?;
+            Ok(found)
+        }
+        _ => Err(Halt::Code(5)),
+    }
+}
+
+// The value at a key, or another.
+#[tactic(auto, unfolding(crate::specs::Cases::get_other))]
+fn get_or_else(heap: &mut Heap, a: usize, k: Val, other: Val) -> Result<Val, Halt>
+    ensures { Says (get_other (at a (store_of heap.old)) k other (store_of heap.old)) result (store_of heap.new) }
+{
+    let key = hash(heap, k)?;
+    let found = found_or(heap, a, &key, other)?;
+    Ok(found)
+}
+
+// `keys()`, a new list.
+fn all_keys(heap: &mut Heap, a: usize) -> Result<Val, Halt>
+    ensures { Says (keys_at (at a (store_of heap.old)) (store_of heap.old)) result (store_of heap.new) }
+{
+    match heap.object(a) {
+        Some(Object::Dict(entries, _)) => {
+            let all = keys(heap.alloc, entries)?;
+            let made = heap.make_list(all)?;
+            Ok(made)
+        }
+        _ => Err(Halt::Code(5)),
+    }
+}
+
+// `values()`, a new list.
+fn all_values(heap: &mut Heap, a: usize) -> Result<Val, Halt>
+    ensures { Says (values_at (at a (store_of heap.old)) (store_of heap.old)) result (store_of heap.new) }
+{
+    match heap.object(a) {
+        Some(Object::Dict(entries, _)) => {
+            let all = values(heap.alloc, entries)?;
+            let made = heap.make_list(all)?;
+            Ok(made)
+        }
+        _ => Err(Halt::Code(5)),
+    }
+}
+
+// `items()`, a new list of new pairs.
+fn all_items(heap: &mut Heap, a: usize) -> Result<Val, Halt>
+    ensures { Says (items_at (at a (store_of heap.old)) (store_of heap.old)) result (store_of heap.new) }
+{
+    match heap.object(a) {
+        Some(Object::Dict(entries, _)) => {
+            let pairs = pairs(heap.alloc, entries)?;
+            let all = tuples(heap, pairs.as_slice())?;
+            let made = heap.make_list(all)?;
+            Ok(made)
+        }
+        _ => Err(Halt::Code(5)),
+    }
+}
+
+// The values of a dictionary, in order.
+fn values(alloc: Global, entries: &IndexMap<Key, Entry>) -> Result<Vec<Val>, Memory>
+    ensures { IfOk result (λ v. v.items ≡ map (λ e. e.value) (entry_list entries.now.entries)) }
+{
+    let mut all = Vec::new(alloc);
+    for e in entries.values() {
+        all.push(e.value)?;
+    }
+    Ok(all)
+}
+
+// The entries of a dictionary, in order.
+fn pairs(alloc: Global, entries: &IndexMap<Key, Entry>) -> Result<Vec<Entry>, Memory>
+    ensures { IfOk result (λ v. v.items ≡ entry_list entries.now.entries) }
+{
+    Ok(entries.values().copied().collect(alloc)?)
+}
+
+// New pairs of keys and values.
+fn tuples(heap: &mut Heap, pairs: &[Entry]) -> Result<Vec<Val>, Halt>
+    ensures { SaysItems (entry_tuples pairs.now (store_of heap.old)) result (store_of heap.new) }
+{
+    let mut all = Vec::new(heap.alloc);
+    for pair in pairs {
+        match tuple(heap, *pair) {
+            Ok(made) => all.push(made)?,
+            Err(halt) => return Err(halt),
+        }
+    }
+    Ok(all)
+}
+
+// A new pair of a key and its value.
+fn tuple(heap: &mut Heap, pair: Entry) -> Result<Val, Halt>
+    ensures { Says (entry_tuple pair (store_of heap.old)) result (store_of heap.new) }
+{
+    let members = vec![in heap.alloc; pair.key, pair.value]?;
+    let made = heap.make_tuple(members)?;
+    Ok(made)
+}
+
+// The value that a dictionary has at a key, or another.
+fn found_or(heap: &Heap, a: usize, key: &Key, other: Val) -> Result<Val, Halt>
+    ensures { Says (found_other (at a (store_of heap.now)) other key.now (store_of heap.now)) result (store_of heap.now) }
+{
+    match heap.objects.get(a) {
+        Some(Object::Dict(entries, _)) => match found(entries, key) {
+            Some(entry) => Ok(entry.value),
+            None => Ok(other),
+        },
+        _ => Err(Halt::Code(5)),
+    }
+}

@@ -1,0 +1,124 @@
+//! The methods of lists.
+ghost use Rattle.meaning.specs.Heap.{at};
+ghost use Rattle.meaning.specs.Indexing.{may_change};
+ghost use Rattle.meaning.specs.Methods.{adds};
+ghost use Rattle.methods.specs.Cases.{added, objects_added, extended, append_to, extend_to, of_list};
+ghost use Rattle.heap.specs.View.{store_of, Says};
+
+use crate::names::is_name;
+use arithmetic::add;
+use heap::{Halt, Heap, LONGEST, Object, Val};
+use indexing::items;
+
+/// A method of a list: fault 5, 6, 7, 13 or 25.
+pub fn list_method(heap: &mut Heap, a: usize, name: &str, xs: &[Val]) -> Result<Val, Halt>
+    ensures { Says (of_list a (at a (store_of heap.old)) name.now xs.now (store_of heap.old)) result (store_of heap.new) }
+{
+    if is_name(name, "append") {
+        let made = append(heap, a, xs)?;
+        return Ok(made);
+    }
+    if is_name(name, "extend") {
+        let made = extend(heap, a, xs)?;
+        return Ok(made);
+    }
+    Err(Halt::Code(5))
+}
+
+/// `x += y`, where the right side is evaluated: with two lists the members of y are added to x in place, which is fault
+/// 6, 7 or 13; else `x + y`, which is fault 5, 9 or 13.
+pub fn add_in_place(heap: &mut Heap, x: Val, y: Val) -> Result<Val, Halt>
+    ensures { Says (added x y (store_of heap.old)) result (store_of heap.new) }
+{
+    if let (Val::At(a), Val::At(b)) = (x, y) {
+        let made = add_objects(heap, a, b)?;
+        return Ok(made);
+    }
+    let made = add(heap, x, y)?;
+    Ok(made)
+}
+
+// Adds what stands at a place to what stands at another, in place where both are lists.
+fn add_objects(heap: &mut Heap, a: usize, b: usize) -> Result<Val, Halt>
+    ensures { Says (objects_added a (at a (store_of heap.old)) b (at b (store_of heap.old)) (store_of heap.old)) result (store_of heap.new) }
+{
+    let more = match (heap.object(a), heap.object(b)) {
+        (Some(Object::List(_, _)), Some(Object::List(members, _))) => {
+            Vec::from_slice(heap.alloc, members.as_slice())?
+        }
+        _ => {
+            let made = add(heap, Val::At(a), Val::At(b))?;
+            return Ok(made);
+        }
+    };
+    adds(heap, a, more.as_slice())?;
+    Ok(Val::At(a))
+}
+
+// `append(x)`
+fn append(heap: &mut Heap, a: usize, xs: &[Val]) -> Result<Val, Halt>
+    ensures { Says (append_to a (at a (store_of heap.old)) xs.now (store_of heap.old)) result (store_of heap.new) }
+{
+    let [_] = xs else {
+        return Err(Halt::Code(25));
+    };
+    adds(heap, a, xs)?;
+    Ok(Val::Nothing)
+}
+
+// `extend(x)`, whose items are taken first.
+fn extend(heap: &mut Heap, a: usize, xs: &[Val]) -> Result<Val, Halt>
+    ensures { Says (extend_to a (at a (store_of heap.old)) xs.now (store_of heap.old)) result (store_of heap.new) }
+{
+    let [x] = xs else {
+        return Err(Halt::Code(25));
+    };
+    let more = items(heap, *x)?;
+    adds(heap, a, more.as_slice())?;
+    Ok(Val::Nothing)
+}
+
+// Adds members at the end of a list, in place.
+fn adds(heap: &mut Heap, a: usize, more: &[Val]) -> Result<(), Halt>
+    ensures { Says (adds a (at a (store_of heap.old)) more.now (store_of heap.old)) result (store_of heap.new) }
+{
+    match heap.object(a) {
+        Some(Object::List(_, frozen)) => {
+            let frozen = *frozen;
+            may_change(heap, a, frozen)?;
+            extend_members(heap, a, more)?;
+            Ok(())
+        }
+        _ => Err(Halt::Code(5)),
+    }
+}
+
+// Whether what stands at a place may be changed: fault 6 where it is frozen, 7 where it is iterated.
+fn may_change(heap: &Heap, a: usize, frozen: bool) -> Result<(), Halt>
+    ensures { Says (may_change a frozen (store_of heap.now)) result (store_of heap.now) }
+{
+    if frozen {
+        return Err(Halt::Code(6));
+    }
+    if heap.iterated.as_slice().contains(&a) {
+        return Err(Halt::Code(7));
+    }
+    Ok(())
+}
+
+// Members at the end of a list, or fault 13.
+fn extend_members(heap: &mut Heap, a: usize, more: &[Val]) -> Result<(), Halt>
+    ensures { Says (extended a (at a (store_of heap.old)) more.now (store_of heap.old)) result (store_of heap.new) }
+{
+    let Some(object) = heap.objects.get_mut(a) else {
+        return Err(Halt::Code(5));
+    };
+    let Object::List(members, _) = object else {
+        return Err(Halt::Code(5));
+    };
+    if members.len() > LONGEST || more.len() > LONGEST - members.len() {
+        return Err(Halt::Code(13));
+    }
+    members.extend_from_slice(more)?;
+    Ok(())
+}

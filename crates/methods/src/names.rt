@@ -1,0 +1,25 @@
+//! Names of methods, and numbers of arguments.
+ghost use Rattle.std.specs.Prelude.{◌≡◌};
+ghost use Rattle.meaning.specs.Comparing.{same_text};
+ghost use Rattle.methods.specs.Cases.{without_arguments};
+ghost use Rattle.heap.specs.View.{Checks};
+
+use heap::{Halt, Val};
+
+/// Whether a name is another.
+pub fn is_name(name: &str, other: &str) -> bool
+    ensures { result ≡ same_text name.now other.now }
+{
+    name == other
+}
+
+/// Fault 25 where there are arguments.
+pub fn no_arguments(xs: &[Val]) -> Result<(), Halt>
+    ensures { Checks (without_arguments xs.now) result }
+{
+    if xs.is_empty() {
+        Ok(())
+    } else {
+        Err(Halt::Code(25))
+    }
+}

@@ -1,0 +1,61 @@
+//! Texts split and joined.
+ghost use Rattle.std.specs.Prelude.{◌≡◌, ◌<◌, ◌++◌, length, IfOk};
+ghost use Rattle.meaning.specs.Methods.{split_by, with_between};
+ghost use Rattle.heap.specs.Sized.{SizedAs};
+ghost use Rattle.methods.specs.Grown.{Grows, shown};
+
+use heap::{Halt, LONGEST};
+use memchr::memmem::Finder;
+use std::alloc::Global;
+use texts::Memory;
+
+/// The parts of a text between separators, found from the left and not overlapping.
+pub fn split_parts<'a>(
+    alloc: Global,
+    whole: &'a [u8],
+    separator: &[u8],
+) -> Result<Vec<&'a [u8]>, Memory>
+    requires { 0 < length separator.now }
+    ensures { IfOk result (λ v. shown v.items ≡ split_by separator.now whole.now) }
+{
+    let finder = Finder::new(separator);
+    let mut all = Vec::new(alloc);
+    let mut rest = whole;
+    while let Some(at) = finder.find(rest) {
+        let (part, others) = rest.split_at(at);
+        all.push(part)?;
+        rest = &others[separator.len()..];
+    }
+    all.push(rest)?;
+    Ok(all)
+}
+
+/// Texts with another between them, or fault 13.
+pub fn join_parts(alloc: Global, separator: &[u8], parts: &[&[u8]]) -> Result<Vec<u8>, Halt>
+    ensures { SizedAs (with_between separator.now (shown parts.now)) result }
+{
+    let mut all = Vec::new(alloc);
+    let Some((first, others)) = parts.split_first() else {
+        return Ok(all);
+    };
+    push_part(&mut all, b"", first)?;
+    for part in others {
+        push_part(&mut all, separator, part)?;
+    }
+    Ok(all)
+}
+
+// A separator and a text behind those that were there, or fault 13.
+fn push_part(all: &mut Vec<u8>, separator: &[u8], part: &[u8]) -> Result<(), Halt>
+    ensures { Grows all.old.items (separator.now ++ part.now) result all.new.items }
+{
+    if all.len() > LONGEST || separator.len() > LONGEST - all.len() {
+        return Err(Halt::Code(13));
+    }
+    if part.len() > LONGEST - all.len() - separator.len() {
+        return Err(Halt::Code(13));
+    }
+    all.extend_from_slice(separator)?;
+    all.extend_from_slice(part)?;
+    Ok(())
+}

@@ -1,0 +1,5 @@
+pub mod Values
+pub mod Equal
+pub mod EqualLaws
+pub mod Stored
+pub mod Shown

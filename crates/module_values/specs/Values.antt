@@ -1,0 +1,36 @@
+-- What the evaluation of a file leaves: of a .bzl file a module, of a BUILD file targets.
+use Rattle.std.specs.Prelude.{ℕ, List}
+use Rattle.meaning.specs.Freezing.{Fz, Fzs}
+use Rattle.tree.specs.Tree.{Fn}
+use Rattle.module_values.specs.declared.targets.Attribute.{Attribute}
+
+-- a target: the rule that made it, its name, and the attributes that were given, in byte order of their names
+pub record Target : Type 0 where
+  pub kind : List ℕ
+  pub name : List ℕ
+  pub attributes : List (List ℕ × Attribute)
+
+-- a name with its value
+pub record Frozen : Type 0 where
+  pub name : List ℕ
+  pub value : Fz
+
+-- the values of a function's defaults, in the order of its parameters
+pub record Defaults : Type 0 where
+  pub name : List ℕ
+  pub values : Fzs
+
+-- one .bzl file: its own globals in the order in which they were bound, the names that its loads bound, the trees of
+-- its functions, and their defaults
+pub record Body : Type 0 where
+  pub label : List ℕ
+  pub path : List ℕ
+  pub own : List Frozen
+  pub loaded : List Frozen
+  pub functions : List Fn
+  pub defaults : List Defaults
+
+-- the value of a .bzl file: itself, and all modules that its loads reach, each once
+pub record Loaded : Type 0 where
+  pub body : Body
+  pub reached : List Body

@@ -1,0 +1,10 @@
+//! What the evaluation of a file leaves, with exact equality: of a BUILD file its targets, of a .bzl file a module.
+#![tactic(auto)]
+
+mod bindings;
+mod modules;
+mod targets;
+
+pub use bindings::{Binding, Defaults, Function};
+pub use modules::{Loaded, Module};
+pub use targets::{Attribute, Target, Targets, Texts};

@@ -1,0 +1,193 @@
+//! Modules.
+ghost use Rattle.std.specs.Prelude.{◌≡◌, IfOk};
+ghost use Rattle.std.specs.Cmp.{partial_equiv_from_equiv};
+ghost use Rattle.module_values.specs.Values.{Body};
+ghost use Rattle.module_values.specs.Equal.{body_eq, loaded_eq};
+ghost use Rattle.module_values.specs.EqualLaws.{bodies_equiv, loaded_equiv};
+
+use crate::bindings::{Binding, Defaults, Function};
+use std::alloc::Global;
+use std::marker::Model;
+use std::sync::Arc;
+use texts::{Memory, Text};
+
+// What a module holds.
+#[derive(Drop)]
+struct Parts {
+    label: Text,
+    path: Text,
+    own: Vec<Binding>,
+    loaded: Vec<Binding>,
+    functions: Vec<Function>,
+    defaults: Vec<Defaults>,
+}
+
+/// One .bzl file, shared: its label and path, its own globals in the order in which they were bound, the names that its
+/// loads bound, its functions and their defaults.
+#[derive(Drop)]
+pub struct Module {
+    parts: Arc<Parts, Global>,
+}
+
+impl Model for Module {
+    ghost use Rattle.module_values.specs.Values.{Body};
+    ghost use Rattle.module_values.specs.Stored.{body_code};
+    ghost use Rattle.module_values.specs.Shown.{body_of};
+    ghost use Rattle.std.specs.Arc.{arc_value};
+
+    ghost Value = { Body };
+
+    ghost coded = { body_code };
+
+    ghost view = { λ m. body_of (arc_value m.parts) };
+}
+
+impl Module {
+    /// A module.
+    pub fn new(
+        alloc: Global,
+        label: Text,
+        path: Text,
+        own: Vec<Binding>,
+        loaded: Vec<Binding>,
+        functions: Vec<Function>,
+        defaults: Vec<Defaults>,
+    ) -> Result<Module, Memory>
+        ensures { IfOk result (λ m. m ≡ record { label = label; path = path; own = own.items; loaded = loaded.items; functions = functions.items; defaults = defaults.items }) }
+    {
+        let parts = Parts {
+            label,
+            path,
+            own,
+            loaded,
+            functions,
+            defaults,
+        };
+        let parts = Arc::new(alloc, parts)?;
+        Ok(Module { parts })
+    }
+
+    /// The same module, shared.
+    pub fn share(&self) -> Result<Module, Memory>
+        ensures { IfOk result (λ m. m ≡ self.now) }
+    {
+        let parts = Arc::try_clone(&self.parts)?;
+        Ok(Module { parts })
+    }
+
+    /// The label.
+    pub fn label(&self) -> &Text
+        ensures { result.now ≡ self.now.label }
+    {
+        &self.parts.label
+    }
+
+    /// The path.
+    pub fn path(&self) -> &Text
+        ensures { result.now ≡ self.now.path }
+    {
+        &self.parts.path
+    }
+
+    /// Its own globals, in the order in which they were bound.
+    pub fn own(&self) -> &[Binding]
+        ensures { result.now ≡ self.now.own }
+    {
+        self.parts.own.as_slice()
+    }
+
+    /// The names that its loads bound.
+    pub fn loaded(&self) -> &[Binding]
+        ensures { result.now ≡ self.now.loaded }
+    {
+        self.parts.loaded.as_slice()
+    }
+
+    /// Its functions.
+    pub fn functions(&self) -> &[Function]
+        ensures { result.now ≡ self.now.functions }
+    {
+        self.parts.functions.as_slice()
+    }
+
+    /// Its functions' defaults.
+    pub fn defaults(&self) -> &[Defaults]
+        ensures { result.now ≡ self.now.defaults }
+    {
+        self.parts.defaults.as_slice()
+    }
+}
+
+impl PartialEq for Module {
+    ghost eq = { body_eq };
+
+    ghost laws = { partial_equiv_from_equiv bodies_equiv };
+
+    fn eq(&self, other: &Module) -> bool {
+        self.label() == other.label()
+            && self.path() == other.path()
+            && self.own() == other.own()
+            && self.loaded() == other.loaded()
+            && self.functions() == other.functions()
+            && self.defaults() == other.defaults()
+    }
+}
+
+impl Eq for Module {
+    ghost laws = { bodies_equiv };
+}
+
+/// The value of a .bzl file: itself, and all modules that its loads reach, each once.
+#[derive(Drop)]
+pub struct Loaded {
+    body: Module,
+    reached: Vec<Module>,
+}
+
+impl Model for Loaded {
+    ghost use Rattle.module_values.specs.Values.{Loaded};
+    ghost use Rattle.module_values.specs.Stored.{loaded_code};
+
+    ghost Value = { Loaded };
+
+    ghost coded = { loaded_code };
+
+    ghost view = { λ l. record { body = l.body; reached = l.reached.items } };
+}
+
+impl Loaded {
+    /// A module with those that it reaches.
+    pub fn new(body: Module, reached: Vec<Module>) -> Loaded
+        ensures { result ≡ record { body = body; reached = reached.items } }
+    {
+        Loaded { body, reached }
+    }
+
+    /// The module itself.
+    pub fn body(&self) -> &Module
+        ensures { result.now ≡ self.now.body }
+    {
+        &self.body
+    }
+
+    /// The modules that it reaches.
+    pub fn reached(&self) -> &[Module]
+        ensures { result.now ≡ self.now.reached }
+    {
+        self.reached.as_slice()
+    }
+}
+
+impl PartialEq for Loaded {
+    ghost eq = { loaded_eq };
+
+    ghost laws = { partial_equiv_from_equiv loaded_equiv };
+
+    fn eq(&self, other: &Loaded) -> bool {
+        self.body == other.body && self.reached == other.reached
+    }
+}
+
+impl Eq for Loaded {
+    ghost laws = { loaded_equiv };
+}

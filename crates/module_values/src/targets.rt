@@ -1,0 +1,189 @@
+//! Targets of a package.
+ghost use Rattle.std.specs.Prelude.{◌≡◌};
+ghost use Rattle.std.specs.Cmp.{partial_equiv_from_equiv};
+ghost use Rattle.std.specs.Cmp.Lexicographic.{pointwise};
+ghost use Rattle.module_values.specs.Equal.{text_eq, attribute_eq, target_eq};
+ghost use Rattle.module_values.specs.EqualLaws.{texts_equiv, attributes_equiv, targets_equiv, all_targets_equiv};
+
+use std::marker::Model;
+use texts::Text;
+
+/// Texts in order. A contract sees a list of texts.
+#[derive(Drop)]
+pub struct Texts {
+    items: Vec<Text>,
+}
+
+impl Model for Texts {
+    ghost use Rattle.std.specs.Prelude.{ℕ, List};
+
+    ghost Value = { List (List ℕ) };
+
+    ghost view = { λ t. t.items.items };
+}
+
+impl Texts {
+    /// The texts of a list.
+    pub fn new(items: Vec<Text>) -> Texts
+        ensures { result ≡ items.items }
+    {
+        Texts { items }
+    }
+
+    /// The texts.
+    pub fn as_slice(&self) -> &[Text]
+        ensures { result.now ≡ self.now }
+    {
+        self.items.as_slice()
+    }
+}
+
+impl PartialEq for Texts {
+    ghost eq = { pointwise text_eq };
+
+    ghost laws = { partial_equiv_from_equiv texts_equiv };
+
+    fn eq(&self, other: &Texts) -> bool {
+        self.items == other.items
+    }
+}
+
+impl Eq for Texts {
+    ghost laws = { texts_equiv };
+}
+
+/// An attribute of a target.
+#[derive(Drop)]
+pub enum Attribute {
+    /// A text, or the text of a label.
+    Single(Text),
+    /// A list of these.
+    Several(Texts),
+}
+
+impl PartialEq for Attribute {
+    ghost eq = { attribute_eq };
+
+    ghost laws = { partial_equiv_from_equiv attributes_equiv };
+
+    fn eq(&self, other: &Attribute) -> bool {
+        match (self, other) {
+            (Attribute::Single(a), Attribute::Single(b)) => a == b,
+            (Attribute::Several(a), Attribute::Several(b)) => a == b,
+            _ => false,
+        }
+    }
+}
+
+impl Eq for Attribute {
+    ghost laws = { attributes_equiv };
+}
+
+/// A target: the rule that made it, its name, and the attributes that were given, in byte order of their names.
+#[derive(Drop)]
+pub struct Target {
+    kind: Text,
+    name: Text,
+    attributes: Vec<(Text, Attribute)>,
+}
+
+impl Model for Target {
+    ghost use Rattle.module_values.specs.Values.{Target};
+
+    ghost Value = { Target };
+
+    ghost view = { λ t. record { kind = t.kind; name = t.name; attributes = t.attributes.items } };
+}
+
+impl Target {
+    /// A target.
+    pub fn new(kind: Text, name: Text, attributes: Vec<(Text, Attribute)>) -> Target
+        ensures { result ≡ record { kind = kind; name = name; attributes = attributes.items } }
+    {
+        Target {
+            kind,
+            name,
+            attributes,
+        }
+    }
+
+    /// The rule.
+    pub fn kind(&self) -> &Text
+        ensures { result.now ≡ self.now.kind }
+    {
+        &self.kind
+    }
+
+    /// The name.
+    pub fn name(&self) -> &Text
+        ensures { result.now ≡ self.now.name }
+    {
+        &self.name
+    }
+
+    /// The attributes that were given.
+    pub fn attributes(&self) -> &[(Text, Attribute)]
+        ensures { result.now ≡ self.now.attributes }
+    {
+        self.attributes.as_slice()
+    }
+}
+
+impl PartialEq for Target {
+    ghost eq = { target_eq };
+
+    ghost laws = { partial_equiv_from_equiv targets_equiv };
+
+    fn eq(&self, other: &Target) -> bool {
+        self.kind == other.kind && self.name == other.name && self.attributes == other.attributes
+    }
+}
+
+impl Eq for Target {
+    ghost laws = { targets_equiv };
+}
+
+/// The targets of a package, in byte order of their names. A contract sees a list.
+#[derive(Drop)]
+pub struct Targets {
+    items: Vec<Target>,
+}
+
+impl Model for Targets {
+    ghost use Rattle.std.specs.Prelude.{List};
+    ghost use Rattle.module_values.specs.Values.{Target};
+
+    ghost Value = { List Target };
+
+    ghost view = { λ t. t.items.items };
+}
+
+impl Targets {
+    /// The targets of a list.
+    pub fn new(items: Vec<Target>) -> Targets
+        ensures { result ≡ items.items }
+    {
+        Targets { items }
+    }
+
+    /// The targets.
+    pub fn as_slice(&self) -> &[Target]
+        ensures { result.now ≡ self.now }
+    {
+        self.items.as_slice()
+    }
+}
+
+impl PartialEq for Targets {
+    ghost eq = { pointwise target_eq };
+
+    ghost laws = { partial_equiv_from_equiv all_targets_equiv };
+
+    fn eq(&self, other: &Targets) -> bool {
+        self.as_slice() == other.as_slice()
+    }
+}
+
+impl Eq for Targets {
+    ghost laws = { all_targets_equiv };
+}

@@ -1,0 +1,70 @@
+-- What the state of an evaluation in memory is to the definitions, and what a call ensures that does a piece of it.
+use Rattle.std.specs.Prelude.{◌≡◌, ℕ, List, map, Option, Result, Ok, Err}
+use Rattle.std.specs.declared.vec.Vec.{Vec}
+use Rattle.std.specs.declared.alloc.Global.{Global}
+use Rattle.meaning.specs.declared.val.Val.{Val}
+use Rattle.meaning.specs.Builtins.{builtin_name}
+use Rattle.heap.specs.declared.halt.Halt.{Halt}
+use Rattle.heap.specs.declared.halt.Halt.TheVariants.{Code, Memory}
+use Rattle.heap.specs.View.{store_of}
+use Rattle.language.specs.World as w
+use Rattle.language.specs.World.{World, Block, Names, Site, Here, Ends, ended, failed, waits}
+use Rattle.names.specs.declared.state.Slot.{Slot}
+use Rattle.names.specs.declared.state.Kept.{Kept}
+use Rattle.names.specs.declared.state.FileNames.{FileNames}
+use Rattle.names.specs.declared.state.Attribute.{Attribute}
+use Rattle.names.specs.declared.state.Attribute.TheVariants as a
+use Rattle.names.specs.declared.state.Attributed.{Attributed}
+use Rattle.names.specs.declared.state.Target.{Target}
+use Rattle.names.specs.declared.state.State.{State}
+use Rattle.names.specs.declared.state.Standing.{Standing}
+
+abbrev pub slot_of : Slot → List ℕ × Option Val
+slot_of s = (s.name, s.value)
+
+abbrev pub slots_of : List Slot → Block
+slots_of slots = map slot_of slots
+
+abbrev pub block_of : Vec Slot Global → Block
+block_of block = map slot_of block.items
+
+abbrev pub kept_of : Kept → List ℕ × List Val
+kept_of k = (k.function, k.values.items)
+
+abbrev pub names_of : FileNames → Names
+names_of f = record { label = f.label; block = block_of f.block; defaults = map kept_of f.defaults.items }
+
+abbrev pub attribute_of : Attribute → w.Attribute
+attribute_of (a.Single text) = w.single text
+attribute_of (a.Several texts) = w.several texts.items
+
+abbrev pub attributed_of : Attributed → List ℕ × w.Attribute
+attributed_of x = (x.name, attribute_of x.value)
+
+abbrev pub target_of : Target → w.Target
+target_of t = record { kind = builtin_name t.rule; name = t.name; attributes = map attributed_of t.attributes.items }
+
+abbrev pub world_of : State → World
+world_of s = record {
+  store = store_of s.heap;
+  blocks = map block_of s.blocks.items;
+  files = map names_of s.files.items;
+  targets = map target_of s.targets.items;
+}
+
+-- where code stands: a line of a file, with the functions that are open
+abbrev pub here_of : Standing → ℕ → List (List ℕ × List ℕ) → Here
+here_of s line running = record { label = s.label; kind = s.kind; site = record { path = s.path; line = line }; running = running }
+
+-- the call gives what the definition gives, with the same state after it, or its fault; where memory is refused
+-- nothing is said
+abbrev pub Ran : {A : Type 0} → Site → Ends A → Result A Halt → World → Type 0
+Ran site out (Ok a) u = out ≡ ended a u
+Ran site out (Err (Code c)) u = out ≡ failed c site
+Ran site out (Err Memory) u = Unit {0}
+
+-- the same, of a list
+abbrev pub RanItems : {A : Type 0} → Site → Ends (List A) → Result (Vec A Global) Halt → World → Type 0
+RanItems site out (Ok v) u = out ≡ ended v.items u
+RanItems site out (Err (Code c)) u = out ≡ failed c site
+RanItems site out (Err Memory) u = Unit {0}

@@ -1,0 +1,11 @@
+//! What the evaluation of a file works on: values on a heap, names with their values, and targets.
+#![tactic(auto)]
+
+mod blocks;
+mod reading;
+mod state;
+mod universal;
+
+pub use reading::{bind, is_native_name, read};
+pub use state::{Attribute, Attributed, FileNames, Kept, Slot, Standing, State, Target};
+pub use universal::package_function;

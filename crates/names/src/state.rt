@@ -1,0 +1,70 @@
+//! The state of an evaluation.
+
+use grammar::FileKind;
+use heap::{Builtin, Bytes, Heap, Val};
+use texts::Text;
+
+/// A name of a block, with its value once it is bound.
+#[derive(Drop)]
+pub struct Slot {
+    pub name: Text,
+    pub value: Option<Val>,
+}
+
+/// The values of a function's defaults, in the order of its parameters.
+#[derive(Drop)]
+pub struct Kept {
+    pub function: Text,
+    pub values: Vec<Val>,
+}
+
+/// A file whose names are on the heap.
+#[derive(Drop)]
+pub struct FileNames {
+    pub label: Text,
+    pub block: Vec<Slot>,
+    pub defaults: Vec<Kept>,
+}
+
+/// What an attribute of a target holds.
+#[derive(Drop)]
+pub enum Attribute {
+    Single(Bytes),
+    Several(Vec<Bytes>),
+}
+
+/// An attribute of a target.
+#[derive(Drop)]
+pub struct Attributed {
+    pub name: Bytes,
+    pub value: Attribute,
+}
+
+/// A target of the package.
+#[derive(Drop)]
+pub struct Target {
+    /// The rule that made it.
+    pub rule: Builtin,
+    pub name: Bytes,
+    pub attributes: Vec<Attributed>,
+}
+
+/// The state of an evaluation: the heap, the blocks of names from the innermost to that of the function, the names of
+/// the files that are on the heap, and the targets that were made.
+#[derive(Drop)]
+pub struct State {
+    pub heap: Heap,
+    pub blocks: Vec<Vec<Slot>>,
+    pub files: Vec<FileNames>,
+    pub targets: Vec<Target>,
+}
+
+/// The file that a piece of code stands in.
+#[derive(Drop)]
+pub struct Standing {
+    pub label: Text,
+    pub path: Text,
+    pub kind: FileKind,
+    /// The first line of the function, or 0 at file level.
+    pub line: usize,
+}

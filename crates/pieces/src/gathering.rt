@@ -1,0 +1,72 @@
+//! What comprehensions and dictionary expressions gather.
+ghost use Rattle.std.specs.Prelude.{◌≡◌, ◌≤◌, IfOk};
+ghost use Rattle.language.specs.World.{Here, World};
+ghost use Rattle.language.specs.Loops as l;
+ghost use Rattle.meaning.specs.Functions.{grows};
+ghost use Rattle.heap.specs.View.{store_of};
+ghost use Rattle.pieces.specs.View.{gathered_of, RanInto, SaysInto, set_fresh};
+
+use crate::objects::hash;
+use heap::{Entry, Halt, Heap, Key, LONGEST, Val, found, has_room, set_entry};
+use indexmap::IndexMap;
+use std::alloc::Global;
+
+/// The members of a list, or the entries of a dictionary.
+#[derive(Drop)]
+pub struct Gathered {
+    pub members: Vec<Val>,
+    pub entries: IndexMap<Key, Entry>,
+}
+
+/// No members and no entries.
+pub fn nothing_yet(alloc: Global) -> Gathered
+    ensures { gathered_of result ≡ l.nothing_yet }
+{
+    Gathered {
+        members: Vec::new(alloc),
+        entries: IndexMap::new(alloc),
+    }
+}
+
+/// One more member, or fault 13.
+pub fn one_more(g: &mut Gathered, x: Val) -> Result<(), Halt>
+    ensures { (here : Here) (u : World) → RanInto here.site (l.one_more x (gathered_of g.old) here u) result (gathered_of g.new) u }
+{
+    if g.members.len() >= LONGEST {
+        return Err(Halt::Code(13));
+    }
+    g.members.push(x)?;
+    Ok(())
+}
+
+/// One more entry; at a key that is there the later value stays. Fault 5, 11, 12 or 13.
+pub fn one_entry(heap: &mut Heap, g: &mut Gathered, k: Val, x: Val) -> Result<(), Halt>
+    ensures says { SaysInto (grows k x g.old.entries.entries (store_of heap.old)) result g.new.entries.entries (store_of heap.new) }
+    ensures members { g.new.members ≡ g.old.members }
+    ensures steps { IfOk result (λ _. heap.new.steps ≤ heap.old.steps) }
+{
+    let key = hash(heap, k)?;
+    if !has_room(&g.entries, &key) {
+        return Err(Halt::Code(13));
+    }
+    set_entry(&mut g.entries, key, Entry { key: k, value: x })?;
+    Ok(())
+}
+
+/// One more entry of a dictionary expression: fault 5, 11, 12, or 25 for a key that is there.
+pub fn fresh(
+    heap: &mut Heap,
+    entries: &mut IndexMap<Key, Entry>,
+    k: Val,
+    x: Val,
+) -> Result<(), Halt>
+    ensures says { SaysInto (set_fresh k x entries.old.entries (store_of heap.old)) result entries.new.entries (store_of heap.new) }
+    ensures steps { IfOk result (λ _. heap.new.steps ≤ heap.old.steps) }
+{
+    let key = hash(heap, k)?;
+    if found(entries, &key).is_some() {
+        return Err(Halt::Code(25));
+    }
+    set_entry(entries, key, Entry { key: k, value: x })?;
+    Ok(())
+}

@@ -1,0 +1,15 @@
+//! The pieces of an evaluation that evaluate no expression: operators, members of values, what is assigned to.
+#![tactic(auto)]
+
+mod aims;
+mod gathering;
+mod objects;
+mod operators;
+
+pub use aims::{Aim, present, store};
+pub use gathering::{Gathered, fresh, nothing_yet, one_entry, one_more};
+pub use objects::{
+    hash, index, items, lock, make_dict, make_list, make_text, make_tuple, set_index, slice, tick,
+    unlock,
+};
+pub use operators::{both, is_true, unary};

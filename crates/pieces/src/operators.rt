@@ -1,0 +1,62 @@
+//! Operators.
+ghost use Rattle.std.specs.Prelude.{◌≡◌, ◌≤◌, IfOk};
+ghost use Rattle.meaning.specs.Operators as o;
+ghost use Rattle.meaning.specs.Binary.{binary};
+ghost use Rattle.language.specs.World.{Here};
+ghost use Rattle.heap.specs.View.{store_of, Says};
+ghost use Rattle.language.specs.Expressions as e;
+ghost use Rattle.names.specs.View.{world_of, Ran};
+
+use code::{BinaryOp, UnaryOp};
+use heap::{Halt, Heap, Operator, Val};
+use names::State;
+
+/// Whether a value is true.
+pub fn is_true(heap: &Heap, x: Val) -> bool
+    ensures { result ≡ o.is_true x (store_of heap.now) }
+{
+    values::is_true(heap, x)
+}
+
+/// An operator before an operand.
+pub fn unary(state: &mut State, op: UnaryOp, x: Val) -> Result<Val, Halt>
+    ensures says { (here : Here) → Ran here.site (e.unary op x here (world_of state.old)) result (world_of state.new) }
+    ensures steps { IfOk result (λ _. state.new.heap.steps ≤ state.old.heap.steps) }
+{
+    match op {
+        UnaryOp::Not => Ok(Val::Bool(!is_true(&state.heap, x))),
+        UnaryOp::Plus => values::plus(&mut state.heap, x),
+        UnaryOp::Minus => values::negate(&mut state.heap, x),
+    }
+}
+
+// The operator between two values that are both evaluated.
+fn operator_of(op: BinaryOp) -> Operator
+    ensures { result ≡ e.operator_of op }
+{
+    match op {
+        BinaryOp::Equal => Operator::Equal,
+        BinaryOp::NotEqual => Operator::NotEqual,
+        BinaryOp::Less => Operator::Less,
+        BinaryOp::LessEqual => Operator::LessEqual,
+        BinaryOp::Greater => Operator::Greater,
+        BinaryOp::GreaterEqual => Operator::GreaterEqual,
+        BinaryOp::In => Operator::In,
+        BinaryOp::NotIn => Operator::NotIn,
+        BinaryOp::Add => Operator::Add,
+        BinaryOp::Subtract => Operator::Subtract,
+        BinaryOp::Multiply => Operator::Multiply,
+        BinaryOp::Divide => Operator::Divide,
+        BinaryOp::Remainder => Operator::Remainder,
+        BinaryOp::Or => Operator::Equal,
+        BinaryOp::And => Operator::Equal,
+    }
+}
+
+/// An operator between two values.
+pub fn both(heap: &mut Heap, op: BinaryOp, x: Val, y: Val) -> Result<Val, Halt>
+    ensures says { Says (binary (e.operator_of op) x y (store_of heap.old)) result (store_of heap.new) }
+    ensures steps { IfOk result (λ _. heap.new.steps ≤ heap.old.steps) }
+{
+    values::binary(heap, operator_of(op), x, y)
+}

@@ -1,0 +1,190 @@
+-- States kept between turns.
+use Rattle.std.proofs.Common.{◌≡◌, inl, inr, ℕ, ◌-◌, false, true, cond, List, [], ◌∷◌, ◌++◌, map, Option, Some, None, refl, sym, ◌∙◌, ap, subst, length, take, drop, arith, length-append, append_assoc}
+use Rattle.std.specs.BTreeMap.{get, Updates}
+use Rattle.std.proofs.Math.Seq.{drop-append_seam, take_all}
+use Rattle.std.proofs.lemmas.List.{map-append, drop-map, length-map, length-drop}
+use Rattle.std.specs.declared.alloc.Global.{Global}
+use Rattle.std.specs.declared.vec.Vec.{Vec}
+use Rattle.evaluation.specs.Graph.{Record}
+use Rattle.evaluation.specs.Value.{In, after, IsMember}
+use Rattle.keys.specs.Jobs.{Waits}
+use Rattle.keys.specs.Keys.{key_cmp}
+use Rattle.keys.specs.declared.key.Key.{Key}
+use Rattle.keys.specs.declared.value.Value.{Value}
+use Rattle.node.specs.Graphs.{Recorded, record_at}
+use Rattle.node.specs.Kept.{items_of}
+use Rattle.node.proofs.Lists.{some_is, none_some, decide_key, other_key, same_or_key}
+use Rattle.open_nodes.specs.Nodes.{Records, node_at, groups_of, IsPlain}
+use Rattle.open_nodes.specs.Steps.{HasPhase, HasAsked}
+use Rattle.open_nodes.specs.declared.table.Node.{Node}
+use Rattle.open_nodes.specs.declared.table.Phase.TheVariants as phase
+use Rattle.open_nodes.specs.declared.table.Table.{Table}
+use Rattle.round.specs.Frames.{KeepsSettled, KeepsFrame}
+use Rattle.round.specs.Members.{no_cycle, plain_value, all_values, AreAnswers, Answers}
+use Rattle.round.specs.Moves.{IsWholeNow}
+use Rattle.round.specs.Paused.{IsPaused, Kept, ArePaused, FewerKept, Keeps}
+use Rattle.round.specs.Turning.{IsOutWith}
+use Rattle.round.proofs.Grouping.{never_none}
+
+-- each of these is there
+data AllSome {X : Type 0} : List (Option X) → Type 0 where
+  none_left : AllSome []
+  one : {v : X} {xs : List (Option X)} → AllSome xs → AllSome (Some v ∷ xs)
+
+some_all : (vs : List Value) → AllSome (map (λ v. Some v) vs)
+some_all [] = none_left
+some_all (v ∷ vs) = one (some_all vs)
+
+-- a value that is there is that of a record that stays
+module _ (old new : Recorded) (keeps : KeepsSettled old new) where
+  value_stays : (k : Key) (v : Value) → plain_value (record_at old k) ≡ Some v → plain_value (record_at new k) ≡ Some v
+  value_stays k v e = go (record_at old k) refl e
+    where
+      go : (o : Option (Record Key Value)) → record_at old k ≡ o → plain_value o ≡ Some v → plain_value (record_at new k) ≡ Some v
+      go None q h = absurd (none_some h)
+      go (Some s) q h = by s.dirty refl h
+        where
+          by : (b : _) → s.dirty ≡ b → plain_value (Some s) ≡ Some v → plain_value (record_at new k) ≡ Some v
+          by false d p = ap plain_value (keeps k s q d) ∙ p
+          by true d p = absurd (none_some (sym (ap (λ b. cond b None (no_cycle s.value)) d) ∙ p))
+
+  group_stays : (group : List Key) (rest later : List (Option Value)) → AllSome (map (λ k. plain_value (record_at old k)) group ++ rest) → (AllSome rest → rest ≡ later)
+      → map (λ k. plain_value (record_at old k)) group ++ rest ≡ map (λ k. plain_value (record_at new k)) group ++ later
+  group_stays [] rest later a f = f a
+  group_stays (k ∷ group) rest later a f = go (plain_value (record_at old k)) refl a (λ b. group_stays group rest later b f)
+    where
+      go : (o : Option Value) → plain_value (record_at old k) ≡ o → AllSome (o ∷ (map (λ j. plain_value (record_at old j)) group ++ rest))
+          → (AllSome (map (λ j. plain_value (record_at old j)) group ++ rest) → map (λ j. plain_value (record_at old j)) group ++ rest ≡ map (λ j. plain_value (record_at new j)) group ++ later)
+          → plain_value (record_at old k) ∷ (map (λ j. plain_value (record_at old j)) group ++ rest) ≡ plain_value (record_at new k) ∷ (map (λ j. plain_value (record_at new j)) group ++ later)
+      go None q b h = elim b [ ]
+      go (Some v) q (one b) h =
+          ap (λ x. x ∷ (map (λ j. plain_value (record_at old j)) group ++ rest)) (q ∙ sym (value_stays k v q))
+          ∙ ap (λ xs. plain_value (record_at new k) ∷ xs) (h b)
+
+  all_stay : (groups : List (List Key)) → AllSome (all_values (record_at old) groups) → all_values (record_at old) groups ≡ all_values (record_at new) groups
+  all_stay [] a = refl
+  all_stay (group ∷ groups) a = group_stays group (all_values (record_at old) groups) (all_values (record_at new) groups) a (all_stay groups)
+
+  pub answers_stay : (groups : List (List Key)) (answers : List Value) → AreAnswers (record_at old) groups answers → AreAnswers (record_at new) groups answers
+  answers_stay groups answers a = sym (all_stay groups (subst AllSome (sym a) (some_all answers))) ∙ a
+
+-- a move leaves states that are kept as they are
+pub paused_on : (old new : Recorded) (before later : Table) → KeepsFrame old new before later → (k : Key) (w : Waits) → IsPaused old before k w → IsPaused new later k w
+paused_on old new before later f k w p = let n = f.1 k p.node p.there p.running in record {
+  same_key = p.same_key;
+  node = n.0;
+  there = n.1;
+  running = n.2;
+  passed = p.passed;
+  group = p.group;
+  split = n.3 ∙ p.split;
+  answered = answers_stay old new f.0 p.passed w.answers p.answered;
+}
+
+pub are_paused_on : (old new : Recorded) (before later : Table) (kept : Kept) → KeepsFrame old new before later → ArePaused old before kept → ArePaused new later kept
+are_paused_on old new before later kept f a k w e = paused_on old new before later f k w (a k w e)
+
+pub none_paused : (graph : Recorded) (table : Table) (kept : Kept) → kept.entries ≡ [] → ArePaused graph table kept
+none_paused graph table kept q k w e = absurd (none_some (sym empty ∙ e))
+  where
+    empty : get key_cmp kept k ≡ None
+    empty = rw q refl
+
+pub fewer_paused : (graph : Recorded) (table : Table) (old new : Kept) → FewerKept old new → ArePaused graph table old → ArePaused graph table new
+fewer_paused graph table old new f a k w e = a k w (f k w e)
+
+-- a job is handed out whose state is kept no more
+pub handed_paused : (graph : Recorded) (before later : Table) (kept : Kept) (key : Key) (n : Node) → node_at before.nodes key ≡ Some n → HasPhase before.nodes later.nodes key phase.Out → get key_cmp kept key ≡ None → ArePaused graph before kept → ArePaused graph later kept
+handed_paused graph before later kept key n there h gone a k w e = let p = a k w e in elim (decide_key key k) [
+  | inl q ↦ absurd (none_some (sym gone ∙ ap (get key_cmp kept) q ∙ e))
+  | inr d ↦ record {
+    same_key = p.same_key;
+    node = p.node;
+    there = other_key before.nodes later.nodes key _ (h n there) k d ∙ p.there;
+    running = p.running;
+    passed = p.passed;
+    group = p.group;
+    split = p.split;
+    answered = p.answered;
+  }
+]
+
+-- a turn that asked a group leaves a state
+pub asked_paused : (graph : Recorded) (before later : Table) (key : Key) (answers : List Value) (o : IsOutWith graph before key answers) (group : List Key) → HasAsked before.nodes later.nodes key group → (w : Waits) → w.key ≡ key → w.answers ≡ answers → IsPaused graph later key w
+asked_paused graph before later key answers o group h w q e = let n = h o.node o.there in record {
+  same_key = q;
+  node = n.0;
+  there = n.1.1;
+  running = n.3;
+  passed = groups_of o.node;
+  group = group;
+  split = n.2;
+  answered = subst (AreAnswers (record_at graph) (groups_of o.node)) (sym e) o.answered;
+}
+
+all_values-append : (records : Records) (xs ys : List (List Key)) → all_values records (xs ++ ys) ≡ all_values records xs ++ all_values records ys
+all_values-append records [] ys = refl
+all_values-append records (x ∷ xs) ys = ap (λ r. map (λ k. plain_value (records k)) x ++ r) (all_values-append records xs ys) ∙ sym (append_assoc (map (λ k. plain_value (records k)) x) (all_values records xs) (all_values records ys))
+
+-- the state's answers and those to the last group are all
+module _ (graph : Recorded) (table : Table) (k : Key) (w : Waits) (p : IsPaused graph table k w) (whole : IsWholeNow graph table) (ready : In k table.ready.keys) where
+  same_node : (n : Node) → node_at table.nodes k ≡ Some n → groups_of n ≡ p.passed ++ p.group ∷ []
+  same_node n e = ap groups_of (some_is (sym e ∙ p.there)) ∙ p.split
+
+  pub all_answers : (found job : List Value) → Answers (record_at graph) (p.group ∷ []) (Some found) → job ≡ w.answers ++ found → (n : Node) → node_at table.nodes k ≡ Some n → AreAnswers (record_at graph) (groups_of n) job
+  all_answers found job a q n e =
+      ap (all_values (record_at graph)) (same_node n e)
+      ∙ all_values-append (record_at graph) p.passed (p.group ∷ [])
+      ∙ ap (λ xs. xs ++ all_values (record_at graph) (p.group ∷ [])) p.answered
+      ∙ ap (λ xs. map (λ v. Some v) w.answers ++ xs) a
+      ∙ sym (map-append (λ v. Some v) w.answers found)
+      ∙ ap (map (λ v. Some v)) (sym q)
+
+  pub never_missing : Answers (record_at graph) (p.group ∷ []) None → ⊥
+  never_missing a = never_none (record_at graph) (p.group ∷ []) plain a
+    where
+      n : Node
+      n = (whole.ready_now k ready).0
+
+      in_last : (gs : List (List Key)) (j : Key) → IsMember j (p.group ∷ []) → IsMember j (gs ++ p.group ∷ [])
+      in_last gs j m = (m.0, wide gs m.1, m.2)
+        where
+          wide : (xs : List (List Key)) → In m.0 (p.group ∷ []) → In m.0 (xs ++ p.group ∷ [])
+          wide [] i = i
+          wide (x ∷ xs) i = after (wide xs i)
+
+      plain : (j : Key) → IsMember j (p.group ∷ []) → IsPlain (record_at graph) j
+      plain j m = (whole.ready_now k ready).3 j (subst (IsMember j) (sym (same_node n (whole.ready_now k ready).1)) (in_last p.passed j m))
+
+-- the last group of a list of groups
+pub last_one : (gs : List (Vec Key Global)) (passed : List (List Key)) (group : List Key) (n : ℕ) → items_of gs ≡ passed ++ group ∷ [] → n ≡ length gs - 1 → items_of (take (length gs - n) (drop n gs)) ≡ group ∷ []
+last_one gs passed group n e q =
+    ap items_of (take_all (length gs - n) (drop n gs) (omega (arith, length-drop n gs)))
+    ∙ sym (drop-map (λ (g : Vec Key Global). g.items) n gs) ∙ ap (drop n) e ∙ ap (λ m. drop m (passed ++ group ∷ [])) place ∙ drop-append_seam passed (group ∷ [])
+  where
+    place : n ≡ length passed
+    place = let l = ap length e ∙ length-append passed (group ∷ []) in let m = length-map gs (λ (g : Vec Key Global). g.items) in omega (arith, l, m, q)
+
+-- one state more
+pub one_kept : (old new : Kept) (key : Key) (w : Waits) → Updates key_cmp old new key (Some w) → Keeps old new key (Some w)
+one_kept old new key w u k x e = elim (same_or_key old new key _ u k) [
+  | inl q ↦ inr (q, sym u.1 ∙ ap (get key_cmp new) q ∙ e)
+  | inr p ↦ inl (sym p ∙ e)
+]
+
+pub none_kept : (old new : Kept) (key : Key) → new ≡ old → Keeps old new key None
+none_kept old new key q k x e = inl (ap (λ m. get key_cmp m k) (sym q) ∙ e)
+
+-- and one less
+pub one_fewer : (old new : Kept) (key : Key) → Updates key_cmp old new key None → FewerKept old new
+one_fewer old new key u k w e = elim (same_or_key old new key _ u k) [
+  | inl q ↦ absurd (none_some (sym u.1 ∙ ap (get key_cmp new) q ∙ e))
+  | inr p ↦ sym p ∙ e
+]
+
+-- what is kept with one more state
+pub kept_paused : (graph : Recorded) (table : Table) (old new : Kept) (key : Key) (paused : Option Waits) → Keeps old new key paused → ArePaused graph table old → ((w : Waits) → paused ≡ Some w → IsPaused graph table key w) → ArePaused graph table new
+kept_paused graph table old new key paused h a f k w e = elim (h k w e) [
+  | inl o ↦ a k w o
+  | inr p ↦ subst (λ x. IsPaused graph table x w) p.0 (f w p.1)
+]

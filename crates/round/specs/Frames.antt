@@ -1,0 +1,21 @@
+-- What a move leaves as it is.
+use Rattle.std.specs.Prelude.{◌≡◌, false, Some}
+use Rattle.evaluation.specs.Graph.{Record}
+use Rattle.keys.specs.declared.key.Key.{Key}
+use Rattle.keys.specs.declared.value.Value.{Value}
+use Rattle.node.specs.Graphs.{Recorded, record_at}
+use Rattle.open_nodes.specs.Nodes.{node_at, groups_of}
+use Rattle.open_nodes.specs.declared.table.Node.{Node}
+use Rattle.open_nodes.specs.declared.table.Phase.TheVariants as phase
+use Rattle.open_nodes.specs.declared.table.Table.{Table}
+
+-- what is settled keeps its record
+abbrev pub KeepsSettled : Recorded → Recorded → Type 0
+KeepsSettled old new = (j : Key) (s : Record Key Value) → record_at old j ≡ Some s → s.dirty ≡ false → record_at new j ≡ Some s
+
+-- what makes turns still does, and keeps the groups that it asked
+abbrev pub KeepsRunning : Table → Table → Type 0
+KeepsRunning before after = (k : Key) (n : Node) → node_at before.nodes k ≡ Some n → n.phase ≡ phase.Running → (m : Node) × (node_at after.nodes k ≡ Some m) × (m.phase ≡ phase.Running) × (groups_of m ≡ groups_of n)
+
+abbrev pub KeepsFrame : Recorded → Recorded → Table → Table → Type 0
+KeepsFrame old new before after = KeepsSettled old new × KeepsRunning before after

@@ -1,0 +1,68 @@
+-- What a contract sees of a round, and how it stands beside the graph that it is lent.
+use Rattle.std.specs.Prelude.{◌≡◌, List, [], Option, Some, None, Result, Ok, Err, ⊤}
+use Rattle.evaluation.specs.Value.{In}
+use Rattle.keys.specs.Jobs.{Asked, Outcome}
+use Rattle.keys.specs.declared.key.Key.{Key}
+use Rattle.node.specs.Edges.{IsAdded, IsRemoved}
+use Rattle.node.specs.Graphs.{Recorded}
+use Rattle.open_nodes.specs.Counted.{MakesNone, MakesMore}
+use Rattle.open_nodes.specs.Nodes.{IsOpen, node_at, pending, AreOut}
+use Rattle.open_nodes.specs.declared.run.Run.{Run}
+use Rattle.open_nodes.specs.declared.table.Table.{Table}
+use Rattle.round.specs.Moves.{IsWanted, IsWholeNow}
+use Rattle.round.specs.Paused.{ArePaused}
+use Rattle.round.specs.Turning.{IsOutWith}
+use Rattle.round.specs.declared.rounds.Round.{Round}
+use Rattle.round.specs.declared.rounds.NotTaken.{NotTaken}
+use Rattle.round.specs.declared.rounds.NotTaken.TheVariants as not_taken
+
+-- the roots, the open nodes with the runs so far, and the keys whose jobs are out
+pub record Standing : Type 0 where
+  pub roots : List Key
+  pub table : Table
+  pub out : List Key
+
+abbrev pub standing : {R S : Type 0} → Round R S → Standing
+standing round = record { roots = round.roots.items; table = round.table; out = round.out.keys }
+
+-- the round stands beside the graph: nothing is to be looked at, no other job is out, and each root is settled or open
+pub record IsBeside (graph : Recorded) (s : Standing) : Type 0 where
+  pub whole : IsWholeNow graph s.table
+  pub none_pending : pending s.table ≡ []
+  pub only_out : AreOut s.table.nodes s.out
+  pub wanted : (k : Key) → In k s.roots → IsWanted graph s.table k
+
+-- and the states that it keeps may be resumed
+abbrev pub StandsBeside : {R S : Type 0} → Recorded → Round R S → Type 0
+StandsBeside graph round = IsBeside graph (standing round) × ArePaused graph round.table round.kept
+
+-- no turn can be handed out, and no job is out
+abbrev pub IsStalled : Standing → Type 0
+IsStalled s = (s.table.ready.keys ≡ []) × (s.out ≡ [])
+
+-- the job of a key that is ready is out, with all answers so far; a key that is not ready has none, and nothing changes
+abbrev pub HandsOut : Recorded → Key → Standing → Standing → Option Asked → Type 0
+HandsOut graph k before later (Some job) = In k before.table.ready.keys × (job.key ≡ k) × IsOutWith graph later.table k job.answers × IsAdded before.out later.out k × (later.roots ≡ before.roots) × MakesNone before.table later.table
+HandsOut graph k before later None = (In k before.table.ready.keys → ⊥) × (later ≡ before)
+
+-- the job of an earlier turn of this round that is out
+abbrev pub IsOfJobOut : Recorded → Standing → Asked → Type 0
+IsOfJobOut graph s job = IsOutWith graph s.table job.key job.answers
+
+-- no node is open any more
+abbrev pub NoneOpen : Standing → Type 0
+NoneOpen s = (k : Key) → node_at s.table.nodes k ≡ None
+
+-- the runs, where all roots are settled; else the round again
+abbrev pub EndsWith : Standing → Result (List Run) Standing → Type 0
+EndsWith s (Ok runs) = (runs ≡ s.table.runs.items) × ((k : Key) → In k s.roots → IsOpen s.table.nodes k → ⊥)
+EndsWith s (Err round) = (round ≡ s) × (k : Key) × In k s.roots × IsOpen s.table.nodes k
+
+-- the turn was of no job that is out and comes back, and nothing has changed; want of memory tells nothing
+abbrev pub Refuses : {R S : Type 0} → Recorded → Recorded → Standing → Standing → Outcome → NotTaken R S → Type 0
+Refuses old new before after turned (not_taken.Stranger t) = (t ≡ turned) × (IsOfJobOut old before turned.asked → ⊥) × (new ≡ old) × (after ≡ before)
+Refuses old new before after turned not_taken.Memory = ⊤
+
+-- the turn of a job that was out was taken back: its job is out no more, and one turn more was made
+abbrev pub TakesBack : Standing → Standing → Key → Type 0
+TakesBack before after k = (after.roots ≡ before.roots) × IsRemoved before.out after.out k × MakesMore 1 before.table after.table

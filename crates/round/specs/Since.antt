@@ -1,0 +1,24 @@
+-- What is true since the entry of a call.
+use Rattle.std.specs.Prelude.{◌≡◌, List, [], Option, None}
+use Rattle.evaluation.specs.Reply.{Reply}
+use Rattle.keys.specs.declared.key.Key.{Key}
+use Rattle.keys.specs.declared.value.Value.{Value}
+use Rattle.node.specs.Graphs.{Recorded}
+use Rattle.open_nodes.specs.Nodes.{node_at, pending}
+use Rattle.open_nodes.specs.Truths.{IsNext, Past, IsAfter, IsTrueOf}
+use Rattle.open_nodes.specs.declared.table.Table.{Table}
+use Rattle.round.specs.Call.{IsHistory}
+
+-- nothing is wanted yet
+pub record IsFresh (table : Table) : Type 0 where
+  pub none_open : (k : Key) → node_at table.nodes k ≡ None
+  pub none_ready : table.ready.keys ≡ []
+  pub none_pending : pending table ≡ []
+  pub no_runs : table.runs.items ≡ []
+
+-- what is true of it since the entry, for each history
+abbrev pub IsTrueSince : (Key → List Value → Reply Key Value) → (Key → Option Value) → List Key → Recorded → Recorded → Table → Type 0
+IsTrueSince next read roots old graph table = (laws : IsNext next) (past : Past read) → IsHistory next read past roots old → IsTrueOf next read past graph table.nodes table.runs.items
+
+abbrev pub IsAfterSince : (Key → List Value → Reply Key Value) → (Key → Option Value) → List Key → Recorded → Recorded → Type 0
+IsAfterSince next read roots old graph = (laws : IsNext next) (past : Past read) → IsHistory next read past roots old → IsAfter next read past graph

@@ -1,0 +1,347 @@
+//! A round: one evaluation, turn by turn.
+ghost use Rattle.std.specs.Prelude.{◌≡◌, List, Option, Some, None, Ok, Err, true, false, [], IfOk, IfErr, OnOk, OnErr, IfSome, IfNone, IsTrue};
+ghost use Rattle.std.specs.Bool.{Decides};
+ghost use Rattle.std.specs.List.{All};
+ghost use Rattle.std.specs.BTreeMap.{get};
+ghost use Rattle.std.specs.Option.{is_some};
+ghost use Rattle.std.specs.BTreeMap.Range.{IsLeBy};
+ghost use Rattle.node.specs.Graphs.{Recorded};
+ghost use Rattle.round.specs.Paused.{Keeps, FewerKept};
+ghost use Rattle.evaluation.specs.Reply.{Reply};
+ghost use Rattle.evaluation.specs.Value.{In};
+ghost use Rattle.functions.specs.Next as leaves;
+ghost use Rattle.keys.specs.Jobs.{Made};
+ghost use Rattle.keys.specs.Keys.{key_cmp};
+ghost use Rattle.keys.specs.declared.key.Key.{Key};
+ghost use Rattle.keys.specs.declared.value.Value.{Value};
+ghost use Rattle.node.specs.Edges.{IsAdded, IsRemoved};
+ghost use Rattle.open_nodes.specs.Counted.{HasMade, MakesNone, MakesMore};
+ghost use Rattle.open_nodes.specs.Nodes.{IsOpen};
+ghost use Rattle.open_nodes.specs.Truths.{Leads};
+ghost use Rattle.round.specs.Since.{IsTrueSince, IsAfterSince};
+ghost use Rattle.round.specs.Moves.{KeepsTrue, IsWanted};
+ghost use Rattle.round.specs.Rounds.{standing, StandsBeside, IsStalled, HandsOut, IsOfJobOut, NoneOpen, EndsWith, Refuses, TakesBack};
+ghost use Rattle.round.specs.Turning.{IsOutWith};
+
+use crate::close::close_cycles;
+use crate::look::look_at_all;
+use crate::settle::{is_open, want_all};
+use crate::turns::{is_out_with, next_job, take};
+use filetree::Tree;
+use keys::{Job, Key, Rules, Turned, Waiting};
+use node::Graph;
+use open_nodes::{Nodes, Run, Table, set_out};
+use std::alloc::Global;
+use std::collections::{BTreeMap, BTreeSet};
+use texts::Memory;
+
+/// One evaluation of roots, turn by turn. It keeps neither the graph nor the tree: its calls are lent the same ones,
+/// changed by nothing else meanwhile, which is the caller's condition (the round stands beside the graph). Between two turns
+/// of a node its state is kept. A contract sees the roots, the open nodes with the runs so far, and the keys whose jobs are out.
+#[derive(Drop)]
+pub struct Round<R: Rules> {
+    alloc: Global,
+    roots: Vec<Key>,
+    table: Table,
+    out: BTreeSet<Key>,
+    kept: BTreeMap<Key, Waiting<R>>,
+}
+
+/// Why a turn was not taken back.
+#[derive(Drop)]
+pub enum NotTaken<R: Rules> {
+    /// It is of no job that is out; the turn comes back, and nothing has changed.
+    Stranger(Turned<R>),
+    /// A growth was refused, in the turn or now. The round can only be given up.
+    Memory,
+}
+
+impl<R: Rules> From<Memory> for NotTaken<R> {
+    ghost use Rattle.std.specs.Prelude.{◌≡◌};
+    ghost use Rattle.round.specs.declared.rounds.NotTaken.TheVariants as not_taken;
+
+    ghost from_gives = { λ _ e. e ≡ not_taken.Memory };
+
+    fn from(_error: Memory) -> NotTaken<R> {
+        NotTaken::Memory
+    }
+}
+
+// The key is put among those whose jobs are out.
+fn put_out(out: &mut BTreeSet<Key>, key: Key) -> Result<(), Memory>
+    ensures added { OnOk result (IsAdded out.old.keys out.new.keys key) }
+    ensures refused { OnErr result (out.new.keys ≡ out.old.keys) }
+{
+    out.insert(key)?;
+    Ok(())
+}
+
+// The key is taken from those whose jobs are out.
+fn take_from(out: &mut BTreeSet<Key>, key: &Key)
+    ensures { IsRemoved out.old.keys out.new.keys key.now }
+{
+    let _was_there = out.remove(key);
+}
+
+// The state is kept, if there is one.
+fn keep<R: Rules>(
+    kept: &mut BTreeMap<Key, Waiting<R>>,
+    key: Key,
+    paused: Option<Waiting<R>>,
+) -> Result<(), Memory>
+    ensures { OnOk result (Keeps kept.old kept.new key paused) }
+{
+    if let Some(waiting) = paused {
+        let _before = kept.insert(key, waiting)?;
+    }
+    Ok(())
+}
+
+// The state that was kept of a key is given up.
+fn give_up<R: Rules>(kept: &mut BTreeMap<Key, Waiting<R>>, key: &Key) -> bool
+    ensures dropped { result ≡ is_some (get key_cmp kept.old key.now) }
+    ensures gone { get key_cmp kept.new key.now ≡ None }
+    ensures fewer { FewerKept kept.old kept.new }
+{
+    kept.remove(key).is_some()
+}
+
+// Whether one of the keys is open.
+fn any_open(nodes: &Nodes, keys: &[Key]) -> bool
+    ensures open { IsTrue result → (k : Key) × In k keys.now × IsOpen nodes.now k }
+    ensures none { result ≡ false → (k : Key) → In k keys.now → IsOpen nodes.now k → ⊥ }
+{
+    for key in keys {
+        if is_open(nodes, key) {
+            return true;
+        }
+    }
+    false
+}
+
+impl<R: Rules> Round<R> {
+    /// Opens a round: the roots are wanted, leaves among them are read, and what can be settled without a turn is.
+    /// `Memory` where a growth was refused; the graph is then lawful still, as after a stop.
+    pub fn open(
+        alloc: Global,
+        graph: &mut Graph,
+        tree: &Tree,
+        roots: Vec<Key>,
+    ) -> Result<Round<R>, Memory>
+        ensures beside { IfOk result (λ round. StandsBeside graph.new round) }
+        ensures begins { IfOk result (λ round. ((standing round).roots ≡ roots.items) × ((standing round).out ≡ [])) }
+        ensures made { IfOk result (λ round. HasMade round.table 0) }
+        ensures truth { IfOk result (λ round. (next : Key → List Value → Reply Key Value) → IsTrueSince next (leaves.read tree.now) roots.items graph.old graph.new round.table) }
+        ensures stopped { OnErr result ((next : Key → List Value → Reply Key Value) → IsAfterSince next (leaves.read tree.now) roots.items graph.old graph.new) }
+    {
+        let mut table = Table::new(alloc);
+        want_all(alloc, graph, tree, &mut table, roots.as_slice())?;
+        look_at_all(alloc, graph, tree, &mut table)?;
+        Ok(Round {
+            alloc,
+            roots,
+            table,
+            out: BTreeSet::new(alloc),
+            kept: BTreeMap::new(alloc),
+        })
+    }
+
+    /// The least key whose next turn can be handed out. It takes no memory.
+    pub fn ready(&self) -> Option<&Key>
+        ensures some { IfSome result (λ k. In k.now (standing self.now).table.ready.keys) }
+        ensures none { IfNone result ((standing self.now).table.ready.keys ≡ []) }
+        ensures least { IfSome result (λ k. All (IsLeBy key_cmp k.now) (standing self.now).table.ready.keys) }
+    {
+        match self.table.ready.first() {
+            None => None,
+            Some(key) => Some(key),
+        }
+    }
+
+    /// Hands out the next turn of a key, with all answers so far. None exactly where it is not ready: it does not run, or
+    /// is settled, or its job is out, or the last group that it asked is not settled with values. `Memory` where a growth
+    /// was refused, and then nothing has changed, but that a kept state may be given up.
+    pub fn hand_out(&mut self, graph: &Graph, key: &Key) -> Result<Option<Job<R>>, Memory>
+        requires { StandsBeside graph.now self.old }
+        ensures beside { StandsBeside graph.now self.new }
+        ensures hands { IfOk result (HandsOut graph.now key.now (standing self.old) (standing self.new)) }
+        ensures truth { (read : Key → Option Value) → KeepsTrue read graph.now graph.now self.old.table self.new.table result }
+        ensures refused { OnErr result (standing self.new ≡ standing self.old) }
+    {
+        let name = key.share()?;
+        let Some(job) = next_job(self.alloc, graph, &self.table, &mut self.kept, key)? else {
+            return Ok(None);
+        };
+        put_out(&mut self.out, name)?;
+        set_out(&mut self.table, key);
+        Ok(Some(job))
+    }
+
+    /// Takes a turn back: its node is settled, or asks its next group; then what can be settled without a turn is.
+    /// `Stranger` exactly where its key and answers are of no job that is out. `Memory` where a growth was refused, in the
+    /// turn or now: the round can only be given up then, and the graph is as after a stop.
+    pub fn take_back(
+        &mut self,
+        graph: &mut Graph,
+        tree: &Tree,
+        turned: Turned<R>,
+    ) -> Result<(), NotTaken<R>>
+        requires { StandsBeside graph.old self.old }
+        ensures beside { OnOk result (StandsBeside graph.new self.new) }
+        ensures back { OnOk result (IsOfJobOut graph.old (standing self.old) turned.asked × TakesBack (standing self.old) (standing self.new) turned.asked.key × (turned.ending ≡ Made)) }
+        ensures truth { Leads R.next (leaves.read tree.now) graph.old graph.new self.old.table self.new.table result }
+        ensures refused { IfErr result (Refuses graph.old graph.new (standing self.old) (standing self.new) turned) }
+    {
+        if !is_out_with(self.alloc, graph, &self.table, &turned)? {
+            return Err(NotTaken::Stranger(turned));
+        }
+        self.take_own(graph, tree, turned)?;
+        Ok(())
+    }
+
+    /// The same for a turn that is known to be of a job that is out.
+    pub(crate) fn take_own(
+        &mut self,
+        graph: &mut Graph,
+        tree: &Tree,
+        turned: Turned<R>,
+    ) -> Result<(), Memory>
+        requires beside { StandsBeside graph.old self.old }
+        requires out { IsOfJobOut graph.old (standing self.old) turned.asked }
+        ensures beside { OnOk result (StandsBeside graph.new self.new) }
+        ensures back { OnOk result (TakesBack (standing self.old) (standing self.new) turned.asked.key) }
+        ensures made { OnOk result (turned.ending ≡ Made) }
+        ensures truth { Leads R.next (leaves.read tree.now) graph.old graph.new self.old.table self.new.table result }
+    {
+        let key = turned.key().share()?;
+        let paused = take(self.alloc, graph, &mut self.table, turned)?;
+        look_at_all(self.alloc, graph, tree, &mut self.table)?;
+        take_from(&mut self.out, &key);
+        keep(&mut self.kept, key, paused)?;
+        Ok(())
+    }
+
+    /// Gives up the state that was kept of a node, if there is one: its next turn begins anew then, with all answers. It
+    /// takes no memory.
+    pub fn drop_state(&mut self, key: &Key) -> bool
+        ensures dropped { result ≡ is_some (get key_cmp self.old.kept key.now) }
+        ensures gone { get key_cmp self.new.kept key.now ≡ None }
+        ensures same { standing self.new ≡ standing self.old }
+        ensures beside { (graph : Recorded) → StandsBeside graph self.old → StandsBeside graph self.new }
+    {
+        give_up(&mut self.kept, key)
+    }
+
+    /// Whether no turn can be handed out and no job is out. It takes no memory.
+    pub fn stalled(&self) -> bool
+        ensures { Decides result (IsStalled (standing self.now)) }
+    {
+        self.table.ready.is_empty() && self.out.is_empty()
+    }
+
+    /// Settles all open nodes at a stall, each with the loop to which it leads, all or none. That the round is stalled
+    /// is the caller's condition. `Memory` where a growth was refused: the round can only be given up then, and the graph
+    /// is as before.
+    pub fn close_cycles(&mut self, graph: &mut Graph) -> Result<(), Memory>
+        requires beside { StandsBeside graph.old self.old }
+        requires stalled { IsStalled (standing self.old) }
+        ensures none { OnOk result (NoneOpen (standing self.new)) }
+        ensures wanted { OnOk result ((k : Key) → In k (standing self.new).roots → IsWanted graph.new self.new.table k) }
+        ensures same { ((standing self.new).roots ≡ (standing self.old).roots) × ((standing self.new).out ≡ (standing self.old).out) }
+        ensures turns { OnOk result (MakesNone self.old.table self.new.table) }
+        ensures truth { (read : Key → Option Value) → KeepsTrue read graph.old graph.new self.old.table self.new.table result }
+    {
+        close_cycles(self.alloc, graph, &mut self.table)?;
+        self.kept = BTreeMap::new(self.alloc);
+        Ok(())
+    }
+
+    /// The runs in the order of settling, where no root is open any more; else the round again. It takes no memory.
+    pub fn finish(self) -> Result<Vec<Run>, Round<R>>
+        ensures done { IfOk result (λ runs. EndsWith (standing self) (Ok runs.items)) }
+        ensures open { IfErr result (λ round. EndsWith (standing self) (Err (standing round))) }
+    {
+        if any_open(&self.table.nodes, self.roots.as_slice()) {
+            return Err(self);
+        }
+        let Round {
+            alloc: _,
+            roots: _,
+            table,
+            out: _,
+            kept: _,
+        } = self;
+        Ok(runs_of(table))
+    }
+}
+
+// The runs of a table.
+fn runs_of(table: Table) -> Vec<Run>
+    ensures { result.items ≡ table.runs.items }
+{
+    let Table {
+        nodes: _,
+        ready: _,
+        work: _,
+        looked: _,
+        runs,
+    } = table;
+    runs
+}
+
+#[cfg(test)]
+mod tests {
+    use super::*;
+    use functions::Loading;
+    use std::test::Fail;
+    use texts::Text;
+
+    #[test]
+    fn turns_are_taken_back_in_another_order(rt: HostRuntime) -> Result<(), Fail> {
+        let alloc = rt.alloc();
+        let mut graph = Graph::new(alloc);
+        let tree = Tree::new(alloc);
+        let a = Key::Lookup(Text::new(alloc, "a")?);
+        let b = Key::Lookup(Text::new(alloc, "b")?);
+        let roots = vec![in alloc; b.share()?, a.share()?]?;
+        let mut rules = Loading::new(alloc);
+        let mut round: Round<Loading> = Round::open(alloc, &mut graph, &tree, roots)?;
+        assert!(rt; round.ready() == Some(&a));
+        let one = round.hand_out(&graph, &a)?;
+        let two = round.hand_out(&graph, &b)?;
+        assert!(rt; round.hand_out(&graph, &a)?.is_none());
+        assert!(rt; round.ready().is_none());
+        assert!(rt; !round.stalled());
+        let (Some(one), Some(two)) = (one, two) else {
+            return Err(Fail::from(Memory));
+        };
+        if let Err(_) = round.take_back(&mut graph, &tree, two.make(&mut rules)) {
+            return Err(Fail::from(Memory));
+        }
+        assert!(rt; round.ready() == Some(&b));
+        if let Err(_) = round.take_back(&mut graph, &tree, one.make(&mut rules)) {
+            return Err(Fail::from(Memory));
+        }
+        assert!(rt; round.ready() == Some(&a));
+        assert!(rt; round.finish().is_err());
+        Ok(())
+    }
+
+    #[test]
+    fn a_turn_of_another_round_is_a_stranger(rt: HostRuntime) -> Result<(), Fail> {
+        let alloc = rt.alloc();
+        let mut graph = Graph::new(alloc);
+        let tree = Tree::new(alloc);
+        let a = Key::Lookup(Text::new(alloc, "a")?);
+        let mut rules = Loading::new(alloc);
+        let roots = vec![in alloc; a.share()?]?;
+        let mut round: Round<Loading> = Round::open(alloc, &mut graph, &tree, roots)?;
+        let stranger: Job<Loading> = Job::new(a.share()?, Vec::new(alloc));
+        let told = match round.take_back(&mut graph, &tree, stranger.make(&mut rules)) {
+            Err(NotTaken::Stranger(turned)) => turned.key() == &a,
+            _ => false,
+        };
+        assert!(rt; told);
+        Ok(())
+    }
+}

@@ -1,0 +1,4 @@
+pub mod Same
+pub mod SameLaws
+pub mod Bounds
+pub mod Stored

@@ -1,0 +1,8 @@
+//! Whether two functions of files are one tree, line for line.
+#![tactic(auto)]
+
+mod exprs;
+mod numbers;
+mod stmts;
+
+pub use stmts::same_def;
