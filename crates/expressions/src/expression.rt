@@ -13,6 +13,7 @@ use crate::front::{Stop, Tokens};
 use crate::target::is_target;
 use grammar::{Kind, Rank};
 use std::alloc::Global;
+use std::sync::Arc;
 use texts::Text;
 use tokens::{Symbol, Token, string_text};
 use tree::{BinaryOp, Clause, Expr, Literal, UnaryOp};
@@ -126,7 +127,8 @@ impl<F: Fn(Global, &mut Tokens<'_, '_>, usize, Kind) -> Result<Expr, Stop>> Gram
         let target = self.targets(t)?;
         t.expect(Symbol::In)?;
         let sequence = self.expr(t, Kind::Or)?;
-        Ok(Clause::for_in(target, sequence))
+        let clause = Clause::for_in(self.alloc, target, sequence)?;
+        Ok(clause)
     }
 
     /// Reads the clauses of a comprehension.
@@ -144,7 +146,8 @@ impl<F: Fn(Global, &mut Tokens<'_, '_>, usize, Kind) -> Result<Expr, Stop>> Gram
             }
             if t.eat(Symbol::If) {
                 let condition = self.expr(t, Kind::Or)?;
-                found.push(Clause::only_if(condition))?;
+                let next = Clause::only_if(self.alloc, condition)?;
+                found.push(next)?;
                 continue;
             }
             return Ok(found);
@@ -323,14 +326,15 @@ impl<F: Fn(Global, &mut Tokens<'_, '_>, usize, Kind) -> Result<Expr, Stop>> Gram
 
     /// Reads the upper bound of a slice.
     #[tactic(auto, unfolding(grammar::specs::Expressions::upper_bound))]
-    fn upper_bound(&self, t: &mut Tokens<'_, '_>) -> Result<Option<Expr>, Stop>
+    fn upper_bound(&self, t: &mut Tokens<'_, '_>) -> Result<Option<Arc<Expr, Global>>, Stop>
         requires { Nests self.now.depth (F.pre self.now.expr) (F.post self.now.expr) }
         ensures { Reads bound_tree (spec.upper_bound (spec.expr self.now.depth) (left t.old)) result (left t.new) }
     {
         if t.is_at(Symbol::RightBracket) {
             return Ok(None);
         }
-        let bound = self.expr(t, Kind::Test)?;
+        let found = self.expr(t, Kind::Test)?;
+        let bound = Arc::new(self.alloc, found)?;
         Ok(Some(bound))
     }
 
@@ -340,7 +344,7 @@ impl<F: Fn(Global, &mut Tokens<'_, '_>, usize, Kind) -> Result<Expr, Stop>> Gram
         &self,
         t: &mut Tokens<'_, '_>,
         value: Expr,
-        from: Option<Expr>,
+        from: Option<Arc<Expr, Global>>,
     ) -> Result<Expr, Stop>
         requires { Nests self.now.depth (F.pre self.now.expr) (F.post self.now.expr) }
         ensures { Reads tree_of (spec.slice_from (spec.expr self.now.depth) (tree_of value) (bound_tree from) (left t.old)) result (left t.new) }
@@ -363,7 +367,8 @@ impl<F: Fn(Global, &mut Tokens<'_, '_>, usize, Kind) -> Result<Expr, Stop>> Gram
         }
         let at = self.expr(t, Kind::Test)?;
         if t.eat(Symbol::Colon) {
-            let whole = self.slice_from(t, value, Some(at))?;
+            let from = Arc::new(self.alloc, at)?;
+            let whole = self.slice_from(t, value, Some(from))?;
             return Ok(whole);
         }
         t.expect(Symbol::RightBracket)?;

@@ -13,8 +13,9 @@ use Rattle.std.specs.Fmt.{digits}
 use Rattle.meaning.specs.Membership.{hashed_has}
 use Rattle.meaning.specs.Printing.{print, int_text}
 use Rattle.meaning.specs.Freezing.{freeze}
-use Rattle.language.specs.Modules.{Loaded, exports}
-use Rattle.language.specs.World.{Attribute, several, Target, Ends, ended, failed, waits, tick}
+use Rattle.module_values.specs.Values.{Attribute, several, Target, Loaded}
+use Rattle.language.specs.Modules.{exports}
+use Rattle.language.specs.World.{Ends, ended, failed, waits, tick}
 use Rattle.language.specs.Names.{read, bind}
 use Rattle.language.specs.Environment.{Env, Answers, need_names}
 use Rattle.language.specs.Arguments.{arguments}

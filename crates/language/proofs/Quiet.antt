@@ -18,8 +18,9 @@ use Rattle.meaning.specs.Indexing.{hash, index, set_index}
 use Rattle.meaning.specs.Binary.{binary}
 use Rattle.meaning.specs.Freezing.{thaw, thaw_members, freeze, freeze_members}
 use Rattle.meaning.specs.Functions.{Named, grows}
-use Rattle.language.specs.Modules.{Frozen, Defaults, Body, Loaded, exported}
-use Rattle.language.specs.World.{World, Site, Target, Here, Ends, ended, failed, waits, Runs, then_runs, at_site, on_heap, tick, or_fault, fault, pure, at_line}
+use Rattle.module_values.specs.Values.{Target, Frozen, Defaults, Body, Loaded}
+use Rattle.language.specs.Modules.{exported}
+use Rattle.language.specs.World.{World, Site, Here, Ends, ended, failed, waits, Runs, then_runs, at_site, on_heap, tick, or_fault, fault, pure, at_line}
 use Rattle.language.specs.Names.{names_once, top_names, slot, slot_among, file_slot, names_at, read_universal, read_slot, read, bind_global, bind, is_native, universal}
 use Rattle.language.specs.Environment.{Env, defs, defaults_of, thawed, thawed_defaults, thaw_body, need_names, reached_module}
 use Rattle.language.specs.Targets.{Aim, to_name, to_member, to_each, Aims, no_aims, aim_at, how_many, unpack, store, store_each}

@@ -7,7 +7,8 @@ use Rattle.std.specs.declared.cmp.Ordering.TheVariants.{Less, Equal, Greater}
 use Rattle.grammar.specs.declared.kind.FileKind.{FileKind}
 use Rattle.grammar.specs.declared.kind.FileKind.TheVariants as k
 use Rattle.language.specs.Sorting.{put_by, put, in_order, RisesFrom, Rises}
-use Rattle.language.specs.World.{World, Here, Target, Ends, ended, failed, waits, Runs, then_runs}
+use Rattle.module_values.specs.Values.{Target}
+use Rattle.language.specs.World.{World, Here, Ends, ended, failed, waits, Runs, then_runs}
 use Rattle.language.specs.Environment.{Env}
 use Rattle.language.specs.Files.{Outcome, a_package, statements, frozen_module, leaves, whole_file, outcome_of, all_steps, start, file_level, evaluate}
 use Rattle.language.specs.Laws.{TargetsRise}

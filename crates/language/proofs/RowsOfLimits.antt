@@ -6,7 +6,7 @@ use Rattle.meaning.specs.Freezing as z
 use Rattle.meaning.specs.Operators.{times}
 use Rattle.std.specs.Fmt.{digits}
 use Rattle.meaning.specs.Printing.{int_text}
-use Rattle.language.specs.Modules.{Loaded}
+use Rattle.module_values.specs.Values.{Loaded}
 use Rattle.language.proofs.Programs.{AllGive, is, code, expression, Shown, tags, at_build, at_bzl, of_text, build, outcome, shown}
 
 packaged : List ℕ → Shown

@@ -1,7 +1,7 @@
 -- BUILD files with their outcomes: rules and `glob`.
 use Prim.Native.String.{String}
 use Rattle.std.proofs.Common.{◌≡◌, List, [], ◌∷◌, ◌++◌, refl, codes, map}
-use Rattle.language.specs.World.{single, several}
+use Rattle.module_values.specs.Values.{single, several}
 use Rattle.language.specs.Environment.{Answers}
 use Rattle.language.specs.Files.{Outcome, a_package}
 use Rattle.language.proofs.Programs.{AllBuild, Shown, tags, needs, texts, at_build, built, build, over_module, outcome, shown}

@@ -6,7 +6,8 @@ use Rattle.meaning.specs.Comparing.{same_text}
 use Rattle.meaning.specs.Freezing.{thaw, thaw_members}
 use Rattle.tree.specs.Tree as t
 use Rattle.tree.specs.Tree.{Fi, Fn, Tp}
-use Rattle.language.specs.Modules.{Frozen, Defaults, Body, Loaded, body_at, all_bodies}
+use Rattle.module_values.specs.Values.{Frozen, Defaults, Body, Loaded}
+use Rattle.language.specs.Modules.{body_at, all_bodies}
 use Rattle.language.specs.World.{World, Block, Names, Here, Runs, ◌>>=◌, pure, on_heap, ended}
 use Rattle.language.specs.Names.{names_at}
 

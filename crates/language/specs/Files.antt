@@ -9,8 +9,9 @@ use Rattle.meaning.specs.declared.val.Val.{Val}
 use Rattle.meaning.specs.Heap.{walks, makes, function}
 use Rattle.meaning.specs.Freezing.{Fz, freezes, freeze, freeze_members, thaw}
 use Rattle.language.specs.Sorting.{in_order}
-use Rattle.language.specs.Modules.{Frozen, Defaults, Body, Loaded, exported, all_bodies, each_once}
-use Rattle.language.specs.World.{World, Target, Site, Here, at_line, Ends, ended, failed, waits, Runs, ◌>>=◌, pure, fault, or_fault, on_heap, tick}
+use Rattle.module_values.specs.Values.{Target, Frozen, Defaults, Body, Loaded}
+use Rattle.language.specs.Modules.{exported, all_bodies, each_once}
+use Rattle.language.specs.World.{World, Site, Here, at_line, Ends, ended, failed, waits, Runs, ◌>>=◌, pure, fault, or_fault, on_heap, tick}
 use Rattle.language.specs.Names.{top_names, load_names, names_once, new_block, bind, file_slot, names_at, change_names}
 use Rattle.language.specs.Environment.{Env, defs, defaults_of}
 use Rattle.language.specs.Expressions.{value}

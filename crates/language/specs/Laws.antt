@@ -2,7 +2,8 @@
 use Rattle.std.specs.Prelude.{◌≡◌, ◌≢◌, ◌≤◌, ℕ, Bool, List, [], ◌∷◌, ◌++◌, false, is_some, map, Some}
 use Rattle.std.specs.List.{AllByRecursion}
 use Rattle.language.specs.Sorting.{Rises}
-use Rattle.language.specs.World.{World, Names, Target, ended}
+use Rattle.module_values.specs.Values.{Target}
+use Rattle.language.specs.World.{World, Names, ended}
 use Rattle.language.specs.Names.{file_slot, names_at}
 use Rattle.meaning.specs.declared.val.Val.{Val}
 use Rattle.labels.specs.Paths.{segments}

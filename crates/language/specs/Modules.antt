@@ -1,33 +1,9 @@
--- What the evaluation of a .bzl file leaves, and what another file's evaluation is given of it.
+-- What another file's evaluation is given of what the evaluation of a .bzl file left.
 use Rattle.std.specs.Prelude.{ℕ, Bool, false, not, ◌==◌, List, [], ◌∷◌, ◌++◌, Option, Some, None, if◌then◌else◌, filter, map, flat_map}
 use Rattle.std.specs.List.{list_any}
 use Rattle.meaning.specs.Comparing.{same_text}
-use Rattle.meaning.specs.Freezing.{Fz, Fzs}
-use Rattle.tree.specs.Tree.{Fn}
-
-pub record Frozen : Type 0 where
-  pub name : List ℕ
-  pub value : Fz
-
--- the values of a function's defaults, in the order of its parameters
-pub record Defaults : Type 0 where
-  pub name : List ℕ
-  pub values : Fzs
-
--- one .bzl file: its own globals in the order in which they were bound, the names that its loads bound, the trees of
--- its functions, and their defaults
-pub record Body : Type 0 where
-  pub label : List ℕ
-  pub path : List ℕ
-  pub own : List Frozen
-  pub loaded : List Frozen
-  pub functions : List Fn
-  pub defaults : List Defaults
-
--- the value of a .bzl file: itself, and all modules that its loads reach, each once
-pub record Loaded : Type 0 where
-  pub body : Body
-  pub reached : List Body
+use Rattle.meaning.specs.Freezing.{Fz}
+use Rattle.module_values.specs.Values.{Frozen, Body, Loaded}
 
 abbrev pub frozen_at : List ℕ → List Frozen → Option Fz
 frozen_at x [] = None

@@ -16,7 +16,8 @@ use Rattle.meaning.specs.Heap.{Store}
 use Rattle.meaning.specs.Comparing.{same_text}
 use Rattle.meaning.specs.Functions.{Named, is_named, is_twice}
 use Rattle.meaning.specs.Methods.{bytes_of}
-use Rattle.language.specs.World.{Attribute, single, several, Target, Here, Runs, ◌>>=◌, fault, on_heap, ended}
+use Rattle.module_values.specs.Values.{Attribute, single, several, Target}
+use Rattle.language.specs.World.{Here, Runs, ◌>>=◌, fault, on_heap, ended}
 use Rattle.language.specs.Names.{has_name}
 use Rattle.language.specs.Arguments.{value_named}
 use Rattle.language.specs.Globs.{texts_in}

@@ -7,6 +7,7 @@ use Rattle.meaning.specs.Outcome as o
 use Rattle.meaning.specs.Outcome.{Out, Does}
 use Rattle.meaning.specs.Heap.{Store, walks}
 use Rattle.meaning.specs.Operators.{is_true}
+use Rattle.module_values.specs.Values.{Target}
 
 -- the names of a block, each once, with their values: None until a name is bound
 abbrev pub Block : Type 0
@@ -17,16 +18,6 @@ pub record Names : Type 0 where
   pub label : List ℕ
   pub block : Block
   pub defaults : List (List ℕ × List Val)
-
--- an attribute of a target: a text, or a list of texts
-pub data Attribute : Type 0 where
-  single : List ℕ → Attribute
-  several : List (List ℕ) → Attribute
-
-pub record Target : Type 0 where
-  pub kind : List ℕ
-  pub name : List ℕ
-  pub attributes : List (List ℕ × Attribute)
 
 -- the blocks are those of the function that runs: of its comprehensions, innermost first, and of the function itself;
 -- at file level there are those of comprehensions alone

@@ -68,9 +68,9 @@ fn modules_differ_by_order_and_by_line(rt: HostRuntime) -> Result<(), Fail> {
 fn targets(alloc: Global, kind: &str, is_list: bool) -> Result<Targets, Memory> {
     let text = Text::new(alloc, "t")?;
     let attribute = if is_list {
-        Attribute::Several(Texts::new(vec![in alloc; text]?))
+        Attribute::several(Texts::new(vec![in alloc; text]?))
     } else {
-        Attribute::Single(text)
+        Attribute::single(text)
     };
     let attributes = vec![in alloc; (Text::new(alloc, "a")?, attribute)]?;
     let target = Target::new(Text::new(alloc, kind)?, Text::new(alloc, "n")?, attributes);

@@ -5,18 +5,16 @@ use Rattle.std.specs.Cmp.Lexicographic.{pointwise}
 use Rattle.meaning.specs.Freezing.{Fz, Fzs, no_members, member}
 use Rattle.freezing.specs.Same.{same}
 use Rattle.same_trees.specs.Same.{same_fn}
-use Rattle.module_values.specs.declared.targets.Attribute.{Attribute}
-use Rattle.module_values.specs.declared.targets.Attribute.TheVariants.{Single, Several}
-use Rattle.module_values.specs.Values.{Target, Frozen, Defaults, Body, Loaded}
+use Rattle.module_values.specs.Values.{Attribute, single, several, Target, Frozen, Defaults, Body, Loaded}
 
 abbrev pub text_eq : List ℕ → List ℕ → Bool
 text_eq = pointwise nat_eq
 
 abbrev pub attribute_eq : Attribute → Attribute → Bool
-attribute_eq (Single s) (Single t) = text_eq s t
-attribute_eq (Single s) (Several ts) = false
-attribute_eq (Several ss) (Single t) = false
-attribute_eq (Several ss) (Several ts) = pointwise text_eq ss ts
+attribute_eq (single s) (single t) = text_eq s t
+attribute_eq (single s) (several ts) = false
+attribute_eq (several ss) (single t) = false
+attribute_eq (several ss) (several ts) = pointwise text_eq ss ts
 
 abbrev pub named_eq : List ℕ × Attribute → List ℕ × Attribute → Bool
 named_eq a b = text_eq a.0 b.0 && attribute_eq a.1 b.1

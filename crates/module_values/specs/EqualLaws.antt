@@ -10,9 +10,7 @@ use Rattle.freezing.specs.SameLaws.{same_exact}
 use Rattle.freezing.specs.View.{members_of}
 use Rattle.same_trees.specs.Same.{same_fn}
 use Rattle.same_trees.specs.SameLaws.{fns_decide}
-use Rattle.module_values.specs.declared.targets.Attribute.{Attribute}
-use Rattle.module_values.specs.declared.targets.Attribute.TheVariants.{Single, Several}
-use Rattle.module_values.specs.Values.{Target, Frozen, Defaults, Body, Loaded}
+use Rattle.module_values.specs.Values.{Attribute, single, several, Target, Frozen, Defaults, Body, Loaded}
 use Rattle.module_values.specs.Equal.{text_eq, attribute_eq, named_eq, target_eq, frozen_eq, values_of, defaults_eq, body_eq, loaded_eq}
 
 each : (p q : Bool) → p && q ≡ true → (p ≡ true) × (q ≡ true)
@@ -28,10 +26,10 @@ exactly : {A : Type 0} → (eq : A → A → Bool) → ((a b : A) → eq a b ≡
 exactly eq one itself a b = (one a b, λ e. ap (eq a) (sym e) ∙ itself a)
 
 pub attributes_decide : (a b : Attribute) → Decides (attribute_eq a b) (a ≡ b)
-attributes_decide (Single s) (Single t) = (λ h. ap Single ((bytes_decides s t).0 h), λ e. (bytes_decides s t).1 (cc))
-attributes_decide (Single s) (Several ts) = (λ h. cc, λ e. cc)
-attributes_decide (Several ss) (Single t) = (λ h. cc, λ e. cc)
-attributes_decide (Several ss) (Several ts) = let d = pointwise_decides bytes_decides ss ts in (λ h. ap Several (d.0 h), λ e. d.1 (cc))
+attributes_decide (single s) (single t) = (λ h. ap single ((bytes_decides s t).0 h), λ e. (bytes_decides s t).1 (cc))
+attributes_decide (single s) (several ts) = (λ h. cc, λ e. cc)
+attributes_decide (several ss) (single t) = (λ h. cc, λ e. cc)
+attributes_decide (several ss) (several ts) = let d = pointwise_decides bytes_decides ss ts in (λ h. ap several (d.0 h), λ e. d.1 (cc))
 
 named_decide : (a b : List ℕ × Attribute) → Decides (named_eq a b) (a ≡ b)
 named_decide = exactly named_eq

@@ -2,7 +2,11 @@
 use Rattle.std.specs.Prelude.{ℕ, List}
 use Rattle.meaning.specs.Freezing.{Fz, Fzs}
 use Rattle.tree.specs.Tree.{Fn}
-use Rattle.module_values.specs.declared.targets.Attribute.{Attribute}
+
+-- an attribute of a target: a text, or a list of texts
+pub data Attribute : Type 0 where
+  single : List ℕ → Attribute
+  several : List (List ℕ) → Attribute
 
 -- a target: the rule that made it, its name, and the attributes that were given, in byte order of their names
 pub record Target : Type 0 where

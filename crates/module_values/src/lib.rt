@@ -7,4 +7,4 @@ mod targets;
 
 pub use bindings::{Binding, Defaults, Function};
 pub use modules::{Loaded, Module};
-pub use targets::{Attribute, Target, Targets, Texts};
+pub use targets::{Attribute, Held, Target, Targets, Texts};

@@ -2,8 +2,10 @@
 ghost use Rattle.std.specs.Prelude.{◌≡◌};
 ghost use Rattle.std.specs.Cmp.{partial_equiv_from_equiv};
 ghost use Rattle.std.specs.Cmp.Lexicographic.{pointwise};
+ghost use Rattle.module_values.specs.Values.{single, several};
 ghost use Rattle.module_values.specs.Equal.{text_eq, attribute_eq, target_eq};
 ghost use Rattle.module_values.specs.EqualLaws.{texts_equiv, attributes_equiv, targets_equiv, all_targets_equiv};
+ghost use Rattle.module_values.specs.Shown.{attribute_of};
 
 use std::marker::Model;
 use texts::Text;
@@ -52,13 +54,54 @@ impl Eq for Texts {
     ghost laws = { texts_equiv };
 }
 
-/// An attribute of a target.
+/// What an attribute holds.
 #[derive(Drop)]
-pub enum Attribute {
+pub enum Held {
     /// A text, or the text of a label.
     Single(Text),
     /// A list of these.
     Several(Texts),
+}
+
+/// An attribute of a target. A contract sees a text, or a list of texts.
+#[derive(Drop)]
+pub struct Attribute {
+    held: Held,
+}
+
+impl Model for Attribute {
+    ghost use Rattle.module_values.specs.Values.{Attribute};
+
+    ghost Value = { Attribute };
+
+    ghost use Rattle.module_values.specs.Shown.{attribute_of};
+
+    ghost view = { λ a. attribute_of a.held };
+}
+
+impl Attribute {
+    /// A text, or the text of a label.
+    pub fn single(text: Text) -> Attribute
+        ensures { result ≡ single text }
+    {
+        let held = Held::Single(text);
+        Attribute { held }
+    }
+
+    /// A list of these.
+    pub fn several(texts: Texts) -> Attribute
+        ensures { result ≡ several texts }
+    {
+        let held = Held::Several(texts);
+        Attribute { held }
+    }
+
+    /// What it holds.
+    pub fn held(&self) -> &Held
+        ensures { attribute_of result.now ≡ self.now }
+    {
+        &self.held
+    }
 }
 
 impl PartialEq for Attribute {
@@ -67,9 +110,9 @@ impl PartialEq for Attribute {
     ghost laws = { partial_equiv_from_equiv attributes_equiv };
 
     fn eq(&self, other: &Attribute) -> bool {
-        match (self, other) {
-            (Attribute::Single(a), Attribute::Single(b)) => a == b,
-            (Attribute::Several(a), Attribute::Several(b)) => a == b,
+        match (&self.held, &other.held) {
+            (Held::Single(a), Held::Single(b)) => a == b,
+            (Held::Several(a), Held::Several(b)) => a == b,
             _ => false,
         }
     }

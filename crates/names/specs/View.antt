@@ -7,7 +7,7 @@ use Rattle.meaning.specs.Builtins.{builtin_name}
 use Rattle.heap.specs.declared.halt.Halt.{Halt}
 use Rattle.heap.specs.declared.halt.Halt.TheVariants.{Code, Memory}
 use Rattle.heap.specs.View.{store_of}
-use Rattle.language.specs.World as w
+use Rattle.module_values.specs.Values as v
 use Rattle.language.specs.World.{World, Block, Names, Site, Here, Ends, ended, failed, waits}
 use Rattle.names.specs.declared.state.Slot.{Slot}
 use Rattle.names.specs.declared.state.Kept.{Kept}
@@ -34,14 +34,14 @@ kept_of k = (k.function, k.values.items)
 abbrev pub names_of : FileNames → Names
 names_of f = record { label = f.label; block = block_of f.block; defaults = map kept_of f.defaults.items }
 
-abbrev pub attribute_of : Attribute → w.Attribute
-attribute_of (a.Single text) = w.single text
-attribute_of (a.Several texts) = w.several texts.items
+abbrev pub attribute_of : Attribute → v.Attribute
+attribute_of (a.Single text) = v.single text
+attribute_of (a.Several texts) = v.several texts.items
 
-abbrev pub attributed_of : Attributed → List ℕ × w.Attribute
+abbrev pub attributed_of : Attributed → List ℕ × v.Attribute
 attributed_of x = (x.name, attribute_of x.value)
 
-abbrev pub target_of : Target → w.Target
+abbrev pub target_of : Target → v.Target
 target_of t = record { kind = builtin_name t.rule; name = t.name; attributes = map attributed_of t.attributes.items }
 
 abbrev pub world_of : State → World

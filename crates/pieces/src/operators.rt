@@ -7,9 +7,9 @@ ghost use Rattle.heap.specs.View.{store_of, Says};
 ghost use Rattle.language.specs.Expressions as e;
 ghost use Rattle.names.specs.View.{world_of, Ran};
 
-use code::{BinaryOp, UnaryOp};
 use heap::{Halt, Heap, Operator, Val};
 use names::State;
+use tree::{BinaryOp, UnaryOp};
 
 /// Whether a value is true.
 pub fn is_true(heap: &Heap, x: Val) -> bool

@@ -1,4 +1,3 @@
 pub mod Same
 pub mod SameLaws
-pub mod Bounds
 pub mod Stored

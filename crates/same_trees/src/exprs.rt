@@ -1,8 +1,7 @@
 //! Expressions that are one tree.
 ghost use Rattle.std.specs.Prelude.{◌≡◌};
-ghost use Rattle.tree.specs.View.{tree_of, clause_of, trees_of, clause_trees};
+ghost use Rattle.tree.specs.View.{tree_of, clause_of, trees_of, clause_trees, bound_tree};
 ghost use Rattle.same_trees.specs.Same.{same_ex, same_exs, same_bound, same_clause, same_clauses};
-ghost use Rattle.same_trees.specs.Bounds.{arc_bound};
 
 use crate::numbers::{binary_number, literal_number, unary_number};
 use std::alloc::Global;
@@ -74,10 +73,10 @@ fn same_exprs(xs: &[Expr], ys: &[Expr]) -> bool
     true
 }
 
-// Whether two bounds of slices are the same, or both not given.
+/// Whether two expressions are the same, or both not given.
 #[cycle(exprs)]
-fn same_bound(a: &Option<Arc<Expr, Global>>, b: &Option<Arc<Expr, Global>>) -> bool
-    ensures { result ≡ same_bound (arc_bound a.now) (arc_bound b.now) }
+pub fn same_bound(a: &Option<Arc<Expr, Global>>, b: &Option<Arc<Expr, Global>>) -> bool
+    ensures { result ≡ same_bound (bound_tree a.now) (bound_tree b.now) }
 {
     match (a, b) {
         (Some(x), Some(y)) => same_expr(x, y),

@@ -2,13 +2,12 @@
 ghost use Rattle.std.specs.Prelude.{◌≡◌, map};
 ghost use Rattle.std.specs.Bool.{Decides};
 ghost use Rattle.std.specs.Cmp.Lexicographic.{pointwise};
-ghost use Rattle.tree.specs.View.{bound_tree};
 ghost use Rattle.tree.specs.Statements.{stmt_of, branch_of, stmts_of, branch_trees, param_of, fn_of};
-ghost use Rattle.same_trees.specs.Same.{same_bound, same_st, same_suite, same_branch, same_branches, same_param, same_fn};
+ghost use Rattle.same_trees.specs.Same.{same_st, same_suite, same_branch, same_branches, same_param, same_fn};
 
-use crate::exprs::same_expr;
+use crate::exprs::{same_bound, same_expr};
 use crate::numbers::binary_number;
-use tree::{Branch, Def, Expr, Param, Stmt};
+use tree::{Branch, Def, Param, Stmt};
 
 /// Whether two functions are one tree, line for line.
 pub fn same_def(a: &Def, b: &Def) -> bool
@@ -39,18 +38,7 @@ fn same_params(xs: &[Param], ys: &[Param]) -> bool
 fn same_param(a: &Param, b: &Param) -> bool
     ensures { result ≡ same_param (param_of a.now) (param_of b.now) }
 {
-    a.name == b.name && same_value(&a.default, &b.default)
-}
-
-// Whether two expressions are the same, or both not given.
-fn same_value(a: &Option<Expr>, b: &Option<Expr>) -> bool
-    ensures { result ≡ same_bound (bound_tree a.now) (bound_tree b.now) }
-{
-    match (a, b) {
-        (Some(x), Some(y)) => same_expr(x, y),
-        (None, None) => true,
-        _ => false,
-    }
+    a.name == b.name && same_bound(&a.default, &b.default)
 }
 
 // Whether two statements are one tree.
@@ -62,7 +50,7 @@ fn same_stmt(a: &Stmt, b: &Stmt) -> bool
         (Stmt::Pass(l), Stmt::Pass(m)) => *l == *m,
         (Stmt::Break(l), Stmt::Break(m)) => *l == *m,
         (Stmt::Continue(l), Stmt::Continue(m)) => *l == *m,
-        (Stmt::Return(l, x), Stmt::Return(m, y)) => *l == *m && same_value(x, y),
+        (Stmt::Return(l, x), Stmt::Return(m, y)) => *l == *m && same_bound(x, y),
         (Stmt::Eval(l, x), Stmt::Eval(m, y)) => *l == *m && same_expr(x, y),
         (Stmt::Assign(l, t, x), Stmt::Assign(m, u, y)) => {
             *l == *m && same_expr(t, u) && same_expr(x, y)
@@ -70,8 +58,12 @@ fn same_stmt(a: &Stmt, b: &Stmt) -> bool
         (Stmt::Augment(l, t, o, x), Stmt::Augment(m, u, p, y)) => {
             *l == *m && same_expr(t, u) && binary_number(*o) == binary_number(*p) && same_expr(x, y)
         }
-        (Stmt::If(xs, ss), Stmt::If(ys, ts)) => {
-            same_branches(xs.as_slice(), ys.as_slice()) && same_stmts(ss.as_slice(), ts.as_slice())
+        (Stmt::If(l, x, xs, bs, ss), Stmt::If(m, y, ys, cs, ts)) => {
+            *l == *m
+                && same_expr(x, y)
+                && same_stmts(xs.as_slice(), ys.as_slice())
+                && same_branches(bs.as_slice(), cs.as_slice())
+                && same_stmts(ss.as_slice(), ts.as_slice())
         }
         (Stmt::For(l, t, x, ss), Stmt::For(m, u, y, ts)) => {
             *l == *m

@@ -49,7 +49,8 @@ fn param_rest(
     ensures { Reads param_of (spec.param_rest (map param_of params.now) name (left t.old)) result (left t.new) }
 {
     if t.eat(Symbol::Equal) {
-        let default = test(alloc, t)?;
+        let value = test(alloc, t)?;
+        let default = Arc::new(alloc, value)?;
         return Ok(Param {
             name,
             default: Some(default),

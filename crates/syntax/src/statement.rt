@@ -11,6 +11,7 @@ ghost use Rattle.tree.specs.Statements.{stmt_of, branch_of};
 use expressions::{Stop, Tokens, expr, is_target, targets};
 use grammar::{Kind, Within};
 use std::alloc::Global;
+use std::sync::Arc;
 use tokens::Symbol;
 use tree::{BinaryOp, Branch, Expr, Stmt};
 
@@ -116,7 +117,8 @@ fn return_rest(alloc: Global, t: &mut Tokens<'_, '_>, line: usize) -> Result<Stm
     if t.is_at(Symbol::NewLine) {
         return Ok(Stmt::give(line, None));
     }
-    let value = exprs(alloc, t)?;
+    let found = exprs(alloc, t)?;
+    let value = Arc::new(alloc, found)?;
     Ok(Stmt::give(line, Some(value)))
 }
 
@@ -136,17 +138,20 @@ fn expr_rest(
             return Err(Stop::Malformed);
         }
         let value = exprs(alloc, t)?;
-        return Ok(Stmt::assign(line, first, value));
+        let whole = Stmt::assign(alloc, line, first, value)?;
+        return Ok(whole);
     }
     let Some(op) = augment_at(t) else {
-        return Ok(Stmt::eval(line, first));
+        let whole = Stmt::eval(alloc, line, first)?;
+        return Ok(whole);
     };
     if !can_augment(&first, within.in_def) {
         return Err(Stop::Malformed);
     }
     t.skip();
     let value = exprs(alloc, t)?;
-    Ok(Stmt::augment(line, first, op, value))
+    let whole = Stmt::augment(alloc, line, first, op, value)?;
+    Ok(whole)
 }
 
 /// Reads a small statement.
@@ -271,19 +276,18 @@ impl<F: Fn(Global, &mut Tokens<'_, '_>, usize, Within) -> Result<Stmt, Stop>> Su
         Ok(whole)
     }
 
-    /// Reads the `elif` branches.
+    /// Reads the `elif` branches behind the first one.
     #[tactic(auto, unfolding(grammar::specs::Statements::more_branches))]
     fn more_branches(
         &self,
         t: &mut Tokens<'_, '_>,
         within: Within,
-        first: Branch,
+        first: &Branch,
     ) -> Result<Vec<Branch>, Stop>
         requires { Holds self.now.depth (F.pre self.now.stmt) (F.post self.now.stmt) }
-        ensures { Reads (λ v. map branch_of v.items) (spec.more_branches (spec.stmt self.now.depth) within (branch_of first) (left t.old)) result (left t.new) }
+        ensures { Reads (λ v. branch_of first.now ∷ map branch_of v.items) (spec.more_branches (spec.stmt self.now.depth) within (branch_of first.now) (left t.old)) result (left t.new) }
     {
         let mut found = Vec::new(self.alloc);
-        found.push(first)?;
         for _turn in 0..t.len() {
             let line = t.line();
             if !t.eat(Symbol::Elif) {
@@ -316,9 +320,9 @@ impl<F: Fn(Global, &mut Tokens<'_, '_>, usize, Within) -> Result<Stmt, Stop>> Su
         ensures { Reads stmt_of (spec.if_rest (spec.stmt self.now.depth) within line (left t.old)) result (left t.new) }
     {
         let first = self.branch(t, within, line)?;
-        let branches = self.more_branches(t, within, first)?;
+        let branches = self.more_branches(t, within, &first)?;
         let other = self.other(t, within)?;
-        let whole = Stmt::choose(self.alloc, branches, other)?;
+        let whole = Stmt::choose(self.alloc, first, branches, other)?;
         Ok(whole)
     }
 

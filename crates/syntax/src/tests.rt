@@ -203,7 +203,10 @@ fn add_stmt(alloc: Global, out: &mut String, s: &Stmt) -> Result<(), Fail> {
             add(out, format!(in alloc; " {op:?}= ")?.as_str())?;
             add_expr(alloc, out, e)?;
         }
-        Stmt::If(branches, other) => {
+        Stmt::If(line, condition, body, branches, other) => {
+            add(out, format!(in alloc; "{line}:if ")?.as_str())?;
+            add_expr(alloc, out, condition)?;
+            add_stmts(alloc, out, body.as_slice())?;
             add_branches(alloc, out, branches.as_slice())?;
             add(out, " else")?;
             add_stmts(alloc, out, other.as_slice())?;

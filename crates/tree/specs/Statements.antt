@@ -2,7 +2,7 @@
 use Rattle.std.specs.Prelude.{List, [], ◌∷◌, map}
 use Rattle.std.specs.Arc.{arc_value}
 use Rattle.tree.specs.Tree.{St, Suite, Branches, Br, Pa, Fn, Tp, It, Ld, Fi, pass, break, continue, return, eval, assign, augment, if_else, for_each, no_more, next, no_branches, more_branches, branch, stmt, def}
-use Rattle.tree.specs.View.{tree_of, bound_tree}
+use Rattle.tree.specs.View.{shared_tree, bound_tree}
 use Rattle.tree.specs.declared.stmt.Branch.{Branch, fold-Branch}
 use Rattle.tree.specs.declared.stmt.Stmt.TheOpen.{Stmt-F, Branch-F}
 use Rattle.tree.specs.declared.stmt.Stmt.{Stmt, fold-Stmt}
@@ -27,14 +27,14 @@ stmt_step (Stmt-F.Pass l) = pass l
 stmt_step (Stmt-F.Break l) = break l
 stmt_step (Stmt-F.Continue l) = continue l
 stmt_step (Stmt-F.Return l e) = return l (bound_tree e)
-stmt_step (Stmt-F.Eval l e) = eval l (tree_of e)
-stmt_step (Stmt-F.Assign l t e) = assign l (tree_of t) (tree_of e)
-stmt_step (Stmt-F.Augment l t o e) = augment l (tree_of t) o (tree_of e)
-stmt_step (Stmt-F.If bs ss) = if_else (branches_of (arc_value bs).items) (suite_of (arc_value ss).items)
-stmt_step (Stmt-F.For l t e ss) = for_each l (tree_of t) (tree_of e) (suite_of (arc_value ss).items)
+stmt_step (Stmt-F.Eval l e) = eval l (shared_tree e)
+stmt_step (Stmt-F.Assign l t e) = assign l (shared_tree t) (shared_tree e)
+stmt_step (Stmt-F.Augment l t o e) = augment l (shared_tree t) o (shared_tree e)
+stmt_step (Stmt-F.If l c body bs ss) = if_else (more_branches (branch l (shared_tree c) (suite_of (arc_value body).items)) (branches_of (arc_value bs).items)) (suite_of (arc_value ss).items)
+stmt_step (Stmt-F.For l t e ss) = for_each l (shared_tree t) (shared_tree e) (suite_of (arc_value ss).items)
 
 abbrev pub branch_step : Branch-F St Br → Br
-branch_step b = branch b.line (tree_of b.condition) (suite_of (arc_value b.body).items)
+branch_step b = branch b.line (shared_tree b.condition) (suite_of (arc_value b.body).items)
 
 abbrev pub stmt_of : Stmt → St
 stmt_of = fold-Stmt St Br stmt_step branch_step

@@ -40,8 +40,8 @@ expr_step (Expr-F.Call f es xs) = call (arc_value f) (exs_of (arc_value es).item
 expr_step (Expr-F.Method e x es xs) = method (arc_value e) x (exs_of (arc_value es).items) (arc_value xs).items
 
 abbrev pub clause_step : Clause-F Cl Ex → Cl
-clause_step (Clause-F.For t e) = for_in t e
-clause_step (Clause-F.If e) = only_if e
+clause_step (Clause-F.For t e) = for_in (arc_value t) (arc_value e)
+clause_step (Clause-F.If e) = only_if (arc_value e)
 
 abbrev pub tree_of : Expr → Ex
 tree_of = fold-Expr Cl Ex clause_step expr_step
@@ -55,6 +55,10 @@ trees_of es = exs_of (map tree_of es)
 abbrev pub clause_trees : List Clause → Clauses
 clause_trees cs = clauses_of (map clause_of cs)
 
-abbrev pub bound_tree : Option Expr → Bound
+-- an expression that is shared
+abbrev pub shared_tree : Arc Expr Global → Ex
+shared_tree e = tree_of (arc_value e)
+
+abbrev pub bound_tree : Option (Arc Expr Global) → Bound
 bound_tree None = no_bound
-bound_tree (Some e) = bound (tree_of e)
+bound_tree (Some e) = bound (shared_tree e)

@@ -79,7 +79,7 @@ pub enum Expr {
 #[derive(Drop)]
 pub enum Clause {
     /// `for target in sequence`: the target is a name, an index, or a tuple or list of targets.
-    For(Expr, Expr),
+    For(Arc<Expr, Global>, Arc<Expr, Global>),
     /// `if condition`
-    If(Expr),
+    If(Arc<Expr, Global>),
 }

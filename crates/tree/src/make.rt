@@ -117,19 +117,11 @@ impl Expr {
     pub fn slice(
         alloc: Global,
         value: Expr,
-        from: Option<Expr>,
-        to: Option<Expr>,
+        from: Option<Arc<Expr, Global>>,
+        to: Option<Arc<Expr, Global>>,
     ) -> Result<Expr, Memory>
         ensures { IfOk result (λ e. tree_of e ≡ slice (tree_of value) (bound_tree from) (bound_tree to)) }
     {
-        let from = match from {
-            Some(bound) => Some(Arc::new(alloc, bound)?),
-            None => None,
-        };
-        let to = match to {
-            Some(bound) => Some(Arc::new(alloc, bound)?),
-            None => None,
-        };
         Ok(Expr::Slice(Arc::new(alloc, value)?, from, to))
     }
 
@@ -170,16 +162,16 @@ impl Expr {
 
 impl Clause {
     /// A turn for each item of a sequence.
-    pub fn for_in(target: Expr, sequence: Expr) -> Clause
-        ensures { clause_of result ≡ for_in (tree_of target) (tree_of sequence) }
+    pub fn for_in(alloc: Global, target: Expr, sequence: Expr) -> Result<Clause, Memory>
+        ensures { IfOk result (λ c. clause_of c ≡ for_in (tree_of target) (tree_of sequence)) }
     {
-        Clause::For(target, sequence)
+        Ok(Clause::For(Arc::new(alloc, target)?, Arc::new(alloc, sequence)?))
     }
 
     /// A turn only where a condition holds.
-    pub fn only_if(condition: Expr) -> Clause
-        ensures { clause_of result ≡ only_if (tree_of condition) }
+    pub fn only_if(alloc: Global, condition: Expr) -> Result<Clause, Memory>
+        ensures { IfOk result (λ c. clause_of c ≡ only_if (tree_of condition)) }
     {
-        Clause::If(condition)
+        Ok(Clause::If(Arc::new(alloc, condition)?))
     }
 }

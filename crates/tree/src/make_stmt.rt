@@ -1,6 +1,6 @@
 //! The nodes of statements.
 ghost use Rattle.std.specs.Prelude.{◌≡◌, IfOk, map};
-ghost use Rattle.tree.specs.Tree.{pass, break, continue, return, eval, assign, augment, if_else, for_each, branch, stmt, def};
+ghost use Rattle.tree.specs.Tree.{pass, break, continue, return, eval, assign, augment, if_else, for_each, more_branches, branch, stmt, def};
 ghost use Rattle.tree.specs.View.{tree_of, bound_tree};
 ghost use Rattle.tree.specs.Statements.{stmt_of, stmts_of, branch_of, branch_trees, fn_of, top_of, load_of, file_of};
 
@@ -33,38 +33,60 @@ impl Stmt {
     }
 
     /// `return`, with a value or without one.
-    pub fn give(line: usize, value: Option<Expr>) -> Stmt
+    pub fn give(line: usize, value: Option<Arc<Expr, Global>>) -> Stmt
         ensures { stmt_of result ≡ return line (bound_tree value) }
     {
         Stmt::Return(line, value)
     }
 
     /// An expression that is evaluated.
-    pub fn eval(line: usize, value: Expr) -> Stmt
-        ensures { stmt_of result ≡ eval line (tree_of value) }
+    pub fn eval(alloc: Global, line: usize, value: Expr) -> Result<Stmt, Memory>
+        ensures { IfOk result (λ s. stmt_of s ≡ eval line (tree_of value)) }
     {
-        Stmt::Eval(line, value)
+        Ok(Stmt::Eval(line, Arc::new(alloc, value)?))
     }
 
     /// An assignment.
-    pub fn assign(line: usize, target: Expr, value: Expr) -> Stmt
-        ensures { stmt_of result ≡ assign line (tree_of target) (tree_of value) }
+    pub fn assign(alloc: Global, line: usize, target: Expr, value: Expr) -> Result<Stmt, Memory>
+        ensures { IfOk result (λ s. stmt_of s ≡ assign line (tree_of target) (tree_of value)) }
     {
-        Stmt::Assign(line, target, value)
+        let target = Arc::new(alloc, target)?;
+        let value = Arc::new(alloc, value)?;
+        Ok(Stmt::Assign(line, target, value))
     }
 
     /// An assignment of what an operator makes of the present value.
-    pub fn augment(line: usize, target: Expr, op: BinaryOp, value: Expr) -> Stmt
-        ensures { stmt_of result ≡ augment line (tree_of target) op (tree_of value) }
+    pub fn augment(
+        alloc: Global,
+        line: usize,
+        target: Expr,
+        op: BinaryOp,
+        value: Expr,
+    ) -> Result<Stmt, Memory>
+        ensures { IfOk result (λ s. stmt_of s ≡ augment line (tree_of target) op (tree_of value)) }
     {
-        Stmt::Augment(line, target, op, value)
+        let target = Arc::new(alloc, target)?;
+        let value = Arc::new(alloc, value)?;
+        Ok(Stmt::Augment(line, target, op, value))
     }
 
-    /// The branches, and the statements where no condition holds.
-    pub fn choose(alloc: Global, branches: Vec<Branch>, other: Vec<Stmt>) -> Result<Stmt, Memory>
-        ensures { IfOk result (λ s. stmt_of s ≡ if_else (branch_trees branches.items) (stmts_of other.items)) }
+    /// The branch `if`, the branches `elif`, and the statements where no condition holds.
+    pub fn choose(
+        alloc: Global,
+        first: Branch,
+        branches: Vec<Branch>,
+        other: Vec<Stmt>,
+    ) -> Result<Stmt, Memory>
+        ensures { IfOk result (λ s. stmt_of s ≡ if_else (more_branches (branch_of first) (branch_trees branches.items)) (stmts_of other.items)) }
     {
-        Ok(Stmt::If(Arc::new(alloc, branches)?, Arc::new(alloc, other)?))
+        let Branch {
+            line,
+            condition,
+            body,
+        } = first;
+        let branches = Arc::new(alloc, branches)?;
+        let other = Arc::new(alloc, other)?;
+        Ok(Stmt::If(line, condition, body, branches, other))
     }
 
     /// The statements for each item of a sequence.
@@ -77,6 +99,8 @@ impl Stmt {
     ) -> Result<Stmt, Memory>
         ensures { IfOk result (λ s. stmt_of s ≡ for_each line (tree_of target) (tree_of sequence) (stmts_of body.items)) }
     {
+        let target = Arc::new(alloc, target)?;
+        let sequence = Arc::new(alloc, sequence)?;
         Ok(Stmt::For(line, target, sequence, Arc::new(alloc, body)?))
     }
 }
@@ -91,6 +115,7 @@ impl Branch {
     ) -> Result<Branch, Memory>
         ensures { IfOk result (λ b. branch_of b ≡ branch line (tree_of condition) (stmts_of body.items)) }
     {
+        let condition = Arc::new(alloc, condition)?;
         let body = Arc::new(alloc, body)?;
         Ok(Branch {
             line,

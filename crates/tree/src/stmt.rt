@@ -12,24 +12,30 @@ pub enum Stmt {
     Pass(usize),
     Break(usize),
     Continue(usize),
-    Return(usize, Option<Expr>),
-    Eval(usize, Expr),
+    Return(usize, Option<Arc<Expr, Global>>),
+    Eval(usize, Arc<Expr, Global>),
     /// The target, which is a name, an index, or a tuple or list of targets, and the value.
-    Assign(usize, Expr, Expr),
+    Assign(usize, Arc<Expr, Global>, Arc<Expr, Global>),
     /// The target, which is a name or an index, the operator and the value.
-    Augment(usize, Expr, BinaryOp, Expr),
-    /// The branches `if` and `elif`, of which the first has the statement's line, and the statements of `else`.
-    If(Arc<Vec<Branch>, Global>, Arc<Vec<Stmt>, Global>),
+    Augment(usize, Arc<Expr, Global>, BinaryOp, Arc<Expr, Global>),
+    /// The condition and the statements of `if`, the branches `elif`, and the statements of `else`.
+    If(
+        usize,
+        Arc<Expr, Global>,
+        Arc<Vec<Stmt>, Global>,
+        Arc<Vec<Branch>, Global>,
+        Arc<Vec<Stmt>, Global>,
+    ),
     /// The target, the sequence and the body.
-    For(usize, Expr, Expr, Arc<Vec<Stmt>, Global>),
+    For(usize, Arc<Expr, Global>, Arc<Expr, Global>, Arc<Vec<Stmt>, Global>),
 }
 
-/// A branch of an `if` with its line: the condition and the statements.
+/// A branch `elif` with its line: the condition and the statements.
 #[cycle(statements)]
 #[derive(Drop)]
 pub struct Branch {
     pub line: usize,
-    pub condition: Expr,
+    pub condition: Arc<Expr, Global>,
     pub body: Arc<Vec<Stmt>, Global>,
 }
 
@@ -37,7 +43,7 @@ pub struct Branch {
 #[derive(Drop)]
 pub struct Param {
     pub name: Text,
-    pub default: Option<Expr>,
+    pub default: Option<Arc<Expr, Global>>,
 }
 
 /// A function with its line.
