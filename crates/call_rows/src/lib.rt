@@ -1,0 +1,5 @@
+//! Rows of blocks and of calls, as tests.
+#![tactic(auto)]
+
+#[cfg(test)]
+mod rows;
