@@ -1,5 +1,5 @@
 -- What a call answers, and the functions that are open.
-use Rattle.std.specs.Prelude.{◌≡◌, ℕ, List, map, reverse, Option, Result, Ok, Err}
+use Rattle.std.specs.Prelude.{◌≡◌, ℕ, List, map, reverse, Result, Ok, Err}
 use Rattle.std.specs.Arc.{arc_value}
 use Rattle.std.specs.declared.vec.Vec.{Vec}
 use Rattle.std.specs.declared.alloc.Global.{Global}

@@ -7,11 +7,11 @@ ghost use Rattle.heap.specs.View.{Checks};
 ghost use Rattle.calls.specs.View.{Blocks};
 ghost use Rattle.calls.specs.Accepted.{taken};
 
-use tree::{Def, Param};
 use heap::{Halt, Val};
 use names::Slot;
 use std::alloc::Global;
 use texts::Text;
+use tree::{Def, Param};
 
 // The value of a named argument.
 fn value_named(names: &[Text], values: &[Val], x: &Text) -> Option<Val>

@@ -12,11 +12,11 @@ ghost use Rattle.calls.specs.Found.{seen, SameNames, names_of_params};
 
 use crate::finding::{Found, note, nothing_found};
 use crate::gathering::{find_clauses, find_loads, find_suite, find_tops};
-use tree::{Clause, Def, File, Param, Top};
 use heap::Halt;
 use names::Slot;
 use std::alloc::Global;
 use texts::Memory;
+use tree::{Clause, Def, File, Param, Top};
 
 /// The names of a comprehension, none of which is bound.
 ///

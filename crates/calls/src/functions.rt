@@ -8,12 +8,12 @@ ghost use Rattle.tree.specs.Statements.{fn_of, top_of};
 ghost use Rattle.names.specs.View.{world_of, kept_of, names_of};
 ghost use Rattle.calls.specs.View.{running_of, open_of, shared_fn};
 
-use tree::{Def, Top};
 use heap::Val;
 use names::{FileNames, Kept, State};
 use std::alloc::Global;
 use std::sync::Arc;
 use texts::Text;
+use tree::{Def, Top};
 
 /// A function that is open: the label of its file and its name.
 #[derive(Drop)]

@@ -6,8 +6,8 @@ ghost use Rattle.tree.specs.Statements.{stmt_of, stmts_of, branch_of, branch_tre
 ghost use Rattle.calls.specs.Found.{Finds};
 
 use crate::finding::{Found, find};
-use tree::{Branch, Clause, Expr, LoadItem, LoadStmt, Stmt, Top};
 use texts::Memory;
+use tree::{Branch, Clause, Expr, LoadItem, LoadStmt, Stmt, Top};
 
 /// The names that an assignment to a target binds.
 #[cycle(targets)]

@@ -1,4 +1,4 @@
-use Rattle.std.proofs.Common.{◌∙◌, ap, sym, get_or, map, arith}
+use Rattle.std.proofs.Common.{◌∙◌, ap, sym, map, arith}
 use Rattle.language.specs.Arguments.{are_parameters}
 use Rattle.tree.specs.Statements.{param_of}
 use Rattle.calls.proofs.Accepts.{zip_at, zip_over, unknown_here, known_here}

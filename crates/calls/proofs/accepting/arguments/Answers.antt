@@ -1,6 +1,5 @@
 use Rattle.std.proofs.Common.{◌≡◌, ◌∙◌, ap, sym, subst, take, drop, map, List}
 use Rattle.std.specs.Prelude.{zip}
-use Rattle.meaning.specs.declared.val.Val.{Val}
 use Rattle.meaning.specs.Functions.{Named}
 use Rattle.meaning.specs.Outcome.{Checked}
 use Rattle.language.specs.World.{Block}

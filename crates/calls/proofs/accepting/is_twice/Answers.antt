@@ -1,4 +1,4 @@
-use Rattle.std.proofs.Common.{◌∙◌, ◌+◌, ◌-◌, ap, sym, get_or, take, drop, length, is_some, arith}
+use Rattle.std.proofs.Common.{◌∙◌, ◌+◌, ◌-◌, ap, sym, take, drop, length, is_some, arith}
 use Rattle.std.specs.Prelude.{zip}
 use Rattle.meaning.specs.Functions.{is_twice}
 use Rattle.language.specs.Arguments.{value_named}

@@ -1,4 +1,4 @@
-use Rattle.std.proofs.Common.{◌∙◌, ap, sym, get_or, arith}
+use Rattle.std.proofs.Common.{◌∙◌, ap, sym, arith}
 use Rattle.language.specs.Arguments.{value_named}
 use Rattle.calls.proofs.Accepts.{zip_at, zip_over, value_behind}
 use Rattle.calls.proofs.accepting.value_named.Goals as goal

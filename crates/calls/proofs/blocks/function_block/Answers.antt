@@ -1,9 +1,9 @@
-use Rattle.std.proofs.Common.{[], ap, sym, ◌∙◌}
+use Rattle.std.proofs.Common.{ap, sym, ◌∙◌}
 use Rattle.std.specs.Arc.{arc_value}
 use Rattle.meaning.specs.Outcome.{good}
 use Rattle.tree.specs.Statements.{stmts_of}
 use Rattle.language.specs.Names.{suite_names}
-use Rattle.names.specs.View.{block_of, slots_of}
+use Rattle.names.specs.View.{block_of}
 use Rattle.calls.specs.Found.{seen, names_of_params}
 use Rattle.calls.proofs.Finds.{block_made, only_these}
 use Rattle.calls.proofs.blocks.function_block.Goals as goal

@@ -1,4 +1,4 @@
-use Rattle.std.proofs.Common.{◌≡◌, ◌∷◌, ◌++◌, ℕ, List, suc, drop, drop-cons, add-one, ap, sym, subst, ◌∙◌}
+use Rattle.std.proofs.Common.{◌≡◌, ◌∷◌, ◌++◌, List, suc, drop, drop-cons, add-one, ap, sym, subst, ◌∙◌}
 use Rattle.tree.specs.declared.stmt.Param.{Param}
 use Rattle.calls.specs.Found.{seen, SameNames, names_of_params}
 use Rattle.calls.proofs.Finds.{params_more}

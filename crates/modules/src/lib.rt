@@ -1,0 +1,13 @@
+//! Modules: what a load gives, names of modules on the heap, and what a file's evaluation leaves.
+#![tactic(auto)]
+
+mod keeping;
+mod loading;
+mod naming;
+mod reaching;
+mod thawed;
+
+pub use keeping::keep_defaults;
+pub use loading::load_items;
+pub use naming::need_names;
+pub use reaching::{exported, reached};
