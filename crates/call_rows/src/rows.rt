@@ -4,13 +4,13 @@ use calls::{
     Open, arguments, comprehension_block, file_block, function_block, function_named,
     function_of_file, is_running,
 };
-use tree::{Branch, Clause, Def, Expr, File, LoadItem, LoadStmt, Param, Stmt, Top};
 use heap::{Halt, Val};
 use names::Slot;
 use std::alloc::Global;
 use std::sync::Arc;
 use std::test::Fail;
 use texts::{Memory, Text};
+use tree::{Branch, Clause, Def, Expr, File, LoadItem, LoadStmt, Param, Stmt, Top};
 
 fn name(alloc: Global, x: &str) -> Result<Arc<Expr, Global>, Memory> {
     Ok(Arc::new(alloc, Expr::Name(Text::new(alloc, x)?))?)

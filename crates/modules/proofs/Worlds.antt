@@ -20,7 +20,7 @@ use Rattle.names.specs.declared.state.FileNames.{FileNames}
 use Rattle.names.specs.Places.{NoneSo, is_file}
 use Rattle.modules.specs.Thawed.{thaw_names, thaw_defaults, behind, SaysBlock, SaysKept}
 
-site_then : {A B : Type 0} (here : Here) (w : World) (o : Out Store A) (k : A → Does Store B) (m : A → World → Ends B) → ((a : A) (s : Store) → m a (record w { store = s }) ≡ at_site here.site (record w { store = s }) (k a s)) → then_runs (at_site here.site w o) m ≡ at_site here.site w (and_then o k)
+pub site_then : {A B : Type 0} (here : Here) (w : World) (o : Out Store A) (k : A → Does Store B) (m : A → World → Ends B) → ((a : A) (s : Store) → m a (record w { store = s }) ≡ at_site here.site (record w { store = s }) (k a s)) → then_runs (at_site here.site w o) m ≡ at_site here.site w (and_then o k)
 site_then {B = B} here w (gives a s) k m h = h a s ∙ again (k a s)
   where
     again : (p : Out Store B) → at_site here.site (record w { store = s }) p ≡ at_site here.site w p
