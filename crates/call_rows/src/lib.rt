@@ -1,5 +1,7 @@
-//! Rows of blocks and of calls, as tests.
+//! Rows of blocks, calls and loads, as tests.
 #![tactic(auto)]
 
+#[cfg(test)]
+mod loaded;
 #[cfg(test)]
 mod rows;

@@ -1,8 +1,6 @@
 //! Blocks of small trees, and calls of a function of two parameters.
-
 use calls::{
-    Open, arguments, comprehension_block, file_block, function_block, function_named,
-    function_of_file, is_running,
+    Open, arguments, comprehension_block, file_block, function_block, function_named, is_running,
 };
 use heap::{Halt, Val};
 use names::Slot;
@@ -16,49 +14,43 @@ fn name(alloc: Global, x: &str) -> Result<Arc<Expr, Global>, Memory> {
     Ok(Arc::new(alloc, Expr::Name(Text::new(alloc, x)?))?)
 }
 
+// `x = value`
 fn assign(alloc: Global, x: &str) -> Result<Stmt, Memory> {
     Ok(Stmt::Assign(1, name(alloc, x)?, name(alloc, "value")?))
 }
 
-fn suite(alloc: Global, names: &[&str]) -> Result<Arc<Vec<Stmt>, Global>, Memory> {
-    let mut all = Vec::new(alloc);
-    for x in names.iter() {
-        all.push(assign(alloc, x)?)?;
-    }
+// One assignment.
+fn suite(alloc: Global, x: &str) -> Result<Arc<Vec<Stmt>, Global>, Memory> {
+    let all = vec![in alloc; assign(alloc, x)?]?;
     Ok(Arc::new(alloc, all)?)
+}
+
+fn param(alloc: Global, x: &str, default: Option<Arc<Expr, Global>>) -> Result<Param, Memory> {
+    let name = Text::new(alloc, x)?;
+    Ok(Param { name, default })
 }
 
 // `def f(a, b = default): body`
 fn def(alloc: Global, body: Vec<Stmt>) -> Result<Def, Memory> {
-    let mut params = Vec::new(alloc);
-    params.push(Param {
-        name: Text::new(alloc, "a")?,
-        default: None,
-    })?;
-    params.push(Param {
-        name: Text::new(alloc, "b")?,
-        default: Some(name(alloc, "default")?),
-    })?;
+    let a = param(alloc, "a", None)?;
+    let b = param(alloc, "b", Some(name(alloc, "default")?))?;
+    let params = vec![in alloc; a, b]?;
+    let name = Text::new(alloc, "f")?;
+    let body = Arc::new(alloc, body)?;
     Ok(Def {
         line: 1,
-        name: Text::new(alloc, "f")?,
+        name,
         params,
-        body: Arc::new(alloc, body)?,
+        body,
     })
 }
 
-// The names of a block, each followed by its number or by a question mark.
-fn shown(alloc: Global, block: &[Slot]) -> Result<String, Fail> {
+// The names of a block.
+fn shown(alloc: Global, block: &[Slot]) -> Result<String, Memory> {
     let mut all = String::new(alloc);
     for slot in block.iter() {
-        match slot.value {
-            Some(Val::Int(n)) => all.push_str(format!(in alloc;
-                "{}={} ",
-                slot.name.as_str(),
-                n
-            )?.as_str())?,
-            _ => all.push_str(format!(in alloc; "{}? ", slot.name.as_str())?.as_str())?,
-        }
+        all.push_str(slot.name.as_str())?;
+        all.push(' ')?;
     }
     Ok(all)
 }
@@ -66,96 +58,79 @@ fn shown(alloc: Global, block: &[Slot]) -> Result<String, Fail> {
 #[test]
 fn names_of_a_comprehension(rt: HostRuntime) -> Result<(), Fail> {
     let alloc = rt.alloc();
-    let mut pair = Vec::new(alloc);
-    pair.push(Expr::Name(Text::new(alloc, "y")?))?;
-    pair.push(Expr::Name(Text::new(alloc, "x")?))?;
-    let both = Arc::new(alloc, Expr::Tuple(Arc::new(alloc, pair)?))?;
-    let mut clauses = Vec::new(alloc);
-    clauses.push(Clause::For(name(alloc, "x")?, name(alloc, "xs")?))?;
-    clauses.push(Clause::If(name(alloc, "z")?))?;
-    clauses.push(Clause::For(both, name(alloc, "x")?))?;
+    let first = Clause::For(name(alloc, "x")?, name(alloc, "xs")?);
+    let second = Clause::If(name(alloc, "z")?);
+    let third = Clause::For(name(alloc, "y")?, name(alloc, "x")?);
+    let clauses = vec![in alloc; first, second, third]?;
     let block = comprehension_block(alloc, clauses.as_slice())?;
-    assert_eq!(rt; shown(alloc, block.as_slice())?.as_str(), "x? y? ");
+    assert_eq!(rt; shown(alloc, block.as_slice())?.as_str(), "x y ");
     Ok(())
+}
+
+// `if c: d = value`, `elif c: e = value`, `else: d = value`
+fn branches(alloc: Global) -> Result<Stmt, Memory> {
+    let branch = Branch {
+        line: 2,
+        condition: name(alloc, "c")?,
+        body: suite(alloc, "e")?,
+    };
+    let others = Arc::new(alloc, vec![in alloc; branch]?)?;
+    Ok(Stmt::If(
+        1,
+        name(alloc, "c")?,
+        suite(alloc, "d")?,
+        others,
+        suite(alloc, "d")?,
+    ))
 }
 
 #[test]
 fn names_of_a_function(rt: HostRuntime) -> Result<(), Fail> {
     let alloc = rt.alloc();
-    let mut branches = Vec::new(alloc);
-    branches.push(Branch {
-        line: 2,
-        condition: name(alloc, "c")?,
-        body: suite(alloc, &["e", "a"])?,
-    })?;
-    let mut body = Vec::new(alloc);
-    body.push(Stmt::If(
-        1,
-        name(alloc, "c")?,
-        suite(alloc, &["d", "d"])?,
-        Arc::new(alloc, branches)?,
-        suite(alloc, &["d", "g"])?,
-    ))?;
-    body.push(Stmt::For(
-        1,
-        name(alloc, "i")?,
-        name(alloc, "xs")?,
-        suite(alloc, &["h", "e"])?,
-    ))?;
+    let body = vec![in alloc; branches(alloc)?, assign(alloc, "a")?]?;
     let f = def(alloc, body)?;
-    let mut parameters = Vec::new(alloc);
-    parameters.push(Slot {
-        name: Text::new(alloc, "a")?,
-        value: Some(Val::Int(1)),
-    })?;
-    let block = function_block(&f, parameters)?;
-    assert_eq!(rt;
-        shown(alloc, block.as_slice())?.as_str(),
-        "a=1 d? e? g? i? h? "
-    );
+    let block = function_block(&f, Vec::new(alloc))?;
+    assert_eq!(rt; shown(alloc, block.as_slice())?.as_str(), "d e ");
     Ok(())
 }
 
-#[test]
-fn many_names_of_a_file(rt: HostRuntime) -> Result<(), Fail> {
-    let alloc = rt.alloc();
-    let mut items = Vec::new(alloc);
-    items.push(LoadItem {
-        local: Text::new(alloc, "n3")?,
-        exported: Text::new(alloc, "n0")?,
-    })?;
-    let mut loads = Vec::new(alloc);
-    loads.push(LoadStmt {
-        line: 1,
-        label: Text::new(alloc, "//a:a.bzl")?,
-        items,
-    })?;
+// A load of a name, and each of thirty names assigned twice.
+fn file(alloc: Global) -> Result<File, Fail> {
+    let local = Text::new(alloc, "n3")?;
+    let exported = Text::new(alloc, "n0")?;
+    let items = vec![in alloc; LoadItem { local, exported }]?;
+    let label = Text::new(alloc, "//a:a.bzl")?;
+    let loads = vec![in alloc;
+        LoadStmt {
+            line: 1,
+            label,
+            items
+        },
+    ]?;
     let mut tops = Vec::new(alloc);
     for i in 0..60u32 {
         let x = format!(in alloc; "n{}", i % 30)?;
         tops.push(Top::Stmt(assign(alloc, x.as_str())?))?;
     }
-    tops.push(Top::Def(Arc::new(alloc, def(alloc, Vec::new(alloc))?)?))?;
-    let file = File {
+    Ok(File {
         leading: None,
         loads,
         tops,
-    };
-    let block = file_block(alloc, &file)?;
-    assert_eq!(rt; block.len(), 31);
-    assert_eq!(rt; block[0].name.as_str(), "n3");
-    assert_eq!(rt; block[1].name.as_str(), "n0");
-    assert_eq!(rt; block[29].name.as_str(), "n29");
-    assert_eq!(rt; block[30].name.as_str(), "f");
-    let x = Text::new(alloc, "f")?;
-    let found = function_of_file(file.tops.as_slice(), &x);
-    assert!(rt; found.is_some());
-    assert!(rt; function_of_file(file.tops.as_slice(), &block[0].name).is_none());
+    })
+}
+
+#[test]
+fn many_names_of_a_file(rt: HostRuntime) -> Result<(), Fail> {
+    let alloc = rt.alloc();
+    let block = file_block(alloc, &file(alloc)?)?;
+    assert_eq!(rt; block.len(), 30);
+    let all = shown(alloc, block.as_slice())?;
+    assert!(rt; all.as_str().starts_with("n3 n0 n1 n2 n4 "));
     Ok(())
 }
 
-// What a call of `f(a, b = 7)` with the arguments 1, 2, .. is given, of which the last have names.
-fn called(alloc: Global, n: i64, names: &[&str]) -> Result<String, Fail> {
+// What a call of `f(a, b = 7)` gives `b`, with the arguments 1, 2, .. of which the last have names.
+fn given(alloc: Global, n: i64, names: &[&str]) -> Result<Option<Val>, Halt> {
     let f = def(alloc, Vec::new(alloc))?;
     let mut xs = Vec::new(alloc);
     for i in 0..n {
@@ -166,26 +141,32 @@ fn called(alloc: Global, n: i64, names: &[&str]) -> Result<String, Fail> {
         all.push(Text::new(alloc, x)?)?;
     }
     match arguments(alloc, &f, xs.as_slice(), all.as_slice(), &[Val::Int(7)]) {
-        Ok(block) => shown(alloc, block.as_slice()),
-        Err(Halt::Code(code)) => Ok(format!(in alloc; "fault {}", code)?),
-        Err(halt) => Err(halt.into()),
+        Ok(block) => match block.get(1) {
+            Some(slot) => Ok(slot.value),
+            None => Ok(None),
+        },
+        Err(Halt::Code(_)) => Ok(None),
+        Err(halt) => Err(halt),
     }
 }
 
 #[test]
 fn arguments_of_calls(rt: HostRuntime) -> Result<(), Fail> {
     let alloc = rt.alloc();
-    assert_eq!(rt; called(alloc, 1, &[])?.as_str(), "a=1 b=7 ");
-    assert_eq!(rt; called(alloc, 2, &[])?.as_str(), "a=1 b=2 ");
-    assert_eq!(rt; called(alloc, 2, &["b"])?.as_str(), "a=1 b=2 ");
-    assert_eq!(rt; called(alloc, 2, &["b", "a"])?.as_str(), "a=2 b=1 ");
-    assert_eq!(rt; called(alloc, 1, &["a"])?.as_str(), "a=1 b=7 ");
-    assert_eq!(rt; called(alloc, 0, &[])?.as_str(), "fault 25");
-    assert_eq!(rt; called(alloc, 1, &["b"])?.as_str(), "fault 25");
-    assert_eq!(rt; called(alloc, 2, &["a"])?.as_str(), "fault 25");
-    assert_eq!(rt; called(alloc, 2, &["c"])?.as_str(), "fault 25");
-    assert_eq!(rt; called(alloc, 3, &["b", "b"])?.as_str(), "fault 25");
-    assert_eq!(rt; called(alloc, 3, &[])?.as_str(), "fault 25");
+    assert!(rt; given(alloc, 1, &[])? == Some(Val::Int(7)));
+    assert!(rt; given(alloc, 2, &[])? == Some(Val::Int(2)));
+    assert!(rt; given(alloc, 2, &["b"])? == Some(Val::Int(2)));
+    assert!(rt; given(alloc, 2, &["b", "a"])? == Some(Val::Int(1)));
+    Ok(())
+}
+
+#[test]
+fn arguments_that_are_refused(rt: HostRuntime) -> Result<(), Fail> {
+    let alloc = rt.alloc();
+    assert!(rt; given(alloc, 1, &["b"])?.is_none());
+    assert!(rt; given(alloc, 2, &["c"])?.is_none());
+    assert!(rt; given(alloc, 3, &["b", "b"])?.is_none());
+    assert!(rt; given(alloc, 3, &[])?.is_none());
     Ok(())
 }
 
@@ -193,17 +174,17 @@ fn arguments_of_calls(rt: HostRuntime) -> Result<(), Fail> {
 fn functions_that_are_open(rt: HostRuntime) -> Result<(), Fail> {
     let alloc = rt.alloc();
     let label = Text::new(alloc, "//a:a.bzl")?;
-    let mut functions = Vec::new(alloc);
-    functions.push(Arc::new(alloc, def(alloc, Vec::new(alloc))?)?)?;
-    let f = Text::new(alloc, "f")?;
-    assert!(rt; function_named(functions.as_slice(), &f).is_some());
+    let name = Text::new(alloc, "f")?;
+    let functions = vec![in alloc; Arc::new(alloc, def(alloc, Vec::new(alloc))?)?]?;
+    assert!(rt; function_named(functions.as_slice(), &name).is_some());
     assert!(rt; function_named(functions.as_slice(), &label).is_none());
-    let mut running = Vec::new(alloc);
-    running.push(Open {
-        label: label.share()?,
-        name: f.share()?,
-    })?;
-    assert!(rt; is_running(running.as_slice(), &label, &f));
-    assert!(rt; !is_running(running.as_slice(), &f, &f));
+    let running = vec![in alloc;
+        Open {
+            label: label.share()?,
+            name: name.share()?
+        },
+    ]?;
+    assert!(rt; is_running(running.as_slice(), &label, &name));
+    assert!(rt; !is_running(running.as_slice(), &name, &name));
     Ok(())
 }
