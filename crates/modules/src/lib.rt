@@ -14,4 +14,4 @@ pub use ending::frozen_module;
 pub use keeping::keep_defaults;
 pub use loading::load_items;
 pub use naming::need_names;
-pub use reaching::{exported, reached};
+pub use reaching::{exported, function_in, reached};
