@@ -1,0 +1,7 @@
+//! Rows of blocks, calls and loads, as tests.
+#![tactic(auto)]
+
+#[cfg(test)]
+mod loaded;
+#[cfg(test)]
+mod rows;

@@ -1,0 +1,3 @@
+pub mod Finds
+pub mod Accepts
+pub mod Runs

@@ -1,0 +1,174 @@
+//! The arguments of a call and the parameters of a function.
+ghost use Rattle.std.specs.Prelude.{◌≡◌, map, zip, drop};
+ghost use Rattle.meaning.specs.Functions.{is_named, is_twice};
+ghost use Rattle.language.specs.Arguments.{plain_part, named_part, value_named, is_parameter, are_parameters, next_default, other_defaults, given, arguments};
+ghost use Rattle.tree.specs.Statements.{fn_of, param_of};
+ghost use Rattle.heap.specs.View.{Checks};
+ghost use Rattle.calls.specs.View.{Blocks};
+ghost use Rattle.calls.specs.Accepted.{taken};
+
+use heap::{Halt, Val};
+use names::Slot;
+use std::alloc::Global;
+use texts::Text;
+use tree::{Def, Param};
+
+// The value of a named argument.
+fn value_named(names: &[Text], values: &[Val], x: &Text) -> Option<Val>
+    ensures { result ≡ value_named x.now (zip names.now values.now) }
+{
+    for i in 0..names.len().min(values.len()) {
+        if *x == names[i] {
+            return Some(values[i]);
+        }
+    }
+    None
+}
+
+// Whether a name is given twice.
+fn is_twice(names: &[Text], values: &[Val]) -> bool
+    ensures { result ≡ is_twice (zip names.now values.now) }
+{
+    for i in 0..names.len().min(values.len()) {
+        if value_named(&names[i + 1..], &values[i + 1..], &names[i]).is_some() {
+            return true;
+        }
+    }
+    false
+}
+
+// Whether a name is that of a parameter.
+fn is_parameter(params: &[Param], x: &Text) -> bool
+    ensures { result ≡ is_parameter x.now (map param_of params.now) }
+{
+    for param in params.iter() {
+        if *x == param.name {
+            return true;
+        }
+    }
+    false
+}
+
+// Whether each named argument is that of a parameter.
+fn are_parameters(names: &[Text], values: &[Val], params: &[Param]) -> bool
+    ensures { result ≡ are_parameters (zip names.now values.now) (map param_of params.now) }
+{
+    for i in 0..names.len().min(values.len()) {
+        if !is_parameter(params, &names[i]) {
+            return false;
+        }
+    }
+    true
+}
+
+// The values behind the first.
+fn behind(xs: &[Val]) -> &[Val]
+    ensures { result.now ≡ drop 1 xs.now }
+{
+    if xs.is_empty() { xs } else { &xs[1..] }
+}
+
+// The default of a parameter, where the first of these is its own if it has one.
+fn next_default(param: &Param, defaults: &[Val]) -> Option<Val>
+    ensures { result ≡ next_default (param_of param.now) defaults.now }
+{
+    match param.default {
+        Some(_) => defaults.first().copied(),
+        None => None,
+    }
+}
+
+// The defaults of the parameters behind one.
+fn other_defaults<'a>(param: &Param, defaults: &'a [Val]) -> &'a [Val]
+    ensures { result.now ≡ other_defaults (param_of param.now) defaults.now }
+{
+    match param.default {
+        Some(_) => behind(defaults),
+        None => defaults,
+    }
+}
+
+// The value of a parameter: from the plain arguments that are left, the named ones or its default.
+fn taken(
+    param: &Param,
+    plain: &[Val],
+    names: &[Text],
+    values: &[Val],
+    defaults: &[Val],
+) -> Result<Val, Halt>
+    ensures { Checks (taken (param_of param.now) plain.now (zip names.now values.now) defaults.now) result }
+{
+    let named = value_named(names, values, &param.name);
+    match plain.first() {
+        Some(x) => if named.is_some() {
+            Err(Halt::Code(25))
+        } else {
+            Ok(*x)
+        },
+        None => match named {
+            Some(x) => Ok(x),
+            None => match next_default(param, defaults) {
+                Some(x) => Ok(x),
+                None => Err(Halt::Code(25)),
+            },
+        },
+    }
+}
+
+// The parameters with their values: fault 25.
+fn given(
+    alloc: Global,
+    params: &[Param],
+    plain: &[Val],
+    names: &[Text],
+    values: &[Val],
+    defaults: &[Val],
+) -> Result<Vec<Slot>, Halt>
+    ensures { Blocks (given (map param_of params.now) plain.now (zip names.now values.now) defaults.now) result }
+{
+    let mut block = Vec::new(alloc);
+    let mut left = plain;
+    let mut others = defaults;
+    for param in params.iter() {
+        let value = match taken(param, left, names, values, others) {
+            Ok(x) => Some(x),
+            Err(halt) => return Err(halt),
+        };
+        let name = param.name.share()?;
+        block.push(Slot { name, value })?;
+        left = behind(left);
+        others = other_defaults(param, others);
+    }
+    if left.is_empty() {
+        Ok(block)
+    } else {
+        Err(Halt::Code(25))
+    }
+}
+
+/// The parameters of a function with their values, from the values of a call's arguments, of which the last have names,
+/// and those of the function's defaults.
+///
+/// # Errors
+///
+/// Fault 25 for an argument that is missing, is given twice, has an unknown name or is one too many; `Halt::Memory`
+/// where memory is refused.
+pub fn arguments(
+    alloc: Global,
+    def: &Def,
+    xs: &[Val],
+    names: &[Text],
+    defaults: &[Val],
+) -> Result<Vec<Slot>, Halt>
+    ensures { Blocks (arguments (fn_of def.now) (plain_part xs.now names.now) (named_part xs.now names.now) defaults.now) result }
+{
+    let (plain, values) = xs.split_at(xs.len().saturating_sub(names.len()));
+    let params = def.params.as_slice();
+    if is_twice(names, values) {
+        return Err(Halt::Code(25));
+    }
+    if !are_parameters(names, values, params) {
+        return Err(Halt::Code(25));
+    }
+    given(alloc, params, plain, names, values, defaults)
+}

@@ -1,0 +1,3 @@
+pub mod Thawed
+pub mod Frozen
+pub mod Once

@@ -1,0 +1,112 @@
+//! Values of a heap, frozen under their names.
+ghost use Rattle.std.specs.Prelude.{◌≡◌, ◌≤◌, IfOk, map};
+ghost use Rattle.meaning.specs.Freezing.{freezes};
+ghost use Rattle.language.specs.Names.{slot_in, names_at};
+ghost use Rattle.language.specs.Environment.{defs};
+ghost use Rattle.tree.specs.Statements.{top_of};
+ghost use Rattle.heap.specs.View.{store_of, Says, SaysItems};
+ghost use Rattle.names.specs.View.{slots_of, names_of};
+ghost use Rattle.modules.specs.Frozen.{freeze_values, freeze_names, freeze_defaults, bound_value, block_among, slot_names, SaysFrozen};
+
+use calls::{defaults_among, file_with};
+use freezing::FrozenValue;
+use heap::{Halt, Heap, Val};
+use module_values::{Binding, Defaults};
+use names::{FileNames, Slot};
+use texts::Text;
+use tree::Top;
+
+// A value, frozen.
+fn freeze_value(heap: &mut Heap, x: Val) -> Result<FrozenValue, Halt>
+    ensures says { Says (freezes x (store_of heap.old)) result (store_of heap.new) }
+    ensures steps { IfOk result (λ _. heap.new.steps ≤ heap.old.steps) }
+{
+    FrozenValue::freeze(heap, x)
+}
+
+// Values, frozen, in order.
+fn freeze_values(heap: &mut Heap, xs: &[Val]) -> Result<Vec<FrozenValue>, Halt>
+    ensures says { SaysFrozen (freeze_values xs.now (store_of heap.old)) result (store_of heap.new) }
+    ensures steps { IfOk result (λ _. heap.new.steps ≤ heap.old.steps) }
+{
+    let mut all = Vec::new(heap.alloc);
+    for x in xs.iter() {
+        match freeze_value(heap, *x) {
+            Ok(f) => all.push(f)?,
+            Err(halt) => return Err(halt),
+        }
+    }
+    Ok(all)
+}
+
+// The value of a name of a block, where it has one.
+fn bound_value(block: &[Slot], x: &Text) -> Option<Val>
+    ensures { result ≡ bound_value (slot_in x.now (slots_of block.now)) }
+{
+    for slot in block.iter() {
+        if *x == slot.name {
+            return slot.value;
+        }
+    }
+    None
+}
+
+// The values of names of a block, frozen in order: fault 4 for one without a value, 11 or 12.
+fn freeze_names(heap: &mut Heap, block: &[Slot], names: &[Slot]) -> Result<Vec<Binding>, Halt>
+    ensures says { SaysItems (freeze_names (slots_of block.now) (slot_names names.now) (store_of heap.old)) result (store_of heap.new) }
+    ensures steps { IfOk result (λ _. heap.new.steps ≤ heap.old.steps) }
+{
+    let mut all = Vec::new(heap.alloc);
+    for slot in names.iter() {
+        let Some(x) = bound_value(block, &slot.name) else {
+            return Err(Halt::Code(4));
+        };
+        let value = match freeze_value(heap, x) {
+            Ok(f) => f,
+            Err(halt) => return Err(halt),
+        };
+        let name = slot.name.share()?;
+        all.push(Binding::new(name, value))?;
+    }
+    Ok(all)
+}
+
+/// The values of globals of a file, frozen in order: fault 4 for one without a value, 11 or 12.
+pub fn freeze_globals(
+    heap: &mut Heap,
+    files: &[FileNames],
+    label: &Text,
+    names: &[Slot],
+) -> Result<Vec<Binding>, Halt>
+    ensures says { SaysItems (freeze_names (block_among (names_at label.now (map names_of files.now))) (slot_names names.now) (store_of heap.old)) result (store_of heap.new) }
+    ensures steps { IfOk result (λ _. heap.new.steps ≤ heap.old.steps) }
+{
+    match file_with(files, label) {
+        Some(file) => freeze_names(heap, file.block.as_slice(), names),
+        None => freeze_names(heap, &[], names),
+    }
+}
+
+/// The defaults of a file's functions, frozen in order: fault 11 or 12.
+pub fn freeze_defaults(
+    heap: &mut Heap,
+    files: &[FileNames],
+    label: &Text,
+    tops: &[Top],
+) -> Result<Vec<Defaults>, Halt>
+    ensures says { SaysItems (freeze_defaults (names_at label.now (map names_of files.now)) (defs (map top_of tops.now)) (store_of heap.old)) result (store_of heap.new) }
+    ensures steps { IfOk result (λ _. heap.new.steps ≤ heap.old.steps) }
+{
+    let mut all = Vec::new(heap.alloc);
+    for top in tops.iter() {
+        if let Top::Def(f) = top {
+            let values = match freeze_values(heap, defaults_among(files, label, &f.name)) {
+                Ok(values) => values,
+                Err(halt) => return Err(halt),
+            };
+            let name = f.name.share()?;
+            all.push(Defaults::new(name, values))?;
+        }
+    }
+    Ok(all)
+}

@@ -1,0 +1,17 @@
+//! Modules: what a load gives, names of modules on the heap, and what a file's evaluation leaves.
+#![tactic(auto)]
+
+mod ending;
+mod frozen;
+mod keeping;
+mod leaving;
+mod loading;
+mod naming;
+mod reaching;
+mod thawed;
+
+pub use ending::frozen_module;
+pub use keeping::keep_defaults;
+pub use loading::load_items;
+pub use naming::need_names;
+pub use reaching::{exported, function_in, reached};

@@ -1,0 +1,51 @@
+//! What load statements bind.
+ghost use Rattle.std.specs.Prelude.{◌≡◌, ◌∷◌, [], ℕ, List, IfOk, map};
+ghost use Rattle.language.specs.Files.{load_items};
+ghost use Rattle.tree.specs.Statements.{item_of};
+ghost use Rattle.names.specs.View.{world_of, here_of, Ran};
+
+use crate::reaching::exported;
+use crate::thawed::thaw_value;
+use heap::Halt;
+use module_values::Module;
+use names::{Standing, State, bind};
+use tree::LoadItem;
+
+// Binds an item of a load.
+fn load_item(state: &mut State, at: &Standing, body: &Module, item: &LoadItem) -> Result<(), Halt>
+    ensures says { (line : ℕ) (running : List (List ℕ × List ℕ)) → let here = here_of at.now line running in Ran here.site (load_items body.now (item_of item.now ∷ []) here (world_of state.old)) result (world_of state.new) }
+    ensures steps { IfOk result (λ _. state.new.heap.steps ≡ state.old.heap.steps) }
+{
+    let Some(f) = exported(body, &item.exported) else {
+        return Err(Halt::Code(18));
+    };
+    let x = match thaw_value(&mut state.heap, f) {
+        Ok(x) => x,
+        Err(halt) => return Err(halt),
+    };
+    bind(state, at, &item.local, x)
+}
+
+/// Binds the items of a load, in order. It takes no steps.
+///
+/// # Errors
+///
+/// Fault 18 for a name that begins with `_` or that the module doesn't export, 26 for a global that is bound;
+/// `Halt::Memory` where memory is refused.
+pub fn load_items(
+    state: &mut State,
+    at: &Standing,
+    body: &Module,
+    items: &[LoadItem],
+) -> Result<(), Halt>
+    ensures says { (line : ℕ) (running : List (List ℕ × List ℕ)) → let here = here_of at.now line running in Ran here.site (load_items body.now (map item_of items.now) here (world_of state.old)) result (world_of state.new) }
+    ensures steps { IfOk result (λ _. state.new.heap.steps ≡ state.old.heap.steps) }
+{
+    for item in items.iter() {
+        match load_item(state, at, body, item) {
+            Ok(()) => {}
+            Err(halt) => return Err(halt),
+        }
+    }
+    Ok(())
+}

@@ -1,0 +1,92 @@
+//! Modules that loads reach, and what they export.
+ghost use Rattle.std.specs.Prelude.{◌≡◌, ◌∷◌, option_map};
+ghost use Rattle.std.specs.Arc.{arc_value};
+ghost use Rattle.tree.specs.Statements.{fn_of};
+ghost use Rattle.language.specs.Environment.{function_named};
+ghost use Rattle.language.specs.Modules.{frozen_at, is_private, exported, body_at, all_bodies};
+
+use freezing::FrozenValue;
+use module_values::{Binding, Function, Loaded, Module};
+use std::alloc::Global;
+use std::sync::Arc;
+use texts::Text;
+use tree::Def;
+
+// The module with a label.
+fn module_at<'a>(modules: &'a [Module], label: &Text) -> Option<&'a Module>
+    ensures { option_map (λ m. m.now) result ≡ body_at label.now modules.now }
+{
+    for m in modules.iter() {
+        if *label == *m.label() {
+            return Some(m);
+        }
+    }
+    None
+}
+
+// The module with a label, of those that a load reaches.
+fn module_in<'a>(loaded: &'a Loaded, label: &Text) -> Option<&'a Module>
+    ensures { let m = loaded.now in option_map (λ m. m.now) result ≡ body_at label.now (m.body ∷ m.reached) }
+{
+    if *label == *loaded.body().label() {
+        return Some(loaded.body());
+    }
+    module_at(loaded.reached(), label)
+}
+
+/// The module with a label, of those that loads reach.
+pub fn reached<'a>(loads: &'a [Loaded], label: &Text) -> Option<&'a Module>
+    ensures { option_map (λ m. m.now) result ≡ body_at label.now (all_bodies loads.now) }
+{
+    for loaded in loads.iter() {
+        if let Some(m) = module_in(loaded, label) {
+            return Some(m);
+        }
+    }
+    None
+}
+
+// The value of a name.
+fn frozen_at<'a>(bindings: &'a [Binding], x: &Text) -> Option<&'a FrozenValue>
+    ensures { option_map (λ f. f.now) result ≡ frozen_at x.now bindings.now }
+{
+    for b in bindings.iter() {
+        if *x == *b.name() {
+            return Some(b.value());
+        }
+    }
+    None
+}
+
+// Whether a name is its file's own.
+fn is_private(x: &Text) -> bool
+    ensures { result ≡ is_private x.now }
+{
+    match x.as_str().as_bytes().first() {
+        Some(byte) => *byte == b'_',
+        None => false,
+    }
+}
+
+/// What a load of a name from a module gives: nothing for a name that begins with `_`, or that a load bound there.
+pub fn exported<'a>(body: &'a Module, x: &Text) -> Option<&'a FrozenValue>
+    ensures { option_map (λ f. f.now) result ≡ exported x.now body.now }
+{
+    if is_private(x) {
+        return None;
+    }
+    frozen_at(body.own(), x)
+}
+
+/// The first function of a module that has a name.
+pub fn function_in<'a>(functions: &'a [Function], x: &Text) -> Option<&'a Arc<Def, Global>>
+    ensures { option_map (λ f. fn_of (arc_value f.now)) result ≡ function_named x.now functions.now }
+{
+    for f in functions.iter() {
+        let def = f.def();
+        if *x == def.name {
+            return Some(def);
+        }
+    }
+    None
+}
