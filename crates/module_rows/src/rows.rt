@@ -1,6 +1,6 @@
 //! Values that are equal, and values that are not.
 use freezing::FrozenValue;
-use heap::{Entry, Halt, Heap, Key, Object, Part, Val, set_entry};
+use heap::{Bytes, Entry, Halt, Heap, Key, Object, Part, Val, set_entry};
 use indexmap::IndexMap;
 use module_values::{
     Attribute, Binding, Defaults, Function, Loaded, Module, Target, Targets, Texts,
@@ -66,14 +66,16 @@ fn modules_differ_by_order_and_by_line(rt: HostRuntime) -> Result<(), Fail> {
 
 // Targets: one, with an attribute that is a text or a list of it.
 fn targets(alloc: Global, kind: &str, is_list: bool) -> Result<Targets, Memory> {
-    let text = Text::new(alloc, "t")?;
+    let text = Bytes::of_text(Text::new(alloc, "t")?);
     let attribute = if is_list {
         Attribute::several(Texts::new(vec![in alloc; text]?))
     } else {
         Attribute::single(text)
     };
-    let attributes = vec![in alloc; (Text::new(alloc, "a")?, attribute)]?;
-    let target = Target::new(Text::new(alloc, kind)?, Text::new(alloc, "n")?, attributes);
+    let name = Bytes::of_text(Text::new(alloc, "a")?);
+    let attributes = vec![in alloc; (name, attribute)]?;
+    let name = Bytes::of_text(Text::new(alloc, "n")?);
+    let target = Target::new(Text::new(alloc, kind)?, name, attributes);
     Ok(Targets::new(vec![in alloc; target]?))
 }
 

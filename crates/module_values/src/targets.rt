@@ -7,13 +7,14 @@ ghost use Rattle.module_values.specs.Equal.{text_eq, attribute_eq, target_eq};
 ghost use Rattle.module_values.specs.EqualLaws.{texts_equiv, attributes_equiv, targets_equiv, all_targets_equiv};
 ghost use Rattle.module_values.specs.Shown.{attribute_of};
 
+use meaning::Bytes;
 use std::marker::Model;
 use texts::Text;
 
-/// Texts in order. A contract sees a list of texts.
+/// Strings in order. A contract sees a list of texts.
 #[derive(Drop)]
 pub struct Texts {
-    items: Vec<Text>,
+    items: Vec<Bytes>,
 }
 
 impl Model for Texts {
@@ -25,15 +26,15 @@ impl Model for Texts {
 }
 
 impl Texts {
-    /// The texts of a list.
-    pub fn new(items: Vec<Text>) -> Texts
+    /// The strings of a list.
+    pub fn new(items: Vec<Bytes>) -> Texts
         ensures { result ≡ items.items }
     {
         Texts { items }
     }
 
-    /// The texts.
-    pub fn as_slice(&self) -> &[Text]
+    /// The strings.
+    pub fn as_slice(&self) -> &[Bytes]
         ensures { result.now ≡ self.now }
     {
         self.items.as_slice()
@@ -57,8 +58,8 @@ impl Eq for Texts {
 /// What an attribute holds.
 #[derive(Drop)]
 pub enum Held {
-    /// A text, or the text of a label.
-    Single(Text),
+    /// A string, or the text of a label.
+    Single(Bytes),
     /// A list of these.
     Several(Texts),
 }
@@ -80,8 +81,8 @@ impl Model for Attribute {
 }
 
 impl Attribute {
-    /// A text, or the text of a label.
-    pub fn single(text: Text) -> Attribute
+    /// A string, or the text of a label.
+    pub fn single(text: Bytes) -> Attribute
         ensures { result ≡ single text }
     {
         let held = Held::Single(text);
@@ -126,8 +127,8 @@ impl Eq for Attribute {
 #[derive(Drop)]
 pub struct Target {
     kind: Text,
-    name: Text,
-    attributes: Vec<(Text, Attribute)>,
+    name: Bytes,
+    attributes: Vec<(Bytes, Attribute)>,
 }
 
 impl Model for Target {
@@ -140,7 +141,7 @@ impl Model for Target {
 
 impl Target {
     /// A target.
-    pub fn new(kind: Text, name: Text, attributes: Vec<(Text, Attribute)>) -> Target
+    pub fn new(kind: Text, name: Bytes, attributes: Vec<(Bytes, Attribute)>) -> Target
         ensures { result ≡ record { kind = kind; name = name; attributes = attributes.items } }
     {
         Target {
@@ -158,14 +159,14 @@ impl Target {
     }
 
     /// The name.
-    pub fn name(&self) -> &Text
+    pub fn name(&self) -> &Bytes
         ensures { result.now ≡ self.now.name }
     {
         &self.name
     }
 
     /// The attributes that were given.
-    pub fn attributes(&self) -> &[(Text, Attribute)]
+    pub fn attributes(&self) -> &[(Bytes, Attribute)]
         ensures { result.now ≡ self.now.attributes }
     {
         self.attributes.as_slice()

@@ -1,0 +1,62 @@
+//! Targets as they stand in a package: in byte order of their names, one of each name.
+ghost use Rattle.std.specs.Prelude.{◌≡◌, nat_eq, refl};
+ghost use Rattle.std.specs.Cmp.{partial_equiv_from_equiv, on_equiv, on_po};
+ghost use Rattle.std.specs.Cmp.Lexicographic.{pointwise, slice_cmp, nat_list_eq_equiv, texts_po, texts_ties, on_texts};
+ghost use Rattle.std.specs.Ordering.{nat_cmp, as_partial_cmp};
+
+use module_values::Target;
+use std::cmp::Ordering;
+use std::marker::Model;
+
+/// A target, which is equal to another, or before it, by its name alone.
+#[derive(Drop)]
+pub struct ByName {
+    pub target: Target,
+}
+
+impl Model for ByName {
+    ghost use Rattle.module_values.specs.Values.{Target};
+
+    ghost Value = { Target };
+
+    ghost view = { λ b. b.target };
+}
+
+impl PartialEq for ByName {
+    ghost eq = { λ x y. pointwise nat_eq x.name y.name };
+
+    ghost laws = { partial_equiv_from_equiv (on_equiv (λ x. x.name) nat_list_eq_equiv) };
+
+    fn eq(&self, other: &ByName) -> bool {
+        self.target.name() == other.target.name()
+    }
+}
+
+impl Eq for ByName {
+    ghost laws = { on_equiv (λ x. x.name) nat_list_eq_equiv };
+}
+
+impl PartialOrd for ByName {
+    ghost partial_cmp = { as_partial_cmp (λ x y. slice_cmp nat_cmp x.name y.name) };
+
+    ghost laws = { on_po (λ x. x.name) texts_po };
+
+    fn partial_cmp(&self, other: &ByName) -> Option<Ordering> {
+        Some(self.cmp(other))
+    }
+}
+
+impl Ord for ByName {
+    ghost cmp = { λ x y. slice_cmp nat_cmp x.name y.name };
+
+    ghost total = { on_texts (λ x. x.name) };
+
+    ghost matches_partial_cmp = { λ x y. refl };
+
+    ghost matches_eq = { λ x y. texts_ties x.name y.name };
+
+    fn cmp(&self, other: &ByName) -> Ordering {
+        let (name, other) = (self.target.name(), other.target.name());
+        name.as_slice().cmp(other.as_slice())
+    }
+}

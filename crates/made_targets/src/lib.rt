@@ -1,0 +1,7 @@
+//! The targets of a package, as the evaluation of a BUILD file has made them.
+#![tactic(auto)]
+
+mod by_name;
+mod made;
+
+pub use made::targets_made;

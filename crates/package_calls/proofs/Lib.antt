@@ -1,0 +1,9 @@
+pub mod AsciiTexts
+pub mod Twice
+pub mod Named
+pub mod Ordered
+pub mod Steps
+pub mod Gathering
+pub mod Asking
+pub mod Ruled
+pub mod Within

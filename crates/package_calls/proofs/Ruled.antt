@@ -1,0 +1,36 @@
+-- How a call of a rule ends, by the target that it describes.
+use Rattle.std.proofs.Common.{◌≡◌, ℕ, List, [], ◌∷◌, ◌++◌, true, false, Err, ap, sym, ◌∙◌}
+use Rattle.std.specs.Prelude.{if◌then◌else◌}
+use Rattle.heap.specs.declared.halt.Halt.{Halt}
+use Rattle.heap.specs.declared.halt.Halt.TheVariants.{Code, Memory}
+use Rattle.meaning.specs.declared.val.Val.{Val}
+use Rattle.meaning.specs.declared.val.Val.TheVariants as v
+use Rattle.meaning.specs.declared.val.Builtin.{Builtin}
+use Rattle.meaning.specs.Outcome.{good, bad, checked}
+use Rattle.meaning.specs.Functions.{Named}
+use Rattle.module_values.specs.Values.{Target}
+use Rattle.language.specs.World.{World, Here, ended, failed, then_runs, at_site, fault}
+use Rattle.language.specs.Rules.{rule, target_of, adds_target, is_used}
+use Rattle.names.specs.View as view
+use Rattle.names.specs.View.{Ran}
+use Rattle.package_calls.specs.View.{ChecksAs}
+
+module _ (f : Builtin) (name : List ℕ) (xs : List Val) (ns : Named) (here : Here) (w : World) where
+  fails_with : (c : ℕ) → target_of f name xs ns w.store ≡ bad c → rule f name xs ns here w ≡ failed c here.site
+  unfolding rule
+  fails_with c e = ap (λ r. then_runs (at_site here.site w (checked r w.store)) (λ t. adds_target t here)) e
+
+  pub no_target : (halt : Halt) (u : World) → ChecksAs view.target_of (target_of f name xs ns w.store) (Err halt) → Ran here.site (rule f name xs ns here w) (Err halt) u
+  no_target (Code c) u e = fails_with c e
+  no_target Memory u e = tt
+
+  module _ (t : Target) (is : target_of f name xs ns w.store ≡ good t) where
+    goes_on : rule f name xs ns here w ≡ adds_target t here w
+    unfolding rule
+    goes_on = ap (λ r. then_runs (at_site here.site w (checked r w.store)) (λ t. adds_target t here)) is
+
+    pub used : is_used t.name w.targets ≡ true → rule f name xs ns here w ≡ failed 20 here.site
+    used e = goes_on ∙ ap (λ b. (if b then fault 20 here else (λ u. ended v.Nothing (record u { targets = u.targets ++ t ∷ [] }))) w) e
+
+    pub made : (ts : List Target) → is_used t.name w.targets ≡ false → ts ≡ w.targets ++ t ∷ [] → rule f name xs ns here w ≡ ended v.Nothing (record w { targets = ts })
+    made ts e more = goes_on ∙ ap (λ b. (if b then fault 20 here else (λ u. ended v.Nothing (record u { targets = u.targets ++ t ∷ [] }))) w) e ∙ ap (λ us. ended v.Nothing (record w { targets = us })) (sym more)

@@ -1,0 +1,187 @@
+//! The answer of a call of `glob`.
+ghost use Rattle.std.specs.Prelude.{◌≡◌, ◌++◌, [], map, IfOk, OnOk, option_map};
+ghost use Rattle.labels.specs.Paths.{segments};
+ghost use Rattle.globs.specs.Globs.{some_matches};
+ghost use Rattle.meaning.specs.Methods.{makes_texts};
+ghost use Rattle.meaning.specs.Heap.{makes_text};
+ghost use Rattle.language.specs.Names.{has_name};
+ghost use Rattle.language.specs.Globs as globs;
+ghost use Rattle.language.specs.Globs.{answer_to, found_or_none, makes_paths};
+ghost use Rattle.heap.specs.View.{store_of, Says, SaysItems};
+ghost use Rattle.package_calls.specs.Asked.{asked_of};
+ghost use Rattle.package_calls.specs.Gathered.{kept_of, found_all, with_unanswered};
+ghost use Rattle.package_calls.specs.View.{answers_of};
+
+use crate::globbing::Asked;
+use crate::kinds::Answer;
+use crate::ordering::in_order;
+use heap::{Bytes, Halt, Heap, LONGEST, Object, Val};
+use pattern::Pattern;
+use std::alloc::Global;
+use texts::{Memory, Text};
+
+// The paths that a pattern finds, where it is answered.
+fn answer_to<'a>(answers: &'a [Answer], pattern: &Text) -> Option<&'a [Text]>
+    ensures { option_map (λ paths. paths.now) result ≡ answer_to pattern.now (answers_of answers.now) }
+{
+    for answer in answers {
+        if *pattern == answer.pattern {
+            return Some(answer.paths.as_slice());
+        }
+    }
+    None
+}
+
+// Whether a text is among others.
+fn has_name(x: &Text, texts: &[Text]) -> bool
+    ensures { result ≡ has_name x.now texts.now }
+{
+    for text in texts {
+        if *x == *text {
+            return true;
+        }
+    }
+    false
+}
+
+/// The patterns that have no answer, in order and each once.
+pub fn unanswered(
+    alloc: Global,
+    answers: &[Answer],
+    patterns: &[Pattern],
+) -> Result<Vec<Text>, Memory>
+    ensures { IfOk result (λ v. v.items ≡ globs.unanswered (answers_of answers.now) [] patterns.now) }
+{
+    let mut all = Vec::new(alloc);
+    for pattern in patterns {
+        add_unanswered(&mut all, answers, pattern.text())?;
+    }
+    Ok(all)
+}
+
+// Adds a pattern that has no answer and is not there.
+fn add_unanswered(all: &mut Vec<Text>, answers: &[Answer], pattern: &Text) -> Result<(), Memory>
+    ensures { OnOk result (all.new.items ≡ with_unanswered pattern.now (answers_of answers.now) all.old.items) }
+{
+    if answer_to(answers, pattern).is_some() {
+        return Ok(());
+    }
+    if has_name(pattern, all.as_slice()) {
+        return Ok(());
+    }
+    all.push(pattern.share()?)?;
+    Ok(())
+}
+
+/// The paths that a call finds by its answers, in byte order and without repeats.
+pub fn found(alloc: Global, answers: &[Answer], asked: &Asked) -> Result<Vec<Text>, Memory>
+    ensures { IfOk result (λ v. v.items ≡ globs.found (answers_of answers.now) (asked_of asked.now)) }
+{
+    let all = gathered(
+        alloc,
+        answers,
+        asked.includes.as_slice(),
+        asked.excludes.as_slice(),
+    )?;
+    let sorted = in_order(alloc, all.as_slice())?;
+    Ok(sorted)
+}
+
+// The paths that some include finds and no exclude matches, as they are found.
+fn gathered(
+    alloc: Global,
+    answers: &[Answer],
+    includes: &[Pattern],
+    excludes: &[Pattern],
+) -> Result<Vec<Text>, Memory>
+    ensures { IfOk result (λ v. v.items ≡ kept_of excludes.now (found_all (answers_of answers.now) includes.now)) }
+{
+    let mut all = Vec::new(alloc);
+    for pattern in includes {
+        add_found(&mut all, answers, pattern.text(), excludes)?;
+    }
+    Ok(all)
+}
+
+// Adds what an included pattern finds.
+fn add_found(
+    all: &mut Vec<Text>,
+    answers: &[Answer],
+    pattern: &Text,
+    excludes: &[Pattern],
+) -> Result<(), Memory>
+    ensures { OnOk result (all.new.items ≡ all.old.items ++ kept_of excludes.now (found_or_none (answer_to pattern.now (answers_of answers.now)))) }
+{
+    match answer_to(answers, pattern) {
+        Some(paths) => {
+            add_paths(all, paths, excludes)?;
+            Ok(())
+        }
+        None => Ok(()),
+    }
+}
+
+// Adds the paths that no pattern matches.
+fn add_paths(all: &mut Vec<Text>, paths: &[Text], excludes: &[Pattern]) -> Result<(), Memory>
+    ensures { OnOk result (all.new.items ≡ all.old.items ++ kept_of excludes.now paths.now) }
+{
+    for path in paths {
+        if !some_matches(excludes, path.as_str()) {
+            all.push(path.share()?)?;
+        }
+    }
+    Ok(())
+}
+
+// Whether some pattern matches a path.
+fn some_matches(patterns: &[Pattern], path: &str) -> bool
+    ensures { result ≡ some_matches (map segments patterns.now) path.now }
+{
+    for pattern in patterns {
+        if pattern.matches(path) {
+            return true;
+        }
+    }
+    false
+}
+
+/// A new list of paths, or fault 22 or 13.
+pub fn make_paths(heap: &mut Heap, allow_empty: bool, paths: &[Text]) -> Result<Val, Halt>
+    ensures { Says (makes_paths allow_empty paths.now (store_of heap.old)) result (store_of heap.new) }
+{
+    if !allow_empty && paths.is_empty() {
+        return Err(Halt::Code(22));
+    }
+    if paths.len() > LONGEST {
+        return Err(Halt::Code(13));
+    }
+    let all = make_texts(heap, paths)?;
+    let made = heap.make_list(all)?;
+    Ok(made)
+}
+
+// New strings, in order, or fault 13.
+fn make_texts(heap: &mut Heap, texts: &[Text]) -> Result<Vec<Val>, Halt>
+    ensures { SaysItems (makes_texts texts.now (store_of heap.old)) result (store_of heap.new) }
+{
+    let mut all = Vec::new(heap.alloc);
+    for text in texts {
+        match make_text(heap, text) {
+            Ok(made) => all.push(made)?,
+            Err(halt) => return Err(halt),
+        }
+    }
+    Ok(all)
+}
+
+/// A new string, or fault 13.
+pub fn make_text(heap: &mut Heap, text: &Text) -> Result<Val, Halt>
+    ensures { Says (makes_text text.now (store_of heap.old)) result (store_of heap.new) }
+{
+    if text.as_str().len() > LONGEST {
+        return Err(Halt::Code(13));
+    }
+    let bytes = Bytes::of_text(text.share()?);
+    let made = heap.make(Object::Text(bytes))?;
+    Ok(made)
+}

@@ -1,0 +1,81 @@
+//! The arguments of a call: plain ones, and those by name.
+ghost use Rattle.std.specs.Prelude.{◌≡◌, IfOk};
+ghost use Rattle.meaning.specs.Functions.{is_named, is_twice};
+ghost use Rattle.language.specs.Arguments.{plain_part, named_part, value_named};
+ghost use Rattle.language.specs.Rules.{not_none};
+
+use heap::Val;
+use std::alloc::Global;
+use std::collections::HashSet;
+use texts::{Memory, Text};
+
+/// The plain arguments, where the last ones have these names.
+pub fn plain_part<'a>(xs: &'a [Val], names: &[Text]) -> &'a [Val]
+    ensures { result.now ≡ plain_part xs.now names.now }
+{
+    &xs[..xs.len().saturating_sub(names.len())]
+}
+
+/// The arguments by name.
+pub fn named_part(alloc: Global, xs: &[Val], names: &[Text]) -> Result<Vec<(Text, Val)>, Memory>
+    ensures { IfOk result (λ v. v.items ≡ named_part xs.now names.now) }
+{
+    let values = &xs[xs.len().saturating_sub(names.len())..];
+    let mut all = Vec::new(alloc);
+    for i in 0..values.len() {
+        all.push((names[i].share()?, values[i]))?;
+    }
+    Ok(all)
+}
+
+/// The arguments by name that are not None.
+pub fn not_none(alloc: Global, ns: &[(Text, Val)]) -> Result<Vec<(Text, Val)>, Memory>
+    ensures { IfOk result (λ v. v.items ≡ not_none ns.now) }
+{
+    let mut all = Vec::new(alloc);
+    for n in ns {
+        if n.1 != Val::Nothing {
+            all.push((n.0.share()?, n.1))?;
+        }
+    }
+    Ok(all)
+}
+
+/// The value of the first argument of a name.
+pub fn value_named(name: &str, ns: &[(Text, Val)]) -> Option<Val>
+    ensures { result ≡ value_named name.now ns.now }
+{
+    for n in ns {
+        if name == n.0.as_str() {
+            return Some(n.1);
+        }
+    }
+    None
+}
+
+/// Whether there is an argument of a name.
+pub fn is_named(name: &str, ns: &[(Text, Val)]) -> bool
+    ensures { result ≡ is_named name.now ns.now }
+{
+    for n in ns {
+        if name == n.0.as_str() {
+            return true;
+        }
+    }
+    false
+}
+
+/// Whether a name is given twice.
+pub fn is_twice(alloc: Global, ns: &[(Text, Val)]) -> Result<bool, Memory>
+    ensures { IfOk result (λ b. b ≡ is_twice ns.now) }
+{
+    let mut later = HashSet::new(alloc);
+    let mut i = ns.len();
+    while i > 0 {
+        i -= 1;
+        if !later.insert(ns[i].0.share()?)? {
+            return Ok(true);
+        }
+    }
+    Ok(false)
+}

@@ -1,0 +1,196 @@
+//! What a call of `glob` asks for.
+ghost use Rattle.std.specs.Prelude.{◌≡◌, ◌||◌, IfOk, codes, if◌then◌else◌};
+ghost use Rattle.meaning.specs.Functions.{is_named};
+ghost use Rattle.std.specs.List.{list_all};
+ghost use Rattle.pattern.specs.Patterns.{is_pattern};
+ghost use Rattle.meaning.specs.Outcome.{good, bad};
+ghost use Rattle.language.specs.Names.{has_name};
+ghost use Rattle.language.specs.Globs as globs;
+ghost use Rattle.language.specs.Globs.{parameters, texts_or_none, truth_or};
+ghost use Rattle.heap.specs.View.{store_of, Checks, ChecksItems};
+ghost use Rattle.package_calls.specs.Asked.{asked_of, written_of};
+ghost use Rattle.package_calls.specs.View.{ChecksAs};
+
+use crate::arguments::{is_named, is_twice, value_named};
+use crate::spelling::pattern_of;
+use crate::strings::texts_in;
+use heap::{Bytes, Halt, Heap, Val};
+use pattern::Pattern;
+use std::alloc::Global;
+use texts::{Memory, Text};
+
+/// What a call asks for.
+#[derive(Drop)]
+pub struct Asked {
+    pub includes: Vec<Pattern>,
+    pub excludes: Vec<Pattern>,
+    pub allow_empty: bool,
+}
+
+/// The same, before its patterns are read.
+#[derive(Drop)]
+pub struct Written {
+    pub includes: Vec<Bytes>,
+    pub excludes: Vec<Bytes>,
+    pub allow_empty: bool,
+}
+
+/// What a call asks for, or fault 25, 5 or 21.
+pub fn read_call(heap: &Heap, xs: &[Val], ns: &[(Text, Val)]) -> Result<Asked, Halt>
+    ensures { ChecksAs asked_of (globs.read_call xs.now ns.now (store_of heap.now)) result }
+{
+    if !are_arguments(heap.alloc, xs, ns)? {
+        return Err(Halt::Code(25));
+    }
+    let written = typed(heap, xs, ns)?;
+    let asked = with_patterns(heap.alloc, &written)?;
+    Ok(asked)
+}
+
+// Whether the arguments are those of `glob`.
+fn are_arguments(alloc: Global, xs: &[Val], ns: &[(Text, Val)]) -> Result<bool, Memory>
+    ensures { IfOk result (λ b. b ≡ globs.are_arguments xs.now ns.now) }
+{
+    if xs.len() > 3 {
+        return Ok(false);
+    }
+    if is_twice(alloc, ns)? {
+        return Ok(false);
+    }
+    if !are_known(ns) || is_given_twice(xs, ns) {
+        return Ok(false);
+    }
+    Ok(argument(0, "include", xs, ns).is_some())
+}
+
+// Whether each name is that of a parameter.
+fn are_known(ns: &[(Text, Val)]) -> bool
+    ensures { result ≡ globs.are_known ns.now parameters }
+{
+    for n in ns {
+        if !is_parameter(n.0.as_str()) {
+            return false;
+        }
+    }
+    true
+}
+
+// Whether a name is that of a parameter.
+fn is_parameter(name: &str) -> bool
+    ensures { result ≡ has_name name.now parameters }
+{
+    if name == "include" {
+        return true;
+    }
+    if name == "exclude" {
+        return true;
+    }
+    name == "allow_empty"
+}
+
+// Whether a plain argument's parameter is named too.
+fn is_given_twice(xs: &[Val], ns: &[(Text, Val)]) -> bool
+    ensures { result ≡ globs.given_twice xs.now parameters ns.now }
+{
+    match xs.len() {
+        0 => false,
+        1 => is_named("include", ns),
+        2 => names_two(ns),
+        _ => names_three(ns),
+    }
+}
+
+// Whether one of the first two parameters is named.
+fn names_two(ns: &[(Text, Val)]) -> bool
+    ensures { result ≡ (is_named (codes "include") ns.now || is_named (codes "exclude") ns.now) }
+{
+    if is_named("include", ns) {
+        return true;
+    }
+    is_named("exclude", ns)
+}
+
+// Whether one of the three parameters is named.
+fn names_three(ns: &[(Text, Val)]) -> bool
+    ensures { result ≡ ((is_named (codes "include") ns.now || is_named (codes "exclude") ns.now) || is_named (codes "allow_empty") ns.now) }
+{
+    if names_two(ns) {
+        return true;
+    }
+    is_named("allow_empty", ns)
+}
+
+// An argument, by its place or its name.
+fn argument(i: usize, name: &str, xs: &[Val], ns: &[(Text, Val)]) -> Option<Val>
+    ensures { result ≡ globs.argument i name.now xs.now ns.now }
+{
+    match xs.get(i) {
+        Some(x) => Some(*x),
+        None => value_named(name, ns),
+    }
+}
+
+// The arguments as texts, or fault 5.
+fn typed(heap: &Heap, xs: &[Val], ns: &[(Text, Val)]) -> Result<Written, Halt>
+    ensures { ChecksAs written_of (globs.typed xs.now ns.now (store_of heap.now)) result }
+{
+    let includes = texts_or_none(heap, argument(0, "include", xs, ns))?;
+    let excludes = texts_or_none(heap, argument(1, "exclude", xs, ns))?;
+    let allow_empty = truth_or(true, argument(2, "allow_empty", xs, ns))?;
+    Ok(Written {
+        includes,
+        excludes,
+        allow_empty,
+    })
+}
+
+// The texts of a list, none where it is not given, or fault 5.
+fn texts_or_none(heap: &Heap, x: Option<Val>) -> Result<Vec<Bytes>, Halt>
+    ensures { ChecksItems (texts_or_none x (store_of heap.now)) result }
+{
+    match x {
+        None => Ok(Vec::new(heap.alloc)),
+        Some(x) => {
+            let texts = texts_in(heap, x)?;
+            Ok(texts)
+        }
+    }
+}
+
+// A truth value, another where it is not given, or fault 5.
+fn truth_or(other: bool, x: Option<Val>) -> Result<bool, Halt>
+    ensures { Checks (truth_or other x) result }
+{
+    match x {
+        None => Ok(other),
+        Some(Val::Bool(b)) => Ok(b),
+        Some(_) => Err(Halt::Code(5)),
+    }
+}
+
+// The texts as patterns, or fault 21.
+fn with_patterns(alloc: Global, written: &Written) -> Result<Asked, Halt>
+    ensures { ChecksAs asked_of (globs.with_patterns (written_of written.now)) result }
+{
+    let includes = all_patterns(alloc, written.includes.as_slice())?;
+    let excludes = all_patterns(alloc, written.excludes.as_slice())?;
+    Ok(Asked {
+        includes,
+        excludes,
+        allow_empty: written.allow_empty,
+    })
+}
+
+// Texts as patterns, or fault 21.
+fn all_patterns(alloc: Global, texts: &[Bytes]) -> Result<Vec<Pattern>, Halt>
+    ensures { ChecksItems (if list_all is_pattern texts.now then good texts.now else bad 21) result }
+{
+    let mut all = Vec::new(alloc);
+    for text in texts {
+        match pattern_of(alloc, text.as_slice()) {
+            Ok(pattern) => all.push(pattern)?,
+            Err(halt) => return Err(halt),
+        }
+    }
+    Ok(all)
+}

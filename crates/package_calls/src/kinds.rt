@@ -1,0 +1,30 @@
+//! What package calls are given, and how they end.
+
+use grammar::FileKind;
+use heap::Val;
+use std::alloc::Global;
+use std::sync::Arc;
+use texts::Text;
+
+/// A pattern with the paths that it finds, in the package.
+#[derive(Drop)]
+pub struct Answer {
+    pub pattern: Text,
+    pub paths: Arc<Vec<Text>, Global>,
+}
+
+/// What package calls are given: the kind of the file that is evaluated, the package's name, and the globs that are
+/// answered.
+#[derive(Drop)]
+pub struct Package {
+    pub kind: FileKind,
+    pub name: Text,
+    pub answers: Vec<Answer>,
+}
+
+/// How a package call ends: with a value, or waiting for the paths of patterns, in order and each once.
+#[derive(Drop)]
+pub enum Called {
+    Value(Val),
+    Waits(Vec<Text>),
+}

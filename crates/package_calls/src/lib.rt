@@ -1,0 +1,17 @@
+//! The package calls of the language: `package_name`, `glob` and the rules.
+#![tactic(auto)]
+
+mod answering;
+mod arguments;
+mod attributes;
+mod calls;
+mod fields;
+mod globbing;
+mod kinds;
+mod ordering;
+mod rules;
+mod spelling;
+mod strings;
+
+pub use calls::package_call;
+pub use kinds::{Answer, Called, Package};

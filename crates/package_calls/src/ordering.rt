@@ -1,0 +1,32 @@
+//! Texts in byte order.
+ghost use Rattle.std.specs.Prelude.{◌≡◌, IfOk};
+ghost use Rattle.language.specs.Sorting.{in_order};
+
+use std::alloc::Global;
+use std::collections::BTreeSet;
+use texts::{Memory, Text};
+
+/// Texts in byte order, each once.
+pub fn in_order(alloc: Global, texts: &[Text]) -> Result<Vec<Text>, Memory>
+    ensures { IfOk result (λ v. v.items ≡ in_order (λ text. text) texts.now) }
+{
+    let set = ordered(alloc, texts)?;
+    let mut all = Vec::new(alloc);
+    for text in set.iter() {
+        all.push(text.share()?)?;
+    }
+    Ok(all)
+}
+
+// The set of these texts.
+fn ordered(alloc: Global, texts: &[Text]) -> Result<BTreeSet<Text>, Memory>
+    ensures { IfOk result (λ set. set.keys ≡ in_order (λ text. text) texts.now) }
+{
+    let mut set = BTreeSet::new(alloc);
+    let mut i = texts.len();
+    while i > 0 {
+        i -= 1;
+        set.insert(texts[i].share()?)?;
+    }
+    Ok(set)
+}

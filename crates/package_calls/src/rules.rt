@@ -1,0 +1,159 @@
+//! The rules: filegroup, genrule, alias and test_suite.
+ghost use Rattle.std.specs.Prelude.{◌≡◌, IfOk, map, codes};
+ghost use Rattle.meaning.specs.Builtins.{builtin_name};
+ghost use Rattle.language.specs.World.{Here};
+ghost use Rattle.language.specs.Arguments.{value_named};
+ghost use Rattle.language.specs.Rules.{rule, is_used, target_of, are_arguments, are_attributes, not_none, name_text, makes_target};
+ghost use Rattle.language.specs.Names.{has_name};
+ghost use Rattle.heap.specs.View.{store_of, Checks};
+ghost use Rattle.names.specs.View as view;
+ghost use Rattle.names.specs.View.{world_of, Ran};
+ghost use Rattle.package_calls.specs.Fields.{shapes, known_names};
+ghost use Rattle.package_calls.specs.Given.{given_of};
+ghost use Rattle.package_calls.specs.View.{ChecksAs};
+
+use crate::arguments::{is_named, is_twice, not_none, value_named};
+use crate::attributes::{Given, all_shaped, all_typed};
+use crate::fields::{Field, field_name, fields_of};
+use crate::spelling::is_path;
+use crate::strings::text_in;
+use heap::{Builtin, Bytes, Halt, Heap, Val};
+use names::{State, Target};
+use std::alloc::Global;
+use texts::{Memory, Text};
+
+/// A call of a rule: it makes a target and gives None. Faults 25, 5, 15 and 20, in this order.
+pub fn rule(
+    state: &mut State,
+    f: Builtin,
+    package_name: &Text,
+    xs: &[Val],
+    ns: &[(Text, Val)],
+) -> Result<Val, Halt>
+    ensures says { (here : Here) → Ran here.site (rule f package_name.now xs.now ns.now here (world_of state.old)) result (world_of state.new) }
+    ensures heap { state.new.heap ≡ state.old.heap }
+{
+    let target = match target_of(&state.heap, f, package_name, xs, ns) {
+        Ok(target) => target,
+        Err(halt) => return Err(halt),
+    };
+    if is_used(&target.name, state.targets.as_slice()) {
+        return Err(Halt::Code(20));
+    }
+    state.targets.push(target)?;
+    Ok(Val::Nothing)
+}
+
+// Whether a target has this name.
+fn is_used(name: &Bytes, targets: &[Target]) -> bool
+    ensures { result ≡ is_used name.now (map view.target_of targets.now) }
+{
+    for target in targets {
+        if *name == target.name {
+            return true;
+        }
+    }
+    false
+}
+
+// The target that a call describes, or fault 25, 5 or 15.
+fn target_of(
+    heap: &Heap,
+    f: Builtin,
+    package_name: &Text,
+    xs: &[Val],
+    ns: &[(Text, Val)],
+) -> Result<Target, Halt>
+    ensures { ChecksAs view.target_of (target_of f package_name.now xs.now ns.now (store_of heap.now)) result }
+{
+    let fields = fields_of(f);
+    let given = not_none(heap.alloc, ns)?;
+    if !are_arguments(heap.alloc, xs, ns, given.as_slice(), fields)? {
+        return Err(Halt::Code(25));
+    }
+    let name = name_in(heap, given.as_slice())?;
+    let typed = all_typed(heap, fields, given.as_slice())?;
+    let target = make_target(heap.alloc, f, package_name, name, typed.as_slice())?;
+    Ok(target)
+}
+
+// Whether the arguments are those of a rule with these attributes, where `given` are those by name that are not None.
+fn are_arguments(
+    alloc: Global,
+    xs: &[Val],
+    ns: &[(Text, Val)],
+    given: &[(Text, Val)],
+    fields: &[Field],
+) -> Result<bool, Memory>
+    requires { given.now ≡ not_none ns.now }
+    ensures { IfOk result (λ b. b ≡ are_arguments xs.now ns.now (shapes fields.now)) }
+{
+    if !xs.is_empty() {
+        return Ok(false);
+    }
+    if is_twice(alloc, ns)? {
+        return Ok(false);
+    }
+    Ok(are_attributes(given, fields) && is_named("name", given))
+}
+
+// Whether each name is `name` or that of an attribute.
+fn are_attributes(given: &[(Text, Val)], fields: &[Field]) -> bool
+    ensures { result ≡ are_attributes given.now (shapes fields.now) }
+{
+    for n in given {
+        if !is_known(n.0.as_str(), fields) {
+            return false;
+        }
+    }
+    true
+}
+
+// Whether a name is `name` or that of an attribute.
+fn is_known(name: &str, fields: &[Field]) -> bool
+    ensures { result ≡ has_name name.now (known_names (shapes fields.now)) }
+{
+    if name == "name" {
+        return true;
+    }
+    for field in fields {
+        if name == field_name(*field) {
+            return true;
+        }
+    }
+    false
+}
+
+// The name of a target, or fault 25 or 5.
+fn name_in(heap: &Heap, given: &[(Text, Val)]) -> Result<Bytes, Halt>
+    ensures { Checks (name_text (value_named (codes "name") given.now) (store_of heap.now)) result }
+{
+    match value_named("name", given) {
+        Some(x) => {
+            let name = text_in(heap, x)?;
+            Ok(name)
+        }
+        None => Err(Halt::Code(25)),
+    }
+}
+
+// The target with a name and attributes, or fault 15.
+fn make_target(
+    alloc: Global,
+    f: Builtin,
+    package_name: &Text,
+    name: Bytes,
+    given: &[Given],
+) -> Result<Target, Halt>
+    ensures { ChecksAs view.target_of (makes_target (builtin_name f) package_name.now name (map given_of given.now)) result }
+{
+    if !is_path(name.as_slice()) {
+        return Err(Halt::Code(15));
+    }
+    let attributes = all_shaped(alloc, package_name, given)?;
+    Ok(Target {
+        rule: f,
+        name,
+        attributes,
+    })
+}

@@ -1,0 +1,54 @@
+//! Paths, labels and patterns, by their bytes.
+ghost use Rattle.std.specs.Prelude.{◌≡◌, if◌then◌else◌};
+ghost use Rattle.labels.specs.Paths as paths;
+ghost use Rattle.pattern.specs.Patterns.{is_pattern};
+ghost use Rattle.meaning.specs.Outcome.{good, bad};
+ghost use Rattle.language.specs.Rules.{label_in};
+ghost use Rattle.heap.specs.View.{Checks};
+
+use heap::{Bytes, Halt};
+use labels::{BadLabel, Label};
+use pattern::{BadPattern, Pattern};
+use std::alloc::Global;
+use texts::Text;
+
+/// Whether bytes are a path.
+pub fn is_path(bytes: &[u8]) -> bool
+    ensures { result ≡ paths.is_path bytes.now }
+{
+    match std::str::from_utf8(bytes) {
+        Ok(text) => labels::is_path(text),
+        Err(_) => false,
+    }
+}
+
+/// The text of a label that is read in a package, or fault 15.
+pub fn label_in(alloc: Global, package_name: &Text, bytes: &[u8]) -> Result<Bytes, Halt>
+    ensures { Checks (label_in package_name.now bytes.now) result }
+{
+    let Ok(text) = std::str::from_utf8(bytes) else {
+        return Err(Halt::Code(15));
+    };
+    match Label::read(alloc, text, package_name.as_str()) {
+        Ok(label) => {
+            let text = label.text().share()?;
+            Ok(Bytes::of_text(text))
+        }
+        Err(BadLabel::Code15) => Err(Halt::Code(15)),
+        Err(BadLabel::Memory) => Err(Halt::Memory),
+    }
+}
+
+/// A pattern, or fault 21.
+pub fn pattern_of(alloc: Global, bytes: &[u8]) -> Result<Pattern, Halt>
+    ensures { Checks (if is_pattern bytes.now then good bytes.now else bad 21) result }
+{
+    let Ok(text) = std::str::from_utf8(bytes) else {
+        return Err(Halt::Code(21));
+    };
+    match Pattern::read(alloc, text) {
+        Ok(pattern) => Ok(pattern),
+        Err(BadPattern::Code21) => Err(Halt::Code(21)),
+        Err(BadPattern::Memory) => Err(Halt::Memory),
+    }
+}

@@ -1,0 +1,52 @@
+//! The strings of values.
+ghost use Rattle.meaning.specs.Methods.{bytes_of};
+ghost use Rattle.language.specs.Globs.{all_texts, texts_in};
+ghost use Rattle.heap.specs.View.{store_of, Checks, ChecksItems};
+
+use heap::{Bytes, Halt, Heap, Object, Val};
+
+/// The bytes of a string, or fault 5.
+pub fn text_in(heap: &Heap, x: Val) -> Result<Bytes, Halt>
+    ensures { Checks (bytes_of x (store_of heap.now)) result }
+{
+    match x {
+        Val::At(place) => match heap.object(place) {
+            Some(Object::Text(bytes)) => {
+                let bytes = bytes.share()?;
+                Ok(bytes)
+            }
+            _ => Err(Halt::Code(5)),
+        },
+        _ => Err(Halt::Code(5)),
+    }
+}
+
+/// The bytes of the strings in a list, or fault 5.
+pub fn texts_in(heap: &Heap, x: Val) -> Result<Vec<Bytes>, Halt>
+    ensures { ChecksItems (texts_in x (store_of heap.now)) result }
+{
+    match x {
+        Val::At(place) => match heap.object(place) {
+            Some(Object::List(members, _)) => {
+                let all = all_texts(heap, members.as_slice())?;
+                Ok(all)
+            }
+            _ => Err(Halt::Code(5)),
+        },
+        _ => Err(Halt::Code(5)),
+    }
+}
+
+// The bytes of strings, or fault 5.
+fn all_texts(heap: &Heap, xs: &[Val]) -> Result<Vec<Bytes>, Halt>
+    ensures { ChecksItems (all_texts xs.now (store_of heap.now)) result }
+{
+    let mut all = Vec::new(heap.alloc);
+    for x in xs {
+        match text_in(heap, *x) {
+            Ok(text) => all.push(text)?,
+            Err(halt) => return Err(halt),
+        }
+    }
+    Ok(all)
+}
