@@ -1,12 +1,15 @@
-//! The pieces of an evaluation that evaluate no expression: operators, members of values, what is assigned to.
+//! The pieces of an evaluation that evaluate no expression: operators, members of values, what is assigned to, calls of
+//! built-in functions and of methods.
 #![tactic(auto)]
 
 mod aims;
+mod calling;
 mod gathering;
 mod objects;
 mod operators;
 
 pub use aims::{Aim, present, store};
+pub use calling::{add, call_builtin, call_method};
 pub use gathering::{Gathered, fresh, nothing_yet, one_entry, one_more};
 pub use objects::{
     hash, index, items, lock, make_dict, make_list, make_text, make_tuple, set_index, slice, tick,

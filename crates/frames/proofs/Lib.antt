@@ -1,0 +1,10 @@
+pub mod Bind
+pub mod Trees
+pub mod Several
+pub mod Clauses
+pub mod Aimed
+pub mod Suites
+pub mod Operated
+pub mod Changed
+pub mod Topmost
+pub mod FileLevel

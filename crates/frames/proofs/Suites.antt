@@ -1,0 +1,65 @@
+-- Suites, branches and loops, one part after another.
+use Rattle.std.proofs.Common.{◌≡◌, ℕ, List, ◌∷◌, drop, Err, refl, ap, sym, ◌∙◌, Vec, Global}
+use Rattle.std.specs.declared.sync.Arc.{Arc}
+use Rattle.std.specs.Arc.{arc_value}
+use Rattle.heap.specs.declared.halt.Halt.{Halt}
+use Rattle.heap.specs.declared.halt.Halt.TheVariants.{Code, Memory}
+use Rattle.heap.specs.View.{Says}
+use Rattle.meaning.specs.Outcome.{Out}
+use Rattle.meaning.specs.Heap.{Store}
+use Rattle.tree.specs.declared.stmt.Stmt.{Stmt}
+use Rattle.tree.specs.Statements.{stmt_of, stmts_of}
+use Rattle.language.specs.World.{World, Site, Here, at_site, Ends, ended, failed, waits, Runs, then_runs, pure}
+use Rattle.language.specs.Environment.{Env}
+use Rattle.language.specs.Targets as ta
+use Rattle.language.specs.Statements as s
+use Rattle.language.specs.Statements.{goes_on, unless_over, after_turn, turns, exec, suite}
+use Rattle.language.specs.Calls.{call}
+use Rattle.names.specs.View.{Ran}
+use Rattle.frames.specs.declared.frame.Frame.{Frame}
+use Rattle.frames.specs.declared.frame.Control.{Control}
+use Rattle.frames.specs.Frames.{Sig, Goes, an_exit, on_exit, body, exited, above, stack_does}
+use Rattle.frames.proofs.Bind.{through, then_assoc}
+
+module _ (env : Env) (n : ℕ) (here : Here) (frames : List Frame) (w : World) where
+  -- the statements from a place on, of which the first runs above a frame
+  pub stmt_begins : (ss again : Arc (Vec Stmt Global) Global) (st : Stmt) (k m : ℕ) (j : Sig → Runs Sig) → drop k (arc_value ss).items ≡ st ∷ drop m (arc_value ss).items → arc_value again ≡ arc_value ss
+      → j ≡ (λ (sig : Sig) (u : World). then_runs (on_exit here (λ exit. exited (unless_over exit (body env n here (stmts_of (drop m (arc_value again).items))))) sig u) (stack_does env n here frames))
+      → above env n here (exited (body env n here (stmts_of (drop k (arc_value ss).items)))) frames w ≡ then_runs (exited (exec env (call env n) (stmt_of st) here) w) j
+  stmt_begins ss again st k m j first same pushed =
+      let e = exec env (call env n) (stmt_of st) here w in
+      let p = λ (x : s.Exit). pure (an_exit x) in
+      let rest = λ (v : Vec Stmt Global) (x : s.Exit). unless_over x (body env n here (stmts_of (drop m v.items))) in
+      ap (λ (l : List Stmt). above env n here (exited (body env n here (stmts_of l))) frames w) first
+      ∙ through e (rest (arc_value ss)) p (stack_does env n here frames) an_exit (on_exit here (λ exit. exited (rest (arc_value ss) exit))) (λ x u. refl)
+      ∙ ap (λ (v : Vec Stmt Global). then_runs (then_runs e p) (λ sig u. then_runs (on_exit here (λ exit. exited (rest v exit)) sig u) (stack_does env n here frames))) (sym same)
+      ∙ ap (λ i. then_runs (then_runs e p) i) (sym pushed)
+
+  -- a turn, whose target is aimed at above a frame that then stores in it
+  pub turn_begins : (m : Ends ta.Aim) (sb : ta.Aim → Runs s.Exit) (behind : s.Exit → Runs s.Exit) (unl : s.Exit → Runs s.Exit) (j : Sig → Runs Sig)
+      → then_runs (then_runs (then_runs (then_runs (then_runs m sb) behind) unl) (λ x. pure (an_exit x))) j
+      ≡ then_runs m (λ a u. then_runs (then_runs (then_runs (sb a u) (λ x v. then_runs (behind x v) unl)) (λ x. pure (an_exit x))) j)
+  turn_begins (ended a u) sb behind unl j = ap (λ o. then_runs (then_runs o (λ x. pure (an_exit x))) j) (then_assoc (sb a u) behind unl)
+  turn_begins (failed c site) sb behind unl j = refl
+  turn_begins (waits ps) sb behind unl j = refl
+
+-- a turn that does not begin
+pub turn_stops : {A B C D : Type 0} (o : Out Store (Unit {0})) (site : Site) (w u : World) (s : Store) (halt : Halt) (m : Unit {0} → Runs A) (k : A → Runs B) (l : B → Runs C) (p : C → Runs D) (j : D → Runs Sig) (after : Control → Ends Sig) → Says o (Err halt) s → Goes site (then_runs (then_runs (then_runs (then_runs (then_runs (at_site site w o) m) k) l) p) j) (Err halt) after
+turn_stops o site w u s (Code c) m k l p j after e = ap (λ q. then_runs (then_runs (then_runs (then_runs (then_runs (at_site site w q) m) k) l) p) j) e
+turn_stops o site w u s Memory m k l p j after e = tt
+
+-- a turn of any kind
+pub turn_any : {A X : Type 0} (m : Ends A) (sb : A → Runs X) (behind unl : X → Runs X) (p : X → Runs Sig) (j : Sig → Runs Sig)
+    → then_runs (then_runs (then_runs (then_runs (then_runs m sb) behind) unl) p) j ≡ then_runs m (λ a u. then_runs (then_runs (then_runs (sb a u) (λ x v. then_runs (behind x v) unl)) p) j)
+turn_any (ended a u) sb behind unl p j = ap (λ o. then_runs (then_runs o p) j) (then_assoc (sb a u) behind unl)
+turn_any (failed c site) sb behind unl p j = refl
+turn_any (waits ps) sb behind unl p j = refl
+
+-- a piece that stops, with more behind it
+pub stops3 : {A B C : Type 0} (m : Ends A) (k : A → Runs B) (p : B → Runs C) (j : C → Runs Sig) (site : Site) (halt : Halt) (u : World) (after : Control → Ends Sig) → Ran site m (Err halt) u → Goes site (then_runs (then_runs (then_runs m k) p) j) (Err halt) after
+stops3 m k p j site (Code c) u after e = ap (λ o. then_runs (then_runs (then_runs o k) p) j) e
+stops3 m k p j site Memory u after e = tt
+
+pub stops4 : {A B C D : Type 0} (m : Ends A) (k : A → Runs B) (i : B → Runs C) (p : C → Runs D) (j : D → Runs Sig) (site : Site) (halt : Halt) (u : World) (after : Control → Ends Sig) → Ran site m (Err halt) u → Goes site (then_runs (then_runs (then_runs (then_runs m k) i) p) j) (Err halt) after
+stops4 m k i p j site (Code c) u after e = ap (λ o. then_runs (then_runs (then_runs (then_runs o k) i) p) j) e
+stops4 m k i p j site Memory u after e = tt

@@ -1,0 +1,81 @@
+use Rattle.std.proofs.Common.{◌≡◌, ◌<◌, ◌+◌, ◌∷◌, List, Err, suc, length, drop, drop-cons, get_or, add-one, arith, ap, sym, refl, subst, ◌∙◌}
+use Rattle.std.specs.Arc.{arc_value}
+use Rattle.heap.specs.View.{store_of}
+use Rattle.meaning.specs.declared.val.Val.{Val}
+use Rattle.meaning.specs.declared.val.Val.TheVariants.{Nothing}
+use Rattle.meaning.specs.Outcome as o
+use Rattle.meaning.specs.Heap.{walks}
+use Rattle.tree.specs.declared.expr.Expr.{Expr}
+use Rattle.tree.specs.View.{tree_of, shared_tree}
+use Rattle.language.specs.World.{World, Ends, then_runs, ◌>>=◌, pure, on_heap}
+use Rattle.language.specs.Targets as ta
+use Rattle.language.specs.Targets.{store}
+use Rattle.language.specs.Loops as l
+use Rattle.language.specs.Loops.{one_more, one_entry, unlocks, gather, over}
+use Rattle.names.specs.View.{world_of, here_of}
+use Rattle.pieces.specs.View.{gathered_of}
+use Rattle.frames.specs.declared.frame.Control.{Control}
+use Rattle.frames.specs.declared.frame.Gathering.{Gathering}
+use Rattle.frames.specs.declared.frame.Frame.TheVariants as f
+use Rattle.frames.specs.Frames.{Sig, an_aim, a_gathered, Goes, on, aims_at, clauses_do, gather_turn, above, stack_does, machine_does}
+use Rattle.frames.proofs.Bind.{handed, tick_ends, tick_is}
+use Rattle.frames.proofs.Suites.{turn_any, turn_stops}
+use Rattle.frames.proofs.gather.next_gather.Goals as goal
+
+pub returns-in-Err-clause-goes : goal.returns-in-Err-clause-goes
+returns-in-Err-clause-goes c = λ env n running.
+    let here = here_of c.args.at.now c.args.at.now.line running in
+    let u = c.args.turns in
+    let all = u.items.items in
+    let k = u.next in
+    let h = on env n here u.line in
+    let w = world_of c.args.state.now in
+    let frames = c.args.frames.now.items in
+    let got = gathered_of c.args.got in
+    let comp = arc_value u.of in
+    let lt : k < length all = omega (arith, u.items.ok.0, c.len.ensures, c.if-turns-len.false) in
+    let first : drop k all ≡ get_or all k Nothing ∷ drop (suc k) all = drop-cons all k Nothing lt in
+    let target = shared_tree u.target in
+    let turn = gather_turn env n here target comp u.inner u.line in
+    let unl = λ (x : l.Gathered). on_heap h (unlocks u.over) >>= λ _. pure x in
+    let p = λ (x : l.Gathered). pure (a_gathered x) in
+    let j = stack_does env n here frames in
+    let behind = gather turn (drop (suc k) all) in
+    let sb = λ (v : Val) (a : ta.Aim). store a v h >>= λ _. clauses_do env n here comp u.inner u.line got in
+    let runs = λ (v : Val) (_ : Unit {0}). aims_at env n here target u.line >>= sb v in
+    let whole = ap (λ (xs : List Val). then_runs (then_runs (then_runs (gather turn xs got w) unl) p) j) first ∙ ap (λ q. then_runs (then_runs (then_runs (then_runs (then_runs q (runs (get_or all k Nothing))) behind) unl) p) j) (tick_is h w) in
+    let after = λ (control : Control). machine_does env n here control c.args.frames.now.items (world_of (record c.args.state.now { heap = c.tick.new.heap })) in
+    subst (λ (q : Ends Sig). Goes h.site q (Err c.in-Err.halt) after) (sym whole) (turn_stops (walks (λ objects. o.tick) w.store) h.site w w (store_of c.tick.new.heap) c.in-Err.halt (runs (get_or all k Nothing)) behind unl p j after c.in-Err.ensures.says)
+
+pub returns-clause-goes : goal.returns-clause-goes
+returns-clause-goes c = λ env n running.
+    let here = here_of c.args.at.now c.args.at.now.line running in
+    let u = c.args.turns in
+    let all = u.items.items in
+    let k = u.next in
+    let v = c.index-value.result.now in
+    let h = on env n here u.line in
+    let w = world_of c.args.state.now in
+    let ticked : World = record w { store = store_of c.tick.new.heap } in
+    let frames = c.args.frames.now.items in
+    let got = gathered_of c.args.got in
+    let comp = arc_value u.of in
+    let lt : k < length all = omega (arith, u.items.ok.0, c.len.ensures, c.if-turns-len.false) in
+    let stands : v ≡ get_or all k v = c.index-value.ensures in
+    let first : drop k all ≡ v ∷ drop (k + 1) all = rw add-one (drop-cons all k v lt ∙ ap (λ (x : Val). x ∷ drop (suc k) all) (sym stands)) in
+    let target = shared_tree u.target in
+    let turn = gather_turn env n here target comp u.inner u.line in
+    let unl = λ (x : l.Gathered). on_heap h (unlocks u.over) >>= λ _. pure x in
+    let p = λ (x : l.Gathered). pure (a_gathered x) in
+    let j = stack_does env n here frames in
+    let behind = gather turn (drop (k + 1) all) in
+    let sb = λ (a : ta.Aim). store a v h >>= λ _. clauses_do env n here comp u.inner u.line got in
+    let next : Gathering = record u { next = k + 1 } in
+    let aim = aims_at env n here target u.line ticked in
+    let before = ap (λ (xs : List Val). then_runs (then_runs (then_runs (gather turn xs got w) unl) p) j) first
+    ∙ ap (λ q. then_runs (then_runs (then_runs (then_runs (then_runs q (λ _. aims_at env n here target u.line >>= sb)) behind) unl) p) j) (tick_ends h w (store_of c.tick.new.heap) c.in_default.ensures.says)
+    ∙ turn_any aim sb behind unl p j
+    ∙ handed env n here (f.Aimed next v c.args.got) frames c.push.new.frames.items an_aim aim (c.in_ok-push.ensures.ok env n here) refl refl
+    ∙ ap (λ (d : Expr). above env n here (λ z. then_runs (aims_at env n here (tree_of d) u.line z) (λ a. pure (an_aim a))) c.push.new.frames.items ticked) (sym (c.deref.ensures ∙ c.in_ok-target.ensures)) in
+    let after = λ (control : Control). machine_does env n here control c.begin_aim.new.frames.items (world_of c.begin_aim.new.state) in
+    subst (λ (q : Ends Sig). Goes h.site q c.begin_aim.result after) (sym before) (c.begin_aim.ensures.goes env n running)

@@ -1,0 +1,138 @@
+use Rattle.std.proofs.Common.{Err, refl, sym, subst, ap, ◌∙◌}
+use Rattle.meaning.specs.declared.val.Val.{Val}
+use Rattle.meaning.specs.Indexing as ix
+use Rattle.tree.specs.declared.expr.Expr.{Expr}
+use Rattle.tree.specs.View.{tree_of, shared_tree}
+use Rattle.language.specs.World.{Ends, then_runs, pure, on_heap}
+use Rattle.language.specs.Targets as ta
+use Rattle.language.specs.Targets.{store, to_member}
+use Rattle.language.specs.Loops as l
+use Rattle.language.specs.Loops.{one_more, one_entry}
+use Rattle.names.specs.View.{world_of, here_of}
+use Rattle.pieces.specs.View.{gathered_of}
+use Rattle.frames.specs.declared.frame.Control.{Control}
+use Rattle.frames.specs.declared.frame.Frame.{Frame}
+use Rattle.frames.specs.Frames.{Sig, a_value, an_aim, a_gathered, Goes, on, ex, valued, aimed, gathered, frame_does, frame_line, above, stack_does, machine_does}
+use Rattle.frames.proofs.Bind.{under}
+use Rattle.frames.proofs.Changed.{stops_into}
+use Rattle.frames.proofs.handing.deliver_value.Goals as goal
+
+pub returns-in-Key-clause-goes : goal.returns-in-Key-clause-goes
+returns-in-Key-clause-goes c = λ env n running.
+    let here = here_of c.args.at.now c.args.at.now.line running in
+    let w = world_of c.args.state.now in
+    let frames = c.args.frames.now.items in
+    let after = λ (control : Control). machine_does env n here control c.entry_value.new.frames.items (world_of c.entry_value.new.state) in
+    subst (λ (fr : Frame). Goes (on env n here (frame_line c.args.at.now.line fr)).site (above env n here (frame_does env n here fr (a_value c.args.x)) frames w) c.entry_value.result after) (sym c.in-Key.is) (c.entry_value.ensures.goes env n running)
+
+pub returns-in-Unary-clause-goes : goal.returns-in-Unary-clause-goes
+returns-in-Unary-clause-goes c = λ env n running.
+    let here = here_of c.args.at.now c.args.at.now.line running in
+    let w = world_of c.args.state.now in
+    let frames = c.args.frames.now.items in
+    let after = λ (control : Control). machine_does env n here control frames (world_of c.unary_done.new.state) in
+    subst (λ (fr : Frame). Goes (on env n here (frame_line c.args.at.now.line fr)).site (above env n here (frame_does env n here fr (a_value c.args.x)) frames w) c.unary_done.result after) (sym c.in-Unary.is) (c.unary_done.ensures.goes env n here c.in-Unary.field-0 frames)
+
+pub returns-in-Right-clause-goes : goal.returns-in-Right-clause-goes
+returns-in-Right-clause-goes c = λ env n running.
+    let here = here_of c.args.at.now c.args.at.now.line running in
+    let w = world_of c.args.state.now in
+    let frames = c.args.frames.now.items in
+    let after = λ (control : Control). machine_does env n here control c.right_operand.new.frames.items (world_of c.right_operand.new.state) in
+    subst (λ (fr : Frame). Goes (on env n here (frame_line c.args.at.now.line fr)).site (above env n here (frame_does env n here fr (a_value c.args.x)) frames w) c.right_operand.result after) (sym c.in-Right.is) (c.right_operand.ensures.goes env n running)
+
+pub returns-in-Choice-clause-goes : goal.returns-in-Choice-clause-goes
+returns-in-Choice-clause-goes c = λ env n running.
+    let here = here_of c.args.at.now c.args.at.now.line running in
+    let w = world_of c.args.state.now in
+    let frames = c.args.frames.now.items in
+    let after = λ (control : Control). machine_does env n here control c.choose.new.frames.items (world_of c.choose.new.state) in
+    subst (λ (fr : Frame). Goes (on env n here (frame_line c.args.at.now.line fr)).site (above env n here (frame_does env n here fr (a_value c.args.x)) frames w) c.choose.result after) (sym c.in-Choice.is) (c.choose.ensures.goes env n running)
+
+pub returns-in-Sliced-clause-goes : goal.returns-in-Sliced-clause-goes
+returns-in-Sliced-clause-goes c = λ env n running.
+    let here = here_of c.args.at.now c.args.at.now.line running in
+    let w = world_of c.args.state.now in
+    let frames = c.args.frames.now.items in
+    let after = λ (control : Control). machine_does env n here control c.slice_from.new.frames.items (world_of c.slice_from.new.state) in
+    subst (λ (fr : Frame). Goes (on env n here (frame_line c.args.at.now.line fr)).site (above env n here (frame_does env n here fr (a_value c.args.x)) frames w) c.slice_from.result after) (sym c.in-Sliced.is) (c.slice_from.ensures.goes env n running)
+
+pub returns-in-From-clause-goes : goal.returns-in-From-clause-goes
+returns-in-From-clause-goes c = λ env n running.
+    let here = here_of c.args.at.now c.args.at.now.line running in
+    let w = world_of c.args.state.now in
+    let frames = c.args.frames.now.items in
+    let after = λ (control : Control). machine_does env n here control c.slice_to.new.frames.items (world_of c.slice_to.new.state) in
+    subst (λ (fr : Frame). Goes (on env n here (frame_line c.args.at.now.line fr)).site (above env n here (frame_does env n here fr (a_value c.args.x)) frames w) c.slice_to.result after) (sym c.in-From.is) (c.slice_to.ensures.goes env n running)
+
+pub returns-in-Assign-clause-goes : goal.returns-in-Assign-clause-goes
+returns-in-Assign-clause-goes c = λ env n running.
+    let here = here_of c.args.at.now c.args.at.now.line running in
+    let w = world_of c.args.state.now in
+    let frames = c.args.frames.now.items in
+    let after = λ (control : Control). machine_does env n here control c.assign.new.frames.items (world_of c.assign.new.state) in
+    subst (λ (fr : Frame). Goes (on env n here (frame_line c.args.at.now.line fr)).site (above env n here (frame_does env n here fr (a_value c.args.x)) frames w) c.assign.result after) (sym c.in-Assign.is) (c.assign.ensures.goes env n running)
+
+pub returns-in-Change-clause-goes : goal.returns-in-Change-clause-goes
+returns-in-Change-clause-goes c = λ env n running.
+    let here = here_of c.args.at.now c.args.at.now.line running in
+    let w = world_of c.args.state.now in
+    let frames = c.args.frames.now.items in
+    let after = λ (control : Control). machine_does env n here control frames (world_of c.change.new.state) in
+    subst (λ (fr : Frame). Goes (on env n here (frame_line c.args.at.now.line fr)).site (above env n here (frame_does env n here fr (a_value c.args.x)) frames w) c.change.result after) (sym c.in-Change.is) (c.change.ensures.goes env n running)
+
+pub returns-in-Indexed-clause-goes : goal.returns-in-Indexed-clause-goes
+returns-in-Indexed-clause-goes c = λ env n running.
+    let here = here_of c.args.at.now c.args.at.now.line running in
+    let w = world_of c.args.state.now in
+    let frames = c.args.frames.now.items in
+    let line = c.in-Indexed.line in
+    let h = on env n here line in
+    let j = stack_does env n here frames in
+    let behind = λ (y : Val). on_heap h (ix.index c.args.x y) in
+    let before = under (ex env n here (shared_tree c.in-Indexed.i) line w) behind (λ (v : Val). pure (a_value v)) j
+    ∙ ap (λ (d : Expr). then_runs (ex env n here (tree_of d) line w) (λ v. above env n here (valued (behind v)) frames)) (sym c.deref.ensures) in
+    let after = λ (control : Control). machine_does env n here control c.begin_above.new.frames.items (world_of c.begin_above.new.state) in
+    subst (λ (fr : Frame). Goes (on env n here (frame_line c.args.at.now.line fr)).site (above env n here (frame_does env n here fr (a_value c.args.x)) frames w) c.begin_above.result after) (sym c.in-Indexed.is)
+    (subst (λ (q : Ends Sig). Goes h.site q c.begin_above.result after) (sym before) (c.begin_above.ensures.goes env n running refl refl))
+
+pub returns-in-Container-clause-goes : goal.returns-in-Container-clause-goes
+returns-in-Container-clause-goes c = λ env n running.
+    let here = here_of c.args.at.now c.args.at.now.line running in
+    let w = world_of c.args.state.now in
+    let frames = c.args.frames.now.items in
+    let line = c.in-Container.line in
+    let h = on env n here line in
+    let j = stack_does env n here frames in
+    let behind = λ (y : Val). pure (to_member c.args.x y) in
+    let before = under (ex env n here (shared_tree c.in-Container.i) line w) behind (λ (v : ta.Aim). pure (an_aim v)) j
+    ∙ ap (λ (d : Expr). then_runs (ex env n here (tree_of d) line w) (λ v. above env n here (aimed (behind v)) frames)) (sym c.deref-in-Container.ensures) in
+    let after = λ (control : Control). machine_does env n here control c.begin_above-in-Container.new.frames.items (world_of c.begin_above-in-Container.new.state) in
+    subst (λ (fr : Frame). Goes (on env n here (frame_line c.args.at.now.line fr)).site (above env n here (frame_does env n here fr (a_value c.args.x)) frames w) c.begin_above-in-Container.result after) (sym c.in-Container.is)
+    (subst (λ (q : Ends Sig). Goes h.site q c.begin_above-in-Container.result after) (sym before) (c.begin_above-in-Container.ensures.goes env n running refl refl))
+
+pub returns-in-OneKey-clause-goes : goal.returns-in-OneKey-clause-goes
+returns-in-OneKey-clause-goes c = λ env n running.
+    let here = here_of c.args.at.now c.args.at.now.line running in
+    let w = world_of c.args.state.now in
+    let frames = c.args.frames.now.items in
+    let line = c.in-OneKey.line in
+    let h = on env n here line in
+    let j = stack_does env n here frames in
+    let behind = λ (y : Val). one_entry c.args.x y (gathered_of c.in-OneKey.got) h in
+    let before = under (ex env n here (shared_tree c.in-OneKey.e) line w) behind (λ (v : l.Gathered). pure (a_gathered v)) j
+    ∙ ap (λ (d : Expr). then_runs (ex env n here (tree_of d) line w) (λ v. above env n here (gathered (behind v)) frames)) (sym c.deref-in-OneKey.ensures) in
+    let after = λ (control : Control). machine_does env n here control c.begin_above-in-OneKey.new.frames.items (world_of c.begin_above-in-OneKey.new.state) in
+    subst (λ (fr : Frame). Goes (on env n here (frame_line c.args.at.now.line fr)).site (above env n here (frame_does env n here fr (a_value c.args.x)) frames w) c.begin_above-in-OneKey.result after) (sym c.in-OneKey.is)
+    (subst (λ (q : Ends Sig). Goes h.site q c.begin_above-in-OneKey.result after) (sym before) (c.begin_above-in-OneKey.ensures.goes env n running refl refl))
+
+pub returns-in-Err-clause-goes : goal.returns-in-Err-clause-goes
+returns-in-Err-clause-goes c = λ env n running.
+    let here = here_of c.args.at.now c.args.at.now.line running in
+    let w = world_of c.args.state.now in
+    let frames = c.args.frames.now.items in
+    let line = c.in-OneMore.field-0 in
+    let h = on env n here line in
+    let after = λ (control : Control). machine_does env n here control frames w in
+    subst (λ (fr : Frame). Goes (on env n here (frame_line c.args.at.now.line fr)).site (above env n here (frame_does env n here fr (a_value c.args.x)) frames w) (Err c.in-Err.halt) after) (sym c.in-OneMore.is)
+    (stops_into (one_more c.args.x (gathered_of c.in-OneMore.got) h w) (λ (g : l.Gathered). pure (a_gathered g)) (stack_does env n here frames) h.site c.in-Err.halt (gathered_of c.one_more.new.g) w after (c.in-Err.ensures h w))

@@ -1,0 +1,31 @@
+use Rattle.std.proofs.Common.{true, false, ap, sym, subst, ◌∙◌}
+use Rattle.tree.specs.declared.expr.Expr.{Expr}
+use Rattle.tree.specs.View.{tree_of, shared_tree}
+use Rattle.language.specs.World.{Ends}
+use Rattle.names.specs.View.{world_of, here_of}
+use Rattle.frames.specs.declared.frame.Control.{Control}
+use Rattle.frames.specs.Frames.{Sig, Goes, on, ex, valued, above, machine_does}
+use Rattle.frames.proofs.Operated.{truly}
+use Rattle.frames.proofs.operands.choose.Goals as goal
+
+pub returns-then-is_true-clause-goes : goal.returns-then-is_true-clause-goes
+returns-then-is_true-clause-goes c = λ env n running.
+    let here = here_of c.args.at.now c.args.at.now.line running in
+    let line = c.args.line in
+    let w = world_of c.args.state.now in
+    let frames = c.args.frames.now.items in
+    let before = truly env n here line frames w c.args.x (ex env n here (shared_tree c.args.a.now) line) (ex env n here (shared_tree c.args.b.now) line) true c.if-is_true.ensures
+    ∙ ap (λ (d : Expr). above env n here (valued (ex env n here (tree_of d) line)) frames w) (sym c.deref.ensures) in
+    let after = λ (control : Control). machine_does env n here control c.begin.new.frames.items (world_of c.begin.new.state) in
+    subst (λ (q : Ends Sig). Goes (on env n here line).site q c.begin.result after) (sym before) (c.begin.ensures.goes env n running)
+
+pub returns-clause-goes : goal.returns-clause-goes
+returns-clause-goes c = λ env n running.
+    let here = here_of c.args.at.now c.args.at.now.line running in
+    let line = c.args.line in
+    let w = world_of c.args.state.now in
+    let frames = c.args.frames.now.items in
+    let before = truly env n here line frames w c.args.x (ex env n here (shared_tree c.args.a.now) line) (ex env n here (shared_tree c.args.b.now) line) false c.if-is_true.ensures
+    ∙ ap (λ (d : Expr). above env n here (valued (ex env n here (tree_of d) line)) frames w) (sym c.deref-2.ensures) in
+    let after = λ (control : Control). machine_does env n here control c.begin-2.new.frames.items (world_of c.begin-2.new.state) in
+    subst (λ (q : Ends Sig). Goes (on env n here line).site q c.begin-2.result after) (sym before) (c.begin-2.ensures.goes env n running)

@@ -1,0 +1,202 @@
+//! What a machine keeps while it runs.
+
+use tree::{BinaryOp, Branch, Clause, Def, Expr, File, Stmt, UnaryOp};
+use heap::{Builtin, Entry, Key, Val};
+use indexmap::IndexMap;
+use names::{Slot, Standing};
+use pieces::{Aim, Gathered};
+use std::alloc::Global;
+use std::sync::Arc;
+use texts::Text;
+
+/// How a statement ends.
+#[derive(Clone, Copy, PartialEq, Eq, Debug)]
+pub enum Exit {
+    GoesOn,
+    Breaks,
+    Continues,
+    Returns(Val),
+}
+
+/// What ended: an expression with its value, a target with what it aims at, a statement, or a comprehension.
+#[derive(Drop)]
+pub enum Signal {
+    Value(Val),
+    Aim(Aim),
+    Exit(Exit),
+    Gathered(Gathered),
+}
+
+/// What a method is called on.
+#[derive(Clone, Copy, PartialEq, Eq, Debug)]
+pub enum Receiver {
+    Native,
+    Of(Val),
+}
+
+/// What the values of several expressions are for.
+#[derive(Drop)]
+pub enum Purpose {
+    Tuple,
+    List,
+    /// The function, and the names of the last arguments.
+    Call(Val, Arc<Vec<Text>, Global>),
+    Method(Receiver, Text, Arc<Vec<Text>, Global>),
+}
+
+/// What a comprehension gathers.
+#[derive(Drop)]
+pub enum Item {
+    Member(Arc<Expr, Global>),
+    Entry(Arc<Expr, Global>, Arc<Expr, Global>),
+}
+
+/// A comprehension.
+#[derive(Drop)]
+pub struct Comprehension {
+    pub item: Item,
+    pub clauses: Arc<Vec<Clause>, Global>,
+}
+
+/// A loop: its target, its body, what it goes over, the members, and which is next.
+#[derive(Drop)]
+pub struct Turns {
+    pub line: usize,
+    pub target: Arc<Expr, Global>,
+    pub body: Arc<Vec<Stmt>, Global>,
+    pub over: Val,
+    pub items: Vec<Val>,
+    pub next: usize,
+}
+
+/// A clause of a comprehension that goes over members.
+#[derive(Drop)]
+pub struct Gathering {
+    pub line: usize,
+    pub target: Arc<Expr, Global>,
+    pub of: Arc<Comprehension, Global>,
+    /// The clause behind this one.
+    pub inner: usize,
+    pub over: Val,
+    pub items: Vec<Val>,
+    pub next: usize,
+}
+
+/// What waits for a signal. The first number is the line.
+#[derive(Drop)]
+pub enum Frame {
+    /// For the value of an item, after those done.
+    Items(usize, Arc<Vec<Expr>, Global>, Vec<Val>, Purpose),
+    /// For a key: the keys, the values, which is next, and the entries done.
+    Key(usize, Arc<Vec<Expr>, Global>, Arc<Vec<Expr>, Global>, usize, IndexMap<Key, Entry>),
+    /// For the value of a key; the entries behind it begin at the number.
+    Entry(usize, Arc<Vec<Expr>, Global>, Arc<Vec<Expr>, Global>, usize, IndexMap<Key, Entry>, Val),
+    Unary(usize, UnaryOp),
+    /// For the left value; the right operand is next.
+    Right(usize, BinaryOp, Arc<Expr, Global>),
+    /// For the right value.
+    Both(usize, BinaryOp, Val),
+    /// For a condition.
+    Choice(usize, Arc<Expr, Global>, Arc<Expr, Global>),
+    /// For what is indexed; the index is next.
+    Indexed(usize, Arc<Expr, Global>),
+    /// For an index.
+    Index(usize, Val),
+    /// For what is sliced; the bounds are next.
+    Sliced(usize, Option<Arc<Expr, Global>>, Option<Arc<Expr, Global>>),
+    /// For the lower bound.
+    From(usize, Val, Option<Arc<Expr, Global>>),
+    /// For the upper bound.
+    To(usize, Val, Val),
+    /// For a function; the arguments are next.
+    Called(usize, Arc<Vec<Expr>, Global>, Arc<Vec<Text>, Global>),
+    /// For a receiver; the arguments are next.
+    On(usize, Text, Arc<Vec<Expr>, Global>, Arc<Vec<Text>, Global>),
+    /// For the container of a target; the index is next.
+    Container(usize, Arc<Expr, Global>),
+    /// For the index of a target.
+    Member(usize, Val),
+    /// For one of several targets, after those done.
+    Aims(usize, Arc<Vec<Expr>, Global>, Vec<Aim>),
+    /// For a value that is left.
+    Discard,
+    /// For the value of an assignment.
+    Assign(usize, Arc<Expr, Global>),
+    /// For the target of an assignment.
+    Store(usize, Val),
+    /// For the target of an augmented assignment.
+    Augment(usize, BinaryOp, Arc<Expr, Global>),
+    /// For the right side of an augmented assignment.
+    Change(usize, BinaryOp, Aim, Val),
+    Return,
+    /// For the condition of a branch: its statements, the branches, which is next, and the other statements.
+    Branch(Arc<Vec<Stmt>, Global>, Arc<Vec<Branch>, Global>, usize, Arc<Vec<Stmt>, Global>),
+    /// For what a loop goes over.
+    For(usize, Arc<Expr, Global>, Arc<Vec<Stmt>, Global>),
+    /// For the target of a turn, whose value is given.
+    Turn(Turns, Val),
+    /// For the end of a turn.
+    Turns(Turns),
+    /// For the end of a statement; the suite goes on at the number.
+    Rest(Arc<Vec<Stmt>, Global>, usize),
+    /// For the end of a call: where the caller stands, its blocks, and how many more calls may be open there.
+    Leave(Standing, Vec<Vec<Slot>>, usize),
+    /// For what a comprehension goes over first.
+    First(usize, Arc<Expr, Global>, Arc<Comprehension, Global>),
+    /// For what a further clause goes over; the clause behind it is at the number.
+    Each(usize, Arc<Expr, Global>, Arc<Comprehension, Global>, usize, Gathered),
+    /// For a condition; the clause behind it is at the number.
+    Only(usize, Arc<Comprehension, Global>, usize, Gathered),
+    /// For the target of a turn of a clause, whose value is given.
+    Aimed(Gathering, Val, Gathered),
+    /// For what a turn of a clause gathers.
+    Gather(Gathering),
+    /// For a member.
+    OneMore(usize, Gathered),
+    /// For a key; its value is next.
+    OneKey(usize, Arc<Expr, Global>, Gathered),
+    /// For the value of a key; the entries behind it begin at the number.
+    OneEntry(usize, Val, Gathered),
+    /// For the end of a block of a comprehension.
+    EndBlock,
+    MakeList(usize),
+    MakeDict(usize),
+    /// For the value of a default: the function, the parameter behind it, and the values done.
+    Default(usize, Arc<Def, Global>, usize, Vec<Val>),
+    /// For the end of a statement of the file; the others begin at the number.
+    Tops(Arc<File, Global>, usize),
+}
+
+/// What the machine does next.
+#[derive(Drop)]
+pub enum Control {
+    Signal(Signal),
+    Eval(usize, Arc<Expr, Global>),
+    Items(usize, Arc<Vec<Expr>, Global>, Vec<Val>, Purpose),
+    Entries(usize, Arc<Vec<Expr>, Global>, Arc<Vec<Expr>, Global>, usize, IndexMap<Key, Entry>),
+    Aim(usize, Arc<Expr, Global>),
+    Aims(usize, Arc<Vec<Expr>, Global>, Vec<Aim>),
+    Suite(Arc<Vec<Stmt>, Global>, usize),
+    Branches(Arc<Vec<Branch>, Global>, usize, Arc<Vec<Stmt>, Global>),
+    Turns(Turns),
+    Clauses(usize, Arc<Comprehension, Global>, usize, Gathered),
+    Gather(Gathering, Gathered),
+    /// A comprehension, whose first clause goes over a value.
+    First(usize, Arc<Expr, Global>, Arc<Comprehension, Global>, Val),
+    /// A call of a function of a file: the place of the function, the arguments, and the names of the last ones.
+    Enter(usize, usize, Vec<Val>, Arc<Vec<Text>, Global>),
+    /// A call of a built-in function.
+    Builtin(usize, Builtin, Vec<Val>, Arc<Vec<Text>, Global>),
+    /// A call of a method.
+    Method(usize, Val, Text, Vec<Val>, Arc<Vec<Text>, Global>),
+    /// A package call.
+    Package(usize, Builtin, Vec<Val>, Arc<Vec<Text>, Global>),
+    /// `x += y`, where the target and both values are evaluated.
+    Add(usize, Aim, Val, Val),
+    /// The statements of a file from the number on.
+    Tops(Arc<File, Global>, usize),
+    /// The defaults of a function from a parameter on, and the values done.
+    Defaults(usize, Arc<Def, Global>, usize, Vec<Val>),
+    /// A function is bound, with the values of its defaults.
+    Define(usize, Arc<Def, Global>, Vec<Val>),
+}

@@ -1,0 +1,101 @@
+//! How the clauses of a comprehension go on.
+ghost use Rattle.std.specs.Prelude.{◌≡◌, ◌<◌, ◌+◌, ◌≤◌, ℕ, List, IfOk};
+ghost use Rattle.std.specs.Arc.{arc_value};
+ghost use Rattle.language.specs.World.{Here};
+ghost use Rattle.language.specs.Environment.{Env};
+ghost use Rattle.names.specs.View.{world_of, here_of};
+ghost use Rattle.frames.specs.Frames.{Goes, on, ex, gathered, item_does, above, machine_does};
+ghost use Rattle.frames.specs.Weight.{Lighter, frames_weight, control_weight};
+ghost use Rattle.pieces.specs.View.{gathered_of};
+ghost use Rattle.frames.specs.declared.frame.Control.TheVariants as c;
+
+use crate::frame::{Comprehension, Control, Frame, Gathering, Item, Signal};
+use crate::items::begin_above;
+use crate::stack::push;
+use crate::targets::begin_aim;
+use tree::Clause;
+use heap::Halt;
+use names::{Standing, State};
+use pieces::{Gathered, tick, unlock};
+use std::alloc::Global;
+use std::sync::Arc;
+
+// Begins an item of a comprehension.
+fn begin_item(
+    state: &mut State,
+    frames: &mut Vec<Frame>,
+    at: &Standing,
+    line: usize,
+    item: &Item,
+    got: Gathered,
+) -> Result<Control, Halt>
+    ensures goes { (env : Env) (n : ℕ) (running : List (List ℕ × List ℕ)) → let here = here_of at.now at.now.line running in Goes (on env n here line).site (above env n here (gathered (item_does env n here item.now line (gathered_of got))) frames.old.items (world_of state.old)) result (λ control. machine_does env n here control frames.new.items (world_of state.new)) }
+    ensures steps { IfOk result (λ _. state.new.heap.steps < state.old.heap.steps) }
+{
+    match item {
+        Item::Member(e) => begin_above(state, frames, at, Frame::OneMore(line, got), line, e),
+        Item::Entry(k, e) => {
+            let frame = Frame::OneKey(line, Arc::try_clone(e)?, got);
+            begin_above(state, frames, at, frame, line, k)
+        }
+    }
+}
+
+/// Goes on with the clauses of a comprehension.
+pub fn next_clause(
+    state: &mut State,
+    frames: &mut Vec<Frame>,
+    at: &Standing,
+    line: usize,
+    of: Arc<Comprehension, Global>,
+    inner: usize,
+    got: Gathered,
+) -> Result<Control, Halt>
+    ensures goes { (env : Env) (n : ℕ) (running : List (List ℕ × List ℕ)) → let here = here_of at.now at.now.line running in Goes (on env n here line).site (machine_does env n here (c.Clauses line of inner got) frames.old.items (world_of state.old)) result (λ control. machine_does env n here control frames.new.items (world_of state.new)) }
+    ensures steps { IfOk result (λ _. state.new.heap.steps < state.old.heap.steps) }
+{
+    if inner >= of.clauses.len() {
+        return begin_item(state, frames, at, line, &of.item, got);
+    }
+    let again = Arc::try_clone(&of)?;
+    match &of.clauses[inner] {
+        Clause::For(target, e) => {
+            let target = Arc::try_clone(target)?;
+            let frame = Frame::Each(line, target, again, inner + 1, got);
+            begin_above(state, frames, at, frame, line, e)
+        }
+        Clause::If(e) => {
+            let frame = Frame::Only(line, again, inner + 1, got);
+            begin_above(state, frames, at, frame, line, e)
+        }
+    }
+}
+
+/// Goes on with the members that a clause goes over.
+pub fn next_gather(
+    state: &mut State,
+    frames: &mut Vec<Frame>,
+    at: &Standing,
+    turns: Gathering,
+    got: Gathered,
+) -> Result<Control, Halt>
+    ensures goes { (env : Env) (n : ℕ) (running : List (List ℕ × List ℕ)) → let here = here_of at.now at.now.line running in Goes (on env n here turns.line).site (machine_does env n here (c.Gather turns got) frames.old.items (world_of state.old)) result (λ control. machine_does env n here control frames.new.items (world_of state.new)) }
+    ensures lighter { IfOk result (λ control. Lighter state.old.heap.steps (frames_weight frames.old.items + 1) state.new.heap.steps (frames_weight frames.new.items + control_weight control)) }
+{
+    if turns.next >= turns.items.len() {
+        unlock(&mut state.heap, turns.over);
+        return Ok(Control::Signal(Signal::Gathered(got)));
+    }
+    if let Err(halt) = tick(&mut state.heap) {
+        return Err(halt);
+    }
+    let value = turns.items[turns.next];
+    let line = turns.line;
+    let target = Arc::try_clone(&turns.target)?;
+    let next = Gathering {
+        next: turns.next + 1,
+        ..turns
+    };
+    push(frames, Frame::Aimed(next, value, got))?;
+    begin_aim(state, frames, at, line, &target)
+}

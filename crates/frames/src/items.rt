@@ -1,0 +1,136 @@
+//! How items and entries go on, and what they are for.
+ghost use Rattle.std.specs.Prelude.{◌≡◌, ◌<◌, ◌+◌, ◌≤◌, ℕ, List, length, IfOk};
+ghost use Rattle.std.specs.List.{list_any};
+ghost use Rattle.std.specs.Arc.{arc_value};
+ghost use Rattle.meaning.specs.Builtins.{same_builtin};
+ghost use Rattle.language.specs.World.{World, Here};
+ghost use Rattle.language.specs.Names.{package_functions};
+ghost use Rattle.language.specs.Environment.{Env};
+ghost use Rattle.language.specs.Expressions as e;
+ghost use Rattle.language.specs.Arguments.{plain_part, named_part};
+ghost use Rattle.language.specs.Calls.{call};
+ghost use Rattle.names.specs.View.{world_of, here_of};
+ghost use Rattle.tree.specs.View.{tree_of};
+ghost use Rattle.frames.specs.Frames.{Goes, on, ex, valued, a_value, use_items, items_from, entries_from, trees_from, receiver_of, frame_does, calls_below, here_below, above, machine_does};
+ghost use Rattle.frames.specs.Weight.{Lighter, frames_weight, control_weight};
+ghost use Rattle.frames.specs.declared.frame.Control.TheVariants as c;
+ghost use Rattle.language.specs.World.{then_runs};
+
+use crate::begin::begin;
+use crate::frame::{Control, Frame, Purpose, Receiver, Signal};
+use crate::stack::push;
+use tree::Expr;
+use heap::{Builtin, Entry, Halt, Key, Val};
+use indexmap::IndexMap;
+use names::{Standing, State, package_function};
+use pieces::{make_dict, make_list, make_tuple};
+use std::alloc::Global;
+use std::sync::Arc;
+use texts::Text;
+
+// Whether a function is a package call.
+fn is_package(f: Builtin) -> bool
+    ensures { result ≡ list_any (same_builtin f) package_functions }
+{
+    match f {
+        Builtin::Glob => true,
+        Builtin::Filegroup => true,
+        Builtin::Genrule => true,
+        Builtin::Alias => true,
+        Builtin::TestSuite => true,
+        Builtin::PackageName => true,
+        _ => false,
+    }
+}
+
+// Calls a value: a function of a file, a built-in function or a package call; else fault 5.
+#[tactic(auto, unfolding(language::specs::Expressions::apply))]
+fn apply(line: usize, g: Val, xs: Vec<Val>, names: Arc<Vec<Text>, Global>) -> Result<Control, Halt>
+    ensures goes { (env : Env) (n : ℕ) (here : Here) (w : World) (frames : List Frame) → Goes (on env n here line).site (above env n here (valued (e.apply env (call env n) g (plain_part xs.items (arc_value names).items) (named_part xs.items (arc_value names).items) (on env n here line))) frames w) result (λ control. machine_does env n here control frames w) }
+    ensures light { IfOk result (λ control. control_weight control < 8) }
+{
+    match g {
+        Val::Builtin(f) => {
+            if is_package(f) {
+                Ok(Control::Package(line, f, xs, names))
+            } else {
+                Ok(Control::Builtin(line, f, xs, names))
+            }
+        }
+        Val::At(place) => Ok(Control::Enter(line, place, xs, names)),
+        _ => Err(Halt::Code(5)),
+    }
+}
+
+// Calls a method: of `native` a package call; an unknown one is fault 5.
+#[tactic(auto, unfolding(language::specs::Expressions::apply_method))]
+fn apply_method(
+    line: usize,
+    r: Receiver,
+    name: Text,
+    xs: Vec<Val>,
+    names: Arc<Vec<Text>, Global>,
+) -> Result<Control, Halt>
+    ensures goes { (env : Env) (n : ℕ) (here : Here) (w : World) (frames : List Frame) → Goes (on env n here line).site (above env n here (valued (e.apply_method env (receiver_of r) name (plain_part xs.items (arc_value names).items) (named_part xs.items (arc_value names).items) (on env n here line))) frames w) result (λ control. machine_does env n here control frames w) }
+    ensures light { IfOk result (λ control. control_weight control < 8) }
+{
+    match r {
+        Receiver::Native => match package_function(&name) {
+            Some(f) => Ok(Control::Package(line, f, xs, names)),
+            None => Err(Halt::Code(5)),
+        },
+        Receiver::Of(x) => Ok(Control::Method(line, x, name, xs, names)),
+    }
+}
+
+// What the values of several expressions are for.
+fn use_items(state: &mut State, line: usize, xs: Vec<Val>, p: Purpose) -> Result<Control, Halt>
+    ensures goes { (env : Env) (n : ℕ) (here : Here) (frames : List Frame) → Goes (on env n here line).site (above env n here (valued (use_items env n here p xs.items line)) frames (world_of state.old)) result (λ control. machine_does env n here control frames (world_of state.new)) }
+    ensures steps { IfOk result (λ _. state.new.heap.steps ≤ state.old.heap.steps) }
+    ensures light { IfOk result (λ control. control_weight control < 8) }
+{
+    match p {
+        Purpose::Tuple => Ok(Control::Signal(Signal::Value(make_tuple(&mut state.heap, xs)?))),
+        Purpose::List => Ok(Control::Signal(Signal::Value(make_list(&mut state.heap, xs)?))),
+        Purpose::Call(g, names) => apply(line, g, xs, names),
+        Purpose::Method(r, name, names) => apply_method(line, r, name, xs, names),
+    }
+}
+
+/// An expression that begins above a frame that waits for its value.
+pub fn begin_above(
+    state: &mut State,
+    frames: &mut Vec<Frame>,
+    at: &Standing,
+    frame: Frame,
+    line: usize,
+    e: &Expr,
+) -> Result<Control, Halt>
+    ensures goes { (env : Env) (n : ℕ) (running : List (List ℕ × List ℕ)) → let here = here_of at.now at.now.line running in calls_below frame n ≡ n → here_below frame here ≡ here → Goes (on env n here line).site (then_runs (ex env n here (tree_of e.now) line (world_of state.old)) (λ v. above env n here (frame_does env n here frame (a_value v)) frames.old.items)) result (λ control. machine_does env n here control frames.new.items (world_of state.new)) }
+    ensures steps { IfOk result (λ _. state.new.heap.steps < state.old.heap.steps) }
+{
+    push(frames, frame)?;
+    begin(state, frames, at, line, e)
+}
+
+/// Goes on with several expressions.
+pub fn next_item(
+    state: &mut State,
+    frames: &mut Vec<Frame>,
+    at: &Standing,
+    line: usize,
+    es: Arc<Vec<Expr>, Global>,
+    done: Vec<Val>,
+    p: Purpose,
+) -> Result<Control, Halt>
+    ensures goes { (env : Env) (n : ℕ) (running : List (List ℕ × List ℕ)) → let here = here_of at.now at.now.line running in Goes (on env n here line).site (machine_does env n here (c.Items line es done p) frames.old.items (world_of state.old)) result (λ control. machine_does env n here control frames.new.items (world_of state.new)) }
+    ensures lighter { IfOk result (λ control. Lighter state.old.heap.steps (frames_weight frames.old.items + 8) state.new.heap.steps (frames_weight frames.new.items + control_weight control)) }
+{
+    let next = done.len();
+    if next < es.len() {
+        let all = Arc::try_clone(&es)?;
+        let frame = Frame::Items(line, all, done, p);
+        return begin_above(state, frames, at, frame, line, &es[next]);
+    }
+    use_items(state, line, done, p)
+}

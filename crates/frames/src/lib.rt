@@ -1,0 +1,27 @@
+//! The frames of a machine that evaluates a file, and one step of it.
+#![tactic(auto)]
+
+mod begin;
+mod deliver;
+mod frame;
+mod gather;
+mod handing;
+mod items;
+mod loops;
+mod moves;
+mod operands;
+mod places;
+mod stack;
+mod statements;
+mod stepping;
+mod targets;
+mod tops;
+
+pub use deliver::given;
+pub use frame::{
+    Comprehension, Control, Exit, Frame, Gathering, Item, Purpose, Receiver, Signal, Turns,
+};
+pub use moves::hand_down;
+pub use places::{control_line, frame_line};
+pub use stack::push;
+pub use stepping::step;

@@ -1,0 +1,168 @@
+//! What waits for the values of operands.
+ghost use Rattle.std.specs.Prelude.{◌≡◌, ◌<◌, ◌+◌, ◌≤◌, ℕ, List, IfOk};
+ghost use Rattle.std.specs.Arc.{arc_value};
+ghost use Rattle.meaning.specs.Indexing as ix;
+ghost use Rattle.language.specs.World.{Here, on_heap, by_truth};
+ghost use Rattle.language.specs.Environment.{Env};
+ghost use Rattle.language.specs.Expressions as e;
+ghost use Rattle.language.specs.Calls.{call};
+ghost use Rattle.tree.specs.View.{shared_tree, bound_tree};
+ghost use Rattle.names.specs.View.{world_of, here_of};
+ghost use Rattle.frames.specs.Frames.{Goes, on, ex, valued, right, sliced, sliced_from, entries_from, entry_from, trees_from, above, machine_does};
+ghost use Rattle.frames.specs.Weight.{Lighter, frames_weight, control_weight};
+ghost use Rattle.frames.specs.declared.frame.Control.TheVariants as c;
+
+use crate::begin::begin;
+use crate::frame::{Control, Frame, Signal};
+use crate::items::begin_above;
+use tree::{BinaryOp, Expr, UnaryOp};
+use heap::{Entry, Halt, Key, Val};
+use indexmap::IndexMap;
+use names::{Standing, State};
+use pieces::{is_true, make_dict, slice, unary};
+use std::alloc::Global;
+use std::sync::Arc;
+
+/// An operator before a value.
+pub fn unary_done(state: &mut State, op: UnaryOp, x: Val) -> Result<Control, Halt>
+    ensures goes { (env : Env) (n : ℕ) (here : Here) (line : ℕ) (frames : List Frame) → Goes (on env n here line).site (above env n here (valued (e.unary op x (on env n here line))) frames (world_of state.old)) result (λ control. machine_does env n here control frames (world_of state.new)) }
+    ensures steps { IfOk result (λ _. state.new.heap.steps ≤ state.old.heap.steps) }
+    ensures light { IfOk result (λ control. control_weight control ≡ 0) }
+{
+    match unary(state, op, x) {
+        Ok(value) => Ok(Control::Signal(Signal::Value(value))),
+        Err(halt) => Err(halt),
+    }
+}
+
+/// The second operand, behind the first.
+pub fn right_operand(
+    state: &mut State,
+    frames: &mut Vec<Frame>,
+    at: &Standing,
+    line: usize,
+    op: BinaryOp,
+    x: Val,
+    b: &Arc<Expr, Global>,
+) -> Result<Control, Halt>
+    ensures goes { (env : Env) (n : ℕ) (running : List (List ℕ × List ℕ)) → let here = here_of at.now at.now.line running in Goes (on env n here line).site (above env n here (valued (right op x (ex env n here (shared_tree b.now) line) (on env n here line))) frames.old.items (world_of state.old)) result (λ control. machine_does env n here control frames.new.items (world_of state.new)) }
+    ensures lighter { IfOk result (λ control. Lighter state.old.heap.steps (frames_weight frames.old.items + 2) state.new.heap.steps (frames_weight frames.new.items + control_weight control)) }
+{
+    match op {
+        BinaryOp::Or => {
+            if is_true(&state.heap, x) {
+                return Ok(Control::Signal(Signal::Value(x)));
+            }
+            begin(state, frames, at, line, b)
+        }
+        BinaryOp::And => {
+            if is_true(&state.heap, x) {
+                return begin(state, frames, at, line, b);
+            }
+            Ok(Control::Signal(Signal::Value(x)))
+        }
+        _ => begin_above(state, frames, at, Frame::Both(line, op, x), line, b),
+    }
+}
+
+/// One of two expressions, by a condition.
+pub fn choose(
+    state: &mut State,
+    frames: &mut Vec<Frame>,
+    at: &Standing,
+    line: usize,
+    x: Val,
+    a: &Arc<Expr, Global>,
+    b: &Arc<Expr, Global>,
+) -> Result<Control, Halt>
+    ensures goes { (env : Env) (n : ℕ) (running : List (List ℕ × List ℕ)) → let here = here_of at.now at.now.line running in Goes (on env n here line).site (above env n here (valued (by_truth x (ex env n here (shared_tree a.now) line) (ex env n here (shared_tree b.now) line))) frames.old.items (world_of state.old)) result (λ control. machine_does env n here control frames.new.items (world_of state.new)) }
+    ensures steps { IfOk result (λ _. state.new.heap.steps < state.old.heap.steps) }
+{
+    if is_true(&state.heap, x) {
+        return begin(state, frames, at, line, a);
+    }
+    begin(state, frames, at, line, b)
+}
+
+/// The upper bound of a slice, behind the lower one.
+pub fn slice_to(
+    state: &mut State,
+    frames: &mut Vec<Frame>,
+    at: &Standing,
+    line: usize,
+    x: Val,
+    y: Val,
+    j: &Option<Arc<Expr, Global>>,
+) -> Result<Control, Halt>
+    ensures goes { (env : Env) (n : ℕ) (running : List (List ℕ × List ℕ)) → let here = here_of at.now at.now.line running in Goes (on env n here line).site (above env n here (valued (sliced env n here x y (bound_tree j.now) line)) frames.old.items (world_of state.old)) result (λ control. machine_does env n here control frames.new.items (world_of state.new)) }
+    ensures lighter { IfOk result (λ control. Lighter state.old.heap.steps (frames_weight frames.old.items + 2) state.new.heap.steps (frames_weight frames.new.items + control_weight control)) }
+{
+    match j {
+        Some(e) => begin_above(state, frames, at, Frame::To(line, x, y), line, e),
+        None => Ok(Control::Signal(Signal::Value(slice(&mut state.heap, x, y, Val::Nothing)?))),
+    }
+}
+
+/// Goes on with the entries of a dictionary.
+pub fn next_entry(
+    state: &mut State,
+    frames: &mut Vec<Frame>,
+    at: &Standing,
+    line: usize,
+    ks: Arc<Vec<Expr>, Global>,
+    vs: Arc<Vec<Expr>, Global>,
+    next: usize,
+    done: IndexMap<Key, Entry>,
+) -> Result<Control, Halt>
+    ensures goes { (env : Env) (n : ℕ) (running : List (List ℕ × List ℕ)) → let here = here_of at.now at.now.line running in Goes (on env n here line).site (machine_does env n here (c.Entries line ks vs next done) frames.old.items (world_of state.old)) result (λ control. machine_does env n here control frames.new.items (world_of state.new)) }
+    ensures lighter { IfOk result (λ control. Lighter state.old.heap.steps (frames_weight frames.old.items + 3) state.new.heap.steps (frames_weight frames.new.items + control_weight control)) }
+{
+    if next < ks.len() && next < vs.len() {
+        let keys = Arc::try_clone(&ks)?;
+        let frame = Frame::Key(line, keys, vs, next, done);
+        return begin_above(state, frames, at, frame, line, &ks[next]);
+    }
+    Ok(Control::Signal(Signal::Value(make_dict(&mut state.heap, done)?)))
+}
+
+/// The value of a key.
+pub fn entry_value(
+    state: &mut State,
+    frames: &mut Vec<Frame>,
+    at: &Standing,
+    line: usize,
+    ks: Arc<Vec<Expr>, Global>,
+    vs: Arc<Vec<Expr>, Global>,
+    next: usize,
+    done: IndexMap<Key, Entry>,
+    k: Val,
+) -> Result<Control, Halt>
+    ensures goes { (env : Env) (n : ℕ) (running : List (List ℕ × List ℕ)) → let here = here_of at.now at.now.line running in Goes (on env n here line).site (above env n here (valued (entry_from env n here k (trees_from next vs) (trees_from (next + 1) ks) done.entries line)) frames.old.items (world_of state.old)) result (λ control. machine_does env n here control frames.new.items (world_of state.new)) }
+    ensures lighter { IfOk result (λ control. Lighter state.old.heap.steps (frames_weight frames.old.items + 3) state.new.heap.steps (frames_weight frames.new.items + control_weight control)) }
+{
+    if next < vs.len() {
+        let values = Arc::try_clone(&vs)?;
+        let frame = Frame::Entry(line, ks, values, next + 1, done, k);
+        return begin_above(state, frames, at, frame, line, &vs[next]);
+    }
+    Ok(Control::Signal(Signal::Value(make_dict(&mut state.heap, done)?)))
+}
+
+/// The lower bound of a slice.
+pub fn slice_from(
+    state: &mut State,
+    frames: &mut Vec<Frame>,
+    at: &Standing,
+    line: usize,
+    x: Val,
+    i: &Option<Arc<Expr, Global>>,
+    j: Option<Arc<Expr, Global>>,
+) -> Result<Control, Halt>
+    ensures goes { (env : Env) (n : ℕ) (running : List (List ℕ × List ℕ)) → let here = here_of at.now at.now.line running in Goes (on env n here line).site (above env n here (valued (sliced_from env n here x (bound_tree i.now) (bound_tree j) line)) frames.old.items (world_of state.old)) result (λ control. machine_does env n here control frames.new.items (world_of state.new)) }
+    ensures lighter { IfOk result (λ control. Lighter state.old.heap.steps (frames_weight frames.old.items + 3) state.new.heap.steps (frames_weight frames.new.items + control_weight control)) }
+{
+    match i {
+        Some(e) => begin_above(state, frames, at, Frame::From(line, x, j), line, e),
+        None => slice_to(state, frames, at, line, x, Val::Nothing, &j),
+    }
+}

@@ -1,0 +1,39 @@
+//! What waits, on a stack.
+ghost use Rattle.std.specs.Prelude.{◌≡◌, ◌+◌, ℕ, OnOk, IfOk, IsOkUnless};
+ghost use Rattle.heap.specs.declared.halt.Halt.TheVariants.{Memory};
+ghost use Rattle.language.specs.World.{World, Here, then_runs};
+ghost use Rattle.language.specs.Environment.{Env};
+ghost use Rattle.tree.specs.View.{shared_tree};
+ghost use Rattle.frames.specs.Weight.{frame_weight, frames_weight};
+ghost use Rattle.frames.specs.Frames.{Sig, a_value, ex, frame_does, stack_does, calls_below, here_below, above, machine_does};
+
+use crate::frame::{Control, Frame};
+use tree::Expr;
+use heap::Halt;
+use std::alloc::Global;
+use std::sync::Arc;
+
+/// One more frame.
+#[tactic(auto, using(crate::proofs::Bind::stack_push))]
+pub fn push(frames: &mut Vec<Frame>, frame: Frame) -> Result<(), Halt>
+    ensures ok { OnOk result ((env : Env) (n : ℕ) (here : Here) → stack_does env n here frames.new.items ≡ (λ (sig : Sig) (w : World). then_runs (frame_does env n here frame sig w) (stack_does env (calls_below frame n) (here_below frame here) frames.old.items))) }
+    ensures err { IsOkUnless result Memory }
+    ensures weight { OnOk result (frames_weight frames.new.items ≡ frames_weight frames.old.items + frame_weight frame) }
+{
+    frames.push(frame)?;
+    Ok(())
+}
+
+/// An expression, above a frame that waits for its value.
+pub fn eval_above(
+    frames: &mut Vec<Frame>,
+    frame: Frame,
+    line: usize,
+    e: &Arc<Expr, Global>,
+) -> Result<Control, Halt>
+    ensures ok { IfOk result (λ control. (env : Env) (n : ℕ) (here : Here) (w : World) → calls_below frame n ≡ n → here_below frame here ≡ here → then_runs (ex env n here (shared_tree e.now) line w) (λ v. above env n here (frame_does env n here frame (a_value v)) frames.old.items) ≡ machine_does env n here control frames.new.items w) }
+    ensures err { IsOkUnless result Memory }
+{
+    push(frames, frame)?;
+    Ok(Control::Eval(line, Arc::try_clone(e)?))
+}

@@ -1,0 +1,87 @@
+//! How statements, branches and loops go on.
+ghost use Rattle.std.specs.Prelude.{◌≡◌, ◌<◌, ◌+◌, ◌≤◌, ℕ, List, IfOk};
+ghost use Rattle.language.specs.World.{Here, at_line};
+ghost use Rattle.language.specs.Environment.{Env};
+ghost use Rattle.language.specs.Statements as s;
+ghost use Rattle.language.specs.Calls.{call};
+ghost use Rattle.tree.specs.Statements.{stmt_of};
+ghost use Rattle.names.specs.View.{world_of, here_of};
+ghost use Rattle.frames.specs.Frames.{Goes, on, exited, stmt_line, above, machine_does};
+ghost use Rattle.frames.specs.Weight.{Lighter, frames_weight, control_weight, aim_size};
+ghost use Rattle.frames.specs.declared.frame.Control.TheVariants as c;
+
+use crate::frame::{Control, Exit, Frame, Signal, Turns};
+use crate::items::begin_above;
+use crate::stack::{eval_above, push};
+use crate::targets::aim_above;
+use tree::{Branch, Expr, Stmt};
+use heap::{Halt, Val};
+use names::{Standing, State};
+use pieces::{tick, unlock};
+use std::alloc::Global;
+use std::sync::Arc;
+
+/// Begins a statement.
+#[tactic(auto, using(crate::proofs::Bind::under), unfolding(language::specs::World::tick))]
+pub fn begin_stmt(
+    state: &mut State,
+    frames: &mut Vec<Frame>,
+    at: &Standing,
+    line: usize,
+    stmt: &Stmt,
+) -> Result<Control, Halt>
+    requires { line ≡ stmt_line (stmt_of stmt.now) }
+    ensures goes { (env : Env) (n : ℕ) (running : List (List ℕ × List ℕ)) → let here = here_of at.now at.now.line running in Goes (on env n here line).site (above env n here (exited (s.exec env (call env n) (stmt_of stmt.now) here)) frames.old.items (world_of state.old)) result (λ control. machine_does env n here control frames.new.items (world_of state.new)) }
+    ensures steps { IfOk result (λ _. state.new.heap.steps < state.old.heap.steps) }
+{
+    tick(&mut state.heap)?;
+    match stmt {
+        Stmt::Pass(_) => Ok(Control::Signal(Signal::Exit(Exit::GoesOn))),
+        Stmt::Break(_) => Ok(Control::Signal(Signal::Exit(Exit::Breaks))),
+        Stmt::Continue(_) => Ok(Control::Signal(Signal::Exit(Exit::Continues))),
+        Stmt::Return(_, None) => Ok(Control::Signal(Signal::Exit(Exit::Returns(Val::Nothing)))),
+        Stmt::Return(_, Some(e)) => eval_above(frames, Frame::Return, line, e),
+        Stmt::Eval(_, e) => eval_above(frames, Frame::Discard, line, e),
+        Stmt::Assign(_, target, e) => {
+            let target = Arc::try_clone(target)?;
+            eval_above(frames, Frame::Assign(line, target), line, e)
+        }
+        Stmt::Augment(_, target, op, e) => {
+            let right = Arc::try_clone(e)?;
+            aim_above(frames, Frame::Augment(line, *op, right), line, target)
+        }
+        Stmt::If(_, condition, body, branches, other) => {
+            let body = Arc::try_clone(body)?;
+            let branches = Arc::try_clone(branches)?;
+            let other = Arc::try_clone(other)?;
+            eval_above(
+                frames,
+                Frame::Branch(body, branches, 0, other),
+                line,
+                condition,
+            )
+        }
+        Stmt::For(_, target, e, body) => {
+            let target = Arc::try_clone(target)?;
+            let body = Arc::try_clone(body)?;
+            eval_above(frames, Frame::For(line, target, body), line, e)
+        }
+    }
+}
+
+/// The line of a statement.
+pub fn line_of(stmt: &Stmt) -> usize
+    ensures { result ≡ stmt_line (stmt_of stmt.now) }
+{
+    match stmt {
+        Stmt::Pass(line) => *line,
+        Stmt::Break(line) => *line,
+        Stmt::Continue(line) => *line,
+        Stmt::Return(line, _) => *line,
+        Stmt::Eval(line, _) => *line,
+        Stmt::Assign(line, _, _) => *line,
+        Stmt::Augment(line, _, _, _) => *line,
+        Stmt::If(line, _, _, _, _) => *line,
+        Stmt::For(line, _, _, _) => *line,
+    }
+}

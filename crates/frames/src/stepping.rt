@@ -1,0 +1,52 @@
+//! One step within a function or a file.
+ghost use Rattle.std.specs.Prelude.{◌≡◌, ◌+◌, ℕ, List, true, IfOk};
+ghost use Rattle.language.specs.World.{Here};
+ghost use Rattle.language.specs.Environment.{Env};
+ghost use Rattle.names.specs.View.{world_of, here_of};
+ghost use Rattle.frames.specs.Frames.{Goes, on, control_line, is_within, machine_does};
+ghost use Rattle.frames.specs.Weight.{Lighter, frames_weight, control_weight};
+
+use crate::begin::begin;
+use crate::frame::{Control, Frame};
+use crate::gather::{next_clause, next_gather};
+use crate::items::next_item;
+use crate::loops::{next_branch, next_stmt, next_turn};
+use crate::operands::next_entry;
+use crate::targets::{begin_aim, next_aim};
+use crate::tops::{next_default, next_top};
+use heap::Halt;
+use names::{Standing, State};
+
+/// One step of what goes on within a function or a file. A signal, a call and the beginning of a comprehension's block are
+/// handed back.
+pub fn step(
+    state: &mut State,
+    frames: &mut Vec<Frame>,
+    at: &Standing,
+    control: Control,
+) -> Result<Control, Halt>
+    ensures goes { (env : Env) (n : ℕ) (running : List (List ℕ × List ℕ)) → let here = here_of at.now at.now.line running in Goes (on env n here (control_line at.now.line control)).site (machine_does env n here control frames.old.items (world_of state.old)) result (λ next. machine_does env n here next frames.new.items (world_of state.new)) }
+    ensures lighter { is_within control ≡ true → IfOk result (λ next. Lighter state.old.heap.steps (frames_weight frames.old.items + control_weight control) state.new.heap.steps (frames_weight frames.new.items + control_weight next)) }
+{
+    match control {
+        Control::Eval(line, e) => begin(state, frames, at, line, &e),
+        Control::Items(line, es, done, p) => next_item(state, frames, at, line, es, done, p),
+        Control::Entries(line, ks, vs, next, done) => next_entry(
+            state, frames, at, line, ks, vs, next, done,
+        ),
+        Control::Aim(line, e) => begin_aim(state, frames, at, line, &e),
+        Control::Aims(line, es, done) => next_aim(state, frames, at, line, es, done),
+        Control::Suite(ss, next) => next_stmt(state, frames, at, ss, next),
+        Control::Branches(bs, next, other) => next_branch(state, frames, at, bs, next, other),
+        Control::Turns(turns) => next_turn(state, frames, at, turns),
+        Control::Clauses(line, of, inner, got) => {
+            next_clause(state, frames, at, line, of, inner, got)
+        }
+        Control::Gather(turns, got) => next_gather(state, frames, at, turns, got),
+        Control::Tops(file, next) => next_top(state, frames, at, file, next),
+        Control::Defaults(line, def, next, done) => next_default(
+            state, frames, at, line, def, next, done,
+        ),
+        control => Ok(control),
+    }
+}

@@ -1,0 +1,78 @@
+//! How targets go on: their operands are evaluated from left to right.
+ghost use Rattle.std.specs.Prelude.{◌≡◌, ◌<◌, ◌+◌, ◌≤◌, ℕ, List, IfOk, IsOkUnless};
+ghost use Rattle.heap.specs.declared.halt.Halt.TheVariants.{Memory};
+ghost use Rattle.language.specs.World.{World, Here, then_runs};
+ghost use Rattle.language.specs.Environment.{Env};
+ghost use Rattle.tree.specs.View.{tree_of, shared_tree};
+ghost use Rattle.names.specs.View.{world_of, here_of};
+ghost use Rattle.frames.specs.Frames.{Goes, on, an_aim, aimed, aims_at, frame_does, calls_below, here_below, above, machine_does};
+ghost use Rattle.frames.specs.Weight.{Lighter, frames_weight, control_weight, aim_size, aim_sizes};
+ghost use Rattle.frames.specs.declared.frame.Control.TheVariants as c;
+
+use crate::frame::{Control, Frame, Signal};
+use crate::items::begin_above;
+use crate::stack::push;
+use tree::Expr;
+use heap::Halt;
+use names::{Standing, State};
+use pieces::Aim;
+use std::alloc::Global;
+use std::sync::Arc;
+
+/// A target, above a frame that waits for what it aims at.
+pub fn aim_above(
+    frames: &mut Vec<Frame>,
+    frame: Frame,
+    line: usize,
+    e: &Arc<Expr, Global>,
+) -> Result<Control, Halt>
+    ensures ok { IfOk result (λ control. (env : Env) (n : ℕ) (here : Here) (w : World) → calls_below frame n ≡ n → here_below frame here ≡ here → then_runs (aims_at env n here (shared_tree e.now) line w) (λ a. above env n here (frame_does env n here frame (an_aim a)) frames.old.items) ≡ machine_does env n here control frames.new.items w) }
+    ensures err { IsOkUnless result Memory }
+{
+    push(frames, frame)?;
+    Ok(Control::Aim(line, Arc::try_clone(e)?))
+}
+
+/// Begins a target.
+pub fn begin_aim(
+    state: &mut State,
+    frames: &mut Vec<Frame>,
+    at: &Standing,
+    line: usize,
+    e: &Expr,
+) -> Result<Control, Halt>
+    ensures goes { (env : Env) (n : ℕ) (running : List (List ℕ × List ℕ)) → let here = here_of at.now at.now.line running in Goes (on env n here line).site (above env n here (aimed (aims_at env n here (tree_of e.now) line)) frames.old.items (world_of state.old)) result (λ control. machine_does env n here control frames.new.items (world_of state.new)) }
+    ensures lighter { IfOk result (λ control. Lighter state.old.heap.steps (frames_weight frames.old.items + aim_size (tree_of e.now)) state.new.heap.steps (frames_weight frames.new.items + control_weight control)) }
+{
+    match e {
+        Expr::Name(x) => Ok(Control::Signal(Signal::Aim(Aim::Name(x.share()?)))),
+        Expr::Index(a, i) => {
+            let frame = Frame::Container(line, Arc::try_clone(i)?);
+            begin_above(state, frames, at, frame, line, a)
+        }
+        Expr::Tuple(es) => Ok(Control::Aims(line, Arc::try_clone(es)?, Vec::new(state.heap.alloc))),
+        Expr::List(es) => Ok(Control::Aims(line, Arc::try_clone(es)?, Vec::new(state.heap.alloc))),
+        _ => Err(Halt::Code(5)),
+    }
+}
+
+/// Goes on with several targets.
+pub fn next_aim(
+    state: &mut State,
+    frames: &mut Vec<Frame>,
+    at: &Standing,
+    line: usize,
+    es: Arc<Vec<Expr>, Global>,
+    done: Vec<Aim>,
+) -> Result<Control, Halt>
+    ensures goes { (env : Env) (n : ℕ) (running : List (List ℕ × List ℕ)) → let here = here_of at.now at.now.line running in Goes (on env n here line).site (machine_does env n here (c.Aims line es done) frames.old.items (world_of state.old)) result (λ control. machine_does env n here control frames.new.items (world_of state.new)) }
+    ensures lighter { IfOk result (λ control. Lighter state.old.heap.steps (frames_weight frames.old.items + control_weight (c.Aims line es done)) state.new.heap.steps (frames_weight frames.new.items + control_weight control)) }
+{
+    let next = done.len();
+    if next < es.len() {
+        let all = Arc::try_clone(&es)?;
+        push(frames, Frame::Aims(line, all, done))?;
+        return begin_aim(state, frames, at, line, &es[next]);
+    }
+    Ok(Control::Signal(Signal::Aim(Aim::Each(done))))
+}

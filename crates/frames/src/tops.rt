@@ -1,0 +1,72 @@
+//! How the statements of a file go on.
+ghost use Rattle.std.specs.Prelude.{◌≡◌, ◌<◌, ◌+◌, ◌≤◌, ℕ, List, IfOk};
+ghost use Rattle.language.specs.World.{Here};
+ghost use Rattle.language.specs.Environment.{Env};
+ghost use Rattle.names.specs.View.{world_of, here_of};
+ghost use Rattle.frames.specs.Frames.{Goes, on, machine_does, tops_at, tops_line};
+ghost use Rattle.frames.specs.Weight.{Lighter, frames_weight, control_weight};
+ghost use Rattle.frames.specs.declared.frame.Control.TheVariants as c;
+
+use crate::frame::{Control, Exit, Frame, Signal};
+use crate::items::begin_above;
+use crate::stack::push;
+use crate::statements::{begin_stmt, line_of};
+use tree::{Def, File, Top};
+use heap::{Halt, Val};
+use names::{Standing, State};
+use pieces::tick;
+use std::alloc::Global;
+use std::sync::Arc;
+
+/// Goes on with the statements of a file.
+#[tactic(auto, unfolding(language::specs::World::tick))]
+pub fn next_top(
+    state: &mut State,
+    frames: &mut Vec<Frame>,
+    at: &Standing,
+    file: Arc<File, Global>,
+    next: usize,
+) -> Result<Control, Halt>
+    ensures goes { (env : Env) (n : ℕ) (running : List (List ℕ × List ℕ)) → let here = here_of at.now at.now.line running in Goes (on env n here (tops_line (tops_at next file))).site (machine_does env n here (c.Tops file next) frames.old.items (world_of state.old)) result (λ control. machine_does env n here control frames.new.items (world_of state.new)) }
+    ensures lighter { IfOk result (λ control. Lighter state.old.heap.steps (frames_weight frames.old.items + 1) state.new.heap.steps (frames_weight frames.new.items + control_weight control)) }
+{
+    if next >= file.tops.len() {
+        return Ok(Control::Signal(Signal::Exit(Exit::GoesOn)));
+    }
+    let again = Arc::try_clone(&file)?;
+    push(frames, Frame::Tops(again, next + 1))?;
+    match &file.tops[next] {
+        Top::Stmt(stmt) => begin_stmt(state, frames, at, line_of(stmt), stmt),
+        Top::Def(def) => {
+            tick(&mut state.heap)?;
+            let line = def.line;
+            Ok(Control::Defaults(line, Arc::try_clone(def)?, 0, Vec::new(state.heap.alloc)))
+        }
+    }
+}
+
+/// Goes on with the defaults of a function.
+pub fn next_default(
+    state: &mut State,
+    frames: &mut Vec<Frame>,
+    at: &Standing,
+    line: usize,
+    def: Arc<Def, Global>,
+    next: usize,
+    done: Vec<Val>,
+) -> Result<Control, Halt>
+    ensures goes { (env : Env) (n : ℕ) (running : List (List ℕ × List ℕ)) → let here = here_of at.now at.now.line running in Goes (on env n here line).site (machine_does env n here (c.Defaults line def next done) frames.old.items (world_of state.old)) result (λ control. machine_does env n here control frames.new.items (world_of state.new)) }
+    ensures lighter { IfOk result (λ control. Lighter state.old.heap.steps (frames_weight frames.old.items + control_weight (c.Defaults line def next done)) state.new.heap.steps (frames_weight frames.new.items + control_weight control)) }
+{
+    if next >= def.params.len() {
+        return Ok(Control::Define(line, def, done));
+    }
+    let again = Arc::try_clone(&def)?;
+    match &def.params[next].default {
+        Some(e) => {
+            let frame = Frame::Default(line, again, next + 1, done);
+            begin_above(state, frames, at, frame, line, e)
+        }
+        None => Ok(Control::Defaults(line, again, next + 1, done)),
+    }
+}
