@@ -13,7 +13,6 @@ ghost use Rattle.frames.specs.Frames.{Goes, on, ex, valued, gathered, item_does,
 
 use crate::frame::{Comprehension, Control, Frame, Item, Purpose, Receiver, Signal};
 use crate::stack::{eval_above, push};
-use tree::{Clause, Expr, Literal};
 use heap::{Halt, Val};
 use indexmap::IndexMap;
 use names::{Standing, State, is_native_name, read};
@@ -21,6 +20,7 @@ use pieces::{make_text, tick};
 use std::alloc::Global;
 use std::sync::Arc;
 use texts::Text;
+use tree::{Clause, Expr, Literal};
 
 // The value of a word.
 fn literal(word: Literal) -> Val

@@ -1,6 +1,5 @@
 //! What a machine keeps while it runs.
 
-use tree::{BinaryOp, Branch, Clause, Def, Expr, File, Stmt, UnaryOp};
 use heap::{Builtin, Entry, Key, Val};
 use indexmap::IndexMap;
 use names::{Slot, Standing};
@@ -8,6 +7,7 @@ use pieces::{Aim, Gathered};
 use std::alloc::Global;
 use std::sync::Arc;
 use texts::Text;
+use tree::{BinaryOp, Branch, Clause, Def, Expr, File, Stmt, UnaryOp};
 
 /// How a statement ends.
 #[derive(Clone, Copy, PartialEq, Eq, Debug)]

@@ -13,12 +13,12 @@ use crate::frame::{Comprehension, Control, Frame, Gathering, Item, Signal};
 use crate::items::begin_above;
 use crate::stack::push;
 use crate::targets::begin_aim;
-use tree::Clause;
 use heap::Halt;
 use names::{Standing, State};
 use pieces::{Gathered, tick, unlock};
 use std::alloc::Global;
 use std::sync::Arc;
+use tree::Clause;
 
 // Begins an item of a comprehension.
 fn begin_item(

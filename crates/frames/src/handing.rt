@@ -14,12 +14,12 @@ use crate::items::begin_above;
 use crate::operands::{choose, entry_value, right_operand, slice_from, slice_to, unary_done};
 use crate::stack::push;
 use crate::targets::begin_aim;
-use tree::{BinaryOp, Expr};
 use heap::{Halt, Val};
 use names::{Standing, State};
 use pieces::{Aim, both, fresh, index, is_true, items, lock, one_entry, one_more, slice, store};
 use std::alloc::Global;
 use std::sync::Arc;
+use tree::{BinaryOp, Expr};
 
 // Assigns a value to a target.
 fn assign(

@@ -19,7 +19,6 @@ ghost use Rattle.language.specs.World.{then_runs};
 use crate::begin::begin;
 use crate::frame::{Control, Frame, Purpose, Receiver, Signal};
 use crate::stack::push;
-use tree::Expr;
 use heap::{Builtin, Entry, Halt, Key, Val};
 use indexmap::IndexMap;
 use names::{Standing, State, package_function};
@@ -27,6 +26,7 @@ use pieces::{make_dict, make_list, make_tuple};
 use std::alloc::Global;
 use std::sync::Arc;
 use texts::Text;
+use tree::Expr;
 
 // Whether a function is a package call.
 fn is_package(f: Builtin) -> bool

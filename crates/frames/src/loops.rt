@@ -12,12 +12,12 @@ use crate::items::begin_above;
 use crate::stack::push;
 use crate::statements::{begin_stmt, line_of};
 use crate::targets::begin_aim;
-use tree::{Branch, Stmt};
 use heap::Halt;
 use names::{Standing, State};
 use pieces::{tick, unlock};
 use std::alloc::Global;
 use std::sync::Arc;
+use tree::{Branch, Stmt};
 
 /// Goes on with a suite.
 pub fn next_stmt(

@@ -15,13 +15,13 @@ ghost use Rattle.frames.specs.declared.frame.Control.TheVariants as c;
 use crate::begin::begin;
 use crate::frame::{Control, Frame, Signal};
 use crate::items::begin_above;
-use tree::{BinaryOp, Expr, UnaryOp};
 use heap::{Entry, Halt, Key, Val};
 use indexmap::IndexMap;
 use names::{Standing, State};
 use pieces::{is_true, make_dict, slice, unary};
 use std::alloc::Global;
 use std::sync::Arc;
+use tree::{BinaryOp, Expr, UnaryOp};
 
 /// An operator before a value.
 pub fn unary_done(state: &mut State, op: UnaryOp, x: Val) -> Result<Control, Halt>

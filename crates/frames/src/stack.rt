@@ -8,10 +8,10 @@ ghost use Rattle.frames.specs.Weight.{frame_weight, frames_weight};
 ghost use Rattle.frames.specs.Frames.{Sig, a_value, ex, frame_does, stack_does, calls_below, here_below, above, machine_does};
 
 use crate::frame::{Control, Frame};
-use tree::Expr;
 use heap::Halt;
 use std::alloc::Global;
 use std::sync::Arc;
+use tree::Expr;
 
 /// One more frame.
 #[tactic(auto, using(crate::proofs::Bind::stack_push))]

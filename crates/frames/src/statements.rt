@@ -14,12 +14,12 @@ use crate::frame::{Control, Exit, Frame, Signal, Turns};
 use crate::items::begin_above;
 use crate::stack::{eval_above, push};
 use crate::targets::aim_above;
-use tree::{Branch, Expr, Stmt};
 use heap::{Halt, Val};
 use names::{Standing, State};
 use pieces::{tick, unlock};
 use std::alloc::Global;
 use std::sync::Arc;
+use tree::{Branch, Expr, Stmt};
 
 /// Begins a statement.
 #[tactic(auto, using(crate::proofs::Bind::under), unfolding(language::specs::World::tick))]

@@ -12,12 +12,12 @@ ghost use Rattle.frames.specs.declared.frame.Control.TheVariants as c;
 use crate::frame::{Control, Frame, Signal};
 use crate::items::begin_above;
 use crate::stack::push;
-use tree::Expr;
 use heap::Halt;
 use names::{Standing, State};
 use pieces::Aim;
 use std::alloc::Global;
 use std::sync::Arc;
+use tree::Expr;
 
 /// A target, above a frame that waits for what it aims at.
 pub fn aim_above(

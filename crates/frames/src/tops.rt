@@ -11,12 +11,12 @@ use crate::frame::{Control, Exit, Frame, Signal};
 use crate::items::begin_above;
 use crate::stack::push;
 use crate::statements::{begin_stmt, line_of};
-use tree::{Def, File, Top};
 use heap::{Halt, Val};
 use names::{Standing, State};
 use pieces::tick;
 use std::alloc::Global;
 use std::sync::Arc;
+use tree::{Def, File, Top};
 
 /// Goes on with the statements of a file.
 #[tactic(auto, unfolding(language::specs::World::tick))]
