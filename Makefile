@@ -3,7 +3,7 @@
 
 PROGRAM := crates/cli/out/cli
 
-.PHONY: run build test allocations bench
+.PHONY: run build test limits allocations bench
 
 # Proves what the program stands on, builds it, and shows each line of an example with its answer.
 run: build
@@ -16,8 +16,12 @@ build:
 test:
 	rt ci
 
-# Each allocation of the program refused in turn, over the example, each of the parser over two files, and each of a
-# script of values and of one of edits and look-ups. Needs cc and python3.
+# Lines, texts and paths at their limits. Needs python3.
+limits: build
+	python3 tests/limits.py
+
+# Each allocation of the program refused in turn, over the example, each of the parser over two files, each of a
+# script of values and of one of edits and look-ups, and each of a program that waits for globs. Needs cc and python3.
 allocations: build
 	@cd crates/parse_times && rt run > build.log 2>&1 || { tail -n 30 build.log; exit 1; }
 	@cd crates/value_times && rt run > build.log 2>&1 || { tail -n 30 build.log; exit 1; }
@@ -25,6 +29,8 @@ allocations: build
 	python3 tests/allocations.py
 	python3 tests/parse_allocations.py
 	python3 tests/script_allocations.py
+	@cd crates/program_rows && rt run < stdin > build.log 2>&1 || { tail -n 30 build.log; exit 1; }
+	python3 tests/program_allocations.py
 
 # Times of the program; prints a table. Needs python3.
 bench: build
@@ -33,5 +39,7 @@ bench: build
 	@cd crates/parse_times && rt run > build.log 2>&1 || { tail -n 30 build.log; exit 1; }
 	@cd crates/graph_times && rt run > build.log 2>&1 || { tail -n 30 build.log; exit 1; }
 	@cd crates/value_times && rt run > build.log 2>&1 || { tail -n 30 build.log; exit 1; }
+	@cd crates/eval_times && rt run > build.log 2>&1 || { tail -n 30 build.log; exit 1; }
 	python3 bench/bench.py
 	python3 bench/values.py
+	python3 bench/programs.py

@@ -1,6 +1,8 @@
 #!/usr/bin/env python3
 """Refuses each allocation of the program in turn, over short scripts, the journal wanted too: what it wrote is then a
-beginning of the answers, it says `stop: memory` and its status is 3. Run it by `make allocations`."""
+beginning of the answers, it says `stop: memory` and its status is 3. The scripts are those of examples/ and of tests/scripts:
+packages, globs, what stops at an equal value, cycles and their mending, a package that is restarted. Run it by `make
+allocations`."""
 import os
 import subprocess
 import sys
@@ -8,14 +10,22 @@ import tempfile
 
 HERE = os.path.dirname(os.path.abspath(__file__))
 LOADER = [os.path.join(HERE, "../crates/cli/out/cli"), "run", "--runs"]
-SCRIPTS = ["session.jsonl", "edits.jsonl"]
+SCRIPTS = [
+    "../examples/session.jsonl",
+    "../examples/edits.jsonl",
+    "scripts/packages.jsonl",
+    "scripts/globs.jsonl",
+    "scripts/pruning.jsonl",
+    "scripts/cycles.jsonl",
+    "scripts/restarts.jsonl",
+]
 
 
 def run(library, name, fails, count_file=None):
     env = dict(os.environ, LD_PRELOAD=library, FAIL_ALLOC=str(fails))
     if count_file:
         env["FAIL_ALLOC_COUNT"] = count_file
-    with open(os.path.join(HERE, "../examples", name)) as script:
+    with open(os.path.join(HERE, name)) as script:
         return subprocess.run(LOADER, stdin=script, capture_output=True, env=env)
 
 
@@ -47,7 +57,7 @@ def main():
             allocations, stopped, wrong = refuse_each(library, name, os.path.join(folder, "count"))
             for row in wrong[:10]:
                 print("allocation %d: status %d, wrote ..%r, said ..%r" % row)
-            print(f"{name}: {allocations} allocations refused in turn, {stopped} stopped the program: {len(wrong)} wrong")
+            print(f"{os.path.basename(name)}: {allocations} allocations refused in turn, {stopped} stopped the program: {len(wrong)} wrong")
             status = 1 if wrong or not stopped else status
     return status
 

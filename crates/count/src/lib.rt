@@ -9,19 +9,3 @@ mod number;
 
 pub use history::History;
 pub use number::Count;
-
-#[cfg(test)]
-mod tests {
-    use super::*;
-    use std::mem::size_of;
-
-    #[test]
-    fn neither_takes_memory(rt: HostRuntime) {
-        let mut count = Count::new();
-        count.add_one();
-        let mut history = History::new();
-        history.add_all(b"ab");
-        assert_eq!(rt; size_of::<Count>(), 0);
-        assert_eq!(rt; size_of::<History>(), 0);
-    }
-}

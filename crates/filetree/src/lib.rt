@@ -4,7 +4,6 @@
 ghost use Rattle.filetree.specs.Lawful.{EditsKeepPaths};
 
 mod error;
-mod flat;
 mod folder;
 mod listing;
 mod tree;

@@ -77,3 +77,8 @@ lighten (Err halt) s a b s' f le h = tt
 pub tick_is : (here : Here) (w : World) → tick here w ≡ at_site here.site w (walks (λ objects. o.tick) w.store)
 unfolding tick
 tick_is here w = refl
+
+-- where nothing waits
+pub stack_empty : (env : Env) (n : ℕ) (here : Here) → stack_does env n here [] ≡ pure
+unfolding stack_does
+stack_empty env n here = refl

@@ -8,3 +8,5 @@ pub mod Operated
 pub mod Changed
 pub mod Topmost
 pub mod FileLevel
+pub mod Immediate
+pub mod Between

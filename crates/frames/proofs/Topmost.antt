@@ -8,9 +8,9 @@ use Rattle.frames.specs.Frames.{Sig, frame_does, stack_does, calls_below, here_b
 use Rattle.frames.proofs.Bind.{stack_push}
 
 pub same_calls : (n : ℕ) (frame : Frame) → is_leave frame ≡ false → calls_below frame n ≡ n
-same_calls z (f.Items line es done p) said = refl
-same_calls z (f.Key line ks vs next done) said = refl
-same_calls z (f.Entry line ks vs next done k) said = refl
+same_calls z (f.Items line s) said = refl
+same_calls z (f.Key line pairs next) said = refl
+same_calls z (f.Entry line pairs next k) said = refl
 same_calls z (f.Unary line op) said = refl
 same_calls z (f.Right line op b) said = refl
 same_calls z (f.Both line op v) said = refl
@@ -36,7 +36,7 @@ same_calls z (f.For line target ss) said = refl
 same_calls z (f.Turn u v) said = refl
 same_calls z (f.Turns u) said = refl
 same_calls z (f.Rest ss next) said = refl
-same_calls z (f.Leave at blocks left) said = absurd cc
+same_calls z (f.Leave caller) said = absurd cc
 same_calls z (f.First line target comp) said = refl
 same_calls z (f.Each line target comp inner got) said = refl
 same_calls z (f.Only line comp inner got) said = refl
@@ -52,9 +52,9 @@ same_calls z (f.Default line def next done) said = refl
 same_calls z (f.Tops file next) said = refl
 
 pub same_here : (here : Here) (frame : Frame) → is_leave frame ≡ false → here_below frame here ≡ here
-same_here z (f.Items line es done p) said = refl
-same_here z (f.Key line ks vs next done) said = refl
-same_here z (f.Entry line ks vs next done k) said = refl
+same_here z (f.Items line s) said = refl
+same_here z (f.Key line pairs next) said = refl
+same_here z (f.Entry line pairs next k) said = refl
 same_here z (f.Unary line op) said = refl
 same_here z (f.Right line op b) said = refl
 same_here z (f.Both line op v) said = refl
@@ -80,7 +80,7 @@ same_here z (f.For line target ss) said = refl
 same_here z (f.Turn u v) said = refl
 same_here z (f.Turns u) said = refl
 same_here z (f.Rest ss next) said = refl
-same_here z (f.Leave at blocks left) said = absurd cc
+same_here z (f.Leave caller) said = absurd cc
 same_here z (f.First line target comp) said = refl
 same_here z (f.Each line target comp inner got) said = refl
 same_here z (f.Only line comp inner got) said = refl

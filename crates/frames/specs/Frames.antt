@@ -85,7 +85,7 @@ abbrev pub sig_of : Signal → Sig
 sig_of (g.Value v) = a_value v
 sig_of (g.Aim a) = an_aim (aim_of a)
 sig_of (g.Exit exit) = an_exit (exit_of exit)
-sig_of (g.Gathered got) = a_gathered (gathered_of got)
+sig_of (g.Gathered got) = a_gathered (gathered_of got.value)
 
 abbrev pub valued : Runs Val → Runs Sig
 valued m = m >>= λ v. pure (a_value v)
@@ -312,9 +312,9 @@ module _ (env : Env) (n : ℕ) (here : Here) where
 
   -- what a frame does with the signal that it waits for
   abbrev pub frame_does : Frame → Sig → Runs Sig
-  frame_does (f.Items line es done p) = on_value (on line) λ v. valued (items_from p (trees_from (length done.items + 1) es) (done.items ++ v ∷ []) line)
-  frame_does (f.Key line ks vs next done) = on_value (on line) λ k. valued (entry_from k (trees_from next vs) (trees_from (next + 1) ks) done.entries line)
-  frame_does (f.Entry line ks vs next done k) = on_value (on line) λ y. valued (entry_set k y (trees_from next ks) (trees_from next vs) done.entries line >>= λ found. on_heap (on line) (makes_dict found))
+  frame_does (f.Items line s) = on_value (on line) λ v. valued (items_from s.value.purpose (trees_from (length s.value.done.items + 1) s.value.items) (s.value.done.items ++ v ∷ []) line)
+  frame_does (f.Key line pairs next) = on_value (on line) λ k. valued (entry_from k (trees_from next pairs.value.values) (trees_from (next + 1) pairs.value.keys) pairs.value.done.entries line)
+  frame_does (f.Entry line pairs next k) = on_value (on line) λ y. valued (entry_set k y (trees_from next pairs.value.keys) (trees_from next pairs.value.values) pairs.value.done.entries line >>= λ found. on_heap (on line) (makes_dict found))
   frame_does (f.Unary line op) = on_value (on line) λ v. valued (unary op v (on line))
   frame_does (f.Right line op b) = on_value (on line) λ v. valued (right op v (ex (shared_tree b) line) (on line))
   frame_does (f.Both line op v) = on_value (on line) λ y. valued (on_heap (on line) (binary (operator_of op) v y))
@@ -333,22 +333,22 @@ module _ (env : Env) (n : ℕ) (here : Here) where
   frame_does (f.Assign line target) = on_value (on line) λ v. assigned (shared_tree target) v line
   frame_does (f.Store line v) = on_aim (on line) λ a. exited (store a v (on line) >>= λ _. pure goes_on)
   frame_does (f.Augment line op e) = on_aim (on line) λ a. exited (present a (on line) >>= λ v. ex (shared_tree e) line >>= λ y. changed op v y (on line) >>= λ z. store a z (on line) >>= λ _. pure goes_on)
-  frame_does (f.Change line op a v) = on_value (on line) λ y. changes op (aim_of a) v y line
+  frame_does (f.Change line op a v) = on_value (on line) λ y. changes op (aim_of a.value) v y line
   frame_does f.Return = on_value here λ v. pure (an_exit (returns v))
   frame_does (f.Branch ss bs next other) = on_value here λ v. exited (by_truth v (body (shared_suite ss)) (first_true env (call env n) (branches_from next bs) (body (shared_suite other)) here))
   frame_does (f.For line target ss) = on_value (on line) λ v. exited (over v (turns (turn env (call env n) (shared_tree target) (body (shared_suite ss)) (on line))) (on line))
-  frame_does (f.Turn u v) = on_aim (on u.line) λ a. exited ((store a v (on u.line) >>= λ _. body (shared_suite u.body)) >>= turns_behind u)
-  frame_does (f.Turns u) = on_exit (on u.line) λ exit. exited (turns_behind u exit)
+  frame_does (f.Turn u v) = on_aim (on u.value.line) λ a. exited ((store a v (on u.value.line) >>= λ _. body (shared_suite u.value.body)) >>= turns_behind u.value)
+  frame_does (f.Turns u) = on_exit (on u.value.line) λ exit. exited (turns_behind u.value exit)
   frame_does (f.Rest ss next) = on_exit here λ exit. exited (unless_over exit (body (suite_from next ss)))
-  frame_does (f.Leave at blocks left) = on_exit here λ exit w. ended (a_value (given exit)) (with_blocks (map block_of blocks.items) w)
+  frame_does (f.Leave caller) = on_exit here λ exit w. ended (a_value (given exit)) (with_blocks (map block_of caller.value.blocks.items) w)
   frame_does (f.First line target comp) = on_value (on line) λ v. gathered (first_does (shared_tree target) (arc_value comp) line v)
-  frame_does (f.Each line target comp inner got) = on_value (on line) λ v. gathered (each_does (shared_tree target) (arc_value comp) inner line (gathered_of got) v)
-  frame_does (f.Only line comp inner got) = on_value (on line) λ v. gathered (by_truth v (clauses_do (arc_value comp) inner line (gathered_of got)) (pure (gathered_of got)))
-  frame_does (f.Aimed u v got) = on_aim (on u.line) λ a. gathered ((store a v (on u.line) >>= λ _. clauses_do (arc_value u.of) u.inner u.line (gathered_of got)) >>= gather_from u)
-  frame_does (f.Gather u) = on_gathered (on u.line) λ got. gathered (gather_from u got)
-  frame_does (f.OneMore line got) = on_value (on line) λ v. gathered (one_more v (gathered_of got) (on line))
-  frame_does (f.OneKey line e got) = on_value (on line) λ k. gathered (ex (shared_tree e) line >>= λ y. one_entry k y (gathered_of got) (on line))
-  frame_does (f.OneEntry line k got) = on_value (on line) λ y. gathered (one_entry k y (gathered_of got) (on line))
+  frame_does (f.Each line target comp inner got) = on_value (on line) λ v. gathered (each_does (shared_tree target) (arc_value comp) inner line (gathered_of got.value) v)
+  frame_does (f.Only line comp inner got) = on_value (on line) λ v. gathered (by_truth v (clauses_do (arc_value comp) inner line (gathered_of got.value)) (pure (gathered_of got.value)))
+  frame_does (f.Aimed u v got) = on_aim (on u.value.line) λ a. gathered ((store a v (on u.value.line) >>= λ _. clauses_do (arc_value u.value.of) u.value.inner u.value.line (gathered_of got.value)) >>= gather_from u.value)
+  frame_does (f.Gather u) = on_gathered (on u.value.line) λ got. gathered (gather_from u.value got)
+  frame_does (f.OneMore line got) = on_value (on line) λ v. gathered (one_more v (gathered_of got.value) (on line))
+  frame_does (f.OneKey line e got) = on_value (on line) λ k. gathered (ex (shared_tree e) line >>= λ y. one_entry k y (gathered_of got.value) (on line))
+  frame_does (f.OneEntry line k got) = on_value (on line) λ y. gathered (one_entry k y (gathered_of got.value) (on line))
   frame_does f.EndBlock = on_gathered here λ got w. ended (a_gathered got) (without_block w)
   frame_does (f.MakeList line) = on_gathered (on line) λ got. valued (on_heap (on line) (makes_list got.members))
   frame_does (f.MakeDict line) = on_gathered (on line) λ got. valued (on_heap (on line) (makes_dict got.entries))
@@ -357,9 +357,9 @@ module _ (env : Env) (n : ℕ) (here : Here) where
 
 -- the line of the statement that a frame stands in
 abbrev pub frame_line : ℕ → Frame → ℕ
-frame_line base (f.Items line es done p) = line
-frame_line base (f.Key line ks vs next done) = line
-frame_line base (f.Entry line ks vs next done k) = line
+frame_line base (f.Items line s) = line
+frame_line base (f.Key line pairs next) = line
+frame_line base (f.Entry line pairs next k) = line
 frame_line base (f.Unary line op) = line
 frame_line base (f.Right line op b) = line
 frame_line base (f.Both line op v) = line
@@ -379,13 +379,13 @@ frame_line base (f.Store line v) = line
 frame_line base (f.Augment line op e) = line
 frame_line base (f.Change line op a v) = line
 frame_line base (f.For line target ss) = line
-frame_line base (f.Turn u v) = u.line
-frame_line base (f.Turns u) = u.line
+frame_line base (f.Turn u v) = u.value.line
+frame_line base (f.Turns u) = u.value.line
 frame_line base (f.First line target comp) = line
 frame_line base (f.Each line target comp inner got) = line
 frame_line base (f.Only line comp inner got) = line
-frame_line base (f.Aimed u v got) = u.line
-frame_line base (f.Gather u) = u.line
+frame_line base (f.Aimed u v got) = u.value.line
+frame_line base (f.Gather u) = u.value.line
 frame_line base (f.OneMore line got) = line
 frame_line base (f.OneKey line e got) = line
 frame_line base (f.OneEntry line k got) = line
@@ -396,18 +396,18 @@ frame_line base frame = base
 
 -- a frame that ends a call
 abbrev pub is_leave : Frame → Bool
-is_leave (f.Leave at blocks left) = true
+is_leave (f.Leave caller) = true
 is_leave frame = false
 
 -- ---- the frames, along the calls that are open
 
 -- how many more calls may be open below a frame, and where what is below it stands
 abbrev pub calls_below : Frame → ℕ → ℕ
-calls_below (f.Leave at blocks left) n = left
+calls_below (f.Leave caller) n = caller.value.left
 calls_below frame n = n
 
 abbrev pub here_below : Frame → Here → Here
-here_below (f.Leave at blocks left) here = here_of at at.line (drop 1 here.running)
+here_below (f.Leave caller) here = here_of caller.value.at caller.value.at.line (drop 1 here.running)
 here_below frame here = here
 
 -- all frames below, the topmost first
@@ -425,15 +425,15 @@ module _ (env : Env) (n : ℕ) (here : Here) where
   abbrev pub control_does : Control → Runs Sig
   control_does (c.Signal sig) = pure (sig_of sig)
   control_does (c.Eval line e) = valued (ex env n here (shared_tree e) line)
-  control_does (c.Items line es done p) = valued (items_from env n here p (trees_from (length done.items) es) done.items line)
-  control_does (c.Entries line ks vs next done) = valued (entries_from env n here (trees_from next ks) (trees_from next vs) done.entries line)
+  control_does (c.Items line s) = valued (items_from env n here s.value.purpose (trees_from (length s.value.done.items) s.value.items) s.value.done.items line)
+  control_does (c.Entries line pairs next) = valued (entries_from env n here (trees_from next pairs.value.keys) (trees_from next pairs.value.values) pairs.value.done.entries line)
   control_does (c.Aim line e) = aimed (aims_at env n here (shared_tree e) line)
   control_does (c.Aims line es done) = aimed (aims_from env n here (trees_from (length done.items) es) (map aim_of done.items) line)
   control_does (c.Suite ss next) = exited (body env n here (suite_from next ss))
   control_does (c.Branches bs next other) = exited (first_true env (call env n) (branches_from next bs) (body env n here (shared_suite other)) here)
-  control_does (c.Turns u) = exited (turns_behind env n here u goes_on)
-  control_does (c.Clauses line comp inner got) = gathered (clauses_do env n here (arc_value comp) inner line (gathered_of got))
-  control_does (c.Gather u got) = gathered (gather_from env n here u (gathered_of got))
+  control_does (c.Turns u) = exited (turns_behind env n here u.value goes_on)
+  control_does (c.Clauses line comp inner got) = gathered (clauses_do env n here (arc_value comp) inner line (gathered_of got.value))
+  control_does (c.Gather u got) = gathered (gather_from env n here u.value (gathered_of got.value))
   control_does (c.First line target comp v) = gathered (first_does env n here (shared_tree target) (arc_value comp) line v)
   control_does (c.Enter line place xs names) = valued (λ w. call_object (call env n) (at place w.store) (plain_part xs.items (arc_value names).items) (named_part xs.items (arc_value names).items) (at_line line here) w)
   control_does (c.Builtin line g xs names) = valued (on_heap (at_line line here) (builtin g (plain_part xs.items (arc_value names).items) (named_part xs.items (arc_value names).items)))
@@ -442,7 +442,7 @@ module _ (env : Env) (n : ℕ) (here : Here) where
   control_does (c.Tops file next) = exited (tops_do env n here (tops_at next file))
   control_does (c.Defaults line def next done) = exited (defines env n here (fn_of (arc_value def)) (params_at next def) done.items line)
   control_does (c.Define line def xs) = exited (defined env n here (fn_of (arc_value def)) xs.items line)
-  control_does (c.Add line a x y) = exited (on_heap (at_line line here) (added x y) >>= λ z. store (aim_of a) z (at_line line here) >>= λ _. pure goes_on)
+  control_does (c.Add line a x y) = exited (on_heap (at_line line here) (added x y) >>= λ z. store (aim_of a.value) z (at_line line here) >>= λ _. pure goes_on)
 
   -- a piece, with the frames below it
   abbrev pub above : Runs Sig → List Frame → Runs Sig
@@ -456,15 +456,15 @@ module _ (env : Env) (n : ℕ) (here : Here) where
 abbrev pub control_line : ℕ → Control → ℕ
 control_line base (c.Signal sig) = base
 control_line base (c.Eval line e) = line
-control_line base (c.Items line es done p) = line
-control_line base (c.Entries line ks vs next done) = line
+control_line base (c.Items line s) = line
+control_line base (c.Entries line pairs next) = line
 control_line base (c.Aim line e) = line
 control_line base (c.Aims line es done) = line
 control_line base (c.Suite ss next) = suite_line (suite_from next ss)
 control_line base (c.Branches bs next other) = first_line (branches_from next bs)
-control_line base (c.Turns u) = u.line
+control_line base (c.Turns u) = u.value.line
 control_line base (c.Clauses line comp inner got) = line
-control_line base (c.Gather u got) = u.line
+control_line base (c.Gather u got) = u.value.line
 control_line base (c.First line target comp v) = line
 control_line base (c.Enter line place xs names) = line
 control_line base (c.Builtin line g xs names) = line

@@ -21,9 +21,9 @@ abbrev mutual
   aim_sizes (t.ex e es) = aim_size e + aim_sizes es + 4
 
 abbrev pub frame_weight : Frame → ℕ
-frame_weight (f.Items line es done p) = 9
-frame_weight (f.Key line ks vs next done) = 5
-frame_weight (f.Entry line ks vs next done k) = 4
+frame_weight (f.Items line s) = 9
+frame_weight (f.Key line pairs next) = 5
+frame_weight (f.Entry line pairs next k) = 4
 frame_weight (f.Called line es names) = 9
 frame_weight (f.On line name es names) = 9
 frame_weight (f.Aims line es done) = aim_sizes (trees_from (length done.items + 1) es) + 2
@@ -43,8 +43,8 @@ frame_weight frame = 2
 
 abbrev pub control_weight : Control → ℕ
 control_weight (c.Signal sig) = 0
-control_weight (c.Items line es done p) = 8
-control_weight (c.Entries line ks vs next done) = 3
+control_weight (c.Items line s) = 8
+control_weight (c.Entries line pairs next) = 3
 control_weight (c.Aim line e) = aim_size (shared_tree e) + 1
 control_weight (c.Aims line es done) = aim_sizes (trees_from (length done.items) es) + 1
 control_weight (c.Branches bs next other) = 2

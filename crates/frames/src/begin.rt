@@ -12,9 +12,10 @@ ghost use Rattle.names.specs.View.{world_of, here_of};
 ghost use Rattle.frames.specs.Frames.{Goes, on, ex, valued, gathered, item_does, method_does, shared_trees, above, machine_does};
 
 use crate::frame::{Comprehension, Control, Frame, Item, Purpose, Receiver, Signal};
+use crate::making::{entries_of, items_of};
+use crate::once::value_above;
 use crate::stack::{eval_above, push};
 use heap::{Halt, Val};
-use indexmap::IndexMap;
 use names::{Standing, State, is_native_name, read};
 use pieces::{make_text, tick};
 use std::alloc::Global;
@@ -55,18 +56,12 @@ pub fn begin(
         Expr::Int(n) => Ok(Control::Signal(Signal::Value(Val::Int(*n)))),
         Expr::Str(x) => Ok(Control::Signal(Signal::Value(make_text(&mut state.heap, x)?))),
         Expr::Literal(word) => Ok(Control::Signal(Signal::Value(literal(*word)))),
-        Expr::Tuple(es) => {
-            let all = Arc::try_clone(es)?;
-            Ok(Control::Items(line, all, Vec::new(alloc), Purpose::Tuple))
-        }
-        Expr::List(es) => {
-            let all = Arc::try_clone(es)?;
-            Ok(Control::Items(line, all, Vec::new(alloc), Purpose::List))
-        }
+        Expr::Tuple(es) => { items_of(alloc, line, Arc::try_clone(es)?, Purpose::Tuple) }
+        Expr::List(es) => { items_of(alloc, line, Arc::try_clone(es)?, Purpose::List) }
         Expr::Dict(ks, vs) => {
             let keys = Arc::try_clone(ks)?;
             let values = Arc::try_clone(vs)?;
-            Ok(Control::Entries(line, keys, values, 0, IndexMap::new(alloc)))
+            entries_of(alloc, line, keys, values)
         }
         Expr::ListOf(item, clauses) => {
             let item = Item::Member(Arc::try_clone(item)?);
@@ -81,7 +76,7 @@ pub fn begin(
         Expr::Unary(op, a) => eval_above(frames, Frame::Unary(line, *op), line, a),
         Expr::Binary(op, a, b) => {
             let right = Arc::try_clone(b)?;
-            eval_above(frames, Frame::Right(line, *op, right), line, a)
+            value_above(state, frames, at, Frame::Right(line, *op, right), line, a)
         }
         Expr::Choice(a, condition, b) => {
             let first = Arc::try_clone(a)?;
@@ -90,7 +85,7 @@ pub fn begin(
         }
         Expr::Index(a, i) => {
             let index = Arc::try_clone(i)?;
-            eval_above(frames, Frame::Indexed(line, index), line, a)
+            value_above(state, frames, at, Frame::Indexed(line, index), line, a)
         }
         Expr::Slice(a, i, j) => {
             let from = share_bound(i)?;
@@ -100,7 +95,7 @@ pub fn begin(
         Expr::Call(f, es, names) => {
             let all = Arc::try_clone(es)?;
             let names = Arc::try_clone(names)?;
-            eval_above(frames, Frame::Called(line, all, names), line, f)
+            value_above(state, frames, at, Frame::Called(line, all, names), line, f)
         }
         Expr::Method(x, name, es, names) => begin_method(
             state, frames, at, line, x, name, es, names,
@@ -176,7 +171,14 @@ fn begin_method(
     if is_native(state, at, x) {
         tick(&mut state.heap)?;
         let purpose = Purpose::Method(Receiver::Native, name, names);
-        return Ok(Control::Items(line, all, Vec::new(state.heap.alloc), purpose));
+        return items_of(state.heap.alloc, line, all, purpose);
     }
-    eval_above(frames, Frame::On(line, name, all, names), line, x)
+    value_above(
+        state,
+        frames,
+        at,
+        Frame::On(line, name, all, names),
+        line,
+        x,
+    )
 }

@@ -46,8 +46,9 @@ pub fn deliver_exit(
             Exit::Continues => Ok(Control::Signal(Signal::Exit(Exit::Continues))),
             Exit::Returns(x) => Ok(Control::Signal(Signal::Exit(Exit::Returns(x)))),
         },
-        Frame::Leave(_, blocks, _) => {
-            state.blocks = blocks;
+        Frame::Leave(caller) => {
+            let caller = Box::into_inner(caller);
+            state.blocks = caller.blocks;
             Ok(Control::Signal(Signal::Value(given(exit))))
         }
         Frame::Tops(file, next) => Ok(Control::Tops(file, next)),
@@ -76,9 +77,9 @@ pub fn deliver_gathered(
     frames: &Vec<Frame>,
     at: &Standing,
     frame: Frame,
-    got: Gathered,
+    got: Box<Gathered>,
 ) -> Result<Control, Halt>
-    ensures goes { (env : Env) (n : ℕ) (running : List (List ℕ × List ℕ)) → let here = here_of at.now at.now.line running in Goes (on env n here (frame_line at.now.line frame)).site (above env n here (frame_does env n here frame (a_gathered (gathered_of got))) frames.now.items (world_of state.old)) result (λ control. machine_does env n here control frames.now.items (world_of state.new)) }
+    ensures goes { (env : Env) (n : ℕ) (running : List (List ℕ × List ℕ)) → let here = here_of at.now at.now.line running in Goes (on env n here (frame_line at.now.line frame)).site (above env n here (frame_does env n here frame (a_gathered (gathered_of got.value))) frames.now.items (world_of state.old)) result (λ control. machine_does env n here control frames.now.items (world_of state.new)) }
     ensures lighter { IfOk result (λ control. Lighter state.old.heap.steps (frames_weight frames.now.items + frame_weight frame) state.new.heap.steps (frames_weight frames.now.items + control_weight control)) }
 {
     match frame {
@@ -89,14 +90,14 @@ pub fn deliver_gathered(
             }
             Ok(Control::Signal(Signal::Gathered(got)))
         }
-        Frame::MakeList(_) => Ok(Control::Signal(Signal::Value(make_list(
-            &mut state.heap,
-            got.members,
-        )?))),
-        Frame::MakeDict(_) => Ok(Control::Signal(Signal::Value(make_dict(
-            &mut state.heap,
-            got.entries,
-        )?))),
+        Frame::MakeList(_) => {
+            let got = Box::into_inner(got);
+            Ok(Control::Signal(Signal::Value(make_list(&mut state.heap, got.members)?)))
+        }
+        Frame::MakeDict(_) => {
+            let got = Box::into_inner(got);
+            Ok(Control::Signal(Signal::Value(make_dict(&mut state.heap, got.entries)?)))
+        }
         frame => {
             drop(frame);
             drop(got);
@@ -133,6 +134,7 @@ pub fn deliver_aim(
                 Ok(x) => x,
                 Err(halt) => return Err(halt),
             };
+            let aim = Box::new(state.heap.alloc, aim)?;
             begin_above(state, frames, at, Frame::Change(line, op, aim, x), line, &e)
         }
         Frame::Turn(turns, x) => {

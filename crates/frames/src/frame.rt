@@ -24,7 +24,7 @@ pub enum Signal {
     Value(Val),
     Aim(Aim),
     Exit(Exit),
-    Gathered(Gathered),
+    Gathered(Box<Gathered>),
 }
 
 /// What a method is called on.
@@ -82,15 +82,39 @@ pub struct Gathering {
     pub next: usize,
 }
 
+/// Several expressions, the values of those done, and what they are for.
+#[derive(Drop)]
+pub struct Series {
+    pub items: Arc<Vec<Expr>, Global>,
+    pub done: Vec<Val>,
+    pub purpose: Purpose,
+}
+
+/// The keys and values of a dictionary, and the entries done.
+#[derive(Drop)]
+pub struct Pairs {
+    pub keys: Arc<Vec<Expr>, Global>,
+    pub values: Arc<Vec<Expr>, Global>,
+    pub done: IndexMap<Key, Entry>,
+}
+
+/// Where a call goes back to: where the caller stands, its blocks, and how many more calls may be open there.
+#[derive(Drop)]
+pub struct Caller {
+    pub at: Standing,
+    pub blocks: Vec<Vec<Slot>>,
+    pub left: usize,
+}
+
 /// What waits for a signal. The first number is the line.
 #[derive(Drop)]
 pub enum Frame {
-    /// For the value of an item, after those done.
-    Items(usize, Arc<Vec<Expr>, Global>, Vec<Val>, Purpose),
-    /// For a key: the keys, the values, which is next, and the entries done.
-    Key(usize, Arc<Vec<Expr>, Global>, Arc<Vec<Expr>, Global>, usize, IndexMap<Key, Entry>),
+    /// For the value of an item.
+    Items(usize, Box<Series>),
+    /// For a key, which is at the number.
+    Key(usize, Box<Pairs>, usize),
     /// For the value of a key; the entries behind it begin at the number.
-    Entry(usize, Arc<Vec<Expr>, Global>, Arc<Vec<Expr>, Global>, usize, IndexMap<Key, Entry>, Val),
+    Entry(usize, Box<Pairs>, usize, Val),
     Unary(usize, UnaryOp),
     /// For the left value; the right operand is next.
     Right(usize, BinaryOp, Arc<Expr, Global>),
@@ -127,36 +151,36 @@ pub enum Frame {
     /// For the target of an augmented assignment.
     Augment(usize, BinaryOp, Arc<Expr, Global>),
     /// For the right side of an augmented assignment.
-    Change(usize, BinaryOp, Aim, Val),
+    Change(usize, BinaryOp, Box<Aim>, Val),
     Return,
     /// For the condition of a branch: its statements, the branches, which is next, and the other statements.
     Branch(Arc<Vec<Stmt>, Global>, Arc<Vec<Branch>, Global>, usize, Arc<Vec<Stmt>, Global>),
     /// For what a loop goes over.
     For(usize, Arc<Expr, Global>, Arc<Vec<Stmt>, Global>),
     /// For the target of a turn, whose value is given.
-    Turn(Turns, Val),
+    Turn(Box<Turns>, Val),
     /// For the end of a turn.
-    Turns(Turns),
+    Turns(Box<Turns>),
     /// For the end of a statement; the suite goes on at the number.
     Rest(Arc<Vec<Stmt>, Global>, usize),
-    /// For the end of a call: where the caller stands, its blocks, and how many more calls may be open there.
-    Leave(Standing, Vec<Vec<Slot>>, usize),
+    /// For the end of a call.
+    Leave(Box<Caller>),
     /// For what a comprehension goes over first.
     First(usize, Arc<Expr, Global>, Arc<Comprehension, Global>),
     /// For what a further clause goes over; the clause behind it is at the number.
-    Each(usize, Arc<Expr, Global>, Arc<Comprehension, Global>, usize, Gathered),
+    Each(usize, Arc<Expr, Global>, Arc<Comprehension, Global>, usize, Box<Gathered>),
     /// For a condition; the clause behind it is at the number.
-    Only(usize, Arc<Comprehension, Global>, usize, Gathered),
+    Only(usize, Arc<Comprehension, Global>, usize, Box<Gathered>),
     /// For the target of a turn of a clause, whose value is given.
-    Aimed(Gathering, Val, Gathered),
+    Aimed(Box<Gathering>, Val, Box<Gathered>),
     /// For what a turn of a clause gathers.
-    Gather(Gathering),
+    Gather(Box<Gathering>),
     /// For a member.
-    OneMore(usize, Gathered),
+    OneMore(usize, Box<Gathered>),
     /// For a key; its value is next.
-    OneKey(usize, Arc<Expr, Global>, Gathered),
+    OneKey(usize, Arc<Expr, Global>, Box<Gathered>),
     /// For the value of a key; the entries behind it begin at the number.
-    OneEntry(usize, Val, Gathered),
+    OneEntry(usize, Val, Box<Gathered>),
     /// For the end of a block of a comprehension.
     EndBlock,
     MakeList(usize),
@@ -172,15 +196,15 @@ pub enum Frame {
 pub enum Control {
     Signal(Signal),
     Eval(usize, Arc<Expr, Global>),
-    Items(usize, Arc<Vec<Expr>, Global>, Vec<Val>, Purpose),
-    Entries(usize, Arc<Vec<Expr>, Global>, Arc<Vec<Expr>, Global>, usize, IndexMap<Key, Entry>),
+    Items(usize, Box<Series>),
+    Entries(usize, Box<Pairs>, usize),
     Aim(usize, Arc<Expr, Global>),
     Aims(usize, Arc<Vec<Expr>, Global>, Vec<Aim>),
     Suite(Arc<Vec<Stmt>, Global>, usize),
     Branches(Arc<Vec<Branch>, Global>, usize, Arc<Vec<Stmt>, Global>),
-    Turns(Turns),
-    Clauses(usize, Arc<Comprehension, Global>, usize, Gathered),
-    Gather(Gathering, Gathered),
+    Turns(Box<Turns>),
+    Clauses(usize, Arc<Comprehension, Global>, usize, Box<Gathered>),
+    Gather(Box<Gathering>, Box<Gathered>),
     /// A comprehension, whose first clause goes over a value.
     First(usize, Arc<Expr, Global>, Arc<Comprehension, Global>, Val),
     /// A call of a function of a file: the place of the function, the arguments, and the names of the last ones.
@@ -192,7 +216,7 @@ pub enum Control {
     /// A package call.
     Package(usize, Builtin, Vec<Val>, Arc<Vec<Text>, Global>),
     /// `x += y`, where the target and both values are evaluated.
-    Add(usize, Aim, Val, Val),
+    Add(usize, Box<Aim>, Val, Val),
     /// The statements of a file from the number on.
     Tops(Arc<File, Global>, usize),
     /// The defaults of a function from a parameter on, and the values done.

@@ -11,6 +11,7 @@ ghost use Rattle.frames.specs.declared.frame.Control.TheVariants as c;
 
 use crate::frame::{Comprehension, Control, Frame, Gathering, Item, Signal};
 use crate::items::begin_above;
+use crate::making::next_gathering;
 use crate::stack::push;
 use crate::targets::begin_aim;
 use heap::Halt;
@@ -27,9 +28,9 @@ fn begin_item(
     at: &Standing,
     line: usize,
     item: &Item,
-    got: Gathered,
+    got: Box<Gathered>,
 ) -> Result<Control, Halt>
-    ensures goes { (env : Env) (n : ℕ) (running : List (List ℕ × List ℕ)) → let here = here_of at.now at.now.line running in Goes (on env n here line).site (above env n here (gathered (item_does env n here item.now line (gathered_of got))) frames.old.items (world_of state.old)) result (λ control. machine_does env n here control frames.new.items (world_of state.new)) }
+    ensures goes { (env : Env) (n : ℕ) (running : List (List ℕ × List ℕ)) → let here = here_of at.now at.now.line running in Goes (on env n here line).site (above env n here (gathered (item_does env n here item.now line (gathered_of got.value))) frames.old.items (world_of state.old)) result (λ control. machine_does env n here control frames.new.items (world_of state.new)) }
     ensures steps { IfOk result (λ _. state.new.heap.steps < state.old.heap.steps) }
 {
     match item {
@@ -49,7 +50,7 @@ pub fn next_clause(
     line: usize,
     of: Arc<Comprehension, Global>,
     inner: usize,
-    got: Gathered,
+    got: Box<Gathered>,
 ) -> Result<Control, Halt>
     ensures goes { (env : Env) (n : ℕ) (running : List (List ℕ × List ℕ)) → let here = here_of at.now at.now.line running in Goes (on env n here line).site (machine_does env n here (c.Clauses line of inner got) frames.old.items (world_of state.old)) result (λ control. machine_does env n here control frames.new.items (world_of state.new)) }
     ensures steps { IfOk result (λ _. state.new.heap.steps < state.old.heap.steps) }
@@ -76,26 +77,24 @@ pub fn next_gather(
     state: &mut State,
     frames: &mut Vec<Frame>,
     at: &Standing,
-    turns: Gathering,
-    got: Gathered,
+    turns: Box<Gathering>,
+    got: Box<Gathered>,
 ) -> Result<Control, Halt>
-    ensures goes { (env : Env) (n : ℕ) (running : List (List ℕ × List ℕ)) → let here = here_of at.now at.now.line running in Goes (on env n here turns.line).site (machine_does env n here (c.Gather turns got) frames.old.items (world_of state.old)) result (λ control. machine_does env n here control frames.new.items (world_of state.new)) }
+    ensures goes { (env : Env) (n : ℕ) (running : List (List ℕ × List ℕ)) → let here = here_of at.now at.now.line running in Goes (on env n here turns.value.line).site (machine_does env n here (c.Gather turns got) frames.old.items (world_of state.old)) result (λ control. machine_does env n here control frames.new.items (world_of state.new)) }
     ensures lighter { IfOk result (λ control. Lighter state.old.heap.steps (frames_weight frames.old.items + 1) state.new.heap.steps (frames_weight frames.new.items + control_weight control)) }
 {
-    if turns.next >= turns.items.len() {
-        unlock(&mut state.heap, turns.over);
+    let now = &*turns;
+    if now.next >= now.items.len() {
+        unlock(&mut state.heap, now.over);
         return Ok(Control::Signal(Signal::Gathered(got)));
     }
     if let Err(halt) = tick(&mut state.heap) {
         return Err(halt);
     }
-    let value = turns.items[turns.next];
-    let line = turns.line;
-    let target = Arc::try_clone(&turns.target)?;
-    let next = Gathering {
-        next: turns.next + 1,
-        ..turns
-    };
+    let value = now.items[now.next];
+    let line = now.line;
+    let target = Arc::try_clone(&now.target)?;
+    let next = next_gathering(turns);
     push(frames, Frame::Aimed(next, value, got))?;
     begin_aim(state, frames, at, line, &target)
 }

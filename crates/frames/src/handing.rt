@@ -2,24 +2,45 @@
 ghost use Rattle.std.specs.Prelude.{◌≡◌, ◌<◌, ◌+◌, ◌≤◌, ℕ, List, IfOk};
 ghost use Rattle.language.specs.World.{Here};
 ghost use Rattle.language.specs.Environment.{Env};
+ghost use Rattle.tree.specs.Tree as t;
 ghost use Rattle.tree.specs.View.{shared_tree};
 ghost use Rattle.names.specs.View.{world_of, here_of};
 ghost use Rattle.pieces.specs.View.{aim_of};
 ghost use Rattle.frames.specs.Frames.{Goes, on, a_value, sig_of, assigned, changes, frame_does, frame_line, above, machine_does};
+ghost use Rattle.frames.specs.declared.frame.Frame.{Frame};
 ghost use Rattle.frames.specs.Weight.{Lighter, frames_weight, frame_weight, control_weight, aim_size};
 
 use crate::deliver::{deliver_aim, deliver_exit, deliver_gathered};
-use crate::frame::{Control, Exit, Frame, Gathering, Purpose, Receiver, Signal, Turns};
+use crate::frame::{Control, Exit, Frame, Purpose, Receiver, Signal};
 use crate::items::begin_above;
+use crate::making::{clause_over, items_of, turns_over};
 use crate::operands::{choose, entry_value, right_operand, slice_from, slice_to, unary_done};
 use crate::stack::push;
 use crate::targets::begin_aim;
 use heap::{Halt, Val};
-use names::{Standing, State};
-use pieces::{Aim, both, fresh, index, is_true, items, lock, one_entry, one_more, slice, store};
+use names::{Standing, State, bind};
+use pieces::{Aim, both, fresh, index, is_true, one_entry, one_more, slice, store};
 use std::alloc::Global;
 use std::sync::Arc;
+use texts::Text;
 use tree::{BinaryOp, Expr};
+
+// Assigns a value to a name.
+fn assign_name(
+    state: &mut State,
+    at: &Standing,
+    line: usize,
+    name: &Text,
+    x: Val,
+) -> Result<Control, Halt>
+    ensures goes { (env : Env) (n : ℕ) (running : List (List ℕ × List ℕ)) (frames : List Frame) → let here = here_of at.now at.now.line running in Goes (on env n here line).site (above env n here (assigned env n here (t.name name.now) x line) frames (world_of state.old)) result (λ control. machine_does env n here control frames (world_of state.new)) }
+    ensures light { IfOk result (λ control. (state.new.heap ≡ state.old.heap) × (control_weight control ≡ 0)) }
+{
+    if let Err(halt) = bind(state, at, name, x) {
+        return Err(halt);
+    }
+    Ok(Control::Signal(Signal::Exit(Exit::GoesOn)))
+}
 
 // Assigns a value to a target.
 fn assign(
@@ -33,8 +54,13 @@ fn assign(
     ensures goes { (env : Env) (n : ℕ) (running : List (List ℕ × List ℕ)) → let here = here_of at.now at.now.line running in Goes (on env n here line).site (above env n here (assigned env n here (shared_tree target.now) x line) frames.old.items (world_of state.old)) result (λ control. machine_does env n here control frames.new.items (world_of state.new)) }
     ensures lighter { IfOk result (λ control. Lighter state.old.heap.steps (frames_weight frames.old.items + (aim_size (shared_tree target.now) + 4)) state.new.heap.steps (frames_weight frames.new.items + control_weight control)) }
 {
-    push(frames, Frame::Store(line, x))?;
-    begin_aim(state, frames, at, line, target)
+    match &**target {
+        Expr::Name(name) => assign_name(state, at, line, name, x),
+        _ => {
+            push(frames, Frame::Store(line, x))?;
+            begin_aim(state, frames, at, line, target)
+        }
+    }
 }
 
 // Changes a target by an operator.
@@ -44,11 +70,11 @@ fn change(
     frames: &Vec<Frame>,
     line: usize,
     op: BinaryOp,
-    aim: Aim,
+    aim: Box<Aim>,
     x: Val,
     y: Val,
 ) -> Result<Control, Halt>
-    ensures goes { (env : Env) (n : ℕ) (running : List (List ℕ × List ℕ)) → let here = here_of at.now at.now.line running in Goes (on env n here line).site (above env n here (changes env n here op (aim_of aim) x y line) frames.now.items (world_of state.old)) result (λ control. machine_does env n here control frames.now.items (world_of state.new)) }
+    ensures goes { (env : Env) (n : ℕ) (running : List (List ℕ × List ℕ)) → let here = here_of at.now at.now.line running in Goes (on env n here line).site (above env n here (changes env n here op (aim_of aim.value) x y line) frames.now.items (world_of state.old)) result (λ control. machine_does env n here control frames.now.items (world_of state.new)) }
     ensures lighter { IfOk result (λ control. Lighter state.old.heap.steps (frames_weight frames.now.items + 6) state.new.heap.steps (frames_weight frames.now.items + control_weight control)) }
 {
     match op {
@@ -75,18 +101,16 @@ pub fn deliver_value(
     ensures lighter { IfOk result (λ control. Lighter state.old.heap.steps (frames_weight frames.old.items + frame_weight frame) state.new.heap.steps (frames_weight frames.new.items + control_weight control)) }
 {
     match frame {
-        Frame::Items(line, es, done, p) => {
-            let mut done = done;
-            done.push(x)?;
-            Ok(Control::Items(line, es, done, p))
+        Frame::Items(line, series) => {
+            let mut series = series;
+            series.done.push(x)?;
+            Ok(Control::Items(line, series))
         }
-        Frame::Key(line, ks, vs, next, done) => entry_value(
-            state, frames, at, line, ks, vs, next, done, x,
-        ),
-        Frame::Entry(line, ks, vs, next, done, k) => {
-            let mut done = done;
-            fresh(&mut state.heap, &mut done, k, x)?;
-            Ok(Control::Entries(line, ks, vs, next, done))
+        Frame::Key(line, pairs, next) => entry_value(state, frames, at, line, pairs, next, x),
+        Frame::Entry(line, pairs, next, k) => {
+            let mut pairs = pairs;
+            fresh(&mut state.heap, &mut pairs.done, k, x)?;
+            Ok(Control::Entries(line, pairs, next))
         }
         Frame::Unary(_, op) => unary_done(state, op, x),
         Frame::Right(line, op, b) => right_operand(state, frames, at, line, op, x, &b),
@@ -103,13 +127,11 @@ pub fn deliver_value(
         Frame::From(line, v, j) => slice_to(state, frames, at, line, v, x, &j),
         Frame::To(_, v, y) => Ok(Control::Signal(Signal::Value(slice(&mut state.heap, v, y, x)?))),
         Frame::Called(line, es, names) => {
-            let none = Vec::new(state.heap.alloc);
-            Ok(Control::Items(line, es, none, Purpose::Call(x, names)))
+            items_of(state.heap.alloc, line, es, Purpose::Call(x, names))
         }
         Frame::On(line, name, es, names) => {
-            let none = Vec::new(state.heap.alloc);
             let purpose = Purpose::Method(Receiver::Of(x), name, names);
-            Ok(Control::Items(line, es, none, purpose))
+            items_of(state.heap.alloc, line, es, purpose)
         }
         Frame::Container(line, i) => {
             begin_above(state, frames, at, Frame::Member(line, x), line, &i)
@@ -126,32 +148,10 @@ pub fn deliver_value(
                 Ok(Control::Branches(bs, next, other))
             }
         }
-        Frame::For(line, target, body) => {
-            let members = items(&state.heap, x)?;
-            lock(&mut state.heap, x)?;
-            Ok(Control::Turns(Turns {
-                line,
-                target,
-                body,
-                over: x,
-                items: members,
-                next: 0,
-            }))
-        }
+        Frame::For(line, target, body) => { turns_over(state, line, target, body, x) }
         Frame::First(line, target, of) => Ok(Control::First(line, target, of, x)),
         Frame::Each(line, target, of, inner, got) => {
-            let members = items(&state.heap, x)?;
-            lock(&mut state.heap, x)?;
-            let turns = Gathering {
-                line,
-                target,
-                of,
-                inner,
-                over: x,
-                items: members,
-                next: 0,
-            };
-            Ok(Control::Gather(turns, got))
+            clause_over(state, line, target, of, inner, got, x)
         }
         Frame::Only(line, of, inner, got) => {
             if is_true(&state.heap, x) {
@@ -186,7 +186,7 @@ pub fn deliver_value(
         Frame::Turn(_, _) => Err(Halt::Code(0)),
         Frame::Turns(_) => Err(Halt::Code(0)),
         Frame::Rest(_, _) => Err(Halt::Code(0)),
-        Frame::Leave(_, _, _) => Err(Halt::Code(0)),
+        Frame::Leave(_) => Err(Halt::Code(0)),
         Frame::Aimed(_, _, _) => Err(Halt::Code(0)),
         Frame::Gather(_) => Err(Halt::Code(0)),
         Frame::EndBlock => Err(Halt::Code(0)),

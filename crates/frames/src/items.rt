@@ -17,10 +17,10 @@ ghost use Rattle.frames.specs.declared.frame.Control.TheVariants as c;
 ghost use Rattle.language.specs.World.{then_runs};
 
 use crate::begin::begin;
-use crate::frame::{Control, Frame, Purpose, Receiver, Signal};
+use crate::frame::{Control, Frame, Purpose, Receiver, Series, Signal};
+use crate::once::one_item;
 use crate::stack::push;
-use heap::{Builtin, Entry, Halt, Key, Val};
-use indexmap::IndexMap;
+use heap::{Builtin, Halt, Val};
 use names::{Standing, State, package_function};
 use pieces::{make_dict, make_list, make_tuple};
 use std::alloc::Global;
@@ -119,18 +119,17 @@ pub fn next_item(
     frames: &mut Vec<Frame>,
     at: &Standing,
     line: usize,
-    es: Arc<Vec<Expr>, Global>,
-    done: Vec<Val>,
-    p: Purpose,
+    series: Box<Series>,
 ) -> Result<Control, Halt>
-    ensures goes { (env : Env) (n : ℕ) (running : List (List ℕ × List ℕ)) → let here = here_of at.now at.now.line running in Goes (on env n here line).site (machine_does env n here (c.Items line es done p) frames.old.items (world_of state.old)) result (λ control. machine_does env n here control frames.new.items (world_of state.new)) }
+    ensures goes { (env : Env) (n : ℕ) (running : List (List ℕ × List ℕ)) → let here = here_of at.now at.now.line running in Goes (on env n here line).site (machine_does env n here (c.Items line series) frames.old.items (world_of state.old)) result (λ control. machine_does env n here control frames.new.items (world_of state.new)) }
     ensures lighter { IfOk result (λ control. Lighter state.old.heap.steps (frames_weight frames.old.items + 8) state.new.heap.steps (frames_weight frames.new.items + control_weight control)) }
 {
-    let next = done.len();
-    if next < es.len() {
-        let all = Arc::try_clone(&es)?;
-        let frame = Frame::Items(line, all, done, p);
-        return begin_above(state, frames, at, frame, line, &es[next]);
+    let now = &*series;
+    let next = now.done.len();
+    if next < now.items.len() {
+        let all = Arc::try_clone(&now.items)?;
+        return one_item(state, frames, at, line, series, &all[next]);
     }
-    use_items(state, line, done, p)
+    let series = Box::into_inner(series);
+    use_items(state, line, series.done, series.purpose)
 }

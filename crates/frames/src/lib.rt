@@ -8,7 +8,9 @@ mod gather;
 mod handing;
 mod items;
 mod loops;
+mod making;
 mod moves;
+mod once;
 mod operands;
 mod places;
 mod stack;
@@ -19,7 +21,8 @@ mod tops;
 
 pub use deliver::given;
 pub use frame::{
-    Comprehension, Control, Exit, Frame, Gathering, Item, Purpose, Receiver, Signal, Turns,
+    Caller, Comprehension, Control, Exit, Frame, Gathering, Item, Pairs, Purpose, Receiver, Series,
+    Signal, Turns,
 };
 pub use moves::hand_down;
 pub use places::{control_line, frame_line};

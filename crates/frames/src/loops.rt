@@ -9,6 +9,7 @@ ghost use Rattle.frames.specs.declared.frame.Control.TheVariants as c;
 
 use crate::frame::{Control, Exit, Frame, Signal, Turns};
 use crate::items::begin_above;
+use crate::making::next_turns;
 use crate::stack::push;
 use crate::statements::{begin_stmt, line_of};
 use crate::targets::begin_aim;
@@ -70,25 +71,23 @@ pub fn next_turn(
     state: &mut State,
     frames: &mut Vec<Frame>,
     at: &Standing,
-    turns: Turns,
+    turns: Box<Turns>,
 ) -> Result<Control, Halt>
-    ensures goes { (env : Env) (n : ℕ) (running : List (List ℕ × List ℕ)) → let here = here_of at.now at.now.line running in Goes (on env n here turns.line).site (machine_does env n here (c.Turns turns) frames.old.items (world_of state.old)) result (λ control. machine_does env n here control frames.new.items (world_of state.new)) }
+    ensures goes { (env : Env) (n : ℕ) (running : List (List ℕ × List ℕ)) → let here = here_of at.now at.now.line running in Goes (on env n here turns.value.line).site (machine_does env n here (c.Turns turns) frames.old.items (world_of state.old)) result (λ control. machine_does env n here control frames.new.items (world_of state.new)) }
     ensures lighter { IfOk result (λ control. Lighter state.old.heap.steps (frames_weight frames.old.items + 1) state.new.heap.steps (frames_weight frames.new.items + control_weight control)) }
 {
-    if turns.next >= turns.items.len() {
-        unlock(&mut state.heap, turns.over);
+    let now = &*turns;
+    if now.next >= now.items.len() {
+        unlock(&mut state.heap, now.over);
         return Ok(Control::Signal(Signal::Exit(Exit::GoesOn)));
     }
     if let Err(halt) = tick(&mut state.heap) {
         return Err(halt);
     }
-    let value = turns.items[turns.next];
-    let line = turns.line;
-    let target = Arc::try_clone(&turns.target)?;
-    let next = Turns {
-        next: turns.next + 1,
-        ..turns
-    };
+    let value = now.items[now.next];
+    let line = now.line;
+    let target = Arc::try_clone(&now.target)?;
+    let next = next_turns(turns);
     push(frames, Frame::Turn(next, value))?;
     begin_aim(state, frames, at, line, &target)
 }

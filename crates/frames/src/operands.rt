@@ -13,10 +13,10 @@ ghost use Rattle.frames.specs.Weight.{Lighter, frames_weight, control_weight};
 ghost use Rattle.frames.specs.declared.frame.Control.TheVariants as c;
 
 use crate::begin::begin;
-use crate::frame::{Control, Frame, Signal};
+use crate::frame::{Control, Frame, Pairs, Signal};
 use crate::items::begin_above;
-use heap::{Entry, Halt, Key, Val};
-use indexmap::IndexMap;
+use crate::once::second_operand;
+use heap::{Halt, Val};
 use names::{Standing, State};
 use pieces::{is_true, make_dict, slice, unary};
 use std::alloc::Global;
@@ -61,7 +61,7 @@ pub fn right_operand(
             }
             Ok(Control::Signal(Signal::Value(x)))
         }
-        _ => begin_above(state, frames, at, Frame::Both(line, op, x), line, b),
+        _ => second_operand(state, frames, at, line, op, x, b),
     }
 }
 
@@ -109,20 +109,20 @@ pub fn next_entry(
     frames: &mut Vec<Frame>,
     at: &Standing,
     line: usize,
-    ks: Arc<Vec<Expr>, Global>,
-    vs: Arc<Vec<Expr>, Global>,
+    pairs: Box<Pairs>,
     next: usize,
-    done: IndexMap<Key, Entry>,
 ) -> Result<Control, Halt>
-    ensures goes { (env : Env) (n : ℕ) (running : List (List ℕ × List ℕ)) → let here = here_of at.now at.now.line running in Goes (on env n here line).site (machine_does env n here (c.Entries line ks vs next done) frames.old.items (world_of state.old)) result (λ control. machine_does env n here control frames.new.items (world_of state.new)) }
+    ensures goes { (env : Env) (n : ℕ) (running : List (List ℕ × List ℕ)) → let here = here_of at.now at.now.line running in Goes (on env n here line).site (machine_does env n here (c.Entries line pairs next) frames.old.items (world_of state.old)) result (λ control. machine_does env n here control frames.new.items (world_of state.new)) }
     ensures lighter { IfOk result (λ control. Lighter state.old.heap.steps (frames_weight frames.old.items + 3) state.new.heap.steps (frames_weight frames.new.items + control_weight control)) }
 {
-    if next < ks.len() && next < vs.len() {
-        let keys = Arc::try_clone(&ks)?;
-        let frame = Frame::Key(line, keys, vs, next, done);
-        return begin_above(state, frames, at, frame, line, &ks[next]);
+    let now = &*pairs;
+    if next < now.keys.len() && next < now.values.len() {
+        let keys = Arc::try_clone(&now.keys)?;
+        let frame = Frame::Key(line, pairs, next);
+        return begin_above(state, frames, at, frame, line, &keys[next]);
     }
-    Ok(Control::Signal(Signal::Value(make_dict(&mut state.heap, done)?)))
+    let pairs = Box::into_inner(pairs);
+    Ok(Control::Signal(Signal::Value(make_dict(&mut state.heap, pairs.done)?)))
 }
 
 /// The value of a key.
@@ -131,21 +131,21 @@ pub fn entry_value(
     frames: &mut Vec<Frame>,
     at: &Standing,
     line: usize,
-    ks: Arc<Vec<Expr>, Global>,
-    vs: Arc<Vec<Expr>, Global>,
+    pairs: Box<Pairs>,
     next: usize,
-    done: IndexMap<Key, Entry>,
     k: Val,
 ) -> Result<Control, Halt>
-    ensures goes { (env : Env) (n : ℕ) (running : List (List ℕ × List ℕ)) → let here = here_of at.now at.now.line running in Goes (on env n here line).site (above env n here (valued (entry_from env n here k (trees_from next vs) (trees_from (next + 1) ks) done.entries line)) frames.old.items (world_of state.old)) result (λ control. machine_does env n here control frames.new.items (world_of state.new)) }
+    ensures goes { (env : Env) (n : ℕ) (running : List (List ℕ × List ℕ)) → let here = here_of at.now at.now.line running in Goes (on env n here line).site (above env n here (valued (entry_from env n here k (trees_from next pairs.value.values) (trees_from (next + 1) pairs.value.keys) pairs.value.done.entries line)) frames.old.items (world_of state.old)) result (λ control. machine_does env n here control frames.new.items (world_of state.new)) }
     ensures lighter { IfOk result (λ control. Lighter state.old.heap.steps (frames_weight frames.old.items + 3) state.new.heap.steps (frames_weight frames.new.items + control_weight control)) }
 {
-    if next < vs.len() {
-        let values = Arc::try_clone(&vs)?;
-        let frame = Frame::Entry(line, ks, values, next + 1, done, k);
-        return begin_above(state, frames, at, frame, line, &vs[next]);
+    let now = &*pairs;
+    if next < now.values.len() {
+        let values = Arc::try_clone(&now.values)?;
+        let frame = Frame::Entry(line, pairs, next + 1, k);
+        return begin_above(state, frames, at, frame, line, &values[next]);
     }
-    Ok(Control::Signal(Signal::Value(make_dict(&mut state.heap, done)?)))
+    let pairs = Box::into_inner(pairs);
+    Ok(Control::Signal(Signal::Value(make_dict(&mut state.heap, pairs.done)?)))
 }
 
 /// The lower bound of a slice.

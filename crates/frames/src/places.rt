@@ -12,9 +12,9 @@ pub fn frame_line(frame: &Frame, base: usize) -> usize
     ensures { result ≡ frame_line base frame.now }
 {
     match frame {
-        Frame::Items(line, _, _, _) => *line,
-        Frame::Key(line, _, _, _, _) => *line,
-        Frame::Entry(line, _, _, _, _, _) => *line,
+        Frame::Items(line, _) => *line,
+        Frame::Key(line, _, _) => *line,
+        Frame::Entry(line, _, _, _) => *line,
         Frame::Unary(line, _) => *line,
         Frame::Right(line, _, _) => *line,
         Frame::Both(line, _, _) => *line,
@@ -94,8 +94,8 @@ pub fn control_line(control: &Control, base: usize) -> usize
         Control::Gather(turns, _) => turns.line,
         Control::Tops(file, next) => line_of_tops(file, *next),
         Control::Eval(line, _) => *line,
-        Control::Items(line, _, _, _) => *line,
-        Control::Entries(line, _, _, _, _) => *line,
+        Control::Items(line, _) => *line,
+        Control::Entries(line, _, _) => *line,
         Control::Aim(line, _) => *line,
         Control::Aims(line, _, _) => *line,
         Control::Clauses(line, _, _, _) => *line,

@@ -1,18 +1,18 @@
 //! How statements, branches and loops go on.
 ghost use Rattle.std.specs.Prelude.{◌≡◌, ◌<◌, ◌+◌, ◌≤◌, ℕ, List, IfOk};
-ghost use Rattle.language.specs.World.{Here, at_line};
+ghost use Rattle.language.specs.World.{Here, Ends, at_line, then_runs};
 ghost use Rattle.language.specs.Environment.{Env};
 ghost use Rattle.language.specs.Statements as s;
 ghost use Rattle.language.specs.Calls.{call};
 ghost use Rattle.tree.specs.Statements.{stmt_of};
+ghost use Rattle.tree.specs.View.{shared_tree};
 ghost use Rattle.names.specs.View.{world_of, here_of};
-ghost use Rattle.frames.specs.Frames.{Goes, on, exited, stmt_line, above, machine_does};
+ghost use Rattle.frames.specs.Frames.{Sig, Goes, on, ex, a_value, exited, frame_does, calls_below, here_below, stmt_line, above, machine_does};
 ghost use Rattle.frames.specs.Weight.{Lighter, frames_weight, control_weight, aim_size};
 ghost use Rattle.frames.specs.declared.frame.Control.TheVariants as c;
 
 use crate::frame::{Control, Exit, Frame, Signal, Turns};
 use crate::items::begin_above;
-use crate::stack::{eval_above, push};
 use crate::targets::aim_above;
 use heap::{Halt, Val};
 use names::{Standing, State};
@@ -20,6 +20,21 @@ use pieces::{tick, unlock};
 use std::alloc::Global;
 use std::sync::Arc;
 use tree::{Branch, Expr, Stmt};
+
+// An expression of a statement, begun above a frame that waits for its value.
+fn part_above(
+    state: &mut State,
+    frames: &mut Vec<Frame>,
+    at: &Standing,
+    frame: Frame,
+    line: usize,
+    e: &Arc<Expr, Global>,
+) -> Result<Control, Halt>
+    ensures goes { (env : Env) (n : ℕ) (running : List (List ℕ × List ℕ)) (before : Ends Sig) → let here = here_of at.now at.now.line running in calls_below frame n ≡ n → here_below frame here ≡ here → before ≡ then_runs (ex env n here (shared_tree e.now) line (world_of state.old)) (λ v. above env n here (frame_does env n here frame (a_value v)) frames.old.items) → Goes (on env n here line).site before result (λ control. machine_does env n here control frames.new.items (world_of state.new)) }
+    ensures steps { IfOk result (λ _. state.new.heap.steps < state.old.heap.steps) }
+{
+    begin_above(state, frames, at, frame, line, e)
+}
 
 /// Begins a statement.
 #[tactic(auto, using(crate::proofs::Bind::under), unfolding(language::specs::World::tick))]
@@ -40,11 +55,11 @@ pub fn begin_stmt(
         Stmt::Break(_) => Ok(Control::Signal(Signal::Exit(Exit::Breaks))),
         Stmt::Continue(_) => Ok(Control::Signal(Signal::Exit(Exit::Continues))),
         Stmt::Return(_, None) => Ok(Control::Signal(Signal::Exit(Exit::Returns(Val::Nothing)))),
-        Stmt::Return(_, Some(e)) => eval_above(frames, Frame::Return, line, e),
-        Stmt::Eval(_, e) => eval_above(frames, Frame::Discard, line, e),
+        Stmt::Return(_, Some(e)) => part_above(state, frames, at, Frame::Return, line, e),
+        Stmt::Eval(_, e) => part_above(state, frames, at, Frame::Discard, line, e),
         Stmt::Assign(_, target, e) => {
             let target = Arc::try_clone(target)?;
-            eval_above(frames, Frame::Assign(line, target), line, e)
+            part_above(state, frames, at, Frame::Assign(line, target), line, e)
         }
         Stmt::Augment(_, target, op, e) => {
             let right = Arc::try_clone(e)?;
@@ -54,17 +69,13 @@ pub fn begin_stmt(
             let body = Arc::try_clone(body)?;
             let branches = Arc::try_clone(branches)?;
             let other = Arc::try_clone(other)?;
-            eval_above(
-                frames,
-                Frame::Branch(body, branches, 0, other),
-                line,
-                condition,
-            )
+            let frame = Frame::Branch(body, branches, 0, other);
+            part_above(state, frames, at, frame, line, condition)
         }
         Stmt::For(_, target, e, body) => {
             let target = Arc::try_clone(target)?;
             let body = Arc::try_clone(body)?;
-            eval_above(frames, Frame::For(line, target, body), line, e)
+            part_above(state, frames, at, Frame::For(line, target, body), line, e)
         }
     }
 }

@@ -30,10 +30,8 @@ pub fn step(
 {
     match control {
         Control::Eval(line, e) => begin(state, frames, at, line, &e),
-        Control::Items(line, es, done, p) => next_item(state, frames, at, line, es, done, p),
-        Control::Entries(line, ks, vs, next, done) => next_entry(
-            state, frames, at, line, ks, vs, next, done,
-        ),
+        Control::Items(line, series) => next_item(state, frames, at, line, series),
+        Control::Entries(line, pairs, next) => next_entry(state, frames, at, line, pairs, next),
         Control::Aim(line, e) => begin_aim(state, frames, at, line, &e),
         Control::Aims(line, es, done) => next_aim(state, frames, at, line, es, done),
         Control::Suite(ss, next) => next_stmt(state, frames, at, ss, next),

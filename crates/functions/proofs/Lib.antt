@@ -1,3 +1,16 @@
 pub mod Lookups
 pub mod LookupValue
 pub mod LeafReads
+pub mod NamesInOrder
+pub mod GlobSteps
+pub mod GlobTexts
+pub mod GlobTurns
+pub mod GlobFinds
+pub mod Parses
+pub mod SourceSteps
+pub mod Further
+pub mod EvaluationSteps
+pub mod Waits
+pub mod FileTurns
+pub mod HeldTurns
+pub mod Sends

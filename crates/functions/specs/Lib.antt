@@ -1,4 +1,15 @@
 pub mod Lookups
+pub mod Globs
+pub mod GlobLaws
+pub mod Once
+pub mod Sources
+pub mod SourceLaws
+pub mod Gathered
+pub mod Goes
+pub mod Modules
+pub mod Packages
 pub mod Next
+pub mod Held
+pub mod Found
 pub mod NextLaws
 pub mod Replies

@@ -35,6 +35,10 @@ is_there (value.File None) = false
 is_there (value.File (Some text)) = true
 is_there (value.Listing names) = false
 is_there (value.Lookup name) = false
+is_there (value.Glob paths) = false
+is_there (value.Module loaded) = false
+is_there (value.Package targets) = false
+is_there (value.Fault fault) = false
 is_there (value.Cycle names) = false
 
 -- the first of the names whose answer is a file

@@ -9,6 +9,9 @@ use Rattle.keys.specs.declared.value.BuildName.TheVariants.{BuildBazel, Build}
 use Rattle.keys.specs.declared.value.Value.{Value}
 use Rattle.keys.specs.declared.value.Value.TheVariants as value
 use Rattle.keys.specs.Turns.{NoCycle}
+use Rattle.functions.specs.Globs.{directory_of, pattern_of}
+use Rattle.functions.specs.GlobLaws.{step_differs, step_plain}
+use Rattle.functions.specs.SourceLaws.{good_module, good_package}
 use Rattle.functions.specs.Lookups.{build_path, is_short, candidates, lookup_group, asks_first, first_there}
 use Rattle.functions.specs.Next.{next}
 
@@ -38,6 +41,9 @@ groups_differ (key.File path) answers group e = cc
 groups_differ (key.Listing directory) answers group e = cc
 groups_differ (key.Lookup p) [] group e = subst AllDiffer (asked_first (lookup_group p) group e) (group_differs p)
 groups_differ (key.Lookup p) (v ∷ vs) group e = cc
+groups_differ (key.Glob text) answers group e = step_differs (directory_of text) (pattern_of text) answers group e
+groups_differ (key.Module label) answers group e = (good_module label answers).differ group e
+groups_differ (key.Package name) answers group e = (good_package name answers).differ group e
 
 abbrev ending : Value → Reply Key Value
 ending v = Done v
@@ -54,3 +60,6 @@ ends_plain (key.File path) answers v p e = plain_at (value.File None) v tt e
 ends_plain (key.Listing directory) answers v p e = plain_at (value.Listing None) v tt e
 ends_plain (key.Lookup name) [] v p e = plain_first (lookup_group name) v e
 ends_plain (key.Lookup name) (w ∷ ws) v p e = plain_at (value.Lookup (first_there (candidates name) (w ∷ ws))) v tt e
+ends_plain (key.Glob text) answers v p e = step_plain (directory_of text) (pattern_of text) answers v e
+ends_plain (key.Module label) answers v p e = (good_module label answers).plain v e
+ends_plain (key.Package name) answers v p e = (good_package name answers).plain v e

@@ -16,6 +16,9 @@ pub fn is_leaf(key: &Key) -> bool
         Key::File(_) => true,
         Key::Listing(_) => true,
         Key::Lookup(_) => false,
+        Key::Glob(_) => false,
+        Key::Module(_) => false,
+        Key::Package(_) => false,
     }
 }
 
@@ -46,5 +49,8 @@ pub fn read_leaf(_alloc: Global, tree: &Tree, key: &Key) -> Result<Value, Memory
         },
         Key::Listing(directory) => Ok(Value::Listing(read_listing(tree, directory.as_str())?)),
         Key::Lookup(_) => unreachable!(),
+        Key::Glob(_) => unreachable!(),
+        Key::Module(_) => unreachable!(),
+        Key::Package(_) => unreachable!(),
     }
 }

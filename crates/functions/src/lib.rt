@@ -5,12 +5,47 @@
 //!   none.
 //! * `Lookup(package)` asks one group, the files `BUILD.bazel` and `BUILD` of the package, but none whose path has more
 //!   than 255 bytes, and ends with the first that is there. With no path short enough it ends at once.
+//! * `Glob(directory pattern)` asks the listing of the directory, then the look-ups of the subdirectories that the pattern
+//!   goes into, and then the globs below: with a pattern that begins with `**` that of the other segments in the same
+//!   directory, and one in each of the subdirectories that are no packages. It ends with the paths that are found, from the
+//!   directory on, in byte order.
+//! * `Module(label)` asks the look-ups of its package and of each directory between the package and the file, then the
+//!   file, and then the modules of all its loads. It ends with what the evaluation of the file leaves, or with the first
+//!   fault: its package is none, a directory on the way is a package, the file is absent, its text is none of the language,
+//!   a load names no module, a load is faulty, the evaluation stops.
+//! * `Package(package)` asks its look-up, the BUILD file, the modules of all its loads, and then, at each call of `glob`
+//!   that stops the evaluation, the globs of the patterns that have no answer. It ends with its targets, or with the first
+//!   fault.
+//!
+//! An empty group is not asked, and a key that repeats in a group is asked once, at its first place.
 #![tactic(auto)]
 
+ghost use Rattle.functions.specs.Found.{NamesHold, GlobsHold};
+
 mod build_files;
+mod evaluating;
+mod file_node;
+mod glob;
+mod glob_pattern;
 mod leaf;
 mod loading;
 mod lookup;
+mod once;
+mod ordering;
+mod reply;
+mod source;
 
 pub use leaf::{is_leaf, read_leaf};
 pub use loading::{LoadRules, Loading};
+
+/// The law of the leaves and the look-ups: at each state of the files a file's node holds its text or none, a listing's
+/// the names in the directory or none, and a look-up's which BUILD file wins, or none.
+pub fn leaves_and_look_ups_hold()
+    ensures { NamesHold }
+{}
+
+/// The law of the globs: at files whose names are paths the node of a directory and a pattern holds the paths that the
+/// pattern finds among all paths of the files, below the directory and into no package on the way, in byte order.
+pub fn globs_hold_what_they_find()
+    ensures { GlobsHold }
+{}

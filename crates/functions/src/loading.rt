@@ -1,10 +1,17 @@
 //! The node functions, as restartable states.
-ghost use Rattle.std.specs.Prelude.{◌≡◌, List};
+ghost use Rattle.std.specs.Prelude.{◌≡◌, List, IfOk};
 ghost use Rattle.keys.specs.declared.key.Key.{Key};
 ghost use Rattle.keys.specs.declared.value.Value.{Value};
+ghost use Rattle.keys.specs.Turns.{values};
+ghost use Rattle.functions.specs.Goes.{IsMade};
+ghost use Rattle.functions.specs.Held.{HoldsFrom};
 ghost use Rattle.functions.specs.Next as table;
 
-use crate::lookup::{Reply, lookup};
+use crate::evaluating::go_further;
+use crate::file_node::{of_module, of_package};
+use crate::glob::glob;
+use crate::lookup::lookup;
+use crate::reply::{Paused, Reply};
 use count::Count;
 use keys::{Key, Rules, Turn, Value};
 use std::alloc::Global;
@@ -17,10 +24,48 @@ pub trait LoadRules: Rules {
     ghost is_table: { (key : Key) (answers : List Value) → Self.next key answers ≡ table.next key answers };
 }
 
-/// What is kept of a node between two turns.
+// An evaluation that waits, and how many answers stand before those of its globs.
+#[derive(Drop)]
+pub struct Held {
+    taken: usize,
+    paused: Paused,
+}
+
+/// What is kept of a node between two turns: its key and, of a package that waits for globs, its evaluation.
 #[derive(Drop)]
 pub struct Kept {
     key: Key,
+    held: Option<Held>,
+}
+
+// A turn of a node of which nothing is kept.
+fn from_start(alloc: Global, key: &Key, answers: &[Arc<Value>]) -> Result<Reply, Memory>
+    ensures { IfOk result (IsMade (table.next key.now) (values answers.now)) }
+{
+    match key {
+        Key::File(_) => Ok(Reply::Done(Value::File(None))),
+        Key::Listing(_) => Ok(Reply::Done(Value::Listing(None))),
+        Key::Lookup(directory) => lookup(alloc, directory, answers),
+        Key::Glob(text) => glob(alloc, text, answers),
+        Key::Module(label) => of_module(alloc, label, answers),
+        Key::Package(name) => of_package(alloc, name, answers),
+    }
+}
+
+// A turn of a node, from what is held of it.
+fn reply_of(
+    alloc: Global,
+    key: &Key,
+    held: Option<Held>,
+    answers: &[Arc<Value>],
+) -> Result<Reply, Memory>
+    requires { HoldsFrom held key.now (values answers.now) }
+    ensures { IfOk result (IsMade (table.next key.now) (values answers.now)) }
+{
+    match held {
+        None => from_start(alloc, key, answers),
+        Some(held) => go_further(alloc, held.paused, &answers[held.taken..]),
+    }
 }
 
 /// The node functions of the loader.
@@ -45,7 +90,8 @@ impl Loading {
 impl Rules for Loading {
     type State = Kept;
 
-    ghost use Rattle.functions.specs.Next.{next, fits};
+    ghost use Rattle.functions.specs.Next.{next};
+    ghost use Rattle.functions.specs.Held.{fits};
     ghost use Rattle.functions.specs.NextLaws.{groups_differ, ends_plain};
 
     ghost next = { next };
@@ -59,18 +105,22 @@ impl Rules for Loading {
     ghost ends_plain = { ends_plain };
 
     fn begin(&self, key: &Key) -> Result<Kept, Memory> {
-        Ok(Kept { key: key.share()? })
+        Ok(Kept {
+            key: key.share()?,
+            held: None,
+        })
     }
 
     fn turn(&mut self, state: Kept, answers: &[Arc<Value>]) -> Result<Turn<Kept>, Memory> {
         self.made.add_one();
-        let reply = match &state.key {
-            Key::File(_) => Reply::Done(Value::File(None)),
-            Key::Listing(_) => Reply::Done(Value::Listing(None)),
-            Key::Lookup(directory) => lookup(self.alloc, directory, answers)?,
-        };
-        match reply {
-            Reply::Ask(group) => Ok(Turn::Ask(state, group)),
+        let Kept { key, held } = state;
+        match reply_of(self.alloc, &key, held, answers)? {
+            Reply::Ask(group) => Ok(Turn::Ask(Kept { key, held: None }, group)),
+            Reply::Wait(group, paused) => {
+                let taken = answers.len();
+                let held = Some(Held { taken, paused });
+                Ok(Turn::Ask(Kept { key, held }, group))
+            }
             Reply::Done(value) => Ok(Turn::Done(value)),
         }
     }
@@ -80,85 +130,4 @@ impl LoadRules for Loading {
     ghost use Rattle.std.specs.Prelude.{refl};
 
     ghost is_table = { λ key answers. refl };
-}
-
-#[cfg(test)]
-mod tests {
-    use super::*;
-    use crate::leaf::{is_leaf, read_leaf};
-    use filetree::Tree;
-    use keys::{BuildName, DirectoryNames, Job, Step};
-    use std::test::Fail;
-    use texts::Text;
-
-    // How many files a look-up asks for, and its value.
-    fn look_up(alloc: Global, tree: &Tree, name: &str) -> Result<(usize, Value), Memory> {
-        let mut rules = Loading::new(alloc);
-        let key = Key::Lookup(Text::new(alloc, name)?);
-        let waiting = match Job::new(key, Vec::new(alloc)).make(&mut rules).settle()? {
-            Step::End(_, value) => return Ok((0, value)),
-            Step::Wait(waiting) => waiting,
-        };
-        let asked = waiting.group().len();
-        let mut found = Vec::new(alloc);
-        for key in waiting.group() {
-            if is_leaf(key) {
-                found.push(Arc::new(alloc, read_leaf(alloc, tree, key)?)?)?;
-            }
-        }
-        match waiting.resume(found)?.make(&mut rules).settle()? {
-            Step::End(_, value) => Ok((asked, value)),
-            Step::Wait(_) => Ok((asked, Value::File(None))),
-        }
-    }
-
-    #[test]
-    fn a_look_up_asks_short_paths_and_build_bazel_wins(rt: HostRuntime) -> Result<(), Fail> {
-        let alloc = rt.alloc();
-        let mut tree = Tree::new(alloc);
-        for path in [
-            "BUILD",
-            "a/BUILD",
-            "b/BUILD.bazel",
-            "c/BUILD",
-            "c/BUILD.bazel",
-            "d/BUILD/x",
-        ] {
-            tree.put(path, "x")?;
-        }
-        let long = "a".repeat(alloc, 250)?;
-        let rows = [
-            ("", 2, Some(BuildName::Build)),
-            ("a", 2, Some(BuildName::Build)),
-            ("b", 2, Some(BuildName::BuildBazel)),
-            ("c", 2, Some(BuildName::BuildBazel)),
-            ("d", 2, None),
-            (&long[..243], 2, None),
-            (&long[..244], 1, None),
-            (&long[..249], 1, None),
-            (&long[..250], 0, None),
-        ];
-        for (name, asked, found) in rows {
-            assert_eq!(rt; look_up(alloc, &tree, name)?.0, asked);
-            assert!(rt; look_up(alloc, &tree, name)?.1 == Value::Lookup(found));
-        }
-        Ok(())
-    }
-
-    #[test]
-    fn a_listing_has_the_names_in_its_directory(rt: HostRuntime) -> Result<(), Fail> {
-        let alloc = rt.alloc();
-        let mut tree = Tree::new(alloc);
-        for path in ["a/x", "a/b/y", "c"] {
-            tree.put(path, "")?;
-        }
-        let files = vec![in alloc; Text::new(alloc, "x")?]?;
-        let directories = vec![in alloc; Text::new(alloc, "b")?]?;
-        let names = Value::Listing(Some(DirectoryNames::new(files, directories)));
-        let there = Key::Listing(Text::new(alloc, "a")?);
-        assert!(rt; read_leaf(alloc, &tree, &there)? == names);
-        let absent = Key::Listing(Text::new(alloc, "c")?);
-        assert!(rt; read_leaf(alloc, &tree, &absent)? == Value::Listing(None));
-        Ok(())
-    }
 }

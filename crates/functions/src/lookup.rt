@@ -5,19 +5,11 @@ ghost use Rattle.functions.specs.Lookups as specs;
 ghost use Rattle.functions.specs.Replies.{IsReply};
 
 use crate::build_files::{build_path, candidates};
+use crate::reply::Reply;
 use keys::{BuildName, Key, Value};
 use std::alloc::Global;
 use std::sync::Arc;
 use texts::{Memory, Text};
-
-// What a turn ends with, without a state.
-#[derive(Drop)]
-pub enum Reply {
-    // A group to be asked.
-    Ask(Vec<Key>),
-    // The node's value.
-    Done(Value),
-}
 
 // The group that a look-up asks.
 fn lookup_group(alloc: Global, directory: &Text) -> Result<Vec<Key>, Memory>

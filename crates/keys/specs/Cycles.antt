@@ -1,8 +1,8 @@
 -- The value that the members of a loop share.
-use Rattle.std.specs.Prelude.{ℕ, List, Option, None}
+use Rattle.std.specs.Prelude.{ℕ, List, Option, Some, None}
 use Rattle.evaluation.specs.Rotated.{loop_labels}
 use Rattle.keys.specs.declared.key.Key.{Key}
-use Rattle.keys.specs.declared.key.Key.TheVariants.{File, Listing, Lookup}
+use Rattle.keys.specs.declared.key.Key.TheVariants.{File, Listing, Lookup, Glob, Module, Package}
 use Rattle.keys.specs.declared.value.Value.{Value}
 use Rattle.keys.specs.declared.value.Value.TheVariants as value
 
@@ -11,6 +11,9 @@ abbrev pub label_of : Key → Option (List ℕ)
 label_of (File path) = None
 label_of (Listing directory) = None
 label_of (Lookup name) = None
+label_of (Glob text) = None
+label_of (Module label) = Some label
+label_of (Package name) = None
 
 -- the labels of the loop's members, turned so that the least by bytes stands first
 abbrev pub cycle : List Key → Value

@@ -8,3 +8,4 @@ pub mod Answers
 pub mod Steps
 pub mod Cycles
 pub mod Touched
+pub mod Stored

@@ -1,16 +1,20 @@
 -- Two values are equal exactly where they are one value, so equality is an equivalence.
 use Rattle.std.proofs.Common.{◌≡◌, ℕ, List, Bool, true, false, ◌&&◌, Option, Some, None, refl, sym, ◌∙◌, ap}
 use Rattle.std.specs.Bool.{Decides}
+use Rattle.std.specs.Prelude.{nat_eq}
 use Rattle.std.specs.Option.{option_eq}
 use Rattle.std.specs.Cmp.{IsEquivalence, both_ways, unsigned_Decides}
 use Rattle.std.specs.Cmp.Lexicographic.{pointwise}
 use lib.Pointwise.{pointwise_decides}
 use Rattle.keys.specs.declared.value.BuildName.{BuildName}
 use Rattle.keys.specs.declared.value.BuildName.TheVariants.{BuildBazel, Build}
+use Rattle.module_values.specs.Equal.{target_eq, loaded_eq}
+use Rattle.module_values.specs.EqualLaws.{targets_decide, loaded_decide}
+use Rattle.keys.specs.declared.value.Fault as fault
 use Rattle.keys.specs.declared.value.Value.{Value}
-use Rattle.keys.specs.declared.value.Value.TheVariants.{File, Listing, Lookup, Cycle}
+use Rattle.keys.specs.declared.value.Value.TheVariants.{File, Listing, Lookup, Glob, Module, Package, Fault, Cycle}
 use Rattle.keys.specs.Listed.{Listed}
-use Rattle.keys.specs.Values.{text_eq, build_eq, listed_eq, value_eq}
+use Rattle.keys.specs.Values.{text_eq, build_eq, listed_eq, fault_eq, value_eq}
 
 -- a test that holds exactly of a value and itself
 module _ {X : Type 0} (E : X → X → Bool) (exact : (x y : X) → Decides (E x y) (x ≡ y)) where
@@ -55,23 +59,82 @@ exact_listed l m =
       λ q. join (pointwise text_eq l.files m.files) (pointwise text_eq l.directories m.directories) (d.1 (ap (λ (x : Listed). x.files) q)) (e.1 (ap (λ (x : Listed). x.directories) q)),
     )
 
+pub exact_faults : (f g : fault.Fault) → Decides (fault_eq f g) (f ≡ g)
+exact_faults f g =
+    let c = unsigned_Decides f.code g.code in
+    let p = exact_texts f.path g.path in
+    let l = unsigned_Decides f.line g.line in (
+      λ h. let front = both (nat_eq f.code g.code && text_eq f.path g.path) (nat_eq f.line g.line) h in
+          let first = both (nat_eq f.code g.code) (text_eq f.path g.path) front.0 in λ i. record { code = c.0 first.0 i; path = p.0 first.1 i; line = l.0 front.1 i },
+      λ q. join (nat_eq f.code g.code && text_eq f.path g.path) (nat_eq f.line g.line)
+          (join (nat_eq f.code g.code) (text_eq f.path g.path) (c.1 (ap (λ (x : fault.Fault). x.code) q)) (p.1 (ap (λ (x : fault.Fault). x.path) q))) (l.1 (ap (λ (x : fault.Fault). x.line) q)),
+    )
+
 -- equal values are one value
 pub exact_values : (v w : Value) → Decides (value_eq v w) (v ≡ w)
 exact_values (File s) (File t) = let d = exact_option text_eq exact_texts s t in (λ h. ap File (d.0 h), λ e. d.1 (cc))
 exact_values (File s) (Listing m) = (λ h. cc, λ e. cc)
 exact_values (File s) (Lookup b) = (λ h. cc, λ e. cc)
+exact_values (File s) (Glob qs) = (λ h. cc, λ e. cc)
+exact_values (File s) (Module n) = (λ h. cc, λ e. cc)
+exact_values (File s) (Package ys) = (λ h. cc, λ e. cc)
+exact_values (File s) (Fault g) = (λ h. cc, λ e. cc)
 exact_values (File s) (Cycle ts) = (λ h. cc, λ e. cc)
 exact_values (Listing l) (File t) = (λ h. cc, λ e. cc)
 exact_values (Listing l) (Listing m) = let d = exact_option listed_eq exact_listed l m in (λ h. ap Listing (d.0 h), λ e. d.1 (cc))
 exact_values (Listing l) (Lookup b) = (λ h. cc, λ e. cc)
+exact_values (Listing l) (Glob qs) = (λ h. cc, λ e. cc)
+exact_values (Listing l) (Module n) = (λ h. cc, λ e. cc)
+exact_values (Listing l) (Package ys) = (λ h. cc, λ e. cc)
+exact_values (Listing l) (Fault g) = (λ h. cc, λ e. cc)
 exact_values (Listing l) (Cycle ts) = (λ h. cc, λ e. cc)
 exact_values (Lookup a) (File t) = (λ h. cc, λ e. cc)
 exact_values (Lookup a) (Listing m) = (λ h. cc, λ e. cc)
 exact_values (Lookup a) (Lookup b) = let d = exact_option build_eq exact_builds a b in (λ h. ap Lookup (d.0 h), λ e. d.1 (cc))
+exact_values (Lookup a) (Glob qs) = (λ h. cc, λ e. cc)
+exact_values (Lookup a) (Module n) = (λ h. cc, λ e. cc)
+exact_values (Lookup a) (Package ys) = (λ h. cc, λ e. cc)
+exact_values (Lookup a) (Fault g) = (λ h. cc, λ e. cc)
 exact_values (Lookup a) (Cycle ts) = (λ h. cc, λ e. cc)
+exact_values (Glob ps) (File t) = (λ h. cc, λ e. cc)
+exact_values (Glob ps) (Listing m) = (λ h. cc, λ e. cc)
+exact_values (Glob ps) (Lookup b) = (λ h. cc, λ e. cc)
+exact_values (Glob ps) (Glob qs) = let d = exact_names ps qs in (λ h. ap Glob (d.0 h), λ e. d.1 (cc))
+exact_values (Glob ps) (Module n) = (λ h. cc, λ e. cc)
+exact_values (Glob ps) (Package ys) = (λ h. cc, λ e. cc)
+exact_values (Glob ps) (Fault g) = (λ h. cc, λ e. cc)
+exact_values (Glob ps) (Cycle ts) = (λ h. cc, λ e. cc)
+exact_values (Module m) (File t) = (λ h. cc, λ e. cc)
+exact_values (Module m) (Listing l) = (λ h. cc, λ e. cc)
+exact_values (Module m) (Lookup b) = (λ h. cc, λ e. cc)
+exact_values (Module m) (Glob qs) = (λ h. cc, λ e. cc)
+exact_values (Module m) (Module n) = let d = loaded_decide m n in (λ h. ap Module (d.0 h), λ e. d.1 (cc))
+exact_values (Module m) (Package ys) = (λ h. cc, λ e. cc)
+exact_values (Module m) (Fault g) = (λ h. cc, λ e. cc)
+exact_values (Module m) (Cycle ts) = (λ h. cc, λ e. cc)
+exact_values (Package xs) (File t) = (λ h. cc, λ e. cc)
+exact_values (Package xs) (Listing m) = (λ h. cc, λ e. cc)
+exact_values (Package xs) (Lookup b) = (λ h. cc, λ e. cc)
+exact_values (Package xs) (Glob qs) = (λ h. cc, λ e. cc)
+exact_values (Package xs) (Module n) = (λ h. cc, λ e. cc)
+exact_values (Package xs) (Package ys) = let d = pointwise_decides targets_decide xs ys in (λ h. ap Package (d.0 h), λ e. d.1 (cc))
+exact_values (Package xs) (Fault g) = (λ h. cc, λ e. cc)
+exact_values (Package xs) (Cycle ts) = (λ h. cc, λ e. cc)
+exact_values (Fault f) (File t) = (λ h. cc, λ e. cc)
+exact_values (Fault f) (Listing m) = (λ h. cc, λ e. cc)
+exact_values (Fault f) (Lookup b) = (λ h. cc, λ e. cc)
+exact_values (Fault f) (Glob qs) = (λ h. cc, λ e. cc)
+exact_values (Fault f) (Module n) = (λ h. cc, λ e. cc)
+exact_values (Fault f) (Package ys) = (λ h. cc, λ e. cc)
+exact_values (Fault f) (Fault g) = let d = exact_faults f g in (λ h. ap Fault (d.0 h), λ e. d.1 (cc))
+exact_values (Fault f) (Cycle ts) = (λ h. cc, λ e. cc)
 exact_values (Cycle ss) (File t) = (λ h. cc, λ e. cc)
 exact_values (Cycle ss) (Listing m) = (λ h. cc, λ e. cc)
 exact_values (Cycle ss) (Lookup b) = (λ h. cc, λ e. cc)
+exact_values (Cycle ss) (Glob qs) = (λ h. cc, λ e. cc)
+exact_values (Cycle ss) (Module n) = (λ h. cc, λ e. cc)
+exact_values (Cycle ss) (Package ys) = (λ h. cc, λ e. cc)
+exact_values (Cycle ss) (Fault g) = (λ h. cc, λ e. cc)
 exact_values (Cycle ss) (Cycle ts) = let d = exact_names ss ts in (λ h. ap Cycle (d.0 h), λ e. d.1 (cc))
 
 pub builds_equiv : IsEquivalence build_eq
@@ -82,6 +145,9 @@ names_equiv = equiv_from_exact (pointwise text_eq) exact_names
 
 pub listed_equiv : IsEquivalence listed_eq
 listed_equiv = equiv_from_exact listed_eq exact_listed
+
+pub faults_equiv : IsEquivalence fault_eq
+faults_equiv = equiv_from_exact fault_eq exact_faults
 
 pub values_equiv : IsEquivalence value_eq
 values_equiv = equiv_from_exact value_eq exact_values

@@ -25,6 +25,11 @@ impl<R: Rules> Model for Job<R> {
 
     ghost Value = { Asked };
 
+    ghost use Rattle.std.specs.Coded.{codes};
+    ghost use Rattle.keys.specs.Stored.{loaded_code};
+
+    ghost coded = { Prim.hlevel (codes, loaded_code) };
+
     ghost view = { λ j. record { key = j.key; answers = values j.answers.items } };
 
     ghost invariant = { λ j. IfSome j.state (λ s. R.fits s j.key (values j.answers.items)) };

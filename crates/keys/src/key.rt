@@ -6,7 +6,7 @@ ghost use Rattle.std.specs.String.{string_bytes};
 ghost use Rattle.std.specs.Cmp.{partial_order_from_own_ties};
 ghost use Rattle.std.specs.Cmp.Rules.{comparing, hashing};
 ghost use Rattle.std.specs.Ordering.{as_partial_cmp};
-ghost use Rattle.keys.specs.Keys.{key_cmp, key_eq, kind, name_of, prefix, key_text};
+ghost use Rattle.keys.specs.Keys.{key_cmp, key_eq, kind, name_of, prefix, key_text, glob_key};
 
 use std::alloc::Global;
 use std::cmp::Ordering;
@@ -22,9 +22,25 @@ pub enum Key {
     Listing(Text),
     /// Which BUILD file a package has, by the package's name, which is empty for the root.
     Lookup(Text),
+    /// What a pattern finds below a directory: the directory's name, a space and the pattern.
+    Glob(Text),
+    /// What the evaluation of a .bzl file leaves, by the text of its label.
+    Module(Text),
+    /// The targets of a package, by its name, which is empty for the root.
+    Package(Text),
 }
 
 impl Key {
+    /// What a pattern finds below a directory.
+    pub fn glob_of(alloc: Global, directory: &str, pattern: &str) -> Result<Key, Memory>
+        ensures { IfOk result (λ k. k ≡ glob_key directory.now pattern.now) }
+    {
+        let mut text = String::from_str(alloc, directory)?;
+        text.push_str(" ")?;
+        text.push_str(pattern)?;
+        Ok(Key::Glob(Text::new(alloc, text.as_str())?))
+    }
+
     /// The same key, its text shared.
     pub fn share(&self) -> Result<Key, Memory>
         ensures { IfOk result (λ k. k ≡ self.now) }
@@ -33,6 +49,9 @@ impl Key {
             Key::File(path) => Ok(Key::File(path.share()?)),
             Key::Listing(directory) => Ok(Key::Listing(directory.share()?)),
             Key::Lookup(package) => Ok(Key::Lookup(package.share()?)),
+            Key::Glob(text) => Ok(Key::Glob(text.share()?)),
+            Key::Module(label) => Ok(Key::Module(label.share()?)),
+            Key::Package(package) => Ok(Key::Package(package.share()?)),
         }
     }
 
@@ -44,6 +63,9 @@ impl Key {
             Key::File(_) => 0,
             Key::Listing(_) => 1,
             Key::Lookup(_) => 2,
+            Key::Glob(_) => 3,
+            Key::Module(_) => 4,
+            Key::Package(_) => 5,
         }
     }
 
@@ -55,10 +77,14 @@ impl Key {
             Key::File(_) => "file ",
             Key::Listing(_) => "listing //",
             Key::Lookup(_) => "lookup //",
+            Key::Glob(_) => "glob //",
+            Key::Module(_) => "module ",
+            Key::Package(_) => "package //",
         }
     }
 
-    /// The path, or the name of the directory or the package.
+    /// The path, or the name of the directory or the package; of a glob the directory's name, a space and the pattern;
+    /// of a module its label.
     pub fn name(&self) -> &Text
         ensures { result.now ≡ name_of self.now }
     {
@@ -66,10 +92,14 @@ impl Key {
             Key::File(path) => path,
             Key::Listing(directory) => directory,
             Key::Lookup(package) => package,
+            Key::Glob(text) => text,
+            Key::Module(label) => label,
+            Key::Package(package) => package,
         }
     }
 
-    /// The key as it is written: `file PATH`, `listing //DIRECTORY` or `lookup //PACKAGE`.
+    /// The key as it is written: `file PATH`, `listing //DIRECTORY`, `lookup //PACKAGE`, `glob //DIRECTORY PATTERN`,
+    /// `module LABEL` or `package //PACKAGE`.
     pub fn text(&self, alloc: Global) -> Result<String, Memory>
         ensures { IfOk result (λ t. string_bytes t ≡ key_text self.now) }
     {
@@ -127,35 +157,5 @@ impl Hash for Key {
     fn hash<H: Hasher>(&self, state: &mut H) {
         self.kind().hash(state);
         self.name().hash(state);
-    }
-}
-
-#[cfg(test)]
-mod tests {
-    use super::*;
-    use std::test::Fail;
-
-    #[test]
-    fn keys_are_written_and_ordered_by_kind_and_name(rt: HostRuntime) -> Result<(), Fail> {
-        let alloc = rt.alloc();
-        let rows = [
-            (Key::File(Text::new(alloc, "a-b")?), "file a-b"),
-            (Key::File(Text::new(alloc, "a/b")?), "file a/b"),
-            (Key::Listing(Text::new(alloc, "")?), "listing //"),
-            (Key::Listing(Text::new(alloc, "a/b")?), "listing //a/b"),
-            (Key::Lookup(Text::new(alloc, "")?), "lookup //"),
-            (Key::Lookup(Text::new(alloc, "a")?), "lookup //a"),
-        ];
-        let mut last: Option<Key> = None;
-        for (key, written) in Vec::from_array(alloc, rows)? {
-            assert_eq!(rt; key.text(alloc)?.as_str(), written);
-            assert!(rt; key.share()? == key);
-            if let Some(last) = last {
-                assert!(rt; last < key);
-                assert!(rt; last != key);
-            }
-            last = Some(key);
-        }
-        Ok(())
     }
 }

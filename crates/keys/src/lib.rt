@@ -15,5 +15,5 @@ pub use job::Job;
 pub use key::Key;
 pub use rules::{Rules, Turn};
 pub use turned::{Step, Turned};
-pub use value::{BuildName, DirectoryNames, Names, Value};
+pub use value::{BuildName, DirectoryNames, Fault, Names, Paths, Value};
 pub use waiting::Waiting;

@@ -38,6 +38,11 @@ impl<R: Rules> Model for Turned<R> {
 
     ghost Value = { Outcome };
 
+    ghost use Rattle.std.specs.Coded.{codes};
+    ghost use Rattle.keys.specs.Stored.{loaded_code};
+
+    ghost coded = { Prim.hlevel (codes, loaded_code) };
+
     ghost use Rattle.keys.specs.Answers.{ending_of, IsAnswer};
 
     ghost view = { λ t. record { asked = record { key = t.key; answers = values t.answers.items }; ending = ending_of t.answer } };

@@ -2,11 +2,16 @@
 ghost use Rattle.std.specs.Prelude.{◌≡◌};
 ghost use Rattle.std.specs.Cmp.{partial_equiv_from_equiv};
 ghost use Rattle.std.specs.Cmp.Lexicographic.{pointwise};
-ghost use Rattle.keys.specs.Values.{text_eq, build_eq, listed_eq, value_eq};
-ghost use Rattle.keys.specs.ValueLaws.{builds_equiv, names_equiv, listed_equiv, values_equiv};
+ghost use Rattle.std.specs.Prelude.{IfOk};
+ghost use Rattle.std.specs.Arc.{arc_value};
+ghost use Rattle.keys.specs.Values.{text_eq, build_eq, listed_eq, fault_eq, value_eq};
+ghost use Rattle.keys.specs.ValueLaws.{builds_equiv, names_equiv, listed_equiv, faults_equiv, values_equiv};
 
+use module_values::{Loaded, Targets};
+use std::alloc::Global;
 use std::marker::Model;
-use texts::Text;
+use std::sync::Arc;
+use texts::{Memory, Text};
 
 /// The file that makes a directory a package.
 #[derive(Clone, Copy, Debug)]
@@ -135,6 +140,99 @@ impl Eq for DirectoryNames {
     ghost laws = { listed_equiv };
 }
 
+/// Paths in byte order, shared. A contract sees a list of texts.
+#[derive(Drop)]
+pub struct Paths {
+    items: Arc<Vec<Text>, Global>,
+}
+
+impl Model for Paths {
+    ghost use Rattle.std.specs.Prelude.{ℕ, List};
+    ghost use Rattle.std.specs.Arc.{arc_value};
+
+    ghost Value = { List (List ℕ) };
+
+    ghost view = { λ p. (arc_value p.items).items };
+}
+
+impl Paths {
+    /// The paths of the list.
+    pub fn new(alloc: Global, items: Vec<Text>) -> Result<Paths, Memory>
+        ensures { IfOk result (λ p. p ≡ items.items) }
+    {
+        let items = Arc::new(alloc, items)?;
+        Ok(Paths { items })
+    }
+
+    /// The paths.
+    pub fn as_slice(&self) -> &[Text]
+        ensures { result.now ≡ self.now }
+    {
+        self.items.as_slice()
+    }
+
+    /// The same paths, shared.
+    pub fn share_items(&self) -> Result<Arc<Vec<Text>, Global>, Memory>
+        ensures { IfOk result (λ items. (arc_value items).items ≡ self.now) }
+    {
+        let items = Arc::try_clone(&self.items)?;
+        Ok(items)
+    }
+}
+
+impl PartialEq for Paths {
+    ghost eq = { pointwise text_eq };
+
+    ghost laws = { partial_equiv_from_equiv names_equiv };
+
+    fn eq(&self, other: &Paths) -> bool {
+        self.as_slice() == other.as_slice()
+    }
+}
+
+impl Eq for Paths {
+    ghost laws = { names_equiv };
+}
+
+/// A fault of a .bzl file or of a BUILD file: its code, the file (of a package that is none, the package) and the line
+/// where it is shown.
+#[derive(Drop)]
+pub struct Fault {
+    /// Which fault.
+    pub code: u8,
+    /// Of the file, or of the package.
+    pub path: Text,
+    /// Counted from 1; 0 where no line is shown.
+    pub line: usize,
+}
+
+impl Fault {
+    /// The same fault, its text shared.
+    pub fn share(&self) -> Result<Fault, Memory>
+        ensures { IfOk result (λ f. f ≡ self.now) }
+    {
+        Ok(Fault {
+            code: self.code,
+            path: self.path.share()?,
+            line: self.line,
+        })
+    }
+}
+
+impl PartialEq for Fault {
+    ghost eq = { fault_eq };
+
+    ghost laws = { partial_equiv_from_equiv faults_equiv };
+
+    fn eq(&self, other: &Fault) -> bool {
+        self.code == other.code && self.path == other.path && self.line == other.line
+    }
+}
+
+impl Eq for Fault {
+    ghost laws = { faults_equiv };
+}
+
 /// What a node holds. Two values are equal exactly where a contract sees one value: a node whose new value is equal
 /// to the recorded one did not change.
 #[derive(Drop)]
@@ -145,6 +243,14 @@ pub enum Value {
     Listing(Option<DirectoryNames>),
     /// Of a look-up: no BUILD file, or which.
     Lookup(Option<BuildName>),
+    /// Of a glob: the paths that it finds, from its directory on.
+    Glob(Paths),
+    /// Of a module: what its file leaves, and all modules that it reaches.
+    Module(Loaded),
+    /// Of a package: its targets, in byte order of their names.
+    Package(Targets),
+    /// Of a module or a package whose file, or one of whose loads, has a fault.
+    Fault(Fault),
     /// Of a node that can't be evaluated since it leads into a loop: the labels of the loop's members, of those that
     /// have one, turned so that the least by bytes stands first.
     Cycle(Names),
@@ -160,6 +266,10 @@ impl PartialEq for Value {
             (Value::File(a), Value::File(b)) => a == b,
             (Value::Listing(a), Value::Listing(b)) => a == b,
             (Value::Lookup(a), Value::Lookup(b)) => a == b,
+            (Value::Glob(a), Value::Glob(b)) => a == b,
+            (Value::Module(a), Value::Module(b)) => a == b,
+            (Value::Package(a), Value::Package(b)) => a == b,
+            (Value::Fault(a), Value::Fault(b)) => a == b,
             (Value::Cycle(a), Value::Cycle(b)) => a == b,
             _ => false,
         }
@@ -168,51 +278,4 @@ impl PartialEq for Value {
 
 impl Eq for Value {
     ghost laws = { values_equiv };
-}
-
-#[cfg(test)]
-mod tests {
-    use super::*;
-    use std::alloc::Global;
-    use std::test::Fail;
-    use texts::Memory;
-
-    // A directory with a file and a subdirectory, of those whose name is not empty.
-    fn names_in(alloc: Global, file: &str, directory: &str) -> Result<DirectoryNames, Memory> {
-        let mut files = Vec::new(alloc);
-        if !file.is_empty() {
-            files.push(Text::new(alloc, file)?)?;
-        }
-        let mut directories = Vec::new(alloc);
-        if !directory.is_empty() {
-            directories.push(Text::new(alloc, directory)?)?;
-        }
-        Ok(DirectoryNames::new(files, directories))
-    }
-
-    #[test]
-    fn values_differ_by_kind_and_by_what_they_hold(rt: HostRuntime) -> Result<(), Fail> {
-        let alloc = rt.alloc();
-        let names = Names::new(vec![in alloc; Text::new(alloc, "//a:b.bzl")?]?);
-        let values = vec![in alloc;
-            Value::File(None),
-            Value::File(Some(Text::new(alloc, "")?)),
-            Value::File(Some(Text::new(alloc, "x")?)),
-            Value::Listing(None),
-            Value::Listing(Some(names_in(alloc, "", "")?)),
-            Value::Listing(Some(names_in(alloc, "x", "")?)),
-            Value::Listing(Some(names_in(alloc, "", "x")?)),
-            Value::Lookup(None),
-            Value::Lookup(Some(BuildName::BuildBazel)),
-            Value::Lookup(Some(BuildName::Build)),
-            Value::Cycle(Names::new(Vec::new(alloc))),
-            Value::Cycle(names),
-        ]?;
-        for (i, a) in values.iter().enumerate() {
-            for (j, b) in values.iter().enumerate() {
-                assert_eq!(rt; a == b, i == j);
-            }
-        }
-        Ok(())
-    }
 }

@@ -25,6 +25,11 @@ impl<R: Rules> Model for Waiting<R> {
 
     ghost Value = { Waits };
 
+    ghost use Rattle.std.specs.Coded.{codes};
+    ghost use Rattle.keys.specs.Stored.{loaded_code};
+
+    ghost coded = { Prim.hlevel (codes, loaded_code) };
+
     ghost view = { λ w. record { key = w.key; answers = values w.answers.items; group = w.group.items } };
 
     ghost invariant = { λ w. FitsFrom R.fits w.state w.key (values w.answers.items) };

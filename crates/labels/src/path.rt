@@ -109,30 +109,3 @@ impl Path {
         &self.text
     }
 }
-
-#[cfg(test)]
-mod tests {
-    use super::*;
-    use std::test::Fail;
-
-    #[test]
-    fn paths_and_package_names(rt: HostRuntime) -> Result<(), Fail> {
-        for path in ["a", "BUILD.bazel", "a/b-c/_.d", "...", "a/.b", "0"] {
-            assert!(rt; is_path(path) && is_package_name(path), "at {path}");
-            assert_eq!(rt; Path::new(rt.alloc(), path)?.as_str(), path);
-        }
-        for text in [
-            "/", "/a", "a/", "a//b", ".", "..", "a/.", "a/../b", "a b", "a:b", "a@b", "\u{e9}", "*",
-        ] {
-            assert!(rt; !is_path(text) && !is_package_name(text), "at {text}");
-            assert!(rt;
-                matches!(Path::new(rt.alloc(), text), Err(BadPath::Code2)),
-                "at {text}"
-            );
-        }
-        assert!(rt; !is_path("") && is_package_name(""));
-        assert!(rt; is_path("p".repeat(rt.alloc(), 255)?.as_str()));
-        assert!(rt; !is_path("p".repeat(rt.alloc(), 256)?.as_str()));
-        Ok(())
-    }
-}

@@ -17,7 +17,7 @@ use Rattle.open_nodes.specs.declared.run.Run.{Run}
 use Rattle.round.specs.Call.{Calls}
 use Rattle.loader.specs.State.{State, start, Edit}
 use Rattle.loader.specs.Held.{Held, IsHistory, IsLawful, state_of, path_of, files_at, path_at}
-use Rattle.loader.specs.Answers.{reply_line, state_after}
+use Rattle.loader.specs.Answers.{line_state, state_after}
 use Rattle.loader.specs.Journal.{Asked}
 use Rattle.loader.specs.Effects.{Effect, nothing, edited, asked, line_effect, effects, edits_in, requests_in, Moves}
 use Rattle.loader.specs.Linked.{IsToldBy}
@@ -28,7 +28,7 @@ use Rattle.loader.proofs.Telling.{told_edit, told_call}
 
 effects_more : (s : State) (lines : List (List ℕ)) (line : List ℕ) → effects s (lines ++ line ∷ []) ≡ effects s lines ++ line_effect line (state_after s lines) ∷ []
 effects_more s [] line = refl
-effects_more s (l ∷ lines) line = ap (λ r. line_effect l s ∷ r) (effects_more (reply_line l s).1 lines line)
+effects_more s (l ∷ lines) line = ap (λ r. line_effect l s ∷ r) (effects_more (line_state l s) lines line)
 
 edits_more : (es : List Effect) (e : Effect) → edits_in (es ++ e ∷ []) ≡ edits_in es ++ edits_in (e ∷ [])
 edits_more [] e = refl

@@ -1,7 +1,7 @@
 -- A request of a session.
-use Rattle.std.proofs.Common.{◌≡◌, ℕ, List, [], ◌∷◌, cond, None, Some, refl, sym, ◌∙◌, ap, subst}
-use Rattle.std.specs.Prelude.{Ok, Err}
-use Rattle.evaluation.specs.Value.{In, first, Grounded, is_leaf, has_run, HasValue, leaf, run}
+use Rattle.std.proofs.Common.{◌≡◌, ℕ, List, [], ◌∷◌, map, length, Bool, true, ◌||◌, ◌==◌, cond, None, Some, refl, sym, ◌∙◌, ap, subst}
+use Rattle.std.specs.Prelude.{Result, Ok, Err, IfOk, Option, codes, false, nat_lt, nat_eq}
+use Rattle.evaluation.specs.Value.{In, first, after as further, Grounded, is_leaf, has_run, HasValue, leaf, run}
 use Rattle.filetree.specs.Files.{Files}
 use Rattle.functions.specs.Lookups.{build_of}
 use Rattle.functions.specs.Next.{next, read}
@@ -20,7 +20,25 @@ use Rattle.open_nodes.specs.declared.run.Run.{Run}
 use Rattle.round.specs.Call.{Calls, IsHistory as IsPast}
 use Rattle.round.specs.declared.stop.Stop.{Stop}
 use Rattle.loader.specs.Held.{Held, IsHistory, IsLawful, files_of}
-use Rattle.loader.specs.Effects.{StopsAfter}
+use Rattle.loader.specs.Answers.{one_member, build_text, package_shown, module_shown, ArePackagesShown, IsModuleShown, IsValueOf, IsUnlessRefused, IsRequestAnswer, Tells}
+use Rattle.loader.specs.Effects.{AreHeld, StopsAfter, module_roots}
+use Rattle.loader.specs.Told.{package_told, module_told}
+use Rattle.loader.specs.State.{Edit, put, del, files_refusal, changed_files}
+use Rattle.filetree.specs.Lawful.{HasPaths}
+use Rattle.filetree.proofs.Lawful.{edits_keep_paths}
+use Rattle.labels.specs.Paths.{is_package_name}
+use Rattle.labels.specs.Labels.{Target, label_of, would_name, label_text, is_target, is_module}
+use Rattle.answers.specs.Answers.{packages_data, fault_data, cycle_data}
+use Rattle.answers.proofs.Plain.{answers_are_plain as plain}
+use Rattle.packages.proofs.Held.{packages_hold, modules_hold}
+use Rattle.std.proofs.lemmas.Bool.{and_parts}
+use Rattle.std.specs.List.{list_all, starts_with, AllByRecursion}
+use Rattle.commands.specs.Commands.{Request, find, load, module_of}
+use Rattle.commands.specs.Refusals.{request_refusal, load_refusal, module_label, if_module, refusal_without}
+use Rattle.keys.specs.declared.value.BuildName.{BuildName}
+use Rattle.keys.specs.declared.value.BuildName.TheVariants.{BuildBazel, Build}
+use Rattle.serde_json.specs.Data.{Data}
+use Rattle.serde_json.specs.Written.{compact_text, has_float}
 use Rattle.loader.proofs.Histories.{last_files, history_from, files_from, paths_from}
 use Rattle.loader.proofs.Linking.{read_plain}
 
@@ -65,16 +83,152 @@ module _ (h : Held) (law : IsLawful h) (tree : Files) (is : tree ≡ files_of h)
   unfolding past_at
   root_of k i = i
 
-  -- a root that has a grounded value holds it
-  pub holds_value : (runs : List Run) → Calls next (read tree) roots h.graph new (Ok runs) → (k : Key) → In k roots → (v : Value) → Grounded next (read tree) k v → present (record_at new k) ≡ Some v
-  holds_value runs calls k i v g =
+  -- each root has a value and holds it
+  pub holds_value : (runs : List Run) → Calls next (read tree) roots h.graph new (Ok runs) → (k : Key) → In k roots → (v : Value) × HasValue next (read tree) cycle k v × (present (record_at new k) ≡ Some v)
+  holds_value runs calls k i =
       let a = (calls (past_at (files_from h.began h.edits) (paths_from h.began h.edits) (history_from h.began h.edits)) (is_past (files_from h.began h.edits) (paths_from h.began h.edits) (history_from h.began h.edits))).answered k (root_of k i) in
-      let same : a.0.value ≡ v = one_value next (read tree) cycle turned a.3.1 (grounded_value tree g).1 in
-      ap present a.1 ∙ ap (λ b. cond b None (Some a.0.value)) a.2 ∙ ap Some same
+      (a.0.value, a.3, ap present a.1 ∙ ap (λ b. cond b None (Some a.0.value)) a.2)
 
 -- the value of a look-up
-pub build_held : (h : Held) (law : IsLawful h) (tree : Files) (is : tree ≡ files_of h) (new : Recorded) (runs : List Run) (name : List ℕ) → Calls next (read tree) (key.Lookup name ∷ []) h.graph new (Ok runs)
-    → present (record_at new (key.Lookup name)) ≡ Some (value.Lookup (build_of (files_of h) name))
-build_held h law tree is new runs name calls =
-    holds_value h law tree is (key.Lookup name ∷ []) new runs calls (key.Lookup name) first (value.Lookup (build_of tree name)) (lookup_grounded tree name)
-    ∙ ap (λ (f : Files). Some (value.Lookup (build_of f name))) is
+pub build_value : (files : Files) (name : List ℕ) → HasValue next (read files) cycle (key.Lookup name) (value.Lookup (build_of files name))
+build_value files name = grounded_value files (lookup_grounded files name)
+
+-- the answer to a find, from what is held of its look-up
+pub find_told : (files : Files) (name : List ℕ) (roots : List Key) (graph : Recorded) (found : Option BuildName) (d : Data)
+    → ((n : List ℕ) (f : Option BuildName) → roots ≡ key.Lookup n ∷ [] → present (record_at graph (key.Lookup n)) ≡ Some (value.Lookup f) → found ≡ f)
+    → d ≡ one_member (codes "build") (build_text found) → roots ≡ key.Lookup name ∷ [] → AreHeld files roots graph → IsValueOf (find name) files d
+find_told files name roots graph found d by is only held =
+    let there = held (key.Lookup name) (subst (In (key.Lookup name)) (sym only) first) in
+    let same : there.0 ≡ value.Lookup (build_of files name) = one_value next (read files) cycle turned there.1.1 (build_value files name).1 in
+    is ∙ ap (λ (f : Option BuildName). one_member (codes "build") (build_text f)) (by name (build_of files name) only (there.2 ∙ ap (λ (v : Value). Some v) same))
+
+-- ---- packages and modules
+
+list_parts : {A : Type 0} (p : A → Bool) (x : A) (xs : List A) → list_all p (x ∷ xs) ≡ true → (p x ≡ true) × (list_all p xs ≡ true)
+list_parts p x xs e = and_parts (p x) (list_all p xs) e
+
+packages_held : (files : Files) (graph : Recorded) (names : List (List ℕ)) → HasPaths files → list_all is_package_name names ≡ true → AreHeld files (map (λ n. key.Package n) names) graph
+    → ArePackagesShown files names (map (λ k. package_told k (present (record_at graph k))) (map (λ n. key.Package n) names))
+packages_held files graph [] good named held = tt
+packages_held files graph (name ∷ names) good named held =
+    let parts = list_parts is_package_name name names named in
+    let there = held (key.Package name) first in (
+      (there.0, packages_hold files name there.0 good parts.0 there.1, ap (λ (o : Option Value). package_told (key.Package name) o) there.2),
+      packages_held files graph names good parts.1 (λ k i. held k (further i)),
+    )
+
+load_accepted : (names : List (List ℕ)) → load_refusal names ≡ None → list_all is_package_name names ≡ true
+load_accepted names e = counted (length names == 0 || nat_lt 256 (length names)) (list_all is_package_name names) e
+  where
+    named : (b : Bool) → cond {A = Option ℕ} b None (Some 5) ≡ None → b ≡ true
+    named true e = refl
+    named false e = absurd cc
+
+    counted : (a b : Bool) → cond {A = Option ℕ} a (Some 9) (cond {A = Option ℕ} b None (Some 5)) ≡ None → b ≡ true
+    counted true b e = absurd cc
+    counted false b e = named b e
+
+-- the answer to a load, from what is held of its packages
+pub load_told : (files : Files) (names : List (List ℕ)) (roots : List Key) (graph : Recorded) (d : Data) → HasPaths files → request_refusal (load names) ≡ None → roots ≡ map (λ n. key.Package n) names
+    → d ≡ packages_data (map (λ k. package_told k (present (record_at graph k))) roots) → AreHeld files roots graph → IsValueOf (load names) files d
+load_told files names roots graph d good accepted only is held = (
+  map (λ k. package_told k (present (record_at graph k))) (map (λ n. key.Package n) names),
+  packages_held files graph names good (load_accepted names accepted) (subst (λ (ks : List Key). AreHeld files ks graph) only held),
+  is ∙ ap (λ (ks : List Key). packages_data (map (λ k. package_told k (present (record_at graph k))) ks)) only,
+)
+
+named_module : (o : Option Target) (t : Target) → if_module o ≡ Some t → (o ≡ Some t) × (is_module t ≡ true)
+named_module None t e = absurd cc
+named_module (Some u) t e = go (is_module u) refl e
+  where
+    go : (b : Bool) → is_module u ≡ b → cond b (Some u) None ≡ Some t → (Some u ≡ Some t) × (is_module t ≡ true)
+    go true m e = let same : u ≡ t = cc in (e, ap is_module (sym same) ∙ m)
+    go false m e = absurd cc
+
+label_named : (text : List ℕ) (t : Target) → module_label text ≡ Some t → (label_of text [] ≡ Some t) × (is_module t ≡ true)
+label_named text t e = go (starts_with nat_eq text (codes "//")) e
+  where
+    go : (b : Bool) → cond b (if_module (label_of text [])) None ≡ Some t → (label_of text [] ≡ Some t) × (is_module t ≡ true)
+    go true e = named_module (label_of text []) t e
+    go false e = absurd cc
+
+label_names : (text present : List ℕ) (u : Target) → label_of text present ≡ Some u → is_target u ≡ true
+label_names text present u e = go (is_target (would_name text present)) refl
+  where
+    picked : (t u : Target) → Some t ≡ Some u → t ≡ u
+    picked t u q = cc
+
+    go : (b : Bool) → is_target (would_name text present) ≡ b → is_target u ≡ true
+    go true h = subst (λ t. is_target t ≡ true) (picked (would_name text present) u (ap (λ b. cond b (Some (would_name text present)) None) (sym h) ∙ e)) h
+    go false h = let wrong : None ≡ Some u = ap (λ b. cond b (Some (would_name text present)) None) (sym h) ∙ e in absurd cc
+
+-- the answer to a question about a module, from what is held of it
+pub module_answered : (files : Files) (label : List ℕ) (roots : List Key) (graph : Recorded) (d : Data) → HasPaths files → request_refusal (module_of label) ≡ None → roots ≡ module_roots (module_label label)
+    → ((k : Key) → roots ≡ k ∷ [] → d ≡ module_told (present (record_at graph k))) → AreHeld files roots graph → IsValueOf (module_of label) files d
+module_answered files label roots graph d good accepted only is held = go (module_label label) refl accepted only
+  where
+    go : (o : Option Target) → module_label label ≡ o → refusal_without o ≡ None → roots ≡ module_roots o → IsModuleShown files o d
+    go None e wrong only = absurd cc
+    go (Some t) e fine only =
+        let named = label_named label t e in
+        let there = held (key.Module (label_text t)) (subst (In (key.Module (label_text t))) (sym only) first) in
+        (there.0, modules_hold files t there.0 good (label_names label [] t named.0) named.1 there.1, is (key.Module (label_text t)) only ∙ ap module_told there.2)
+
+package_plain : (name : List ℕ) (v : Value) → has_float (package_shown name v) ≡ false
+package_plain name (value.File text) = refl
+package_plain name (value.Listing names) = refl
+package_plain name (value.Lookup build) = refl
+package_plain name (value.Glob paths) = refl
+package_plain name (value.Module m) = refl
+package_plain name (value.Package targets) = plain.loaded_package name targets
+package_plain name (value.Fault f) = plain.faulty_package name (fault_data f.code f.path f.line) (plain.fault f.code f.path f.line)
+package_plain name (value.Cycle labels) = plain.faulty_package name (cycle_data labels) (plain.cycle labels)
+
+module_plain : (v : Value) → has_float (module_shown v) ≡ false
+module_plain (value.File text) = refl
+module_plain (value.Listing names) = refl
+module_plain (value.Lookup build) = refl
+module_plain (value.Glob paths) = refl
+module_plain (value.Module m) = plain.exports m.body
+module_plain (value.Package targets) = refl
+module_plain (value.Fault f) = plain.faulty_module (fault_data f.code f.path f.line) (plain.fault f.code f.path f.line)
+module_plain (value.Cycle labels) = plain.faulty_module (cycle_data labels) (plain.cycle labels)
+
+packages_plain : (files : Files) (names : List (List ℕ)) (ds : List Data) → ArePackagesShown files names ds → AllByRecursion (λ d. has_float d ≡ false) ds
+packages_plain files [] [] are = tt
+packages_plain files [] (d ∷ ds) are = absurd are
+packages_plain files (name ∷ names) [] are = absurd are
+packages_plain files (name ∷ names) (d ∷ ds) are = (ap has_float are.0.2 ∙ package_plain name are.0.0, packages_plain files names ds are.1)
+
+shown_plain : (files : Files) (o : Option Target) (d : Data) → IsModuleShown files o d → has_float d ≡ false
+shown_plain files None d is = absurd is
+shown_plain files (Some t) d is = ap has_float is.2 ∙ module_plain is.0
+
+build_plain : (found : Option BuildName) → has_float (one_member (codes "build") (build_text found)) ≡ false
+build_plain None = refl
+build_plain (Some BuildBazel) = refl
+build_plain (Some Build) = refl
+
+-- answers have no floats
+request_plain : (request : Request) (files : Files) (d : Data) → IsValueOf request files d → has_float d ≡ false
+request_plain (find name) files d is = ap has_float is ∙ build_plain (build_of files name)
+request_plain (load names) files d is = ap has_float is.2 ∙ plain.packages is.0 (packages_plain files names is.0 is.1)
+request_plain (module_of label) files d is = shown_plain files (module_label label) d is
+
+-- the text of an answer to a request that is not refused
+pub text_told : (request : Request) (files : Files) (d : Data) (text : List ℕ) → request_refusal request ≡ None → IsValueOf request files d → (has_float d ≡ false → text ≡ compact_text d) → Tells (IsRequestAnswer request files) text
+text_told request files d text accepted is written = (d, subst (λ (n : Option ℕ). IsUnlessRefused n (IsValueOf request files) d) (sym accepted) is, written (request_plain request files d is))
+
+-- the files of an edit that is not refused have paths alone
+pub kept_paths : (edit : Edit) (files : Files) → HasPaths files → files_refusal edit files ≡ None → HasPaths (changed_files edit files)
+kept_paths (put path text) files good e = edits_keep_paths.1 files path text good e
+kept_paths (del path) files good e = edits_keep_paths.2 files path good
+
+-- what is held of keys, in an equal graph
+pub held_in : (files : Files) (keys others : List Key) (graph other : Recorded) → keys ≡ others → graph ≡ other → AreHeld files keys graph → AreHeld files others other
+held_in files keys others graph other same one held = subst (AreHeld files others) one (subst (λ (ks : List Key). AreHeld files ks graph) same held)
+
+-- what follows of a result that is there
+pub if_ok : {A E : Type 0} (P Q : A → Type 0) (r : Result A E) → ((x : A) → P x → Q x) → IfOk r P → IfOk r Q
+if_ok P Q (Ok x) f h = f x h
+if_ok P Q (Err e) f h = tt

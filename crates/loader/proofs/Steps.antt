@@ -1,6 +1,6 @@
 -- Serving, line after line.
 use Rattle.std.proofs.Common.{◌≡◌, ◌∙◌, ap, sym, subst, ℕ, zero, suc, ◌<◌, List, [], ◌∷◌, ◌++◌, length, take, drop, Bool, true, false, not, ◌&&◌, refl, arith, rules, tests, append_assoc}
-use Rattle.std.specs.Prelude.{Result, Ok, Err, OnErr, ◌==◌}
+use Rattle.std.specs.Prelude.{Result, Ok, Err, OnErr, ◌==◌, Option, Some, None, option_and_then, if◌then◌else◌}
 use Rattle.std.proofs.lemmas.List.{append-nil, take-append-drop}
 use Rattle.lines.specs.Lines.{lines_of, Took}
 use Rattle.lines.proofs.Cuts.{lines_of_one, lines_of_break, whole_append, whole_break, empty_of}
@@ -10,16 +10,25 @@ use Rattle.loader.specs.Held.{Held, IsLawful, state_of}
 use Rattle.loader.specs.Effects.{line_effect, Moves}
 use Rattle.loader.specs.Kept.{IsKept, IsJournalOf}
 use Rattle.loader.proofs.Keeping.{kept_line, kept_journal, kept_at_start}
-use Rattle.loader.specs.Answers.{answers, answers_from, answer_text, reply_line, state_after}
-use Rattle.loader.specs.Served.{Served, Stopped, Between, After}
-
-answers_append : (s : State) (ls ms : List (List ℕ)) → answers_from s (ls ++ ms) ≡ answers_from s ls ++ answers_from (state_after s ls) ms
-answers_append s [] ms = refl
-answers_append s (l ∷ ls) ms = ap (λ r. answer_text l s ++ r) (answers_append (reply_line l s).1 ls ms) ∙ sym (append_assoc (answer_text l s) _ _)
+use Rattle.serde_json.specs.Data.{Data}
+use Rattle.serde_json.specs.Written.{compact_text}
+use Rattle.commands.specs.Commands.{Command, data_of, command_of}
+use Rattle.loader.specs.Answers.{refused, IsAnswer, IsAnswerIf, IsAnswerOf, AreAnswers, Tells, answer_text, texts, state_if, line_state, state_after}
+use Rattle.loader.specs.Served.{Served, Stopped, Between, After, nothing, of_next}
 
 state_append : (s : State) (ls ms : List (List ℕ)) → state_after s (ls ++ ms) ≡ state_after (state_after s ls) ms
 state_append s [] ms = refl
-state_append s (l ∷ ls) ms = state_append (reply_line l s).1 ls ms
+state_append s (l ∷ ls) ms = state_append (line_state l s) ls ms
+
+texts_more : (answers : List Data) (d : Data) → texts (answers ++ d ∷ []) ≡ texts answers ++ answer_text d
+texts_more [] d = append-nil (answer_text d)
+texts_more (a ∷ answers) d = ap (λ r. answer_text a ++ r) (texts_more answers d) ∙ sym (append_assoc (answer_text a) (texts answers) (answer_text d))
+
+are_more : (s : State) (lines : List (List ℕ)) (answers : List Data) (line : List ℕ) (d : Data) → AreAnswers s lines answers → IsAnswer line (state_after s lines) d → AreAnswers s (lines ++ line ∷ []) (answers ++ d ∷ [])
+are_more s [] [] line d are is = (is, tt)
+are_more s [] (a ∷ answers) line d are is = absurd are
+are_more s (l ∷ lines) [] line d are is = absurd are
+are_more s (l ∷ lines) (a ∷ answers) line d are is = (are.0, are_more (line_state l s) lines answers line d are.1 is)
 
 positive : (n : ℕ) → (n == 0) ≡ false → 0 < n
 positive zero h = cc
@@ -27,11 +36,6 @@ positive (suc n) h = omega arith
 
 is_zero : (n : ℕ) → (n == 0) ≡ true → n ≡ 0
 is_zero n h = search (rules, tests)
-
-cut_at : (a text b : List ℕ) (n : ℕ) → a ++ (text ++ b) ≡ (a ++ take n text) ++ (drop n text ++ b)
-cut_at a text b n =
-    ap (λ r. a ++ (r ++ b)) (sym (take-append-drop n text)) ∙ ap (λ r. a ++ r) (append_assoc (take n text) (drop n text) b)
-    ∙ sym (append_assoc a (take n text) (drop n text ++ b))
 
 module _ {T told H held waiting : List ℕ} {h : Held} {runs : List Run} (b : Between T told H held waiting h runs) where
   abbrev s : State
@@ -41,23 +45,26 @@ module _ {T told H held waiting : List ℕ} {h : Held} {runs : List Run} (b : Be
   input_is : (after fresh : List ℕ) → after ≡ told ++ fresh → after ≡ T ++ (b.taken ++ (waiting ++ fresh))
   input_is after fresh e = e ∙ ap (λ r. r ++ fresh) b.told_is ∙ append_assoc T (b.taken ++ waiting) fresh ∙ ap (λ r. T ++ r) (append_assoc b.taken waiting fresh)
 
-  abbrev answered : List ℕ
-  answered = answers_from start (lines_of b.taken)
-
-  -- the answers to more are those so far and those to the rest
-  answers_more : (more : List ℕ) → answers (b.taken ++ more) ≡ answers_from start (lines_of b.taken) ++ answers_from s (lines_of more)
-  answers_more more =
-      ap (answers_from start) (whole_append b.taken more b.whole) ∙ answers_append start (lines_of b.taken) (lines_of more)
-      ∙ ap (λ t. answers_from start (lines_of b.taken) ++ answers_from t (lines_of more)) (sym b.state_is)
-
   pub stopped_before : (after fresh : List ℕ) → after ≡ told ++ fresh → Stopped T after H held
   stopped_before after fresh e = record {
     input = b.taken ++ (waiting ++ fresh);
-    written = answers_from start (lines_of b.taken);
+    answered = lines_of b.taken;
+    left = lines_of (waiting ++ fresh);
+    answers = b.answers;
+    part = [];
     told_is = input_is after fresh e;
-    held_is = b.held_is;
-    begins = (answers_from s (lines_of (waiting ++ fresh)), answers_more (waiting ++ fresh));
+    lines_are = whole_append b.taken (waiting ++ fresh) b.whole;
+    are = b.are;
+    begins = nothing;
+    held_is = b.held_is ∙ ap (λ r. H ++ r) (sym (append-nil (texts b.answers)));
   }
+
+  -- one more answer
+  one_more : (line : List ℕ) (d : Data) → IsAnswer line s d → AreAnswers start (lines_of b.taken ++ line ∷ []) (b.answers ++ d ∷ [])
+  one_more line d is = are_more start (lines_of b.taken) b.answers line d b.are (subst (λ (x : State). IsAnswer line x d) b.state_is is)
+
+  one_written : (now : List ℕ) (d : Data) → now ≡ held ++ answer_text d → now ≡ H ++ texts (b.answers ++ d ∷ [])
+  one_written now d e = e ∙ ap (λ r. r ++ answer_text d) b.held_is ∙ append_assoc H (texts b.answers) (answer_text d) ∙ ap (λ r. H ++ r) (sym (texts_more b.answers d))
 
   module _ {rest after kept : List ℕ} {long : Bool} where
     first_line : (ended : Bool) (t : Took waiting rest told after kept long ended) → (not ended && (length t.line == 0)) ≡ false → lines_of (waiting ++ t.fresh) ≡ t.line ∷ lines_of rest
@@ -65,56 +72,61 @@ module _ {T told H held waiting : List ℕ} {h : Held} {runs : List Run} (b : Be
     first_line false t h =
         ap lines_of (t.split ∙ append-nil t.line) ∙ lines_of_one t.line t.one (positive _ h) ∙ ap (λ r. t.line ∷ lines_of r) (sym (t.end refl))
 
-    answers_line : (ended : Bool) (t : Took waiting rest told after kept long ended) → (not ended && (length t.line == 0)) ≡ false
-        → answers (b.taken ++ (waiting ++ t.fresh)) ≡ answers_from start (lines_of b.taken) ++ (answer_text t.line s ++ answers_from (reply_line t.line s).1 (lines_of rest))
-    answers_line ended t h = answers_more (waiting ++ t.fresh) ∙ ap (λ ls. answers_from start (lines_of b.taken) ++ answers_from s ls) (first_line ended t h)
-
     pub stopped_within : (ended : Bool) (t : Took waiting rest told after kept long ended) → (not ended && (length t.line == 0)) ≡ false
-        → (now : List ℕ) (n : ℕ) → now ≡ held ++ take n (answer_text t.line s) → Stopped T after H now
-    stopped_within ended t h now n e = record {
+        → (now : List ℕ) (n : ℕ) (d : Data) → IsAnswer t.line s d → now ≡ held ++ take n (answer_text d) → Stopped T after H now
+    stopped_within ended t h now n d is e = record {
       input = b.taken ++ (waiting ++ t.fresh);
-      written = answers_from start (lines_of b.taken) ++ take n (answer_text t.line s);
+      answered = lines_of b.taken;
+      left = t.line ∷ lines_of rest;
+      answers = b.answers;
+      part = take n (answer_text d);
       told_is = input_is after t.fresh t.told;
-      held_is = e ∙ ap (λ r. r ++ take n (answer_text t.line s)) b.held_is ∙ append_assoc H _ _;
-      begins = (drop n (answer_text t.line s) ++ answers_from (reply_line t.line s).1 (lines_of rest), answers_line ended t h ∙ cut_at _ (answer_text t.line s) _ n);
+      lines_are = whole_append b.taken (waiting ++ t.fresh) b.whole ∙ ap (λ ls. lines_of b.taken ++ ls) (first_line ended t h);
+      are = b.are;
+      begins = of_next d (subst (λ (x : State). IsAnswer t.line x d) b.state_is is) (drop n (answer_text d), sym (take-append-drop n (answer_text d)));
+      held_is = e ∙ ap (λ r. r ++ take n (answer_text d)) b.held_is ∙ append_assoc H (texts b.answers) (take n (answer_text d));
     }
 
     pub served_end : (t : Took waiting rest told after kept long false) → (length t.line == 0) ≡ true → Served T after H held runs
     served_end t empty = record {
       input = b.taken ++ (waiting ++ t.fresh);
+      answers = b.answers;
       told_is = input_is after t.fresh t.told;
-      held_is = b.held_is ∙ ap (λ r. H ++ r) (sym (answers_more (waiting ++ t.fresh)
-          ∙ ap (λ m. answered ++ answers_from s (lines_of m)) (t.split ∙ append-nil t.line ∙ empty_of t.line (is_zero _ empty)) ∙ append-nil answered));
-      journal = subst (λ (ls : List (List ℕ)). IsJournalOf ls runs) (sym (ap (λ m. lines_of (b.taken ++ m)) (t.split ∙ append-nil t.line ∙ empty_of t.line (is_zero _ empty)) ∙ ap lines_of (append-nil b.taken))) (kept_journal h (lines_of b.taken) runs b.kept);
+      are = subst (λ (ls : List (List ℕ)). AreAnswers start ls b.answers) (sym all) b.are;
+      held_is = b.held_is;
+      journal = subst (λ (ls : List (List ℕ)). IsJournalOf ls runs) (sym all) (kept_journal h (lines_of b.taken) runs b.kept);
     }
+      where
+        all : lines_of (b.taken ++ (waiting ++ t.fresh)) ≡ lines_of b.taken
+        all = ap (λ m. lines_of (b.taken ++ m)) (t.split ∙ append-nil t.line ∙ empty_of t.line (is_zero _ empty)) ∙ ap lines_of (append-nil b.taken)
 
     pub served_at_end : (ended : Bool) (t : Took waiting rest told after kept long ended) → (not ended && (length t.line == 0)) ≡ true → Served T after H held runs
     served_at_end true t e = absurd (cc)
     served_at_end false t e = served_end t e
 
     pub after_line : (ended : Bool) (t : Took waiting rest told after kept long ended) → (not ended && (length t.line == 0)) ≡ false
-        → (now : List ℕ) (h' : Held) (own : List Run) → now ≡ held ++ answer_text t.line s → state_of h' ≡ (reply_line t.line s).1
+        → (now : List ℕ) (h' : Held) (own : List Run) (d : Data) → IsAnswer t.line s d → now ≡ held ++ answer_text d → state_of h' ≡ line_state t.line s
         → (IsLawful h → IsLawful h') → Moves (line_effect t.line s) h h' own → After ended T after H now rest h' (runs ++ own)
-    after_line true t there now h' own e f law moves = record {
+    after_line true t there now h' own d is e f law moves = record {
       taken = b.taken ++ (t.line ++ 10 ∷ []);
+      answers = b.answers ++ d ∷ [];
       whole = whole_break b.taken t.line;
       told_is = input_is after t.fresh t.told ∙ ap (λ r. T ++ r) (ap (λ r. b.taken ++ r) (t.split ∙ sym (append_assoc t.line (10 ∷ []) rest)) ∙ sym (append_assoc b.taken (t.line ++ 10 ∷ []) rest));
-      held_is = e ∙ ap (λ r. r ++ answer_text t.line s) b.held_is ∙ append_assoc H answered (answer_text t.line s)
-          ∙ ap (λ r. H ++ r) (sym (answers_more (t.line ++ 10 ∷ []) ∙ ap (λ ls. answered ++ answers_from s ls) (lines_of_break t.line [] t.one)
-          ∙ ap (λ r. answered ++ r) (append-nil (answer_text t.line s))));
+      are = subst (λ (ls : List (List ℕ)). AreAnswers start ls (b.answers ++ d ∷ [])) (sym (taken_line t)) (one_more t.line d is);
+      held_is = one_written now d e;
       state_is = f ∙ sym (ap (state_after start) (taken_line t)
-          ∙ state_append start (lines_of b.taken) (t.line ∷ []) ∙ ap (λ r. (reply_line t.line r).1) (sym b.state_is));
+          ∙ state_append start (lines_of b.taken) (t.line ∷ []) ∙ ap (λ r. line_state t.line r) (sym b.state_is));
       kept = subst (λ (ls : List (List ℕ)). IsKept h' ls (runs ++ own)) (sym (taken_line t)) (kept_line h h' (lines_of b.taken) runs own t.line b.kept (law b.kept.lawful) b.state_is moves);
     }
       where
         taken_line : (t : Took waiting rest told after kept long true) → lines_of (b.taken ++ (t.line ++ 10 ∷ [])) ≡ lines_of b.taken ++ t.line ∷ []
         taken_line t = whole_append b.taken (t.line ++ 10 ∷ []) b.whole ∙ ap (λ ls. lines_of b.taken ++ ls) (lines_of_break t.line [] t.one)
-    after_line false t there now h' own e f law moves = record {
+    after_line false t there now h' own d is e f law moves = record {
       input = b.taken ++ (waiting ++ t.fresh);
+      answers = b.answers ++ d ∷ [];
       told_is = input_is after t.fresh t.told;
-      held_is = e ∙ ap (λ r. r ++ answer_text t.line s) b.held_is ∙ append_assoc H answered (answer_text t.line s)
-          ∙ ap (λ r. H ++ r) (sym (answers_line false t there ∙ ap (λ r. answered ++ (answer_text t.line s ++ answers_from (reply_line t.line s).1 (lines_of r))) (t.end refl)
-          ∙ ap (λ r. answered ++ r) (append-nil (answer_text t.line s))));
+      are = subst (λ (ls : List (List ℕ)). AreAnswers start ls (b.answers ++ d ∷ [])) (sym last) (one_more t.line d is);
+      held_is = one_written now d e;
       journal = subst (λ (ls : List (List ℕ)). IsJournalOf ls (runs ++ own)) (sym last) (kept_journal h' (lines_of b.taken ++ t.line ∷ []) (runs ++ own)
           (kept_line h h' (lines_of b.taken) runs own t.line b.kept (law b.kept.lawful) b.state_is moves));
     }
@@ -127,7 +139,9 @@ pub between_at_start : (told held waiting : List ℕ) (h : Held) (runs : List Ru
 between_at_start told held waiting h runs w r law began edits records state = record {
   taken = [];
   whole = tt;
+  answers = [];
   told_is = sym (append-nil told) ∙ ap (λ x. told ++ x) (sym w);
+  are = tt;
   held_is = sym (append-nil held);
   state_is = state;
   kept = subst (λ (xs : List Run). IsKept h [] xs) (sym r) (kept_at_start h law began edits records);
@@ -138,8 +152,46 @@ on_err (Ok x) p = tt
 on_err (Err e) p = p
 
 pub stopped_at_start : (told held : List ℕ) → Stopped told told held held
-stopped_at_start told held = record { input = []; written = []; told_is = sym (append-nil told); held_is = sym (append-nil held); begins = ([], refl) }
+stopped_at_start told held = record {
+  input = [];
+  answered = [];
+  left = [];
+  answers = [];
+  part = [];
+  told_is = sym (append-nil told);
+  lines_are = refl;
+  are = tt;
+  begins = nothing;
+  held_is = sym (append-nil held);
+}
 
 -- all answers are a beginning of the answers
 pub served_stopped : {T told H held : List ℕ} {runs : List Run} → Served T told H held runs → Stopped T told H held
-served_stopped s = record { input = s.input; written = answers s.input; told_is = s.told_is; held_is = s.held_is; begins = ([], sym (append-nil (answers s.input))) }
+served_stopped {H = H} s = record {
+  input = s.input;
+  answered = lines_of s.input;
+  left = [];
+  answers = s.answers;
+  part = [];
+  told_is = s.told_is;
+  lines_are = sym (append-nil (lines_of s.input));
+  are = s.are;
+  begins = nothing;
+  held_is = s.held_is ∙ ap (λ r. H ++ r) (sym (append-nil (texts s.answers)));
+}
+
+-- a line that is no command
+pub no_command : (o : Option Command) (s : State) (text : List ℕ) → o ≡ None → text ≡ compact_text (refused 1) → Tells (IsAnswerIf o s) text × (s ≡ state_if o s)
+no_command None s text e is = ((refused 1, refl, is), refl)
+no_command (Some command) s text e is = absurd cc
+
+-- a line that is too long
+pub too_long : (b : Bool) (line : List ℕ) (s : State) (text : List ℕ) → b ≡ true → text ≡ compact_text (refused 6) → Tells (IsAnswerOf b line s) text × (s ≡ (if b then s else state_if (option_and_then command_of (data_of line)) s))
+too_long true line s text e is = ((refused 6, refl, is), refl)
+too_long false line s text e is = absurd cc
+
+-- and one that is not
+pub not_long : (b : Bool) (line : List ℕ) (s next : State) (text : List ℕ) → b ≡ false → Tells (IsAnswerIf (option_and_then command_of (data_of line)) s) text × (next ≡ state_if (option_and_then command_of (data_of line)) s)
+    → Tells (IsAnswerOf b line s) text × (next ≡ (if b then s else state_if (option_and_then command_of (data_of line)) s))
+not_long true line s next text e is = absurd cc
+not_long false line s next text e is = is

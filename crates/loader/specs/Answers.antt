@@ -1,15 +1,20 @@
--- The answers to an input, from the present files alone.
-use Rattle.std.specs.Prelude.{ℕ, ◌+◌, List, [], ◌∷◌, ◌++◌, Option, Some, None, option_and_then, codes, if◌then◌else◌}
-use Rattle.lines.specs.Lines.{lines_of, is_too_long}
-use Rattle.labels.specs.Paths.{is_package_name}
+-- Which answers an input has, from the present files alone.
+use Rattle.std.specs.Prelude.{◌≡◌, ℕ, ◌+◌, List, [], ◌∷◌, ◌++◌, Bool, true, false, Option, Some, None, option_and_then, codes, if◌then◌else◌}
+use Rattle.lines.specs.Lines.{is_too_long}
 use Rattle.filetree.specs.Files.{Files}
 use Rattle.keys.specs.declared.value.BuildName.{BuildName}
 use Rattle.keys.specs.declared.value.BuildName.TheVariants.{BuildBazel, Build}
+use Rattle.labels.specs.Labels.{Target}
+use Rattle.keys.specs.declared.value.Value.{Value}
+use Rattle.keys.specs.declared.value.Value.TheVariants as value
 use Rattle.functions.specs.Lookups.{build_of}
+use Rattle.packages.specs.Loaded.{HoldsPackage, HoldsModule}
+use Rattle.answers.specs.Answers.{package_data, faulty_package, packages_data, fault_data, cycle_data, module_data, faulty_module}
 use Rattle.serde_json.specs.Data.{Data, null, string, number, unsigned, object, no_members, member}
 use Rattle.serde_json.specs.Written.{compact_text}
-use Rattle.loader.specs.State.{State, start, Edit, refusal_of, changed}
-use Rattle.loader.specs.Commands.{Command, change, ask, Request, find, data_of, command_of}
+use Rattle.loader.specs.State.{State, Edit, refusal_of, changed}
+use Rattle.commands.specs.Refusals.{request_refusal, module_label}
+use Rattle.commands.specs.Commands.{Command, change, ask, Request, find, load, module_of, data_of, command_of}
 
 abbrev pub one_member : List ℕ → Data → Data
 one_member key d = object (member key d no_members)
@@ -26,42 +31,116 @@ build_text (Some BuildBazel) = string (codes "BUILD.bazel")
 build_text (Some Build) = string (codes "BUILD")
 build_text None = null
 
--- the answer to a request
-abbrev pub request_answer : Request → Files → Data
-request_answer (find name) files = if is_package_name name then one_member (codes "build") (build_text (build_of files name)) else refused 5
+-- a package, or its fault, or the cycle to which its loads lead
+abbrev pub package_shown : List ℕ → Value → Data
+package_shown name (value.File text) = null
+package_shown name (value.Listing names) = null
+package_shown name (value.Lookup build) = null
+package_shown name (value.Glob paths) = null
+package_shown name (value.Module m) = null
+package_shown name (value.Package targets) = package_data name targets
+package_shown name (value.Fault f) = faulty_package name (fault_data f.code f.path f.line)
+package_shown name (value.Cycle labels) = faulty_package name (cycle_data labels)
 
--- an answer, and the state after it
-abbrev pub Reply : Type 0
-Reply = Data × State
+-- a module likewise
+abbrev pub module_shown : Value → Data
+module_shown (value.File text) = null
+module_shown (value.Listing names) = null
+module_shown (value.Lookup build) = null
+module_shown (value.Glob paths) = null
+module_shown (value.Module m) = module_data m.body
+module_shown (value.Package targets) = null
+module_shown (value.Fault f) = faulty_module (fault_data f.code f.path f.line)
+module_shown (value.Cycle labels) = faulty_module (cycle_data labels)
 
--- the first refusal, or the change
-abbrev pub edit_reply : Edit → State → Option ℕ → Reply
-edit_reply edit s (Some n) = (refused n, s)
-edit_reply edit s None = (accepted (s.version + 1), changed edit s)
+-- the package with a name that the files mean
+abbrev pub IsPackageShown : Files → List ℕ → Data → Type 0
+IsPackageShown files name d = (v : Value) × HoldsPackage files name v × (d ≡ package_shown name v)
 
-abbrev pub reply_to : Command → State → Reply
-reply_to (change edit) s = edit_reply edit s (refusal_of edit s)
-reply_to (ask request) s = (request_answer request s.files, s)
+-- those with several names, in their order, repeats too
+abbrev pub ArePackagesShown : Files → List (List ℕ) → List Data → Type 0
+ArePackagesShown files [] [] = Unit {0}
+ArePackagesShown files [] (d ∷ ds) = ⊥
+ArePackagesShown files (name ∷ names) [] = ⊥
+ArePackagesShown files (name ∷ names) (d ∷ ds) = IsPackageShown files name d × ArePackagesShown files names ds
 
-abbrev pub reply_if : Option Command → State → Reply
-reply_if (Some command) s = reply_to command s
-reply_if None s = (refused 1, s)
+-- the module with a label that the files mean
+abbrev pub IsModuleShown : Files → Option Target → Data → Type 0
+IsModuleShown files None d = ⊥
+IsModuleShown files (Some t) d = (v : Value) × HoldsModule files t v × (d ≡ module_shown v)
 
-abbrev pub reply_line : List ℕ → State → Reply
-reply_line line s = if is_too_long line then (refused 6, s) else reply_if (option_and_then command_of (data_of line)) s
+-- the answer to a request that is not refused
+abbrev pub IsValueOf : Request → Files → Data → Type 0
+IsValueOf (find name) files d = d ≡ one_member (codes "build") (build_text (build_of files name))
+IsValueOf (load names) files d = (ds : List Data) × ArePackagesShown files names ds × (d ≡ packages_data ds)
+IsValueOf (module_of label) files d = IsModuleShown files (module_label label) d
 
--- the bytes of the answer to a line
-abbrev pub answer_text : List ℕ → State → List ℕ
-answer_text line s = compact_text (reply_line line s).0 ++ 10 ∷ []
+abbrev pub IsUnlessRefused : Option ℕ → (Data → Type 0) → Data → Type 0
+IsUnlessRefused (Some n) P d = d ≡ refused n
+IsUnlessRefused None P d = P d
 
-abbrev pub answers_from : State → List (List ℕ) → List ℕ
-answers_from s [] = []
-answers_from s (line ∷ lines) = answer_text line s ++ answers_from (reply_line line s).1 lines
+-- the first refusal, or an answer
+abbrev pub IsRequestAnswer : Request → Files → Data → Type 0
+IsRequestAnswer request files d = IsUnlessRefused (request_refusal request) (IsValueOf request files) d
+
+-- the first refusal, or the new version
+abbrev pub edit_answer : State → Option ℕ → Data
+edit_answer s (Some n) = refused n
+edit_answer s None = accepted (s.version + 1)
+
+-- no change, or the change
+abbrev pub edited_state : Edit → State → Option ℕ → State
+edited_state edit s (Some n) = s
+edited_state edit s None = changed edit s
+
+abbrev pub IsAnswerTo : Command → State → Data → Type 0
+IsAnswerTo (change edit) s d = d ≡ edit_answer s (refusal_of edit s)
+IsAnswerTo (ask request) s d = IsRequestAnswer request s.files d
+
+abbrev pub state_by : Command → State → State
+state_by (change edit) s = edited_state edit s (refusal_of edit s)
+state_by (ask request) s = s
+
+abbrev pub IsAnswerIf : Option Command → State → Data → Type 0
+IsAnswerIf (Some command) s d = IsAnswerTo command s d
+IsAnswerIf None s d = d ≡ refused 1
+
+abbrev pub state_if : Option Command → State → State
+state_if (Some command) s = state_by command s
+state_if None s = s
+
+abbrev pub IsAnswerOf : Bool → List ℕ → State → Data → Type 0
+IsAnswerOf true line s d = d ≡ refused 6
+IsAnswerOf false line s d = IsAnswerIf (option_and_then command_of (data_of line)) s d
+
+-- an answer to a line
+abbrev pub IsAnswer : List ℕ → State → Data → Type 0
+IsAnswer line s d = IsAnswerOf (is_too_long line) line s d
+
+-- the state after it
+abbrev pub line_state : List ℕ → State → State
+line_state line s = if is_too_long line then s else state_if (option_and_then command_of (data_of line)) s
 
 abbrev pub state_after : State → List (List ℕ) → State
 state_after s [] = s
-state_after s (line ∷ lines) = state_after (reply_line line s).1 lines
+state_after s (line ∷ lines) = state_after (line_state line s) lines
 
--- all that is written for an input
-abbrev pub answers : List ℕ → List ℕ
-answers input = answers_from start (lines_of input)
+-- an answer to each line, from a state on
+abbrev pub AreAnswers : State → List (List ℕ) → List Data → Type 0
+AreAnswers s [] [] = Unit {0}
+AreAnswers s [] (d ∷ answers) = ⊥
+AreAnswers s (line ∷ lines) [] = ⊥
+AreAnswers s (line ∷ lines) (d ∷ answers) = IsAnswer line s d × AreAnswers (line_state line s) lines answers
+
+-- the bytes of an answer
+abbrev pub answer_text : Data → List ℕ
+answer_text d = compact_text d ++ 10 ∷ []
+
+-- and those of several, in their order
+abbrev pub texts : List Data → List ℕ
+texts [] = []
+texts (d ∷ answers) = answer_text d ++ texts answers
+
+-- a text that tells such an answer
+abbrev pub Tells : (Data → Type 0) → List ℕ → Type 0
+Tells P text = (d : Data) × P d × (text ≡ compact_text d)

@@ -1,20 +1,25 @@
 -- What a line does: nothing to files and graph, an accepted edit, or a request that is evaluated.
-use Rattle.std.specs.Prelude.{◌≡◌, ℕ, List, [], ◌∷◌, ◌++◌, Option, Some, None, option_and_then, Ok, if◌then◌else◌}
+use Rattle.std.specs.Prelude.{◌≡◌, ℕ, List, [], ◌∷◌, ◌++◌, map, Option, Some, None, option_and_then, Ok, if◌then◌else◌}
 use Rattle.evaluation.specs.Graph.{Marks}
+use Rattle.evaluation.specs.Value.{HasValue, In}
+use Rattle.labels.specs.Labels.{Target, label_text}
+use Rattle.filetree.specs.Files.{Files}
 use Rattle.functions.specs.Next.{next, read}
+use Rattle.keys.specs.Cycles.{cycle}
 use Rattle.keys.specs.declared.key.Key.{Key}
+use Rattle.keys.specs.declared.value.Value.{Value}
 use Rattle.keys.specs.declared.key.Key.TheVariants as key
-use Rattle.labels.specs.Paths.{is_package_name}
 use Rattle.lines.specs.Lines.{is_too_long}
-use Rattle.node.specs.Graphs.{record_at, IsTouched}
+use Rattle.node.specs.Graphs.{Recorded, record_at, present, IsTouched}
 use Rattle.open_nodes.specs.declared.run.Run.{Run}
 use Rattle.node.specs.Laws.{IsLawfulFor}
 use Rattle.open_nodes.specs.Truths.{Past, IsAfter}
 use Rattle.round.specs.Call.{Calls}
 use Rattle.loader.specs.State.{State, Edit, refusal_of}
 use Rattle.loader.specs.Held.{Held, files_of, path_of}
-use Rattle.loader.specs.Commands.{Command, change, ask, Request, find, data_of, command_of}
-use Rattle.loader.specs.Answers.{reply_line}
+use Rattle.commands.specs.Refusals.{request_refusal, module_label}
+use Rattle.commands.specs.Commands.{Command, change, ask, Request, find, load, module_of, data_of, command_of}
+use Rattle.loader.specs.Answers.{line_state}
 use Rattle.loader.specs.Journal.{Asked}
 
 pub data Effect : Type 0 where
@@ -22,13 +27,23 @@ pub data Effect : Type 0 where
   edited : Edit → Effect
   asked : Asked → Effect
 
--- the keys that a request asks for: of `find` one look-up
+abbrev pub module_roots : Option Target → List Key
+module_roots None = []
+module_roots (Some t) = key.Module (label_text t) ∷ []
+
+-- the keys that a request asks for: of `find` a look-up, of `load` a package for each name, of `module` the module
 abbrev pub request_roots : Request → List Key
 request_roots (find name) = key.Lookup name ∷ []
+request_roots (load names) = map (λ name. key.Package name) names
+request_roots (module_of label) = module_roots (module_label label)
+
+abbrev pub unless_refused : Option ℕ → Effect → Effect
+unless_refused (Some n) effect = nothing
+unless_refused None effect = effect
 
 -- a refused request is not evaluated
 abbrev pub request_effect : Request → ℕ → Effect
-request_effect (find name) version = if is_package_name name then asked (record { version = version; roots = request_roots (find name) }) else nothing
+request_effect request version = unless_refused (request_refusal request) (asked (record { version = version; roots = request_roots request }))
 
 abbrev pub edit_effect : Edit → Option ℕ → Effect
 edit_effect edit None = edited edit
@@ -48,7 +63,7 @@ line_effect line s = if is_too_long line then nothing else effect_if (option_and
 -- the effects of lines, from a state on
 abbrev pub effects : State → List (List ℕ) → List Effect
 effects s [] = []
-effects s (line ∷ lines) = line_effect line s ∷ effects (reply_line line s).1 lines
+effects s (line ∷ lines) = line_effect line s ∷ effects (line_state line s) lines
 
 -- the accepted edits
 abbrev pub edits_in : List Effect → List Edit
@@ -71,6 +86,10 @@ Moves nothing old new runs = (new ≡ old) × (runs ≡ [])
 Moves (edited edit) old new runs = (runs ≡ []) × (new.began ≡ old.began) × (new.edits ≡ old.edits ++ edit ∷ []) × Marks (record_at old.graph) (record_at new.graph) (IsTouched (path_of edit))
 -- the law of a call holds on the graph
 Moves (asked request) old new runs = (new.began ≡ old.began) × (new.edits ≡ old.edits) × (request.version ≡ old.graph.version) × Calls next (read (files_of old)) request.roots old.graph new.graph (Ok runs)
+
+-- each of these keys has a value at the files, and it is held
+abbrev pub AreHeld : Files → List Key → Recorded → Type 0
+AreHeld files keys graph = (k : Key) → In k keys → (v : Value) × HasValue next (read files) cycle k v × (present (record_at graph k) ≡ Some v)
 
 -- after a stop the graph is lawful for each history for which it was, no record is lost, and none that was settled has changed
 abbrev pub StopsAfter : List Key → Held → Held → Type 0

@@ -5,7 +5,8 @@ use Rattle.filetree.specs.Files.{Files}
 use Rattle.functions.specs.Next.{next, read}
 use Rattle.node.specs.Graphs.{Recorded}
 use Rattle.node.specs.Laws.{IsLawfulFor}
-use Rattle.loader.specs.State.{State, Edit, put, del, changed_files}
+pub use Rattle.commands.specs.Commands.{path_of}
+use Rattle.loader.specs.State.{State, Edit, changed_files}
 
 pub record Held : Type 0 where
   -- the version at which it began, without files
@@ -26,11 +27,6 @@ files_of h = files_after map.empty h.edits
 -- the present files, and their version
 abbrev pub state_of : Held → State
 state_of h = record { files = files_of h; version = h.graph.version }
-
--- the path of the file that an edit changes
-abbrev pub path_of : Edit → List ℕ
-path_of (put path text) = path
-path_of (del path) = path
 
 -- the path of the edit of that number, counted from 1
 abbrev pub path_at : List Edit → ℕ → List ℕ

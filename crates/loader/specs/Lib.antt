@@ -1,10 +1,9 @@
 pub mod State
 pub mod Held
-pub mod Commands
 pub mod Answers
 pub mod Journal
 pub mod Effects
 pub mod Linked
 pub mod Kept
 pub mod Served
-pub mod Seen
+pub mod Told

@@ -4,6 +4,7 @@ use Rattle.std.specs.FinMap as map
 use Rattle.std.specs.Coded.{Coded, code_by, coded×, coded_ℕ, coded_list}
 use Rattle.filetree.specs.Files.{Files, put_refusal, del_refusal}
 use Rattle.filetree.specs.Edits as edits
+pub use Rattle.commands.specs.Commands.{Edit, put, del}
 use Rattle.filetree.specs.declared.error.TreeError.{TreeError}
 use Rattle.loader.specs.declared.edit.EditError.{EditError}
 use Rattle.loader.specs.declared.edit.EditError.TheVariants.{Refused, Memory}
@@ -24,11 +25,6 @@ start_at version = record { files = map.empty; version = version }
 
 abbrev pub start : State
 start = start_at 0
-
--- a text is put at a path, or a file is taken away
-pub data Edit : Type 0 where
-  put : List ℕ → List ℕ → Edit
-  del : List ℕ → Edit
 
 -- an edit as it is kept: its path, and the text that is put there
 abbrev pub edit_of : List ℕ × Option (List ℕ) → Edit

@@ -1,8 +1,8 @@
 //! The edits of a session, for contracts alone.
 ghost use Rattle.std.specs.Prelude.{◌≡◌, ◌++◌, ◌∷◌, []};
-ghost use Rattle.loader.specs.Seen.{edit_seen};
+ghost use Rattle.commands.specs.Seen.{edit_seen};
 
-use crate::edit::Edit;
+use commands::Edit;
 use count::History;
 use http_server::Log;
 use std::marker::Model;

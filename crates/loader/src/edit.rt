@@ -1,30 +1,5 @@
-//! Edits, and why one is not made.
-ghost use Rattle.std.specs.Prelude.{◌≡◌};
-ghost use Rattle.loader.specs.Held as held;
-ghost use Rattle.loader.specs.Seen.{edit_seen};
-
+//! Why an edit is not made.
 use thiserror::Error;
-
-/// A change of one file.
-#[derive(Drop)]
-pub enum Edit<'a> {
-    /// A text is put at a path. One that was there is replaced.
-    Put(&'a str, &'a str),
-    /// The file at a path is taken away.
-    Del(&'a str),
-}
-
-impl Edit<'_> {
-    /// The path of the file that is changed.
-    pub fn path(&self) -> &str
-        ensures { result.now ≡ held.path_of (edit_seen self.now) }
-    {
-        match self {
-            Edit::Put(path, _) => path,
-            Edit::Del(path) => path,
-        }
-    }
-}
 
 /// Why an edit was not made. Neither the files nor the version have changed.
 #[derive(Debug, Drop, Error)]

@@ -2,19 +2,21 @@
 #![tactic(auto)]
 
 mod accepted;
-mod answers;
-mod commands;
 mod edit;
 mod program;
-mod request;
+mod replies;
+mod reply;
 mod serve;
 mod session;
+mod shown;
+mod told;
 mod written;
 
-pub use edit::{Edit, EditError};
+pub use commands::{Edit, Request};
+pub use edit::EditError;
 pub use lines::{Failed, Input, Output};
 pub use program::{BUDGET, command};
-pub use request::{Reply, Request};
+pub use reply::Reply;
 pub use round::{Run, Stop};
 pub use serve::{Journal, ServeStop, serve_here};
 pub use session::Session;

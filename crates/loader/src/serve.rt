@@ -3,7 +3,7 @@ ghost use Rattle.std.specs.Prelude.{◌≡◌, ℕ, ◌<◌, ◌≤◌, ◌+◌,
 ghost use Rattle.lines.specs.Lines.{Keeps};
 ghost use Rattle.loader.specs.Served.{Served, Stopped, Between, After};
 
-use crate::answers::answer;
+use crate::replies::answer;
 use crate::session::Session;
 use lines::{Failed, Input, Line, Output, Pending, ReadStop, next_line};
 use round::{Run, Stop};

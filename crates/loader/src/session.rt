@@ -2,35 +2,29 @@
 ghost use Rattle.std.specs.Prelude.{◌≡◌, ◌<◌, ◌++◌, ◌∷◌, [], Option, Some, Ok, IfOk, IfErr, OnOk, OnErr, option_map, string_bytes};
 ghost use Rattle.evaluation.specs.Graph.{Marks};
 ghost use Rattle.filetree.specs.Edits as edits;
-ghost use Rattle.functions.specs.Lookups.{build_of};
-ghost use Rattle.keys.specs.declared.value.BuildName.{BuildName};
-ghost use Rattle.keys.specs.declared.value.Value.TheVariants as values;
 ghost use Rattle.node.specs.Graphs.{record_at, IsTouched};
 ghost use Rattle.functions.specs.Next.{next, read};
-ghost use Rattle.keys.specs.declared.key.Key.TheVariants as keys;
 ghost use Rattle.round.specs.Call.{Calls};
 ghost use Rattle.serde_json.specs.Written.{compact_text};
-ghost use Rattle.std.specs.Arc.{arc_value};
 ghost use Rattle.loader.specs.Answers as answers;
-ghost use Rattle.loader.specs.Effects.{Moves, StopsAfter, request_effect, request_roots};
+ghost use Rattle.loader.specs.Effects.{AreHeld, Moves, StopsAfter, request_effect, request_roots};
 ghost use Rattle.loader.specs.State as state;
 ghost use Rattle.loader.specs.Held.{state_of, files_of, path_of, IsLawful};
-ghost use Rattle.loader.specs.Seen.{edit_seen, request_seen};
+ghost use Rattle.commands.specs.Seen.{edit_seen, request_seen};
 
 use crate::accepted::Accepted;
-use crate::edit::{Edit, EditError};
-use crate::request::{Reply, Request};
-use crate::written::{build, refused};
+use crate::edit::EditError;
+use crate::reply::Reply;
+use crate::told::{roots_of, told};
+use crate::written::{refused, written};
+use commands::{Edit, Request, refusal};
 use filetree::{Tree, TreeError};
 use functions::Loading;
-use keys::{BuildName, Key, Value};
-use labels::is_package_name;
+use keys::Key;
 use node::Graph;
 use round::{Run, Stop, evaluate_here};
 use std::alloc::Global;
 use std::marker::Model;
-use std::sync::Arc;
-use texts::{Memory, Text};
 
 /// The present files, and the graph of what earlier requests found out about them. A contract sees the graph, and the
 /// history for which it is lawful: the version at which the session began, without files, and the edits accepted since
@@ -50,9 +44,16 @@ impl Model for Session {
 
     ghost Value = { Held };
 
+    ghost use Rattle.std.specs.Coded.{codes};
+    ghost use Rattle.keys.specs.Stored.{loaded_code};
+
+    ghost coded = { Prim.hlevel (codes, loaded_code) };
+
     ghost view = { λ s. record { began = s.began; edits = s.accepted; graph = s.graph } };
 
-    ghost invariant = { λ s. (s.tree ≡ files_of (record { began = s.began; edits = s.accepted; graph = s.graph })) × IsLawful (record { began = s.began; edits = s.accepted; graph = s.graph }) };
+    ghost use Rattle.filetree.specs.Lawful.{HasPaths};
+
+    ghost invariant = { λ s. (s.tree ≡ files_of (record { began = s.began; edits = s.accepted; graph = s.graph })) × IsLawful (record { began = s.began; edits = s.accepted; graph = s.graph }) × HasPaths s.tree };
 }
 
 // Makes an edit of the files, or leaves them as they are.
@@ -136,51 +137,48 @@ impl Session {
     /// that is lawful stays so, and each run is justified. The files stay as they are, and after a stop too a later
     /// request is answered as from nothing.
     pub fn request(&mut self, request: &Request<'_>, budget: u64) -> Result<Reply, Stop>
-        ensures text { IfOk result (λ reply. string_bytes reply.text ≡ compact_text (answers.request_answer (request_seen request.now) (files_of self.old))) }
+        ensures text { IfOk result (λ reply. answers.Tells (answers.IsRequestAnswer (request_seen request.now) (files_of self.old)) (string_bytes reply.text)) }
         ensures moves { IfOk result (λ reply. Moves (request_effect (request_seen request.now) self.old.graph.version) self.old self.new reply.runs.items) }
         ensures stopped { OnErr result (StopsAfter (request_roots (request_seen request.now)) self.old self.new) }
         ensures history { (self.new.began ≡ self.old.began) × (self.new.edits ≡ self.old.edits) }
         ensures version { self.new.graph.version ≡ self.old.graph.version }
         ensures lawful { IsLawful self.new }
     {
-        match request {
-            Request::Find(name) => {
-                if !is_package_name(name) {
-                    return Ok(Reply {
-                        text: refused(self.alloc, 5)?,
-                        runs: Vec::new(self.alloc),
-                    });
-                }
-                let (found, runs) = self.look_up(name, budget)?;
-                Ok(Reply {
-                    text: build(self.alloc, found)?,
-                    runs,
-                })
-            }
+        if let Some(n) = refusal(self.alloc, request)? {
+            return Ok(Reply {
+                text: refused(self.alloc, n)?,
+                runs: Vec::new(self.alloc),
+            });
         }
+        let roots = roots_of(self.alloc, request)?;
+        let runs = self.settle(roots.as_slice(), budget)?;
+        let answer = told(self.alloc, &self.graph, request, roots.as_slice())?;
+        Ok(Reply {
+            text: written(self.alloc, &answer)?,
+            runs,
+        })
     }
 
-    // The build file of a package, by an evaluation of its look-up over the graph, and what that ran.
-    fn look_up(&mut self, name: &str, budget: u64) -> Result<(Option<BuildName>, Vec<Run>), Stop>
-        ensures found { IfOk result (λ r. r.0 ≡ build_of (files_of self.old) name.now) }
-        ensures law { IfOk result (λ r. Calls next (read (files_of self.old)) (keys.Lookup name.now ∷ []) self.old.graph self.new.graph (Ok r.1.items)) }
-        ensures stopped { OnErr result (StopsAfter (keys.Lookup name.now ∷ []) self.old self.new) }
+    // Evaluates keys over the graph, in at most `budget` turns, and answers what that ran. Each of them that has a value for
+    // the present files is then held with it.
+    fn settle(&mut self, roots: &[Key], budget: u64) -> Result<Vec<Run>, Stop>
+        ensures law { IfOk result (λ runs. Calls next (read (files_of self.old)) roots.now self.old.graph self.new.graph (Ok runs.items)) }
+        ensures held { OnOk result (AreHeld (files_of self.old) roots.now self.new.graph) }
+        ensures stopped { OnErr result (StopsAfter roots.now self.old self.new) }
         ensures history { (self.new.began ≡ self.old.began) × (self.new.edits ≡ self.old.edits) }
         ensures version { self.new.graph.version ≡ self.old.graph.version }
         ensures lawful { IsLawful self.new }
     {
-        let roots = [Key::Lookup(Text::new(self.alloc, name)?)];
         let mut rules = Loading::new(self.alloc);
         let runs = evaluate_here(
             self.alloc,
             &mut self.graph,
             &self.tree,
-            &roots,
+            roots,
             &mut rules,
             budget,
         )?;
-        let found = held_build(self.graph.get(&roots[0]));
-        Ok((found, runs))
+        Ok(runs)
     }
 }
 
@@ -194,15 +192,5 @@ fn refused_as(error: &TreeError) -> EditError
         TreeError::Code4 => EditError::Refused(4),
         TreeError::Code7 => EditError::Refused(7),
         TreeError::Memory => EditError::Memory,
-    }
-}
-
-// The build file that the value of a look-up holds.
-fn held_build(value: Option<&Arc<Value>>) -> Option<BuildName>
-    ensures { (found : Option BuildName) → option_map (λ v. arc_value v.now) value.entry ≡ Some (values.Lookup found) → result ≡ found }
-{
-    match &**value? {
-        Value::Lookup(found) => *found,
-        _ => None,
     }
 }

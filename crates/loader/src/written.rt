@@ -10,14 +10,15 @@ use serde_json::{Value, json};
 use std::alloc::Global;
 use texts::Memory;
 
-// Compact JSON.
-fn written(alloc: Global, answer: &Value) -> Result<String, Memory>
+/// Compact JSON.
+pub fn written(alloc: Global, answer: &Value) -> Result<String, Memory>
     ensures { IfOk result (λ text. has_float (view answer.now) ≡ false → string_bytes text ≡ compact_text (view answer.now)) }
 {
     Ok(answer.to_string(alloc)?)
 }
 
-fn refused_answer(alloc: Global, n: u64) -> Result<Value, Memory>
+/// The answer to what is refused.
+pub fn refused_answer(alloc: Global, n: u64) -> Result<Value, Memory>
     ensures { IfOk result (λ value. view value ≡ answers.refused n) }
 {
     Ok(json!(in alloc; {"refused": n})?)
@@ -29,7 +30,7 @@ fn accepted_answer(alloc: Global, version: u32) -> Result<Value, Memory>
     Ok(json!(in alloc; {"ok": version})?)
 }
 
-/// The answer to what is refused.
+/// The text of the answer to what is refused.
 pub fn refused(alloc: Global, n: u64) -> Result<String, Memory>
     ensures { IfOk result (λ text. string_bytes text ≡ compact_text (answers.refused n)) }
 {
@@ -45,7 +46,8 @@ pub fn accepted(alloc: Global, version: u32) -> Result<String, Memory>
     written(alloc, &answer)
 }
 
-fn build_answer(alloc: Global, found: Option<BuildName>) -> Result<Value, Memory>
+/// The answer that tells a package's build file.
+pub fn build_answer(alloc: Global, found: Option<BuildName>) -> Result<Value, Memory>
     ensures { IfOk result (λ value. view value ≡ answers.one_member (codes "build") (answers.build_text found)) }
 {
     match found {
@@ -53,12 +55,4 @@ fn build_answer(alloc: Global, found: Option<BuildName>) -> Result<Value, Memory
         Some(BuildName::Build) => Ok(json!(in alloc; {"build": "BUILD"})?),
         None => Ok(json!(in alloc; {"build": null})?),
     }
-}
-
-/// The answer that tells a package's build file.
-pub fn build(alloc: Global, found: Option<BuildName>) -> Result<String, Memory>
-    ensures { IfOk result (λ text. string_bytes text ≡ compact_text (answers.one_member (codes "build") (answers.build_text found))) }
-{
-    let answer = build_answer(alloc, found)?;
-    written(alloc, &answer)
 }

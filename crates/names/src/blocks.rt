@@ -1,5 +1,6 @@
 //! Blocks of names.
 ghost use Rattle.std.specs.Prelude.{◌≡◌, false, map, is_some};
+ghost use Rattle.meaning.specs.Comparing.{same_text};
 ghost use Rattle.language.specs.Names.{slot_in, slot_among, bind_in, bind_among, names_at};
 ghost use Rattle.names.specs.View.{slots_of, block_of, names_of};
 ghost use Rattle.names.specs.Places.{FirstPlace, is_slot, has_slot, is_file};
@@ -8,12 +9,27 @@ use crate::state::{FileNames, Slot};
 use heap::Val;
 use texts::Text;
 
+// Whether two names are the same. Most that differ do so in their lengths or first bytes.
+fn is_same(x: &Text, y: &Text) -> bool
+    ensures { result ≡ same_text x.now y.now }
+{
+    let a = x.as_str().as_bytes();
+    let b = y.as_str().as_bytes();
+    if a.len() != b.len() {
+        return false;
+    }
+    if a.len() > 0 && a[0] != b[0] {
+        return false;
+    }
+    *x == *y
+}
+
 /// What a block has at a name, where it has the name.
 pub fn slot_in(block: &[Slot], x: &Text) -> Option<Option<Val>>
     ensures { result ≡ slot_in x.now (slots_of block.now) }
 {
     for slot in block.iter() {
-        if *x == slot.name {
+        if is_same(x, &slot.name) {
             return Some(slot.value);
         }
     }
@@ -37,7 +53,7 @@ fn place_in(block: &[Slot], x: &Text) -> Option<usize>
     ensures { FirstPlace (is_slot x.now) block.now result }
 {
     for i in 0..block.len() {
-        if *x == block[i].name {
+        if is_same(x, &block[i].name) {
             return Some(i);
         }
     }

@@ -44,6 +44,11 @@ impl Model for Graph {
 
     ghost Value = { Recorded };
 
+    ghost use Rattle.std.specs.Coded.{codes};
+    ghost use Rattle.keys.specs.Stored.{loaded_code};
+
+    ghost coded = { Prim.hlevel (codes, loaded_code) };
+
     ghost view = { λ g. recorded g.version g.records };
 
     ghost invariant = { λ g. IsLinked g.records g.users };
@@ -283,159 +288,5 @@ impl Graph {
         ensures lawful { (r : Record Key Value) → record_at self.old key.now ≡ Some r → SettlingKeepsLawful self.old self.new key.now r.value r.groups }
     {
         settle(&mut self.records, key, self.version);
-    }
-}
-
-#[cfg(test)]
-mod tests {
-    use super::*;
-    use keys::BuildName;
-    use std::test::Fail;
-    use texts::Text;
-
-    fn file(alloc: Global, path: &str) -> Result<Key, Memory> {
-        Ok(Key::File(Text::new(alloc, path)?))
-    }
-
-    // Records a key whose groups are ready; false where they are not.
-    fn settle_key(
-        graph: &mut Graph,
-        key: &Key,
-        value: Arc<Value>,
-        groups: Vec<Vec<Key>>,
-    ) -> Result<bool, Memory> {
-        let key = key.share()?;
-        if graph.is_ready(&key, groups.as_slice()) {
-            graph.record(key, value, groups)?;
-            Ok(true)
-        } else {
-            Ok(false)
-        }
-    }
-
-    // A look-up of `a` over its two files, recorded at the graph's version.
-    fn settle_lookup(alloc: Global, graph: &mut Graph, text: &str) -> Result<bool, Memory> {
-        let absent = file(alloc, "a/BUILD.bazel")?;
-        let build = file(alloc, "a/BUILD")?;
-        let lookup = Key::Lookup(Text::new(alloc, "a")?);
-        let held = Value::File(Some(Text::new(alloc, text)?));
-        let group = vec![in alloc; absent.share()?, build.share()?]?;
-        let first = settle_key(
-            graph,
-            &absent,
-            Arc::new(alloc, Value::File(None))?,
-            Vec::new(alloc),
-        )?;
-        let second = settle_key(graph, &build, Arc::new(alloc, held)?, Vec::new(alloc))?;
-        let found = Arc::new(alloc, Value::Lookup(Some(BuildName::Build)))?;
-        let third = settle_key(graph, &lookup, found, vec![in alloc; group]?)?;
-        Ok(first && second && third)
-    }
-
-    // Records two keys that are in each other's group; false where that can't be.
-    fn settle_pair(
-        alloc: Global,
-        graph: &mut Graph,
-        a: &Key,
-        b: &Key,
-        value: &Arc<Value>,
-    ) -> Result<bool, Memory> {
-        if a == b {
-            return Ok(false);
-        }
-        let first = Entry {
-            key: a.share()?,
-            value: Arc::try_clone(value)?,
-            groups: vec![in alloc; vec![in alloc; b.share()?]?]?,
-        };
-        let second = Entry {
-            key: b.share()?,
-            value: Arc::try_clone(value)?,
-            groups: vec![in alloc; vec![in alloc; a.share()?]?]?,
-        };
-        graph.record_all(vec![in alloc; first, second]?)?;
-        Ok(true)
-    }
-
-    #[test]
-    fn a_loop_is_recorded_at_once(rt: HostRuntime) -> Result<(), Fail> {
-        let alloc = rt.alloc();
-        let mut graph = Graph::new_at(alloc, 6);
-        let a = Key::Lookup(Text::new(alloc, "a")?);
-        let b = Key::Lookup(Text::new(alloc, "b")?);
-        let value = Arc::new(alloc, Value::Lookup(None))?;
-        assert!(rt; settle_lookup(alloc, &mut graph, "x")?);
-        assert!(rt; settle_pair(alloc, &mut graph, &a, &b, &value)?);
-        assert_eq!(rt; graph.version(), 6);
-        assert_eq!(rt; graph.touch("a/BUILD")?, 7);
-        assert!(rt; graph.get(&a).is_some());
-        assert!(rt; graph.get(&b).is_some());
-        assert!(rt; settle_pair(alloc, &mut graph, &b, &a, &value)?);
-        assert_eq!(rt; graph.counts().records, 4);
-        assert_eq!(rt; graph.counts().edges, Some(2));
-        assert_eq!(rt; graph.settled_at(&a), Some(7));
-        assert_eq!(rt; graph.settled_at(&b), Some(7));
-        assert_eq!(rt; graph.changed_at(&b), Some(6));
-        assert!(rt; !settle_pair(alloc, &mut graph, &a, &a, &value)?);
-        Ok(())
-    }
-
-    #[test]
-    fn an_edit_marks_what_reaches_its_file(rt: HostRuntime) -> Result<(), Fail> {
-        let alloc = rt.alloc();
-        let mut graph = Graph::new_at(alloc, 6);
-        let absent = file(alloc, "a/BUILD.bazel")?;
-        let build = file(alloc, "a/BUILD")?;
-        let lookup = Key::Lookup(Text::new(alloc, "a")?);
-        assert!(rt; settle_lookup(alloc, &mut graph, "x")?);
-        assert_eq!(rt; graph.version(), 6);
-        assert_eq!(rt; graph.touch("b/BUILD")?, 7);
-        assert!(rt; graph.get(&lookup).is_some());
-        assert_eq!(rt; graph.counts().records, 3);
-        assert_eq!(rt; graph.counts().edges, Some(2));
-        assert_eq!(rt; graph.touch("a/BUILD")?, 8);
-        assert_eq!(rt; graph.version(), 8);
-        assert!(rt; graph.get(&lookup).is_none());
-        assert!(rt; graph.get(&build).is_none());
-        assert!(rt; graph.get(&absent).is_some());
-        assert_eq!(rt; graph.settled_at(&lookup), Some(6));
-        assert!(rt; settle_lookup(alloc, &mut graph, "y")?);
-        assert_eq!(rt; graph.settled_at(&lookup), Some(8));
-        assert_eq!(rt; graph.changed_at(&lookup), Some(6));
-        assert_eq!(rt; graph.changed_at(&build), Some(8));
-        assert_eq!(rt; graph.changed_at(&absent), Some(6));
-        assert!(rt; graph.get(&lookup).is_some());
-        Ok(())
-    }
-
-    // Whether each of the listings has a record that is not dirty.
-    fn are_clean(alloc: Global, graph: &Graph, directories: &[&str]) -> Result<bool, Memory> {
-        for directory in directories {
-            if graph
-                .get(&Key::Listing(Text::new(alloc, *directory)?))
-                .is_none()
-            {
-                return Ok(false);
-            }
-        }
-        Ok(true)
-    }
-
-    #[test]
-    fn an_edit_marks_the_listings_above_its_path(rt: HostRuntime) -> Result<(), Fail> {
-        let alloc = rt.alloc();
-        let mut graph = Graph::new(alloc);
-        for directory in ["", "a", "a/b", "a/b/c", "ab", "b"] {
-            let key = Key::Listing(Text::new(alloc, directory)?);
-            let value = Arc::new(alloc, Value::Listing(None))?;
-            assert!(rt; settle_key(&mut graph, &key, value, Vec::new(alloc))?);
-        }
-        assert_eq!(rt; graph.version(), 0);
-        assert_eq!(rt; graph.touch("a/b/c")?, 1);
-        assert!(rt; are_clean(alloc, &graph, &["a/b/c", "ab", "b"])?);
-        for directory in ["", "a", "a/b"] {
-            assert!(rt; !are_clean(alloc, &graph, &[directory])?);
-        }
-        Ok(())
     }
 }

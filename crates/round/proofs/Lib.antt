@@ -15,3 +15,4 @@ pub mod Rounding
 pub mod Rotations
 pub mod Framing
 pub mod Pausing
+pub mod NoneTaken

@@ -29,13 +29,6 @@ use Rattle.round.proofs.Stalling.{empty_has}
 use Rattle.round.proofs.Confirming.{take_whole}
 use Rattle.round.proofs.Grouping.{taken_next, snoc_in, rest_at}
 
--- no key has a label
-pub no_labels : (keys : List Key) → filter_map label_of keys ≡ []
-no_labels [] = refl
-no_labels (key.File p ∷ keys) = no_labels keys
-no_labels (key.Listing p ∷ keys) = no_labels keys
-no_labels (key.Lookup p ∷ keys) = no_labels keys
-
 module _ (stops : Key → Option Key) where
   pub chain_snoc : {k j i : Key} {path : List Key} → Chain stops k path j → stops j ≡ Some i → Chain stops k (path ++ j ∷ []) i
   chain_snoc stay e = step e stay

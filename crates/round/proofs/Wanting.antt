@@ -238,6 +238,9 @@ pub no_leaf : (files : Files) (k : Key) → leaves.is_leaf k ≡ false → leave
 no_leaf files (key.File path) e = absurd (true_false refl e)
 no_leaf files (key.Listing directory) e = absurd (true_false refl e)
 no_leaf files (key.Lookup directory) e = refl
+no_leaf files (key.Glob text) e = refl
+no_leaf files (key.Module label) e = refl
+no_leaf files (key.Package name) e = refl
 
 -- after a stop
 pub leads_err : {X E : Type 0} (next : Key → List Value → Reply Key Value) (read : Key → Option Value) (old new : Recorded) (before later : Table) (r : Result X E) → IsErr r

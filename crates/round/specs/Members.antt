@@ -31,6 +31,10 @@ abbrev pub is_cycle : Value → Bool
 is_cycle (value.File t) = false
 is_cycle (value.Listing l) = false
 is_cycle (value.Lookup b) = false
+is_cycle (value.Glob paths) = false
+is_cycle (value.Module loaded) = false
+is_cycle (value.Package targets) = false
+is_cycle (value.Fault fault) = false
 is_cycle (value.Cycle names) = true
 
 abbrev pub no_cycle : Value → Option Value

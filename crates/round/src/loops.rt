@@ -53,7 +53,7 @@ fn from_key<'a>(path: &'a [Key], key: &Key) -> &'a [Key]
     &[]
 }
 
-// The label by which a loop names a key. No kind of key that there is has one yet.
+// The label by which a loop names a key, which only modules have.
 fn label(key: &Key) -> Option<&Text>
     ensures { option_map (λ t. t.now) result ≡ label_of key.now }
 {
@@ -61,6 +61,9 @@ fn label(key: &Key) -> Option<&Text>
         Key::File(_) => None,
         Key::Listing(_) => None,
         Key::Lookup(_) => None,
+        Key::Glob(_) => None,
+        Key::Module(label) => Some(label),
+        Key::Package(_) => None,
     }
 }
 

@@ -1,4 +1,4 @@
-//! Scripts of lines with the answers that they must get, through the program's public calls.
+//! Budgets, the last version, devices that fail and the words of the program, as tests through public calls.
 #![tactic(auto)]
 
 #[cfg(test)]

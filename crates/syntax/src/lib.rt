@@ -10,6 +10,3 @@ pub use file::parse;
 pub use grammar::FileKind;
 pub use tokens::Refused;
 pub use tree::File;
-
-#[cfg(test)]
-mod tests;

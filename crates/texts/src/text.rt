@@ -102,19 +102,3 @@ impl Hash for Text {
         self.as_str().hash(state);
     }
 }
-
-#[cfg(test)]
-mod tests {
-    use super::*;
-    use std::test::Fail;
-
-    #[test]
-    fn a_shared_text_is_equal(rt: HostRuntime) -> Result<(), Fail> {
-        let text = Text::new(rt.alloc(), "a/BUILD")?;
-        let shared = text.share()?;
-        assert_eq!(rt; shared.as_str(), "a/BUILD");
-        assert!(rt; shared == text);
-        assert!(rt; Text::new(rt.alloc(), "a-b")? < text);
-        Ok(())
-    }
-}

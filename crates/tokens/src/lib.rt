@@ -21,6 +21,3 @@ pub use symbol::Symbol;
 pub use token::{Ascii, Lexed, Token};
 pub use value::string_text;
 pub use word::is_name;
-
-#[cfg(test)]
-mod tests;

@@ -2,19 +2,22 @@ use Rattle.std.proofs.Common.{◌≡◌, refl, sym, subst, ap, ◌∙◌}
 use Rattle.std.specs.Arc.{arc_value}
 use Rattle.tree.specs.Tree as t
 use Rattle.tree.specs.Tree.{Ex}
+use Rattle.meaning.specs.declared.val.Val.{Val}
+use Rattle.tree.specs.declared.expr.Expr.{Expr}
 use Rattle.heap.specs.View.{store_of}
 use Rattle.meaning.specs.Heap.{makes_list, makes_dict}
 use Rattle.language.specs.World.{World, Ends, tick, then_runs, pure, on_heap}
 use Rattle.language.specs.Loops as l
-use Rattle.language.specs.Expressions.{comprehension}
+use Rattle.language.specs.Expressions.{comprehension, between}
 use Rattle.language.specs.Calls.{call}
 use Rattle.tree.specs.View.{tree_of, shared_tree, clause_trees}
 use Rattle.names.specs.View.{world_of, here_of}
 use Rattle.frames.specs.declared.frame.Item.TheVariants as i
 use Rattle.frames.specs.declared.frame.Frame.TheVariants as f
-use Rattle.frames.specs.Frames.{Sig, a_value, a_gathered, Goes, on, ex, valued, item_does, method_does, shared_trees, above, machine_does, frame_does, stack_does}
+use Rattle.frames.specs.Frames.{Sig, a_value, a_gathered, Goes, on, ex, valued, item_does, method_does, shared_trees, right, above, machine_does, frame_does, stack_does}
 use Rattle.frames.proofs.Trees.{tree-Name, tree-ListOf, tree-DictOf, tree-Method}
-use Rattle.frames.proofs.Bind.{ticked, tick_ends, name_stops}
+use Rattle.frames.proofs.Between.{tree-Binary, between_is}
+use Rattle.frames.proofs.Bind.{under, ticked, tick_ends, name_stops}
 use Rattle.frames.proofs.begin.begin.Goals as goal
 
 pub returns-in-Err-clause-goes : goal.returns-in-Err-clause-goes
@@ -63,3 +66,24 @@ returns-in-Method-clause-goes c = λ env n running.
     let before = ap (λ (d : Ex). above env n here (valued (ex env n here d line)) frames w) (ap tree_of c.in-Method.is ∙ tree-Method c.in-Method.x c.in-Method.name c.in-Method.es c.in-Method.names) in
     let runs = ap (λ o. then_runs (then_runs (then_runs o (λ _. does)) (λ v. pure (a_value v))) (stack_does env n here frames)) (tick_ends (on env n here line) w (store_of c.tick.new.heap) c.in_ok-tick.ensures.says) in
     subst (λ (o : Ends Sig). Goes (on env n here line).site o c.begin_method.result (λ control. machine_does env n here control c.begin_method.new.frames.items (world_of c.begin_method.new.state))) (sym (before ∙ runs)) (c.begin_method.ensures.goes env n running)
+
+pub returns-in_ok-right-in-Binary-clause-goes : goal.returns-in_ok-right-in-Binary-clause-goes
+returns-in_ok-right-in-Binary-clause-goes c = λ env n running.
+    let here = here_of c.args.at.now c.args.at.now.line running in
+    let line = c.args.line in
+    let h = on env n here line in
+    let w = world_of c.args.state.now in
+    let u : World = record w { store = store_of c.tick.new.heap } in
+    let frames = c.args.frames.now.items in
+    let op = c.in-Binary.op in
+    let b = arc_value c.in-Binary.b in
+    let first = ex env n here (shared_tree c.in-Binary.a) line in
+    let second = λ (d : Expr). ex env n here (tree_of d) line in
+    let p = λ (v : Val). pure (a_value v) in
+    let j = stack_does env n here frames in
+    let before = ap (λ (d : Ex). above env n here (valued (ex env n here d line)) frames w) (ap tree_of c.in-Binary.is ∙ tree-Binary op c.in-Binary.a c.in-Binary.b)
+    ∙ ap (λ o. then_runs (then_runs (then_runs o (λ _. between op first (second b) h)) p) j) (tick_ends h w (store_of c.tick.new.heap) c.in_ok-tick.ensures.says)
+    ∙ ap (λ o. then_runs (then_runs o p) j) (between_is op first (second b) h u)
+    ∙ under (first u) (λ v. right op v (second b) h) p j
+    ∙ ap (λ (d : Expr). then_runs (first u) (λ v. above env n here (valued (right op v (second d) h)) frames)) (sym c.in_ok-right-in-Binary.ensures) in
+    c.value_above.ensures.goes env n running _ refl refl before

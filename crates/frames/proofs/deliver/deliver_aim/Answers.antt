@@ -8,6 +8,7 @@ use Rattle.language.specs.Loops as l
 use Rattle.language.specs.Statements as s
 use Rattle.language.specs.Statements.{goes_on, present, changed}
 use Rattle.names.specs.View.{world_of, here_of}
+use Rattle.pieces.specs.declared.aims.Aim.{Aim}
 use Rattle.pieces.specs.View.{aim_of, gathered_of}
 use Rattle.std.specs.Arc.{arc_value}
 use Rattle.frames.specs.declared.frame.Control.{Control}
@@ -46,7 +47,7 @@ returns-in-Err-present-clause-goes c = λ env n running.
 pub returns-in-Err-store-clause-goes : goal.returns-in-Err-store-clause-goes
 returns-in-Err-store-clause-goes c = λ env n running.
     let here = here_of c.args.at.now c.args.at.now.line running in
-    let line = c.in-Turn.turns.line in
+    let line = c.in-Turn.turns.value.line in
     let h = on env n here line in
     let w = world_of c.args.state.now in
     let frames = c.args.frames.now.items in
@@ -54,12 +55,12 @@ returns-in-Err-store-clause-goes c = λ env n running.
     let j = stack_does env n here frames in
     let p = λ (x : s.Exit). pure (an_exit x) in
     let after = λ (control : Control). machine_does env n here control frames (world_of c.store-in-Turn.new.state) in
-    subst (λ (fr : Frame). Goes (on env n here (frame_line c.args.at.now.line fr)).site (above env n here (frame_does env n here fr (an_aim a)) frames w) (Err c.in-Err-store.halt) after) (sym c.in-Turn.is) (stops4 (store a c.in-Turn.x h w) (λ _. body env n here (shared_suite c.in-Turn.turns.body)) (turns_behind env n here c.in-Turn.turns) p j h.site c.in-Err-store.halt (world_of c.store-in-Turn.new.state) after (c.in-Err-store.ensures.says line running))
+    subst (λ (fr : Frame). Goes (on env n here (frame_line c.args.at.now.line fr)).site (above env n here (frame_does env n here fr (an_aim a)) frames w) (Err c.in-Err-store.halt) after) (sym c.in-Turn.is) (stops4 (store a c.in-Turn.x h w) (λ _. body env n here (shared_suite c.in-Turn.turns.value.body)) (turns_behind env n here c.in-Turn.turns.value) p j h.site c.in-Err-store.halt (world_of c.store-in-Turn.new.state) after (c.in-Err-store.ensures.says line running))
 
 pub returns-in-Err-store-2-clause-goes : goal.returns-in-Err-store-2-clause-goes
 returns-in-Err-store-2-clause-goes c = λ env n running.
     let here = here_of c.args.at.now c.args.at.now.line running in
-    let line = c.in-Aimed.turns.line in
+    let line = c.in-Aimed.turns.value.line in
     let h = on env n here line in
     let w = world_of c.args.state.now in
     let frames = c.args.frames.now.items in
@@ -67,10 +68,10 @@ returns-in-Err-store-2-clause-goes c = λ env n running.
     let j = stack_does env n here frames in
     let p = λ (x : s.Exit). pure (an_exit x) in
     let after = λ (control : Control). machine_does env n here control frames (world_of c.store-in-Aimed.new.state) in
-    subst (λ (fr : Frame). Goes (on env n here (frame_line c.args.at.now.line fr)).site (above env n here (frame_does env n here fr (an_aim a)) frames w) (Err c.in-Err-store-2.halt) after) (sym c.in-Aimed.is) (stops4 (store a c.in-Aimed.x h w) (λ _. clauses_do env n here (arc_value c.in-Aimed.turns.of) c.in-Aimed.turns.inner line (gathered_of c.in-Aimed.got)) (gather_from env n here c.in-Aimed.turns) (λ (x : l.Gathered). pure (a_gathered x)) j h.site c.in-Err-store-2.halt (world_of c.store-in-Aimed.new.state) after (c.in-Err-store-2.ensures.says line running))
+    subst (λ (fr : Frame). Goes (on env n here (frame_line c.args.at.now.line fr)).site (above env n here (frame_does env n here fr (an_aim a)) frames w) (Err c.in-Err-store-2.halt) after) (sym c.in-Aimed.is) (stops4 (store a c.in-Aimed.x h w) (λ _. clauses_do env n here (arc_value c.in-Aimed.turns.value.of) c.in-Aimed.turns.value.inner line (gathered_of c.in-Aimed.got.value)) (gather_from env n here c.in-Aimed.turns.value) (λ (x : l.Gathered). pure (a_gathered x)) j h.site c.in-Err-store-2.halt (world_of c.store-in-Aimed.new.state) after (c.in-Err-store-2.ensures.says line running))
 
-pub returns-in-Ok-clause-goes : goal.returns-in-Ok-clause-goes
-returns-in-Ok-clause-goes c = λ env n running.
+pub returns-in_ok-aim-in-Augment-clause-goes : goal.returns-in_ok-aim-in-Augment-clause-goes
+returns-in_ok-aim-in-Augment-clause-goes c = λ env n running.
     let here = here_of c.args.at.now c.args.at.now.line running in
     let line = c.in-Augment.line in
     let op = c.in-Augment.op in
@@ -82,11 +83,13 @@ returns-in-Ok-clause-goes c = λ env n running.
     let j = stack_does env n here frames in
     let p = λ (x : s.Exit). pure (an_exit x) in
     let v = c.in-Ok.x in
-    let changes = λ (v y : Val). changed op v y h >>= λ z. store a z h >>= λ _. pure goes_on in
+    let changes_to = λ (d : Aim) (v y : Val). changed op v y h >>= λ z. store (aim_of d) z h >>= λ _. pure goes_on in
+    let changes = changes_to c.args.aim in
     let behind = λ (v : Val). ex env n here (shared_tree c.in-Augment.e) line >>= changes v in
     let before = ap (λ o. then_runs (then_runs (then_runs o behind) p) j) (c.in-Ok.ensures.says line running)
     ∙ under (ex env n here (shared_tree c.in-Augment.e) line u) (changes v) p j
-    ∙ ap (λ (d : Expr). then_runs (ex env n here (tree_of d) line u) (λ y. above env n here (exited (changes v y)) frames)) (sym c.deref.ensures) in
+    ∙ ap (λ (d : Aim). then_runs (ex env n here (shared_tree c.in-Augment.e) line u) (λ y. above env n here (exited (changes_to d v y)) frames)) (sym c.in_ok-aim-in-Augment.ensures.ok)
+    ∙ ap (λ (d : Expr). then_runs (ex env n here (tree_of d) line u) (λ y. above env n here (exited (changes_to c.in_ok-aim-in-Augment.aim.value v y)) frames)) (sym c.deref.ensures) in
     let after = λ (control : Control). machine_does env n here control c.begin_above.new.frames.items (world_of c.begin_above.new.state) in
     subst (λ (fr : Frame). Goes (on env n here (frame_line c.args.at.now.line fr)).site (above env n here (frame_does env n here fr (an_aim a)) frames w) c.begin_above.result after) (sym c.in-Augment.is)
     (subst (λ (q : Ends Sig). Goes h.site q c.begin_above.result after) (sym before) (c.begin_above.ensures.goes env n running refl refl))

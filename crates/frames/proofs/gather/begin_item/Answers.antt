@@ -21,7 +21,7 @@ returns-in-Member-clause-goes c = λ env n running.
     let h = on env n here line in
     let w = world_of c.args.state.now in
     let frames = c.args.frames.now.items in
-    let got = gathered_of c.args.got in
+    let got = gathered_of c.args.got.value in
     let p = λ (x : l.Gathered). pure (a_gathered x) in
     let behind = λ (x : Val). one_more x got h in
     let before = ap (λ (i : Item). above env n here (gathered (item_does env n here i line got)) frames w) c.in-Member.is
@@ -37,7 +37,7 @@ returns-in_ok-try_clone-in-Entry-clause-goes c = λ env n running.
     let h = on env n here line in
     let w = world_of c.args.state.now in
     let frames = c.args.frames.now.items in
-    let got = gathered_of c.args.got in
+    let got = gathered_of c.args.got.value in
     let p = λ (x : l.Gathered). pure (a_gathered x) in
     let behind = λ (e : Expr) (x : Val). ex env n here (tree_of e) line >>= λ y. one_entry x y got h in
     let before = ap (λ (i : Item). above env n here (gathered (item_does env n here i line got)) frames w) c.in-Entry.is

@@ -17,7 +17,7 @@ use Rattle.pieces.specs.View.{gathered_of}
 use Rattle.frames.specs.declared.frame.Control.{Control}
 use Rattle.frames.specs.declared.frame.Gathering.{Gathering}
 use Rattle.frames.specs.declared.frame.Frame.TheVariants as f
-use Rattle.frames.specs.Frames.{Sig, an_aim, a_gathered, Goes, on, aims_at, clauses_do, gather_turn, above, stack_does, machine_does}
+use Rattle.frames.specs.Frames.{Sig, an_aim, a_gathered, Goes, on, gathered, aims_at, clauses_do, gather_from, gather_turn, above, stack_does, machine_does}
 use Rattle.frames.proofs.Bind.{handed, tick_ends, tick_is}
 use Rattle.frames.proofs.Suites.{turn_any, turn_stops}
 use Rattle.frames.proofs.gather.next_gather.Goals as goal
@@ -25,15 +25,15 @@ use Rattle.frames.proofs.gather.next_gather.Goals as goal
 pub returns-in-Err-clause-goes : goal.returns-in-Err-clause-goes
 returns-in-Err-clause-goes c = λ env n running.
     let here = here_of c.args.at.now c.args.at.now.line running in
-    let u = c.args.turns in
+    let u = c.deref-now.result.now in
     let all = u.items.items in
     let k = u.next in
     let h = on env n here u.line in
     let w = world_of c.args.state.now in
     let frames = c.args.frames.now.items in
-    let got = gathered_of c.args.got in
+    let got = gathered_of c.args.got.value in
     let comp = arc_value u.of in
-    let lt : k < length all = omega (arith, u.items.ok.0, c.len.ensures, c.if-turns-len.false) in
+    let lt : k < length all = omega (arith, u.items.ok.0, c.len.ensures, c.if-now-len.false) in
     let first : drop k all ≡ get_or all k Nothing ∷ drop (suc k) all = drop-cons all k Nothing lt in
     let target = shared_tree u.target in
     let turn = gather_turn env n here target comp u.inner u.line in
@@ -45,12 +45,12 @@ returns-in-Err-clause-goes c = λ env n running.
     let runs = λ (v : Val) (_ : Unit {0}). aims_at env n here target u.line >>= sb v in
     let whole = ap (λ (xs : List Val). then_runs (then_runs (then_runs (gather turn xs got w) unl) p) j) first ∙ ap (λ q. then_runs (then_runs (then_runs (then_runs (then_runs q (runs (get_or all k Nothing))) behind) unl) p) j) (tick_is h w) in
     let after = λ (control : Control). machine_does env n here control c.args.frames.now.items (world_of (record c.args.state.now { heap = c.tick.new.heap })) in
-    subst (λ (q : Ends Sig). Goes h.site q (Err c.in-Err.halt) after) (sym whole) (turn_stops (walks (λ objects. o.tick) w.store) h.site w w (store_of c.tick.new.heap) c.in-Err.halt (runs (get_or all k Nothing)) behind unl p j after c.in-Err.ensures.says)
+    subst (λ (d : Gathering). Goes (on env n here d.line).site (above env n here (gathered (gather_from env n here d got)) frames w) (Err c.in-Err.halt) after) c.deref-now.ensures (subst (λ (q : Ends Sig). Goes h.site q (Err c.in-Err.halt) after) (sym whole) (turn_stops (walks (λ objects. o.tick) w.store) h.site w w (store_of c.tick.new.heap) c.in-Err.halt (runs (get_or all k Nothing)) behind unl p j after c.in-Err.ensures.says))
 
 pub returns-clause-goes : goal.returns-clause-goes
 returns-clause-goes c = λ env n running.
     let here = here_of c.args.at.now c.args.at.now.line running in
-    let u = c.args.turns in
+    let u = c.deref-now.result.now in
     let all = u.items.items in
     let k = u.next in
     let v = c.index-value.result.now in
@@ -58,9 +58,9 @@ returns-clause-goes c = λ env n running.
     let w = world_of c.args.state.now in
     let ticked : World = record w { store = store_of c.tick.new.heap } in
     let frames = c.args.frames.now.items in
-    let got = gathered_of c.args.got in
+    let got = gathered_of c.args.got.value in
     let comp = arc_value u.of in
-    let lt : k < length all = omega (arith, u.items.ok.0, c.len.ensures, c.if-turns-len.false) in
+    let lt : k < length all = omega (arith, u.items.ok.0, c.len.ensures, c.if-now-len.false) in
     let stands : v ≡ get_or all k v = c.index-value.ensures in
     let first : drop k all ≡ v ∷ drop (k + 1) all = rw add-one (drop-cons all k v lt ∙ ap (λ (x : Val). x ∷ drop (suc k) all) (sym stands)) in
     let target = shared_tree u.target in
@@ -75,7 +75,8 @@ returns-clause-goes c = λ env n running.
     let before = ap (λ (xs : List Val). then_runs (then_runs (then_runs (gather turn xs got w) unl) p) j) first
     ∙ ap (λ q. then_runs (then_runs (then_runs (then_runs (then_runs q (λ _. aims_at env n here target u.line >>= sb)) behind) unl) p) j) (tick_ends h w (store_of c.tick.new.heap) c.in_default.ensures.says)
     ∙ turn_any aim sb behind unl p j
-    ∙ handed env n here (f.Aimed next v c.args.got) frames c.push.new.frames.items an_aim aim (c.in_ok-push.ensures.ok env n here) refl refl
+    ∙ ap (λ (d : Gathering). then_runs aim (λ a. above env n here (gathered ((store a v (on env n here d.line) >>= λ _. clauses_do env n here (arc_value d.of) d.inner d.line got) >>= gather_from env n here d)) frames)) (sym (c.next_gathering-next.ensures ∙ ap (λ (d : Gathering). record d { next = d.next + 1 }) (sym c.deref-now.ensures)))
+    ∙ handed env n here (f.Aimed c.next_gathering-next.result v c.args.got) frames c.push.new.frames.items an_aim aim (c.in_ok-push.ensures.ok env n here) refl refl
     ∙ ap (λ (d : Expr). above env n here (λ z. then_runs (aims_at env n here (tree_of d) u.line z) (λ a. pure (an_aim a))) c.push.new.frames.items ticked) (sym (c.deref.ensures ∙ c.in_ok-target.ensures)) in
     let after = λ (control : Control). machine_does env n here control c.begin_aim.new.frames.items (world_of c.begin_aim.new.state) in
-    subst (λ (q : Ends Sig). Goes h.site q c.begin_aim.result after) (sym before) (c.begin_aim.ensures.goes env n running)
+    subst (λ (d : Gathering). Goes (on env n here d.line).site (above env n here (gathered (gather_from env n here d got)) frames w) c.begin_aim.result after) c.deref-now.ensures (subst (λ (q : Ends Sig). Goes h.site q c.begin_aim.result after) (sym before) (c.begin_aim.ensures.goes env n running))

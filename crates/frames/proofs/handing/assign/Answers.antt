@@ -1,5 +1,7 @@
-use Rattle.std.proofs.Common.{refl, sym, subst, ap, ◌∙◌}
+use Rattle.std.proofs.Common.{◌≡◌, ◌+◌, arith, refl, sym, subst, ap, ◌∙◌}
 use Rattle.tree.specs.declared.expr.Expr.{Expr}
+use Rattle.tree.specs.Tree as t
+use Rattle.tree.specs.Tree.{Ex}
 use Rattle.tree.specs.View.{tree_of, shared_tree}
 use Rattle.language.specs.World.{Ends, ◌>>=◌, pure}
 use Rattle.language.specs.Targets as ta
@@ -9,20 +11,39 @@ use Rattle.language.specs.Statements.{goes_on, changed}
 use Rattle.names.specs.View.{world_of, here_of}
 use Rattle.frames.specs.declared.frame.Control.{Control}
 use Rattle.frames.specs.declared.frame.Frame.TheVariants as f
-use Rattle.frames.specs.Frames.{Sig, an_aim, an_exit, Goes, on, aims_at, aimed, above, stack_does, machine_does}
-use Rattle.frames.proofs.Bind.{under, handed}
+use Rattle.frames.specs.Frames.{Sig, an_aim, an_exit, Goes, on, aims_at, aimed, assigned, above, stack_does, machine_does}
+use Rattle.frames.proofs.Trees.{tree-Name}
+use Rattle.frames.specs.Weight.{aim_size, frames_weight, control_weight}
+use Rattle.frames.proofs.Bind.{under, handed, lighten}
 use Rattle.frames.proofs.handing.assign.Goals as goal
 
-pub returns-clause-goes : goal.returns-clause-goes
-returns-clause-goes c = λ env n running.
+pub returns-in_ok-push-in_default : goal.returns-in_ok-push-in_default
+returns-in_ok-push-in_default c = record {
+  goes = λ env n running.
+      let here = here_of c.args.at.now c.args.at.now.line running in
+      let w = world_of c.args.state.now in
+      let frames = c.args.frames.now.items in
+      let line = c.args.line in
+      let h = on env n here line in
+      let aim = aims_at env n here (shared_tree c.args.target.now) line w in
+      let before = under aim (λ (a : ta.Aim). store a c.args.x h >>= λ _. pure goes_on) (λ (x : s.Exit). pure (an_exit x)) (stack_does env n here frames)
+      ∙ handed env n here (f.Store line c.args.x) frames c.push.new.frames.items an_aim aim (c.in_ok-push-in_default.ensures.ok env n here) refl refl
+      ∙ ap (λ (d : Expr). above env n here (aimed (aims_at env n here (tree_of d) line)) c.push.new.frames.items w) (sym c.deref-in_default.ensures) in
+      let after = λ (control : Control). machine_does env n here control c.begin_aim.new.frames.items (world_of c.begin_aim.new.state) in
+      subst (λ (q : Ends Sig). Goes h.site q c.begin_aim.result after) (sym before) (c.begin_aim.ensures.goes env n running);
+  lighter =
+      let pushed = c.in_ok-push-in_default.ensures.weight in
+      let size = ap (λ (d : Expr). aim_size (tree_of d)) c.deref-in_default.ensures in
+      lighten c.begin_aim.result c.args.state.now.heap.steps (frames_weight c.push.new.frames.items + aim_size (tree_of c.deref-in_default.result.now)) (frames_weight c.args.frames.now.items + (aim_size (shared_tree c.args.target.now) + 4)) c.begin_aim.new.state.heap.steps (λ control. frames_weight c.begin_aim.new.frames.items + control_weight control) (omega (arith, pushed, size)) c.begin_aim.ensures.lighter;
+}
+
+pub returns-in-Name-clause-goes : goal.returns-in-Name-clause-goes
+returns-in-Name-clause-goes c = λ env n running.
     let here = here_of c.args.at.now c.args.at.now.line running in
     let w = world_of c.args.state.now in
     let frames = c.args.frames.now.items in
     let line = c.args.line in
     let h = on env n here line in
-    let aim = aims_at env n here (shared_tree c.args.target.now) line w in
-    let before = under aim (λ (a : ta.Aim). store a c.args.x h >>= λ _. pure goes_on) (λ (x : s.Exit). pure (an_exit x)) (stack_does env n here frames)
-    ∙ handed env n here (f.Store line c.args.x) frames c.push.new.frames.items an_aim aim (c.in_ok-push.ensures.ok env n here) refl refl
-    ∙ ap (λ (d : Expr). above env n here (aimed (aims_at env n here (tree_of d) line)) c.push.new.frames.items w) (sym c.deref.ensures) in
-    let after = λ (control : Control). machine_does env n here control c.begin_aim.new.frames.items (world_of c.begin_aim.new.state) in
-    subst (λ (q : Ends Sig). Goes h.site q c.begin_aim.result after) (sym before) (c.begin_aim.ensures.goes env n running)
+    let after = λ (control : Control). machine_does env n here control frames (world_of c.assign_name.new.state) in
+    let tree : shared_tree c.args.target.now ≡ t.name c.in-Name.name = ap tree_of (sym c.deref.ensures ∙ c.in-Name.is) ∙ tree-Name c.in-Name.name in
+    subst (λ (d : Ex). Goes h.site (above env n here (assigned env n here d c.args.x line) frames w) c.assign_name.result after) (sym tree) (c.assign_name.ensures.goes env n running frames)

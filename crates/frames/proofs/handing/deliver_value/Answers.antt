@@ -9,6 +9,7 @@ use Rattle.language.specs.Targets.{store, to_member}
 use Rattle.language.specs.Loops as l
 use Rattle.language.specs.Loops.{one_more, one_entry}
 use Rattle.names.specs.View.{world_of, here_of}
+use Rattle.pieces.specs.declared.gathering.Gathered.{Gathered}
 use Rattle.pieces.specs.View.{gathered_of}
 use Rattle.frames.specs.declared.frame.Control.{Control}
 use Rattle.frames.specs.declared.frame.Frame.{Frame}
@@ -119,7 +120,7 @@ returns-in-OneKey-clause-goes c = λ env n running.
     let line = c.in-OneKey.line in
     let h = on env n here line in
     let j = stack_does env n here frames in
-    let behind = λ (y : Val). one_entry c.args.x y (gathered_of c.in-OneKey.got) h in
+    let behind = λ (y : Val). one_entry c.args.x y (gathered_of c.in-OneKey.got.value) h in
     let before = under (ex env n here (shared_tree c.in-OneKey.e) line w) behind (λ (v : l.Gathered). pure (a_gathered v)) j
     ∙ ap (λ (d : Expr). then_runs (ex env n here (tree_of d) line w) (λ v. above env n here (gathered (behind v)) frames)) (sym c.deref-in-OneKey.ensures) in
     let after = λ (control : Control). machine_does env n here control c.begin_above-in-OneKey.new.frames.items (world_of c.begin_above-in-OneKey.new.state) in
@@ -135,4 +136,21 @@ returns-in-Err-clause-goes c = λ env n running.
     let h = on env n here line in
     let after = λ (control : Control). machine_does env n here control frames w in
     subst (λ (fr : Frame). Goes (on env n here (frame_line c.args.at.now.line fr)).site (above env n here (frame_does env n here fr (a_value c.args.x)) frames w) (Err c.in-Err.halt) after) (sym c.in-OneMore.is)
-    (stops_into (one_more c.args.x (gathered_of c.in-OneMore.got) h w) (λ (g : l.Gathered). pure (a_gathered g)) (stack_does env n here frames) h.site c.in-Err.halt (gathered_of c.one_more.new.g) w after (c.in-Err.ensures h w))
+    (subst (λ (g : Gathered). Goes h.site (above env n here (gathered (one_more c.args.x (gathered_of g) h)) frames w) (Err c.in-Err.halt) after) c.deref_mut-in-OneMore.ensures.value
+    (stops_into (one_more c.args.x (gathered_of c.deref_mut-in-OneMore.result.now) h w) (λ (g : l.Gathered). pure (a_gathered g)) (stack_does env n here frames) h.site c.in-Err.halt (gathered_of c.one_more.new.g) w after (c.in-Err.ensures h w)))
+
+pub returns-in-For-clause-goes : goal.returns-in-For-clause-goes
+returns-in-For-clause-goes c = λ env n running.
+    let here = here_of c.args.at.now c.args.at.now.line running in
+    let w = world_of c.args.state.now in
+    let frames = c.args.frames.now.items in
+    let after = λ (control : Control). machine_does env n here control frames (world_of c.turns_over.new.state) in
+    subst (λ (fr : Frame). Goes (on env n here (frame_line c.args.at.now.line fr)).site (above env n here (frame_does env n here fr (a_value c.args.x)) frames w) c.turns_over.result after) (sym c.in-For.is) (c.turns_over.ensures.goes env n here frames)
+
+pub returns-in-Each-clause-goes : goal.returns-in-Each-clause-goes
+returns-in-Each-clause-goes c = λ env n running.
+    let here = here_of c.args.at.now c.args.at.now.line running in
+    let w = world_of c.args.state.now in
+    let frames = c.args.frames.now.items in
+    let after = λ (control : Control). machine_does env n here control frames (world_of c.clause_over.new.state) in
+    subst (λ (fr : Frame). Goes (on env n here (frame_line c.args.at.now.line fr)).site (above env n here (frame_does env n here fr (a_value c.args.x)) frames w) c.clause_over.result after) (sym c.in-Each.is) (c.clause_over.ensures.goes env n here frames)

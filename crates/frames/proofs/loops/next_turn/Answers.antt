@@ -11,12 +11,12 @@ use Rattle.language.specs.Targets as ta
 use Rattle.language.specs.Targets.{store}
 use Rattle.language.specs.Loops.{unlocks}
 use Rattle.language.specs.Statements as s
-use Rattle.language.specs.Statements.{after_turn, turns}
+use Rattle.language.specs.Statements.{after_turn, turns, goes_on}
 use Rattle.names.specs.View.{world_of, here_of}
 use Rattle.frames.specs.declared.frame.Control.{Control}
 use Rattle.frames.specs.declared.frame.Turns.{Turns}
 use Rattle.frames.specs.declared.frame.Frame.TheVariants as f
-use Rattle.frames.specs.Frames.{Sig, an_aim, an_exit, Goes, on, body, aims_at, turn_of, above, machine_does, stack_does, shared_suite}
+use Rattle.frames.specs.Frames.{Sig, an_aim, an_exit, Goes, on, body, exited, aims_at, turn_of, turns_behind, above, machine_does, stack_does, shared_suite}
 use Rattle.frames.proofs.Suites.{turn_begins, turn_stops}
 use Rattle.frames.proofs.Bind.{handed, tick_ends, tick_is}
 use Rattle.frames.proofs.loops.next_turn.Goals as goal
@@ -24,13 +24,13 @@ use Rattle.frames.proofs.loops.next_turn.Goals as goal
 pub returns-in-Err-clause-goes : goal.returns-in-Err-clause-goes
 returns-in-Err-clause-goes c = λ env n running.
     let here = here_of c.args.at.now c.args.at.now.line running in
-    let u = c.args.turns in
+    let u = c.deref-now.result.now in
     let all = u.items.items in
     let k = u.next in
     let h = on env n here u.line in
     let w = world_of c.args.state.now in
     let frames = c.args.frames.now.items in
-    let lt : k < length all = omega (arith, u.items.ok.0, c.len.ensures, c.if-turns-len.false) in
+    let lt : k < length all = omega (arith, u.items.ok.0, c.len.ensures, c.if-now-len.false) in
     let first : drop k all ≡ get_or all k Nothing ∷ drop (suc k) all = drop-cons all k Nothing lt in
     let turn = turn_of env n here u in
     let unl = λ (x : s.Exit). on_heap h (unlocks u.over) >>= λ _. pure x in
@@ -42,12 +42,12 @@ returns-in-Err-clause-goes c = λ env n running.
     let runs = λ (v : Val) (_ : Unit {0}). aims_at env n here target u.line >>= sb v in
     let whole = ap (λ (l : List Val). then_runs (then_runs (then_runs (turns turn l w) unl) p) j) first ∙ ap (λ q. then_runs (then_runs (then_runs (then_runs (then_runs q (runs (get_or all k Nothing))) behind) unl) p) j) (tick_is h w) in
     let after = λ (control : Control). machine_does env n here control c.args.frames.now.items (world_of (record c.args.state.now { heap = c.tick.new.heap })) in
-    subst (λ (q : Ends Sig). Goes h.site q (Err c.in-Err.halt) after) (sym whole) (turn_stops (walks (λ objects. o.tick) w.store) h.site w w (store_of c.tick.new.heap) c.in-Err.halt (runs (get_or all k Nothing)) behind unl p j after c.in-Err.ensures.says)
+    subst (λ (d : Turns). Goes (on env n here d.line).site (above env n here (exited (turns_behind env n here d goes_on)) frames w) (Err c.in-Err.halt) after) c.deref-now.ensures (subst (λ (q : Ends Sig). Goes h.site q (Err c.in-Err.halt) after) (sym whole) (turn_stops (walks (λ objects. o.tick) w.store) h.site w w (store_of c.tick.new.heap) c.in-Err.halt (runs (get_or all k Nothing)) behind unl p j after c.in-Err.ensures.says))
 
 pub returns-clause-goes : goal.returns-clause-goes
 returns-clause-goes c = λ env n running.
     let here = here_of c.args.at.now c.args.at.now.line running in
-    let u = c.args.turns in
+    let u = c.deref-now.result.now in
     let all = u.items.items in
     let k = u.next in
     let v = c.index-value.result.now in
@@ -55,7 +55,7 @@ returns-clause-goes c = λ env n running.
     let w = world_of c.args.state.now in
     let ticked : World = record w { store = store_of c.tick.new.heap } in
     let frames = c.args.frames.now.items in
-    let lt : k < length all = omega (arith, u.items.ok.0, c.len.ensures, c.if-turns-len.false) in
+    let lt : k < length all = omega (arith, u.items.ok.0, c.len.ensures, c.if-now-len.false) in
     let stands : v ≡ get_or all k v = c.index-value.ensures in
     let first : drop k all ≡ v ∷ drop (k + 1) all = rw add-one (drop-cons all k v lt ∙ ap (λ (x : Val). x ∷ drop (suc k) all) (sym stands)) in
     let turn = turn_of env n here u in
@@ -69,7 +69,8 @@ returns-clause-goes c = λ env n running.
     let before = ap (λ (l : List Val). then_runs (then_runs (then_runs (turns turn l w) unl) p) j) first
     ∙ ap (λ q. then_runs (then_runs (then_runs (then_runs (then_runs q (λ _. aims_at env n here target u.line >>= sb)) behind) unl) p) j) (tick_ends h w (store_of c.tick.new.heap) c.in_default.ensures.says)
     ∙ turn_begins env n here frames w (aims_at env n here target u.line ticked) sb behind unl j
-    ∙ handed env n here (f.Turn next v) frames c.push.new.frames.items an_aim (aims_at env n here target u.line ticked) (c.in_ok-push.ensures.ok env n here) refl refl
+    ∙ ap (λ (d : Turns). then_runs (aims_at env n here target u.line ticked) (λ a. above env n here (exited ((store a v (on env n here d.line) >>= λ _. body env n here (shared_suite d.body)) >>= turns_behind env n here d)) frames)) (sym (c.next_turns-next.ensures ∙ ap (λ (d : Turns). record d { next = d.next + 1 }) (sym c.deref-now.ensures)))
+    ∙ handed env n here (f.Turn c.next_turns-next.result v) frames c.push.new.frames.items an_aim (aims_at env n here target u.line ticked) (c.in_ok-push.ensures.ok env n here) refl refl
     ∙ ap (λ (d : Expr). above env n here (λ z. then_runs (aims_at env n here (tree_of d) u.line z) (λ a. pure (an_aim a))) c.push.new.frames.items ticked) (sym (c.deref.ensures ∙ c.in_ok-target.ensures)) in
     let after = λ (control : Control). machine_does env n here control c.begin_aim.new.frames.items (world_of c.begin_aim.new.state) in
-    subst (λ (q : Ends Sig). Goes h.site q c.begin_aim.result after) (sym before) (c.begin_aim.ensures.goes env n running)
+    subst (λ (d : Turns). Goes (on env n here d.line).site (above env n here (exited (turns_behind env n here d goes_on)) frames w) c.begin_aim.result after) c.deref-now.ensures (subst (λ (q : Ends Sig). Goes h.site q c.begin_aim.result after) (sym before) (c.begin_aim.ensures.goes env n running))

@@ -1,4 +1,4 @@
-use Rattle.std.proofs.Common.{◌+◌, true, false, ap, sym, refl, subst, ◌∙◌}
+use Rattle.std.proofs.Common.{◌+◌, true, false, ap, sym, subst, ◌∙◌}
 use Rattle.meaning.specs.declared.val.Val.{Val}
 use Rattle.tree.specs.declared.expr.Expr.{Expr}
 use Rattle.tree.specs.View.{tree_of, shared_tree}
@@ -50,7 +50,7 @@ returns-in_default c = record {
       let before = ap (λ (m : Runs Val). above env n here (valued m) frames w) (right_other op x second h c.in_default.not-Or c.in_default.not-And)
       ∙ under (second w) behind (λ (v : Val). pure (a_value v)) (stack_does env n here frames)
       ∙ ap (λ (d : Expr). then_runs (ex env n here (tree_of d) line w) (λ v. above env n here (valued (behind v)) frames)) (sym c.deref-in_default.ensures) in
-      let after = λ (control : Control). machine_does env n here control c.begin_above.new.frames.items (world_of c.begin_above.new.state) in
-      subst (λ (q : Ends Sig). Goes h.site q c.begin_above.result after) (sym before) (c.begin_above.ensures.goes env n running refl refl);
-  lighter = spent c.begin_above.result c.args.state.now.heap.steps (frames_weight c.args.frames.now.items + 2) c.begin_above.new.state.heap.steps (λ control. frames_weight c.begin_above.new.frames.items + control_weight control) c.begin_above.ensures.steps;
+      let after = λ (control : Control). machine_does env n here control c.second_operand.new.frames.items (world_of c.second_operand.new.state) in
+      subst (λ (q : Ends Sig). Goes h.site q c.second_operand.result after) (sym before) (c.second_operand.ensures.goes env n running);
+  lighter = spent c.second_operand.result c.args.state.now.heap.steps (frames_weight c.args.frames.now.items + 2) c.second_operand.new.state.heap.steps (λ control. frames_weight c.second_operand.new.frames.items + control_weight control) c.second_operand.ensures.steps;
 }

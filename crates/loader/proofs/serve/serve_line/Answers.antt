@@ -31,8 +31,8 @@ returns-in_err-write-clause-err g c =
     let no : (not c.in_ok-ended.ended && (length t.line == 0)) ≡ false = sym (c.is_end.ensures t.line t.keeps) ∙ c.if-is_end.false in
     let text = c.in_ok-reply.ensures.answer t.line t.keeps in
     let e = c.in_err-write.ensures.err in
-    stopped_within b c.in_ok-ended.ended t no (g.W.Output.held c.write.new.self) e.0
-    (e.1 ∙ ap (λ r. g.W.Output.held c.args.writer.now ++ take e.0 r) (c.as_bytes.ensures.value ∙ text.0)) in
+    stopped_within b c.in_ok-ended.ended t no (g.W.Output.held c.write.new.self) e.0 text.0.0 text.0.1
+    (e.1 ∙ ap (λ r. g.W.Output.held c.args.writer.now ++ take e.0 r) (c.as_bytes.ensures.value ∙ text.0.2)) in
     on_err _ k
 
 pub returns-clause-ok : goal.returns-clause-ok
@@ -41,8 +41,8 @@ returns-clause-ok g c = λ told held b.
     let no : (not c.in_ok-ended.ended && (length t.line == 0)) ≡ false = sym (c.is_end.ensures t.line t.keeps) ∙ c.if-is_end.false in
     let text = c.in_ok-reply.ensures.answer t.line t.keeps in
     subst (λ (xs : List Run). After c.in_ok-ended.ended told (g.R.Input.told c.next_line.new.input) held (g.W.Output.held c.write.new.self) c.next_line.new.pending c.answer.new.session xs) (sym c.in_ok-append.ensures.items)
-    (after_line b c.in_ok-ended.ended t no (g.W.Output.held c.write.new.self) c.answer.new.session c.in_ok-reply.reply.runs.items
-    (c.in_ok-write.ensures.held ∙ ap (λ r. g.W.Output.held c.args.writer.now ++ r) (c.as_bytes.ensures.value ∙ text.0)) text.1
+    (after_line b c.in_ok-ended.ended t no (g.W.Output.held c.write.new.self) c.answer.new.session c.in_ok-reply.reply.runs.items text.0.0 text.0.1
+    (c.in_ok-write.ensures.held ∙ ap (λ r. g.W.Output.held c.args.writer.now ++ r) (c.as_bytes.ensures.value ∙ text.0.2)) text.1
     c.answer.ensures.lawful (c.in_ok-reply.ensures.moves t.line t.keeps))
 
 pub returns-then-is_end-clause-ok : goal.returns-then-is_end-clause-ok

@@ -1,0 +1,41 @@
+#!/usr/bin/env python3
+"""Times of evaluation: runs `eval_times` several times over the programs of bench/programs and prints, of each, the least
+time and the nanoseconds a step of the language. Words behind the script are another interpreter's command, which is run
+with each program's path and has to print `min=TIMEms` somewhere on standard error; times are noisy, so what counts is
+the ratio of two in one run."""
+import os
+import re
+import subprocess
+import sys
+
+HERE = os.path.dirname(os.path.abspath(__file__))
+EVAL_TIMES = os.path.join(HERE, "../crates/eval_times/out/eval_times")
+
+# The steps of each program, counted by hand-made rules (an estimate from below where containers are compared).
+STEPS = {"loops": 463141, "lists": 350324, "dicts": 585826, "strings": 315839, "calls": 584998}
+
+
+def own(path):
+    out = subprocess.run([EVAL_TIMES, "10", path], capture_output=True, text=True, check=True).stdout
+    return int(out.rsplit(": ", 1)[1]) / 1e6
+
+
+def other(command, path):
+    told = subprocess.run(command + [path], capture_output=True, text=True, check=True).stderr
+    return float(re.search(r"min=([0-9.]+)ms", told).group(1))
+
+
+def main(runs=3):
+    command = sys.argv[1:]
+    for name, steps in STEPS.items():
+        path = os.path.join(HERE, "programs", name + ".star")
+        time = min(own(path) for _ in range(runs))
+        line = f"{name:8s} {time:8.1f} ms {time * 1e6 / steps:7.0f} ns a step"
+        if command:
+            peer = min(other(command, path) for _ in range(runs))
+            line += f"   other {peer:8.1f} ms {peer * 1e6 / steps:7.0f} ns a step, ratio {time / peer:5.1f}"
+        print(line)
+
+
+if __name__ == "__main__":
+    main()

@@ -1,0 +1,5 @@
+pub mod Members
+pub mod Exported
+pub mod Rising
+pub mod Plain
+mod Rows

@@ -1,0 +1,128 @@
+//! Reading a line.
+ghost use Rattle.std.specs.Prelude.{◌≡◌, IfOk, option_map};
+ghost use Rattle.serde_json.specs.View.{view, items_view};
+ghost use Rattle.commands.specs.Commands as commands;
+ghost use Rattle.commands.specs.Seen.{command_seen, texts_seen};
+
+use crate::command::{Command, Edit, Request};
+use serde_json::Value;
+use std::alloc::Global;
+use texts::Memory;
+
+/// The JSON of a line, where it is any.
+pub fn data_of(alloc: Global, line: &[u8]) -> Result<Option<Value>, Memory>
+    ensures { IfOk result (λ found. option_map view found ≡ commands.data_of line.now) }
+{
+    match Value::from_slice(alloc, line) {
+        Ok(value) => Ok(Some(value)),
+        Err(error) => {
+            if error.is_memory() {
+                Err(Memory)
+            } else {
+                Ok(None)
+            }
+        }
+    }
+}
+
+fn text_at<'a>(value: &'a Value, key: &str) -> Option<&'a str>
+    ensures { option_map (λ text. text.now) result ≡ commands.text_at key.now (view value.now) }
+{
+    value.get(key).and_then(Value::as_str)
+}
+
+// The texts of an array, where all its items are texts.
+fn texts_of<'a>(alloc: Global, items: &'a [Value]) -> Result<Option<Vec<&'a str>>, Memory>
+    ensures { IfOk result (λ found. option_map (λ texts. texts_seen texts.items) found ≡ commands.texts_of (items_view items.now)) }
+{
+    let mut all = Vec::new(alloc);
+    for item in items {
+        match item.as_str() {
+            Some(text) => all.push(text)?,
+            None => return Ok(None),
+        }
+    }
+    Ok(Some(all))
+}
+
+fn texts_at<'a>(alloc: Global, value: &'a Value, key: &str) -> Result<Option<Vec<&'a str>>, Memory>
+    ensures { IfOk result (λ found. option_map (λ texts. texts_seen texts.items) found ≡ commands.texts_at key.now (view value.now)) }
+{
+    match value.get(key).and_then(Value::as_array) {
+        Some(items) => texts_of(alloc, items.as_slice()),
+        None => Ok(None),
+    }
+}
+
+fn member_count(value: &Value) -> usize
+    ensures { result ≡ commands.member_count (view value.now) }
+{
+    match value.as_object() {
+        None => 0,
+        Some(members) => members.len(),
+    }
+}
+
+fn put_in(value: &Value) -> Option<Command<'_>>
+    ensures { option_map command_seen result ≡ commands.put_in (view value.now) }
+{
+    let path = text_at(value, "path")?;
+    let text = text_at(value, "text")?;
+    Some(Command::Change(Edit::Put(path, text)))
+}
+
+fn del_in(value: &Value) -> Option<Command<'_>>
+    ensures { option_map command_seen result ≡ commands.del_in (view value.now) }
+{
+    let path = text_at(value, "path")?;
+    Some(Command::Change(Edit::Del(path)))
+}
+
+fn find_in(value: &Value) -> Option<Command<'_>>
+    ensures { option_map command_seen result ≡ commands.find_in (view value.now) }
+{
+    let name = text_at(value, "name")?;
+    Some(Command::Ask(Request::Find(name)))
+}
+
+fn load_in(alloc: Global, value: &Value) -> Result<Option<Command<'_>>, Memory>
+    ensures { IfOk result (λ found. option_map command_seen found ≡ commands.load_in (view value.now)) }
+{
+    match texts_at(alloc, value, "names")? {
+        Some(names) => Ok(Some(Command::Ask(Request::Load(names)))),
+        None => Ok(None),
+    }
+}
+
+fn module_in(value: &Value) -> Option<Command<'_>>
+    ensures { option_map command_seen result ≡ commands.module_in (view value.now) }
+{
+    let label = text_at(value, "label")?;
+    Some(Command::Ask(Request::Module(label)))
+}
+
+/// The command with exactly these members.
+pub fn command_of(alloc: Global, value: &Value) -> Result<Option<Command<'_>>, Memory>
+    ensures { IfOk result (λ found. option_map command_seen found ≡ commands.command_of (view value.now)) }
+{
+    let Some(op) = text_at(value, "op") else {
+        return Ok(None);
+    };
+    let count = member_count(value);
+    if op == "put" && count == 3 {
+        return Ok(put_in(value));
+    }
+    if op == "del" && count == 2 {
+        return Ok(del_in(value));
+    }
+    if op == "find" && count == 2 {
+        return Ok(find_in(value));
+    }
+    if op == "load" && count == 2 {
+        return load_in(alloc, value);
+    }
+    if op == "module" && count == 2 {
+        return Ok(module_in(value));
+    }
+    Ok(None)
+}

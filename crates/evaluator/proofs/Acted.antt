@@ -1,0 +1,57 @@
+-- What a part of a turn leaves behind.
+use Rattle.std.proofs.Common.{◌≡◌, ◌≤◌, ◌<◌, ◌+◌, ℕ, Vec, Box, Global, Ok, Err, Result, true, refl, arith}
+use Rattle.std.specs.Prelude.{IfOk, OnErr}
+use Rattle.std.specs.declared.sync.Arc.{Arc}
+use Rattle.texts.specs.declared.text.Text.{Text}
+use Rattle.heap.specs.declared.halt.Halt.{Halt}
+use Rattle.meaning.specs.declared.val.Val.{Val}
+use Rattle.meaning.specs.declared.val.Builtin.{Builtin}
+use Rattle.tree.specs.declared.expr.Expr.{Expr}
+use Rattle.tree.specs.declared.stmt.Def.{Def}
+use Rattle.pieces.specs.declared.aims.Aim.{Aim}
+use Rattle.frames.specs.declared.frame.Comprehension.{Comprehension}
+use Rattle.frames.specs.declared.frame.Control.{Control}
+use Rattle.frames.specs.declared.frame.Control.TheVariants as c
+use Rattle.frames.specs.Frames.{is_within}
+use Rattle.frames.specs.Weight.{Lighter, control_weight}
+use Rattle.evaluator.specs.Machines.{IsActing}
+
+-- a part that leaves nothing to do, where something was
+pub falls_light : (r : Result Control Halt) (s s' b weight : ℕ) → 0 < b → IfOk r (λ control. (s' ≤ s) × (control_weight control ≡ 0)) → IfOk r (λ control. Lighter s (weight + b) s' (weight + control_weight control))
+falls_light (Ok control) s s' b weight lt h = record { steps = h.0; weight = λ e. omega (arith, h.1) }
+falls_light (Err halt) s s' b weight lt h = tt
+
+-- what goes on within a function or a file
+pub within : (k : Control) → IsActing k
+    → ((line : ℕ) (target : Arc Expr Global) (of : Arc Comprehension Global) (x : Val) → k ≡ c.First line target of x → ⊥)
+    → ((line place : ℕ) (xs : Vec Val Global) (names : Arc (Vec Text Global) Global) → k ≡ c.Enter line place xs names → ⊥)
+    → ((line : ℕ) (f : Builtin) (xs : Vec Val Global) (names : Arc (Vec Text Global) Global) → k ≡ c.Builtin line f xs names → ⊥)
+    → ((line : ℕ) (x : Val) (name : Text) (xs : Vec Val Global) (names : Arc (Vec Text Global) Global) → k ≡ c.Method line x name xs names → ⊥)
+    → ((line : ℕ) (aim : Box Aim Global) (x y : Val) → k ≡ c.Add line aim x y → ⊥)
+    → ((line : ℕ) (def : Arc Def Global) (xs : Vec Val Global) → k ≡ c.Define line def xs → ⊥)
+    → is_within k ≡ true
+within (c.Signal sig) a p q r s t u = absurd a
+within (c.Eval line e) a p q r s t u = refl
+within (c.Items line s') a p q r s t u = refl
+within (c.Entries line pairs next) a p q r s t u = refl
+within (c.Aim line e) a p q r s t u = refl
+within (c.Aims line es done) a p q r s t u = refl
+within (c.Suite ss next) a p q r s t u = refl
+within (c.Branches bs next other) a p q r s t u = refl
+within (c.Turns turns) a p q r s t u = refl
+within (c.Clauses line of inner got) a p q r s t u = refl
+within (c.Gather turns got) a p q r s t u = refl
+within (c.First line target of x) a p q r s t u = absurd (p line target of x refl)
+within (c.Enter line place xs names) a p q r s t u = absurd (q line place xs names refl)
+within (c.Builtin line f xs names) a p q r s t u = absurd (r line f xs names refl)
+within (c.Method line x name xs names) a p q r s t u = absurd (s line x name xs names refl)
+within (c.Package line f xs names) a p q r s t u = absurd a
+within (c.Tops file next) a p q r s t u = refl
+within (c.Defaults line def next done) a p q r s t u = refl
+within (c.Define line def xs) a p q r s t u = absurd (u line def xs refl)
+within (c.Add line aim x y) a p q r s t u = absurd (t line aim x y refl)
+
+-- where nothing is said of an end
+pub nothing_moves : {A : Type 0} (r : Result Control Halt) (x : A) → OnErr r (x ≡ x)
+nothing_moves (Ok control) x = tt
+nothing_moves (Err halt) x = refl

@@ -1,0 +1,145 @@
+-- An evaluation that waits may go to another thread.
+-- A type that no ring is below has its lemmas from the kit, as `Val.TheSendSync`. They are cited by name, so that no search goes through those types again.
+use denote.Enum.Declared.{shape}
+use denote.Param.Send.{IsSend, IsSync, enum_send, recorded_send, sendable}
+use Rattle.std.proofs.Crossing.{crosses, frees}
+use Rattle.std.proofs.alloc.Global.TheSendSync as GlobalSends
+use Rattle.std.proofs.hash.BuildHasherDefault.TheSendSync as BuilderSends
+use Rattle.std.proofs.hash.FoldHasher.TheSendSync as HasherSends
+use Rattle.std.specs.contracts.alloc.Global
+use Rattle.std.specs.contracts.hash.BuildHasherDefault as Builder
+use Rattle.std.specs.contracts.hash.FoldHasher as Hasher
+use Rattle.std.specs.contracts.impls.GlobalAllocator.TheImpl as Heap
+use Rattle.indexmap.proofs.map.IndexMap.TheSendSync as IndexMapSends
+use Rattle.indexmap.specs.contracts.map.IndexMap
+use Rattle.texts.proofs.text.Text.TheSendSync as TextSends
+use Rattle.meaning.proofs.key.Key.TheSendSync as KeySends
+use Rattle.meaning.proofs.val.Builtin.TheSendSync as BuiltinSends
+use Rattle.meaning.proofs.val.Entry.TheSendSync as EntrySends
+use Rattle.meaning.proofs.val.Val.TheSendSync as ValSends
+use Rattle.meaning.specs.contracts.key.Key
+use Rattle.meaning.specs.contracts.val.Entry
+use Rattle.tree.proofs.expr.BinaryOp.TheSendSync as BinarySends
+use Rattle.tree.proofs.expr.UnaryOp.TheSendSync as UnarySends
+use Rattle.freezing.proofs.frozen.Frozen.TheLaws.TheKnot as frozen
+use Rattle.freezing.specs.contracts.value.FrozenValue
+use Rattle.module_values.specs.contracts.bindings.Function
+use Rattle.module_values.specs.contracts.modules.Loaded
+use Rattle.module_values.specs.contracts.modules.Module
+use Rattle.names.proofs.state.Slot.TheSendSync as SlotSends
+use Rattle.names.proofs.state.Standing.TheSendSync as StandingSends
+use Rattle.names.proofs.state.State.TheSendSync as StateSends
+use Rattle.pieces.proofs.aims.Aim.TheLaws.TheKnot as aims
+use Rattle.pieces.proofs.gathering.Gathered.TheSendSync as GatheredSends
+use Rattle.pieces.specs.contracts.aims.Aim
+use Rattle.calls.proofs.functions.Open.TheSendSync as OpenSends
+use Rattle.package_calls.proofs.kinds.Package.TheSendSync as PackageSends
+use Rattle.frames.proofs.frame.Exit.TheSendSync as ExitSends
+use Rattle.frames.proofs.frame.Purpose.TheSendSync as PurposeSends
+use Rattle.frames.specs.contracts.frame.Comprehension
+use Rattle.frames.specs.contracts.frame.Control
+use Rattle.frames.specs.contracts.frame.Frame
+use Rattle.frames.specs.contracts.frame.Gathering
+use Rattle.frames.specs.contracts.frame.Signal
+use Rattle.frames.specs.contracts.frame.Turns
+use Rattle.evaluator.proofs.Trees.{trees_cross}
+use Rattle.evaluator.specs.contracts.machine.Environment
+use Rattle.evaluator.specs.contracts.machine.Machine
+use Rattle.evaluator.specs.contracts.outcome.Suspended
+
+-- modules
+frozen_send : IsSend FrozenValue.the_row
+frozen_send = search (crosses, frozen.crosses_both, sendable) depth 60 fits 20000
+
+frozen_sync : IsSync FrozenValue.the_row
+frozen_sync = search (crosses, frozen.crosses_both, sendable) depth 60 fits 20000
+
+function_send : IsSend Function.the_row
+function_send = search trees_cross depth 60 fits 20000
+
+function_sync : IsSync Function.the_row
+function_sync = search trees_cross depth 60 fits 20000
+
+module_send : IsSend Module.the_row
+module_send = search (frozen_send, frozen_sync, function_send, function_sync, trees_cross) depth 60 fits 20000
+
+pub loaded_send : IsSend Loaded.the_row
+loaded_send = search (module_send, crosses, sendable) depth 60 fits 20000
+
+-- what the machine works with. The entries of a dictionary have any laws of hashing here, which no search could find
+entries_send : (e : _) (h : _) (b : _) (w : _) → IsSend (IndexMap.the_field Key.the_row Entry.the_row (Builder.the_row Hasher.the_row) Global.the_row Hasher.the_row e h b w Heap.ghosts).row
+entries_send e h b w = IndexMapSends.the_send _ _ _ _ Hasher.the_row _ _ _ _ _ KeySends.the_send EntrySends.the_send (BuilderSends.the_send Hasher.the_row HasherSends.the_send) GlobalSends.the_send frees
+
+ruleset plain_cross = (ValSends.the_field_send, ValSends.the_send, BuiltinSends.the_field_send, TextSends.the_send, TextSends.the_sync, BinarySends.the_field_send, UnarySends.the_field_send)
+
+ruleset parts_cross = (ExitSends.the_field_send, PurposeSends.the_field_send, StandingSends.the_field_send, SlotSends.the_send, GatheredSends.the_field_send, entries_send)
+
+aim_send : IsSend Aim.the_row
+aim_send = search (aims.crosses, crosses, sendable) depth 60 fits 20000
+
+aim_field_send : IsSend (Aim.the_field).row
+aim_field_send = search (aims.crosses, crosses, sendable) depth 60 fits 20000
+
+comprehension_send : IsSend Comprehension.the_row
+comprehension_send = search trees_cross depth 60 fits 20000
+
+comprehension_sync : IsSync Comprehension.the_row
+comprehension_sync = search trees_cross depth 60 fits 20000
+
+turns_field_send : IsSend (Turns.the_field).row
+turns_field_send = search (plain_cross, trees_cross) depth 60 fits 20000
+
+turns_send : IsSend Turns.the_row
+turns_send = search (turns_field_send, recorded_send)
+
+gathering_field_send : IsSend (Gathering.the_field).row
+gathering_field_send = search (comprehension_send, comprehension_sync, plain_cross, trees_cross) depth 60 fits 20000
+
+gathering_send : IsSend Gathering.the_row
+gathering_send = search (gathering_field_send, recorded_send)
+
+signal_field_send : IsSend (Signal.the_field).row
+signal_field_send = search (aim_field_send, plain_cross, parts_cross, crosses, sendable) depth 60 fits 20000
+
+-- a search for each variant of an enum, in order: all of them would be too much for one
+infixr 5 ◌besides◌
+◌besides◌ : {A B : Type 0} → A → B → A × B
+a besides b = (a, b)
+
+ruleset running_crosses = (aim_send, aim_field_send, comprehension_send, comprehension_sync, gathering_field_send, gathering_send, signal_field_send, plain_cross, parts_cross, trees_cross)
+
+-- apart: to tell the rows of `Turns` and of `Branch` from one another would cost each search many steps
+ruleset turns_cross = (turns_field_send, turns_send, plain_cross, crosses, sendable)
+
+frame_field_send : IsSend (Frame.the_field).row
+frame_field_send = enum_send (shape Frame.the_type) ((search running_crosses depth 20) besides (search running_crosses depth 20) besides (search running_crosses depth 20) besides (search running_crosses depth 20) besides
+    (search running_crosses depth 20) besides (search running_crosses depth 20) besides (search running_crosses depth 20) besides (search running_crosses depth 20) besides
+    (search running_crosses depth 20) besides (search running_crosses depth 20) besides (search running_crosses depth 20) besides (search running_crosses depth 20) besides
+    (search running_crosses depth 20) besides (search running_crosses depth 20) besides (search running_crosses depth 20) besides (search running_crosses depth 20) besides
+    (search running_crosses depth 20) besides (search running_crosses depth 20) besides (search running_crosses depth 20) besides (search running_crosses depth 20) besides
+    (search running_crosses depth 20) besides (search running_crosses depth 20) besides (search running_crosses depth 20) besides (search running_crosses depth 20) besides
+    (search running_crosses depth 20) besides (search turns_cross depth 20) besides (search turns_cross depth 20) besides (search running_crosses depth 20) besides
+    (search running_crosses depth 20) besides (search running_crosses depth 20) besides (search running_crosses depth 20) besides (search running_crosses depth 20) besides
+    (search running_crosses depth 20) besides (search running_crosses depth 20) besides (search running_crosses depth 20) besides (search running_crosses depth 20) besides
+    (search running_crosses depth 20) besides (search running_crosses depth 20) besides (search running_crosses depth 20) besides (search running_crosses depth 20) besides
+    (search running_crosses depth 20) besides (search running_crosses depth 20) besides tt)
+
+control_field_send : IsSend (Control.the_field).row
+control_field_send = enum_send (shape Control.the_type) ((search running_crosses depth 20) besides (search running_crosses depth 20) besides (search running_crosses depth 20) besides (search running_crosses depth 20) besides
+    (search running_crosses depth 20) besides (search running_crosses depth 20) besides (search running_crosses depth 20) besides (search running_crosses depth 20) besides
+    (search turns_cross depth 20) besides (search running_crosses depth 20) besides (search running_crosses depth 20) besides (search running_crosses depth 20) besides
+    (search running_crosses depth 20) besides (search running_crosses depth 20) besides (search running_crosses depth 20) besides (search running_crosses depth 20) besides
+    (search running_crosses depth 20) besides (search running_crosses depth 20) besides (search running_crosses depth 20) besides (search running_crosses depth 20) besides
+    tt)
+
+frame_send : IsSend Frame.the_row
+frame_send = search (frame_field_send, recorded_send)
+
+environment_field_send : IsSend (Environment.the_field).row
+environment_field_send = search (loaded_send, TextSends.the_send, PackageSends.the_field_send, trees_cross) depth 60 fits 20000
+
+machine_field_send : IsSend (Machine.the_field).row
+machine_field_send = search (StateSends.the_field_send, StandingSends.the_field_send, OpenSends.the_send, frame_send, crosses, sendable) depth 60 fits 20000
+
+pub suspended_send : IsSend Suspended.the_row
+suspended_send = search (environment_field_send, machine_field_send, control_field_send, TextSends.the_send, crosses, sendable) depth 60 fits 20000

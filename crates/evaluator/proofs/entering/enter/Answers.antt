@@ -1,0 +1,117 @@
+use Rattle.std.proofs.Common.{◌≡◌, ℕ, List, Option, None, Err, sym, ap, subst, ◌∙◌}
+use Rattle.std.specs.Arc.{arc_value}
+use Rattle.meaning.specs.declared.val.Val.{Val}
+use Rattle.meaning.specs.Heap.{Obj}
+use Rattle.tree.specs.declared.stmt.Def.{Def}
+use Rattle.tree.specs.Statements.{fn_of}
+use Rattle.language.specs.World.{Ends, then_runs, pure}
+use Rattle.language.specs.Arguments.{plain_part, named_part}
+use Rattle.language.specs.Environment.{functions_of, function_named}
+use Rattle.language.specs.Expressions.{call_object}
+use Rattle.language.specs.Calls.{call}
+use Rattle.language.specs.Laws.{with_answers}
+use Rattle.names.specs.View.{world_of}
+use Rattle.frames.specs.declared.frame.Control.{Control}
+use Rattle.frames.specs.Frames.{a_value, Goes, on, stack_does}
+use Rattle.evaluator.specs.Machines.{env_of, here_in, means}
+use Rattle.evaluator.specs.Finding.{IsLabel, IsFound, calls_on}
+use Rattle.evaluator.specs.declared.finding.Found.{Found}
+use Rattle.evaluator.proofs.Entered.{no_file, no_call, needs_goes, found_calls}
+use Rattle.evaluator.proofs.entering.enter.Goals as goal
+
+pub returns-in-None-clause-goes : goal.returns-in-None-clause-goes
+returns-in-None-clause-goes c = λ more knows.
+    let m = c.args.m.now in
+    let e = env_of c.args.e.now in
+    let env = with_answers more e in
+    let left = m.left in
+    let here = here_in m in
+    let h = on env left here c.args.line in
+    let w = world_of m.state in
+    let l = c.in-Ok.called.label in
+    let name = c.in-Ok.called.name in
+    let xs = plain_part c.args.xs.now c.args.names.now in
+    let ns = named_part c.args.xs.now c.args.names.now in
+    let k = λ (v : Val). pure (a_value v) in
+    let j = stack_does env left here m.frames.items in
+    let object = ap (λ (o : Option Obj). call_object (call env left) o xs ns h w) c.in-Ok.ensures in
+    let none = subst (λ (x : List ℕ). IsLabel e x None) c.as_slice.ensures (subst (λ (o : Option (List ℕ)). IsLabel e c.as_slice.result.now o) c.in-None.is c.in_ok-label.ensures.ok) in
+    ap (λ (o : Ends Val). then_runs (then_runs o k) j) (object ∙ no_file env left l name xs ns h w none.0 none.1)
+
+pub returns-in-Err-need_names-clause-goes : goal.returns-in-Err-need_names-clause-goes
+returns-in-Err-need_names-clause-goes c = λ more knows.
+    let m = c.args.m.now in
+    let e = env_of c.args.e.now in
+    let env = with_answers more e in
+    let left = m.left in
+    let here = here_in m in
+    let h = on env left here c.args.line in
+    let w = world_of m.state in
+    let l = c.in-Ok.called.label in
+    let name = c.in-Ok.called.name in
+    let xs = plain_part c.args.xs.now c.args.names.now in
+    let ns = named_part c.args.xs.now c.args.names.now in
+    let k = λ (v : Val). pure (a_value v) in
+    let j = stack_does env left here m.frames.items in
+    let object = ap (λ (o : Option Obj). call_object (call env left) o xs ns h w) c.in-Ok.ensures in
+    let label = c.in-Some.label in
+    let is_label : label ≡ l = subst (λ (o : Option (List ℕ)). IsLabel e c.as_slice.result.now o) c.in-Some.is c.in_ok-label.ensures.ok ∙ c.as_slice.ensures in
+    let calls = object ∙ ap (λ (x : List ℕ). call env left x name xs ns h w) (sym is_label) in
+    let after = λ (control : Control). means env (record m { state = c.need_names.new.state }) control in
+    subst (λ (o : Ends Val). Goes h.site (then_runs (then_runs o k) j) (Err c.in-Err-need_names.halt) after) (sym calls)
+    (needs_goes env left label name xs ns h w (world_of c.need_names.new.state) c.in-Err-need_names.halt k j after (c.in-Err-need_names.ensures.says env h (sym c.as_slice-2.ensures.value)))
+
+pub returns-clause-goes : goal.returns-clause-goes
+returns-clause-goes c = λ more knows.
+    let m = c.args.m.now in
+    let e = env_of c.args.e.now in
+    let env = with_answers more e in
+    let left = m.left in
+    let here = here_in m in
+    let h = on env left here c.args.line in
+    let w = world_of m.state in
+    let l = c.in-Ok.called.label in
+    let name = c.in-Ok.called.name in
+    let xs = plain_part c.args.xs.now c.args.names.now in
+    let ns = named_part c.args.xs.now c.args.names.now in
+    let k = λ (v : Val). pure (a_value v) in
+    let j = stack_does env left here m.frames.items in
+    let object = ap (λ (o : Option Obj). call_object (call env left) o xs ns h w) c.in-Ok.ensures in
+    let label = c.in-Some.label in
+    let is_label : label ≡ l = subst (λ (o : Option (List ℕ)). IsLabel e c.as_slice.result.now o) c.in-Some.is c.in_ok-label.ensures.ok ∙ c.as_slice.ensures in
+    let calls = object ∙ ap (λ (x : List ℕ). call env left x name xs ns h w) (sym is_label) in
+    let u = world_of c.need_names.new.state in
+    let needs = c.in_default.ensures.says env h (sym c.as_slice-2.ensures.value) in
+    let none = subst (λ (o : Option Found). IsFound e label c.as_slice-3.result.now o) c.in-None-2.is c.in_ok-found.ensures.ok in
+    let none' = ap (λ (x : List ℕ). function_named x (functions_of e label)) (sym c.as_slice-3.ensures) ∙ none in
+    ap (λ (o : Ends Val). then_runs (then_runs o k) j) (calls ∙ no_call env left label name xs ns h w u needs none')
+
+pub returns-in-Some-2-clause-goes : goal.returns-in-Some-2-clause-goes
+returns-in-Some-2-clause-goes c = λ more knows.
+    let m = c.args.m.now in
+    let e = env_of c.args.e.now in
+    let env = with_answers more e in
+    let left = m.left in
+    let here = here_in m in
+    let h = on env left here c.args.line in
+    let w = world_of m.state in
+    let l = c.in-Ok.called.label in
+    let name = c.in-Ok.called.name in
+    let xs = plain_part c.args.xs.now c.args.names.now in
+    let ns = named_part c.args.xs.now c.args.names.now in
+    let k = λ (v : Val). pure (a_value v) in
+    let j = stack_does env left here m.frames.items in
+    let object = ap (λ (o : Option Obj). call_object (call env left) o xs ns h w) c.in-Ok.ensures in
+    let label = c.in-Some.label in
+    let is_label : label ≡ l = subst (λ (o : Option (List ℕ)). IsLabel e c.as_slice.result.now o) c.in-Some.is c.in_ok-label.ensures.ok ∙ c.as_slice.ensures in
+    let calls = object ∙ ap (λ (x : List ℕ). call env left x name xs ns h w) (sym is_label) in
+    let u = world_of c.need_names.new.state in
+    let needs = c.in_default.ensures.says env h (sym c.as_slice-2.ensures.value) in
+    let found = c.in-Some-2.found in
+    let is = subst (λ (o : Option Found). IsFound e label c.as_slice-3.result.now o) c.in-Some-2.is c.in_ok-found.ensures.ok in
+    let f = fn_of (arc_value found.def) in
+    let names = ap (λ (x : List ℕ). function_named x (functions_of e label)) (sym c.as_slice-3.ensures) ∙ is.0 in
+    let named = is.1 ∙ c.as_slice-3.ensures in
+    let chain = calls ∙ found_calls env left label name xs ns h f w u needs names named ∙ ap (λ (d : Def). calls_on env left label (fn_of d) xs ns h u) (sym c.deref.ensures) in
+    let after = λ (control : Control). means env c.call.new.m control in
+    subst (λ (o : Ends Val). Goes h.site (then_runs (then_runs o k) j) c.call.result after) (sym chain) (c.call.ensures.goes env c.args.line is.2)

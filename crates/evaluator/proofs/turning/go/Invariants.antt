@@ -1,0 +1,9 @@
+use Rattle.std.proofs.Common.{◌≡◌}
+use Rattle.evaluator.specs.Machines.{Under, means}
+use Rattle.evaluator.proofs.turning.go.Given as goal
+
+abbrev pub invariant-loop-next : goal.invariant-loop-next
+invariant-loop-next l = Under l.e (λ env. means env l.initial.m l.initial.control ≡ means env l.m l.control)
+
+abbrev pub decreases-loop-next : goal.decreases-loop-next
+decreases-loop-next l = l.m.state.heap.steps

@@ -1,0 +1,26 @@
+use Rattle.std.proofs.Common.{◌≡◌, ℕ, Err, sym, subst}
+use Rattle.language.specs.Environment.{Env}
+use Rattle.language.specs.Laws.{with_answers}
+use Rattle.names.specs.declared.state.Standing.{Standing}
+use Rattle.frames.specs.declared.frame.Control.{Control}
+use Rattle.frames.specs.Frames.{Goes, control_line}
+use Rattle.evaluator.specs.Machines.{env_of, means, site_at, Stops}
+use Rattle.evaluator.proofs.Entered.{goes_stop}
+use Rattle.evaluator.proofs.turning.turn.Goals as goal
+
+pub returns-in-Err : goal.returns-in-Err
+returns-in-Err c = record {
+  leads =
+      let m = c.args.m.now in
+      let k = c.args.control in
+      let i = c.control_line-line.result in
+      let line : i ≡ control_line m.at.line k = c.control_line-line.ensures in
+      let stands : c.act.new.m.at ≡ m.at = c.in-Err.ensures.stands in
+      let before = λ (env : Env). means env m k in
+      let after = λ (env : Env) (next : Control). means env c.act.new.m next in
+      goes_stop c.args.e.now before m.at.path i c.in-Err.halt c.stop.result _ after
+      (subst (λ (at : Standing). Stops at.path i c.in-Err.halt c.stop.result) stands c.stop.ensures)
+      (λ more knows. let env = with_answers more (env_of c.args.e.now) in
+      subst (λ (j : ℕ). Goes (site_at m.at.path j) (before env) (Err c.in-Err.halt) (after env)) (sym line) (c.in-Err.ensures.goes more knows));
+  falls = tt;
+}

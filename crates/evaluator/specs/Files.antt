@@ -1,0 +1,59 @@
+-- How the evaluation of a file begins, and what is left of it where a machine stands in it.
+use Rattle.std.specs.Prelude.{◌≡◌, ◌++◌, ℕ, List, zip, Result, Ok, Err}
+use Rattle.std.specs.Arc.{arc_value}
+use Rattle.std.specs.declared.alloc.Global.{Global}
+use Rattle.std.specs.declared.sync.Arc.{Arc}
+use Rattle.std.specs.declared.vec.Vec.{Vec}
+use Rattle.texts.specs.declared.text.Text.{Text}
+use Rattle.tree.specs.Tree.{Fi, Ld}
+use Rattle.module_values.specs.Values.{Body, Loaded}
+use Rattle.language.specs.World.{World, Here, at_line, Ends, ended, failed, Runs, then_runs, ◌>>=◌, tick}
+use Rattle.language.specs.Environment.{Env}
+use Rattle.language.specs.Laws.{with_answers}
+use Rattle.language.specs.Files.{Outcome, a_need, leading, load_items, loads, file_level, leaves, outcome_of, evaluate}
+use Rattle.frames.specs.declared.frame.Control.{Control}
+use Rattle.frames.specs.Frames.{Sig}
+use Rattle.evaluator.specs.declared.machine.Environment.{Environment}
+use Rattle.evaluator.specs.declared.machine.Machine.{Machine}
+use Rattle.evaluator.specs.declared.machine.Stop.{Stop}
+use Rattle.evaluator.specs.declared.machine.Stop.TheVariants as s
+use Rattle.evaluator.specs.Machines.{env_of, means, Under, site_at}
+
+-- a load statement: a step, and what it binds
+abbrev pub load_does : Body → Ld → Here → Runs (Unit {0})
+load_does body l here = tick (at_line l.line here) >>= λ _. load_items body l.items (at_line l.line here)
+
+-- what stands before the other statements of a file
+abbrev pub opens : Fi → List Loaded → Here → Runs (Unit {0})
+opens file modules here = leading file.leading here >>= λ _. loads file.loads modules here
+
+-- it is done, or it stops at its fault; where memory was refused nothing is said
+abbrev pub Opened : Ends (Unit {0}) → Result (Unit {0}) Stop → World → Type 0
+Opened out (Ok done) u = out ≡ ended tt u
+Opened out (Err (s.Fault code path line)) u = out ≡ failed code (site_at path line)
+Opened out (Err s.Memory) u = Unit {0}
+
+-- the outcome of a file, behind its statements
+abbrev pub left_behind : Env → Ends Sig → Ends Outcome
+left_behind env ends = then_runs ends (λ _. leaves env.kind env (file_level env))
+
+-- a machine that stands in the evaluation of a file: what is left gives the file's outcome, under more answers too
+abbrev pub Stands : Environment → Machine → Control → Type 0
+Stands e m control = Under e (λ env. evaluate env ≡ outcome_of (left_behind env (means env m control)))
+
+-- an evaluation that waits: what its file is given, and the patterns that have no answer
+pub record Waiting : Type 0 where
+  pub environment : Environment
+  pub patterns : List (List ℕ)
+
+-- where the evaluation of a file waits for answers to patterns
+pub record Waits (e : Environment) (m : Machine) (control : Control) (patterns : List (List ℕ)) : Type 0 where
+  pub stands : Stands e m control
+  pub asks : evaluate (env_of e) ≡ a_need patterns
+
+abbrev pub shared_texts : Arc (Vec Text Global) Global → List (List ℕ)
+shared_texts texts = (arc_value texts).items
+
+-- what a file is given, with answers to patterns behind those that it had
+abbrev pub answered : Env → List (List ℕ) → List (List (List ℕ)) → Env
+answered env patterns results = with_answers (env.globs ++ zip patterns results) env

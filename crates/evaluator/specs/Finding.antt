@@ -1,0 +1,57 @@
+-- Functions of files that were found, and how their calls go on.
+use Rattle.std.specs.Prelude.{◌≡◌, ℕ, zero, suc, List, Option, Some, None, false, if◌then◌else◌}
+use Rattle.std.specs.Arc.{arc_value}
+use Rattle.std.specs.declared.alloc.Global.{Global}
+use Rattle.std.specs.declared.sync.Arc.{Arc}
+use Rattle.meaning.specs.declared.val.Val.{Val}
+use Rattle.meaning.specs.Outcome.{checked}
+use Rattle.meaning.specs.Functions.{Named}
+use Rattle.meaning.specs.Comparing.{same_text}
+use Rattle.tree.specs.Tree.{Fn, Suite}
+use Rattle.tree.specs.declared.stmt.Def.{Def}
+use Rattle.tree.specs.Statements.{fn_of}
+use Rattle.language.specs.World.{Here, Runs, ◌>>=◌, fault, on_heap}
+use Rattle.language.specs.Environment.{Env, path_of, functions_of, function_named, defaults_of, reached_module}
+use Rattle.language.specs.Arguments.{arguments}
+use Rattle.language.specs.Statements.{Exit, suite}
+use Rattle.language.specs.Calls.{call, is_running, inside, body_does}
+use Rattle.std.specs.Prelude.{Result, Ok, Err}
+use Rattle.heap.specs.declared.halt.Halt.{Halt}
+use Rattle.heap.specs.declared.halt.Halt.TheVariants.{Code, Memory}
+use Rattle.meaning.specs.Heap.{Obj, function}
+use Rattle.language.specs.Expressions.{Call, call_object}
+use Rattle.evaluator.specs.declared.entering.Called.{Called}
+use Rattle.evaluator.specs.declared.finding.Found.{Found}
+
+-- what was looked for among functions by its name
+abbrev pub IsDef : List ℕ → Option Fn → Option (Arc Def Global) → Type 0
+IsDef name None def = def ≡ None
+IsDef name (Some f) None = ⊥
+IsDef name (Some f) (Some def) = (f ≡ fn_of (arc_value def)) × (f.name ≡ name)
+
+-- the statements of a body run where so many calls may be open
+abbrev pub body_runs : Env → ℕ → Option (Suite → Here → Runs Exit)
+body_runs env zero = None
+body_runs env (suc n) = Some (suite env (call env n))
+
+-- a call behind the names of the function's file and the function
+abbrev pub calls_on : Env → ℕ → List ℕ → Fn → List Val → Named → Here → Runs Val
+calls_on env n label f xs ns here =
+    (λ w. on_heap here (checked (arguments f xs ns (defaults_of label f.name w))) w) >>= λ parameters.
+    if is_running label f.name here.running then fault 14 here else body_does (body_runs env n) f parameters (inside env label f here) here
+
+-- the label of a file that is evaluated or reached, or none such
+abbrev pub IsLabel : Env → List ℕ → Option (List ℕ) → Type 0
+IsLabel env label (Some found) = found ≡ label
+IsLabel env label None = (same_text label env.label ≡ false) × (reached_module env label ≡ None)
+
+-- the function with a name of the file with a label, or none such
+abbrev pub IsFound : Env → List ℕ → List ℕ → Option Found → Type 0
+IsFound env label name (Some found) = (function_named name (functions_of env label) ≡ Some (fn_of (arc_value found.def))) × ((fn_of (arc_value found.def)).name ≡ name) × (found.path ≡ path_of env label)
+IsFound env label name None = function_named name (functions_of env label) ≡ None
+
+-- an object that is a function, or that no call takes
+abbrev pub IsFunction : Option Obj → Result Called Halt → Type 0
+IsFunction object (Ok called) = object ≡ Some (function called.label called.name)
+IsFunction object (Err (Code c)) = (c ≡ 5) × ((call : Call) (xs : List Val) (ns : Named) (here : Here) → call_object call object xs ns here ≡ fault 5 here)
+IsFunction object (Err Memory) = Unit {0}

@@ -1,0 +1,93 @@
+-- What a machine in the middle of a file means, and how far a turn of it leads.
+use Rattle.std.specs.Prelude.{◌≡◌, ◌<◌, ℕ, ◌+◌, List, Result, Ok, Err}
+use Rattle.std.specs.Arc.{arc_value}
+use Rattle.heap.specs.declared.halt.Halt.{Halt}
+use Rattle.heap.specs.declared.halt.Halt.TheVariants.{Code, Memory}
+use Rattle.tree.specs.Statements.{file_of}
+use Rattle.language.specs.World.{Here, Site, Ends, ended, failed, waits}
+use Rattle.language.specs.Environment.{Env, Answers}
+use Rattle.language.specs.Laws.{KnowsMore, with_answers}
+use Rattle.names.specs.View.{world_of, here_of}
+use Rattle.package_calls.specs.View.{answers_of}
+use Rattle.calls.specs.View.{running_of}
+use Rattle.frames.specs.declared.frame.Control.{Control}
+use Rattle.frames.specs.declared.frame.Control.TheVariants as c
+use Rattle.frames.specs.Frames.{Sig, sig_of, machine_does}
+use Rattle.frames.specs.Weight.{Lighter, frames_weight, control_weight}
+use Rattle.evaluator.specs.declared.machine.Environment.{Environment}
+use Rattle.evaluator.specs.declared.machine.Machine.{Machine}
+use Rattle.evaluator.specs.declared.machine.Stop.{Stop}
+use Rattle.evaluator.specs.declared.machine.Stop.TheVariants as s
+use Rattle.evaluator.specs.declared.machine.Turned.{Turned}
+use Rattle.evaluator.specs.declared.machine.Turned.TheVariants as t
+
+-- what the evaluation of a file is given
+abbrev pub env_of : Environment → Env
+env_of e = record {
+  kind = e.package.kind;
+  label = e.label;
+  path = e.path;
+  package_name = e.package.name;
+  file = file_of (arc_value e.file);
+  loads = e.loads.items;
+  globs = answers_of e.package.answers.items;
+}
+
+-- where the function that runs stands
+abbrev pub here_in : Machine → Here
+here_in m = here_of m.at m.at.line (running_of m.running.items)
+
+-- what a machine ends with that has a control next
+abbrev pub means : Env → Machine → Control → Ends Sig
+means env m control = machine_does env m.left (here_in m) control m.frames.items (world_of m.state)
+
+-- with the globs that are answered, and with more
+abbrev pub Under : Environment → (Env → Type 0) → Type 0
+Under e P = (more : Answers) → KnowsMore (env_of e).globs more → P (with_answers more (env_of e))
+
+abbrev pub site_at : List ℕ → ℕ → Site
+site_at path line = record { path = path; line = line }
+
+-- how far a turn leads: to a control that means the same; to the end; to a call of `glob` that waits, and that means the
+-- same once it is answered; or to a fault. Where memory was refused nothing is said.
+abbrev pub Leads : Environment → (Env → Ends Sig) → Result Turned Stop → Machine → Type 0
+Leads e before (Ok (t.Goes control)) m = Under e (λ env. before env ≡ means env m control)
+Leads e before (Ok (t.Ended sig)) m = Under e (λ env. before env ≡ ended (sig_of sig) (world_of m.state))
+Leads e before (Ok (t.Waits control patterns)) m = (before (env_of e) ≡ waits patterns.items) × Under e (λ env. before env ≡ means env m control)
+Leads e before (Err (s.Fault code path line)) m = Under e (λ env. before env ≡ failed code (site_at path line))
+Leads e before (Err s.Memory) m = Unit {0}
+
+-- fewer steps are left, or less is to be done before the next
+abbrev pub Falls : Machine → Control → Machine → Control → Type 0
+Falls m control after next = Lighter m.state.heap.steps (frames_weight m.frames.items + control_weight control) after.state.heap.steps (frames_weight after.frames.items + control_weight next)
+
+abbrev pub TurnFalls : Machine → Control → Machine → Turned → Type 0
+TurnFalls m control after (t.Goes next) = Falls m control after next
+TurnFalls m control after turned = Unit {0}
+
+-- why a part stops that stands in a line of a file
+abbrev pub Stops : List ℕ → ℕ → Halt → Stop → Type 0
+Stops path line (Code code) (s.Fault c p l) = (c ≡ code) × (p ≡ path) × (l ≡ line)
+Stops path line Memory (s.Fault c p l) = ⊥
+Stops path line halt s.Memory = Unit {0}
+
+-- a turn that leads on has paid for a step
+abbrev pub StepsFall : Machine → Machine → Turned → Type 0
+StepsFall before after (t.Goes next) = after.state.heap.steps < before.state.heap.steps
+StepsFall before after turned = Unit {0}
+
+-- what has ended or waits
+abbrev pub IsOver : Turned → Type 0
+IsOver (t.Goes next) = ⊥
+IsOver turned = Unit {0}
+
+-- what is neither a signal nor a package call
+abbrev pub IsActing : Control → Type 0
+IsActing (c.Signal sig) = ⊥
+IsActing (c.Package line g xs names) = ⊥
+IsActing control = Unit {0}
+
+-- what is handed on next
+abbrev pub IsLight : Turned → Type 0
+IsLight (t.Goes next) = control_weight next ≡ 0
+IsLight turned = Unit {0}

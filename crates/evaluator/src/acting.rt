@@ -1,0 +1,126 @@
+//! What stands between the steps of the frames: comprehensions that begin, calls that evaluate no expression of a file, and
+//! functions that are bound.
+ghost use Rattle.std.specs.Prelude.{◌≡◌, ◌≤◌, ◌<◌, ◌+◌, ℕ, List, IfOk};
+ghost use Rattle.language.specs.World.{Here};
+ghost use Rattle.language.specs.Environment.{Env};
+ghost use Rattle.names.specs.View.{world_of, here_of};
+ghost use Rattle.frames.specs.Frames.{Goes, on, machine_does};
+ghost use Rattle.frames.specs.Weight.{Lighter, frames_weight, control_weight};
+ghost use Rattle.frames.specs.declared.frame.Control.TheVariants as c;
+
+use calls::comprehension_block;
+use frames::{Comprehension, Control, Exit, Frame, Gathering, Signal, push};
+use heap::{Builtin, Bytes, Halt, Object, Val};
+use modules::keep_defaults;
+use names::{Standing, State, bind};
+use pieces::{Aim, add, call_builtin, call_method, items, lock, nothing_yet, store};
+use std::alloc::Global;
+use std::sync::Arc;
+use texts::Text;
+use tree::{Def, Expr};
+
+/// Calls a built-in function.
+pub fn built_in(
+    state: &mut State,
+    line: usize,
+    f: Builtin,
+    xs: Vec<Val>,
+    names: Arc<Vec<Text>, Global>,
+) -> Result<Control, Halt>
+    ensures goes { (env : Env) (n : ℕ) (here : Here) (frames : List Frame) → Goes (on env n here line).site (machine_does env n here (c.Builtin line f xs names) frames (world_of state.old)) result (λ control. machine_does env n here control frames (world_of state.new)) }
+    ensures light { IfOk result (λ control. (state.new.heap.steps ≤ state.old.heap.steps) × (control_weight control ≡ 0)) }
+{
+    let value = call_builtin(&mut state.heap, f, xs.as_slice(), names.as_slice())?;
+    Ok(Control::Signal(Signal::Value(value)))
+}
+
+/// Calls a method of a value.
+pub fn of_value(
+    state: &mut State,
+    line: usize,
+    x: Val,
+    name: Text,
+    xs: Vec<Val>,
+    names: Arc<Vec<Text>, Global>,
+) -> Result<Control, Halt>
+    ensures goes { (env : Env) (n : ℕ) (here : Here) (frames : List Frame) → Goes (on env n here line).site (machine_does env n here (c.Method line x name xs names) frames (world_of state.old)) result (λ control. machine_does env n here control frames (world_of state.new)) }
+    ensures light { IfOk result (λ control. (state.new.heap.steps ≤ state.old.heap.steps) × (control_weight control ≡ 0)) }
+{
+    let value = call_method(&mut state.heap, x, &name, xs.as_slice(), names.as_slice())?;
+    Ok(Control::Signal(Signal::Value(value)))
+}
+
+/// `x += y`.
+pub fn added(
+    state: &mut State,
+    at: &Standing,
+    line: usize,
+    aim: Box<Aim>,
+    x: Val,
+    y: Val,
+) -> Result<Control, Halt>
+    ensures goes { (env : Env) (n : ℕ) (running : List (List ℕ × List ℕ)) (frames : List Frame) → let here = here_of at.now at.now.line running in Goes (on env n here line).site (machine_does env n here (c.Add line aim x y) frames (world_of state.old)) result (λ control. machine_does env n here control frames (world_of state.new)) }
+    ensures light { IfOk result (λ control. (state.new.heap.steps ≤ state.old.heap.steps) × (control_weight control ≡ 0)) }
+{
+    let z = add(&mut state.heap, x, y)?;
+    if let Err(halt) = store(state, at, &aim, z) {
+        return Err(halt);
+    }
+    Ok(Control::Signal(Signal::Exit(Exit::GoesOn)))
+}
+
+/// Begins the block of a comprehension, whose first clause goes over a value.
+pub fn begin_block(
+    state: &mut State,
+    frames: &mut Vec<Frame>,
+    line: usize,
+    target: Arc<Expr, Global>,
+    of: Arc<Comprehension, Global>,
+    x: Val,
+) -> Result<Control, Halt>
+    ensures goes { (env : Env) (n : ℕ) (here : Here) → Goes (on env n here line).site (machine_does env n here (c.First line target of x) frames.old.items (world_of state.old)) result (λ control. machine_does env n here control frames.new.items (world_of state.new)) }
+    ensures lighter { IfOk result (λ control. Lighter state.old.heap.steps (frames_weight frames.old.items + 6) state.new.heap.steps (frames_weight frames.new.items + control_weight control)) }
+{
+    let members = items(&state.heap, x)?;
+    lock(&mut state.heap, x)?;
+    let alloc = state.heap.alloc;
+    let block = comprehension_block(alloc, of.clauses.as_slice())?;
+    state.blocks.insert(0, block)?;
+    push(frames, Frame::EndBlock)?;
+    let turns = Gathering {
+        line,
+        target,
+        of,
+        inner: 1,
+        over: x,
+        items: members,
+        next: 0,
+    };
+    let turns = Box::new(alloc, turns)?;
+    Ok(Control::Gather(turns, Box::new(alloc, nothing_yet(alloc))?))
+}
+
+/// Makes a function, keeps the values of its defaults, and binds its name.
+pub fn define(
+    state: &mut State,
+    at: &Standing,
+    line: usize,
+    def: &Arc<Def, Global>,
+    xs: Vec<Val>,
+) -> Result<Control, Halt>
+    ensures goes { (env : Env) (n : ℕ) (running : List (List ℕ × List ℕ)) (frames : List Frame) → let here = here_of at.now at.now.line running in Goes (on env n here line).site (machine_does env n here (c.Define line def.now xs) frames (world_of state.old)) result (λ control. machine_does env n here control frames (world_of state.new)) }
+    ensures light { IfOk result (λ control. (state.new.heap.steps ≤ state.old.heap.steps) × (control_weight control ≡ 0)) }
+{
+    let name = &def.name;
+    let label = Bytes::of_text(at.label.share()?);
+    let made = state
+        .heap
+        .make(Object::Function(label, Bytes::of_text(name.share()?)))?;
+    if let Err(halt) = keep_defaults(state, &at.label, name, xs) {
+        return Err(halt);
+    }
+    if let Err(halt) = bind(state, at, name, made) {
+        return Err(halt);
+    }
+    Ok(Control::Signal(Signal::Exit(Exit::GoesOn)))
+}

@@ -1,0 +1,182 @@
+//! How a call of a function of a file begins, and how it ends.
+ghost use Rattle.std.specs.Prelude.{◌≡◌, ◌≤◌, ◌<◌, ◌+◌, ◌++◌, ◌∷◌, [], ℕ, List, IfOk, OnErr, IsOkUnless};
+ghost use Rattle.heap.specs.declared.halt.Halt.TheVariants.{Memory};
+ghost use Rattle.names.specs.View.{block_of};
+ghost use Rattle.language.specs.Calls.{call, inside, body_does};
+ghost use Rattle.language.specs.Expressions.{call_object};
+ghost use Rattle.meaning.specs.Heap.{at};
+ghost use Rattle.heap.specs.View.{store_of};
+ghost use Rattle.tree.specs.Statements.{fn_of};
+ghost use Rattle.language.specs.Arguments.{plain_part, named_part};
+ghost use Rattle.language.specs.Environment.{Env, path_of};
+ghost use Rattle.names.specs.View.{world_of};
+ghost use Rattle.frames.specs.Frames.{Goes, on, valued, above, machine_does};
+ghost use Rattle.frames.specs.Weight.{frames_weight, control_weight};
+ghost use Rattle.frames.specs.declared.frame.Control.TheVariants as c;
+ghost use Rattle.frames.specs.declared.frame.Signal.TheVariants as g;
+ghost use Rattle.frames.specs.declared.frame.Frame.TheVariants as f;
+ghost use Rattle.evaluator.specs.Machines.{Under, means, here_in, Falls};
+ghost use Rattle.evaluator.specs.Finding.{calls_on, body_runs, IsFunction};
+
+use crate::finding::{find, label_text};
+use crate::machine::{Environment, Machine};
+use calls::{Open, arguments, defaults_of, function_block, is_running};
+use frames::{Caller, Control, Exit, Frame, Signal, given, push};
+use grammar::FileKind;
+use heap::{Bytes, Halt, Heap, Object, Val};
+use modules::need_names;
+use names::{Slot, Standing};
+use std::alloc::Global;
+use std::mem;
+use std::sync::Arc;
+use texts::Text;
+use tree::Def;
+
+// A function of the heap: the label of its file, and its name.
+#[derive(Drop)]
+struct Called {
+    label: Bytes,
+    name: Bytes,
+}
+
+// The function that stands at a place of the heap.
+fn function_at(heap: &Heap, place: usize) -> Result<Called, Halt>
+    ensures { IsFunction (at place (store_of heap.now)) result }
+{
+    match heap.object(place) {
+        Some(Object::Function(label, name)) => Ok(Called {
+            label: label.share()?,
+            name: name.share()?,
+        }),
+        _ => Err(Halt::Code(5)),
+    }
+}
+
+/// Begins a call of a function of a file, which stands on the heap.
+pub fn enter(
+    m: &mut Machine,
+    e: &Environment,
+    line: usize,
+    place: usize,
+    xs: &[Val],
+    names: &[Text],
+) -> Result<Control, Halt>
+    ensures goes { Under e.now (λ env. let here = on env m.old.left (here_in m.old) line in Goes here.site (above env m.old.left (here_in m.old) (valued (λ w. call_object (call env m.old.left) (at place w.store) (plain_part xs.now names.now) (named_part xs.now names.now) here w)) m.old.frames.items (world_of m.old.state)) result (λ control. means env m.new control)) }
+    ensures light { IfOk result (λ control. (m.new.state.heap.steps ≤ m.old.state.heap.steps) × (frames_weight m.new.frames.items + control_weight control ≤ frames_weight m.old.frames.items + 5)) }
+    ensures stands { OnErr result (m.new.at ≡ m.old.at) }
+{
+    let called = match function_at(&m.state.heap, place) {
+        Ok(called) => called,
+        Err(halt) => return Err(halt),
+    };
+    let label = match label_text(e, called.label.as_slice())? {
+        Some(label) => label,
+        None => return Err(Halt::Code(5)),
+    };
+    if let Err(halt) = need_names(&mut m.state, e.loads.as_slice(), &label) {
+        return Err(halt);
+    }
+    match find(e, &label, called.name.as_slice())? {
+        Some(found) => call(m, label, found.path, &found.def, xs, names),
+        None => Err(Halt::Code(5)),
+    }
+}
+
+// Calls a function of the file with a label.
+fn call(
+    m: &mut Machine,
+    label: Text,
+    path: Text,
+    def: &Def,
+    xs: &[Val],
+    names: &[Text],
+) -> Result<Control, Halt>
+    ensures goes { (env : Env) (line : ℕ) → path ≡ path_of env label → let here = here_in m.old in Goes (on env m.old.left here line).site (above env m.old.left here (valued (calls_on env m.old.left label (fn_of def.now) (plain_part xs.now names.now) (named_part xs.now names.now) (on env m.old.left here line))) m.old.frames.items (world_of m.old.state)) result (λ control. means env m.new control) }
+    ensures light { IfOk result (λ control. (m.new.state.heap.steps ≤ m.old.state.heap.steps) × (frames_weight m.new.frames.items + control_weight control ≤ frames_weight m.old.frames.items + 5)) }
+    ensures stands { OnErr result (m.new.at ≡ m.old.at) }
+{
+    let alloc = m.state.heap.alloc;
+    let defaults = defaults_of(&m.state, &label, &def.name);
+    let parameters = match arguments(alloc, def, xs, names, defaults) {
+        Ok(parameters) => parameters,
+        Err(halt) => return Err(halt),
+    };
+    if is_running(m.running.as_slice(), &label, &def.name) {
+        return Err(Halt::Code(14));
+    }
+    if m.left == 0 {
+        return Err(Halt::Code(12));
+    }
+    begin_body(m, label, path, def, parameters)
+}
+
+// Begins the body of a function.
+fn begin_body(
+    m: &mut Machine,
+    label: Text,
+    path: Text,
+    def: &Def,
+    parameters: Vec<Slot>,
+) -> Result<Control, Halt>
+    requires { 0 < m.old.left }
+    ensures goes { IfOk result (λ control. (env : Env) (line : ℕ) → path ≡ path_of env label → let here = on env m.old.left (here_in m.old) line in let f = fn_of def.now in above env m.old.left (here_in m.old) (valued (body_does (body_runs env m.old.left) f (block_of parameters) (inside env label f here) here)) m.old.frames.items (world_of m.old.state) ≡ means env m.new control) }
+    ensures stands { OnErr result (m.new.at ≡ m.old.at) }
+    ensures err { IsOkUnless result Memory }
+    ensures light { IfOk result (λ control. (m.new.state.heap ≡ m.old.state.heap) × (frames_weight m.new.frames.items + control_weight control ≡ frames_weight m.old.frames.items + 3)) }
+{
+    let block = function_block(def, parameters)?;
+    let mut blocks = Vec::new(m.state.heap.alloc);
+    blocks.push(block)?;
+    let open = Open {
+        label: label.share()?,
+        name: def.name.share()?,
+    };
+    let caller = copy_of(&m.at)?;
+    let body = Arc::try_clone(&def.body)?;
+    m.running.push(open)?;
+    let callers = mem::replace(&mut m.state.blocks, blocks);
+    let caller = Caller {
+        at: caller,
+        blocks: callers,
+        left: m.left,
+    };
+    let back = Box::new(m.state.heap.alloc, caller)?;
+    push(&mut m.frames, Frame::Leave(back))?;
+    m.left -= 1;
+    m.at = Standing {
+        label,
+        path,
+        kind: FileKind::Bzl,
+        line: def.line,
+    };
+    Ok(Control::Suite(body, 0))
+}
+
+// The same place of code.
+fn copy_of(at: &Standing) -> Result<Standing, Halt>
+    ensures ok { IfOk result (λ copy. copy ≡ at.now) }
+    ensures err { IsOkUnless result Memory }
+{
+    Ok(Standing {
+        label: at.label.share()?,
+        path: at.path.share()?,
+        kind: at.kind,
+        line: at.line,
+    })
+}
+
+/// Ends a call: the caller goes on where it stands, with its own blocks, where so many calls may be open.
+pub fn leave(m: &mut Machine, caller: Box<Caller>, exit: Exit) -> Control
+    ensures goes { (env : Env) → machine_does env m.old.left (here_in m.old) (c.Signal (g.Exit exit)) (m.old.frames.items ++ f.Leave caller ∷ []) (world_of m.old.state) ≡ means env m.new result }
+    ensures steps { m.new.state.heap ≡ m.old.state.heap }
+    ensures frames { m.new.frames ≡ m.old.frames }
+    ensures light { control_weight result ≡ 0 }
+{
+    let caller = Box::into_inner(caller);
+    m.at = caller.at;
+    m.state.blocks = caller.blocks;
+    m.left = caller.left;
+    let ended = m.running.pop();
+    drop(ended);
+    Control::Signal(Signal::Value(given(exit)))
+}

@@ -1,0 +1,122 @@
+//! Where the function of an object stands.
+ghost use Rattle.std.specs.Prelude.{◌≡◌, ◌∷◌, map, IfOk, IsOkUnless, Option, Some, None, option_map, false, MatchOption};
+ghost use Rattle.heap.specs.declared.halt.Halt.TheVariants.{Memory};
+ghost use Rattle.tree.specs.Statements.{fn_of, top_of};
+ghost use Rattle.std.specs.Arc.{arc_value};
+ghost use Rattle.meaning.specs.Comparing.{same_text};
+ghost use Rattle.language.specs.Environment.{path_of, functions_of, defs, function_named};
+ghost use Rattle.language.specs.Modules.{body_at, all_bodies};
+ghost use Rattle.evaluator.specs.Machines.{env_of};
+ghost use Rattle.evaluator.specs.Finding.{IsDef, IsFound, IsLabel};
+
+use crate::machine::Environment;
+use heap::Halt;
+use module_values::{Function, Loaded, Module};
+use modules::reached;
+use std::alloc::Global;
+use std::sync::Arc;
+use texts::Text;
+use tree::{Def, Top};
+
+/// A function that was found, and the path of its file.
+#[derive(Drop)]
+pub struct Found {
+    pub path: Text,
+    pub def: Arc<Def, Global>,
+}
+
+// The function of a file with a name.
+fn own_function<'a>(tops: &'a [Top], name: &[u8]) -> Option<&'a Arc<Def, Global>>
+    ensures { IsDef name.now (function_named name.now (defs (map top_of tops.now))) (option_map (λ d. d.now) result) }
+{
+    for top in tops.iter() {
+        if let Top::Def(def) = top {
+            if name == def.name.as_str().as_bytes() {
+                return Some(def);
+            }
+        }
+    }
+    None
+}
+
+// The function of a module with a name.
+fn function_among<'a>(functions: &'a [Function], name: &[u8]) -> Option<&'a Arc<Def, Global>>
+    ensures { IsDef name.now (function_named name.now functions.now) (option_map (λ d. d.now) result) }
+{
+    for function in functions.iter() {
+        if name == function.def().name.as_str().as_bytes() {
+            return Some(function.def());
+        }
+    }
+    None
+}
+
+// The module with a label.
+fn module_among<'a>(modules: &'a [Module], label: &[u8]) -> Option<&'a Module>
+    ensures { option_map (λ m. m.now) result ≡ body_at label.now modules.now }
+{
+    for m in modules.iter() {
+        if label == m.label().as_str().as_bytes() {
+            return Some(m);
+        }
+    }
+    None
+}
+
+// The module with a label, of those that a load reaches.
+fn module_in<'a>(loaded: &'a Loaded, label: &[u8]) -> Option<&'a Module>
+    ensures { let m = loaded.now in option_map (λ m. m.now) result ≡ body_at label.now (m.body ∷ m.reached) }
+{
+    if label == loaded.body().label().as_str().as_bytes() {
+        return Some(loaded.body());
+    }
+    module_among(loaded.reached(), label)
+}
+
+// The module with a label, of those that loads reach.
+fn module_at<'a>(loads: &'a [Loaded], label: &[u8]) -> Option<&'a Module>
+    ensures { option_map (λ m. m.now) result ≡ body_at label.now (all_bodies loads.now) }
+{
+    for loaded in loads.iter() {
+        if let Some(m) = module_in(loaded, label) {
+            return Some(m);
+        }
+    }
+    None
+}
+
+/// The label of a file that is evaluated or reached, as a text.
+pub fn label_text(e: &Environment, label: &[u8]) -> Result<Option<Text>, Halt>
+    ensures ok { IfOk result (IsLabel (env_of e.now) label.now) }
+    ensures err { IsOkUnless result Memory }
+{
+    if label == e.label.as_str().as_bytes() {
+        return Ok(Some(e.label.share()?));
+    }
+    match module_at(e.loads.as_slice(), label) {
+        Some(m) => Ok(Some(m.label().share()?)),
+        None => Ok(None),
+    }
+}
+
+/// The function with a name of the file with a label.
+pub fn find(e: &Environment, label: &Text, name: &[u8]) -> Result<Option<Found>, Halt>
+    ensures ok { IfOk result (IsFound (env_of e.now) label.now name.now) }
+    ensures err { IsOkUnless result Memory }
+{
+    let (path, def) = if *label == e.label {
+        (&e.path, own_function(e.file.tops.as_slice(), name))
+    } else {
+        match reached(e.loads.as_slice(), label) {
+            Some(m) => (m.path(), function_among(m.functions(), name)),
+            None => return Ok(None),
+        }
+    };
+    match def {
+        Some(def) => Ok(Some(Found {
+            path: path.share()?,
+            def: Arc::try_clone(def)?,
+        })),
+        None => Ok(None),
+    }
+}

@@ -1,0 +1,15 @@
+//! The evaluation of a file, which can wait for the answers of a glob and go on.
+#![tactic(auto)]
+
+mod acting;
+mod entering;
+mod file;
+mod finding;
+mod machine;
+mod outcome;
+mod running;
+mod turning;
+
+pub use machine::Environment;
+pub use outcome::{Fault, Outcome, Suspended};
+pub use running::{resume, run};

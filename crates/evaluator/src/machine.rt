@@ -1,0 +1,53 @@
+//! What the evaluation of a file is given, and what it keeps while it runs.
+
+use calls::Open;
+use frames::{Control, Frame, Signal};
+use module_values::Loaded;
+use names::{Standing, State};
+use package_calls::Package;
+use std::alloc::Global;
+use std::sync::Arc;
+use texts::Text;
+use tree::File;
+
+/// What the evaluation of a file is given.
+#[derive(Drop)]
+pub struct Environment {
+    /// The label of a .bzl file; the empty text for a BUILD file.
+    pub label: Text,
+    pub path: Text,
+    pub file: Arc<File, Global>,
+    /// A module for each load statement of the file, in order.
+    pub loads: Vec<Loaded>,
+    pub package: Package,
+}
+
+/// A file in the middle of its evaluation.
+#[derive(Drop)]
+pub struct Machine {
+    pub state: State,
+    /// What waits; the last is the topmost.
+    pub frames: Vec<Frame>,
+    /// Where what runs stands.
+    pub at: Standing,
+    /// The functions that are open; the last one was called last.
+    pub running: Vec<Open>,
+    /// How many more calls may be open.
+    pub left: usize,
+}
+
+/// How far a turn leads.
+#[derive(Drop)]
+pub enum Turned {
+    Goes(Control),
+    Ended(Signal),
+    /// A call of `glob`, and its patterns that have no answer, in order.
+    Waits(Control, Vec<Text>),
+}
+
+/// Why an evaluation stops: at a fault with its code, file and line, or for want of memory.
+#[derive(Drop)]
+pub enum Stop {
+    Fault(u8, Text, usize),
+    Memory,
+}

@@ -1,0 +1,79 @@
+//! What the evaluation of a file ends with.
+ghost use Rattle.std.specs.Prelude.{◌≡◌};
+
+use crate::machine::{Environment, Machine};
+use frames::Control;
+use module_values::{Loaded, Targets};
+use std::marker::Model;
+use texts::Text;
+
+/// A fault: its code, and the file and line where it is shown.
+#[derive(Drop)]
+pub struct Fault {
+    pub code: u8,
+    pub path: Text,
+    /// Counted from 1; 0 where no statement is shown.
+    pub line: usize,
+}
+
+/// What the evaluation of a file ends with.
+#[derive(Drop)]
+pub enum Outcome {
+    /// Of a .bzl file: what it leaves, frozen.
+    Module(Loaded),
+    /// Of a BUILD file: its targets, in byte order of their names.
+    Package(Targets),
+    /// A call of `glob` has patterns without an answer: these, in order and each once, and what goes on once they have one.
+    Need(Vec<Text>, Suspended),
+    /// The evaluation stopped.
+    Fault(Fault),
+}
+
+/// An evaluation that waits for the answers of a call of `glob`. It may be given up at any time. A contract sees what the
+/// file is given and the patterns; the evaluation stands where that of this file waits.
+#[derive(Drop)]
+pub struct Suspended {
+    pub(crate) environment: Environment,
+    pub(crate) machine: Machine,
+    pub(crate) control: Control,
+    pub(crate) patterns: Vec<Text>,
+}
+
+impl Model for Suspended {
+    ghost use Rattle.std.specs.Prelude.{ℕ, List, refl};
+    ghost use Rattle.std.specs.Coded.{code_by, coded×, coded_ℕ, coded_list};
+    ghost use Rattle.evaluator.specs.declared.machine.Environment.{Environment};
+    ghost use Rattle.evaluator.specs.contracts.machine.Environment as e;
+    ghost use Rattle.evaluator.specs.Files.{Waiting, Waits};
+
+    ghost Value = { Waiting };
+
+    ghost coded = { code_by (Environment × List (List ℕ)) (coded× e.the_row.coded (coded_list (coded_list coded_ℕ))) (λ w. (w.environment, w.patterns)) (λ p. record { environment = p.0; patterns = p.1 }) (λ _. refl) };
+
+    ghost view = { λ s. record { environment = s.environment; patterns = s.patterns.items } };
+
+    ghost invariant = { λ s. Waits s.environment s.machine s.control s.patterns.items };
+}
+
+// The same value, of a type that may go to another thread.
+fn crossing<T: Send>(value: T) -> T
+    ensures { result ≡ value }
+{
+    value
+}
+
+impl Suspended {
+    /// The same evaluation, which may go on in another thread.
+    pub fn for_another_thread(self) -> Suspended
+        ensures { result ≡ self }
+    {
+        crossing(self)
+    }
+
+    /// The patterns that have no answer, in order.
+    pub fn patterns(&self) -> &[Text]
+        ensures { result.now ≡ self.now.patterns }
+    {
+        self.patterns.as_slice()
+    }
+}

@@ -1,0 +1,167 @@
+//! Turns of a machine, until it ends or waits.
+ghost use Rattle.std.specs.Prelude.{◌≡◌, ◌<◌, ◌≤◌, ◌+◌, ℕ, List, IfOk, OnErr};
+ghost use Rattle.std.specs.Prelude.{◌++◌, ◌∷◌, []};
+ghost use Rattle.names.specs.View.{world_of};
+ghost use Rattle.frames.specs.declared.frame.Control.TheVariants as c;
+ghost use Rattle.frames.specs.declared.frame.Frame.TheVariants as f;
+ghost use Rattle.frames.specs.Frames.{Goes, on, control_line, machine_does};
+ghost use Rattle.evaluator.specs.Machines.{Under, Leads, Stops, TurnFalls, Falls, StepsFall, IsOver, IsActing, IsLight, means, here_in};
+
+use crate::acting::{added, begin_block, built_in, define, of_value};
+use crate::entering::{enter, leave};
+use crate::machine::{Environment, Machine, Stop, Turned};
+use frames::{Caller, Control, Frame, Signal, control_line, frame_line, hand_down, step};
+use heap::{Builtin, Halt, Val};
+use names::{Slot, Standing};
+use package_calls::{Called, package_call};
+use std::alloc::Global;
+use std::sync::Arc;
+use texts::Text;
+
+// Why a part stops that stands in a line.
+fn stop(m: &Machine, line: usize, halt: Halt) -> Stop
+    ensures { Stops m.now.at.path line halt result }
+{
+    match halt {
+        Halt::Code(code) => match m.at.path.share() {
+            Ok(path) => Stop::Fault(code, path, line),
+            Err(_) => Stop::Memory,
+        },
+        Halt::Memory => Stop::Memory,
+    }
+}
+
+// Ends a call at the end of its body.
+fn end_call(
+    m: &mut Machine,
+    e: &Environment,
+    signal: Signal,
+    caller: Box<Caller>,
+) -> Result<Turned, Stop>
+    ensures leads { Leads e.now (λ env. machine_does env m.old.left (here_in m.old) (c.Signal signal) (m.old.frames.items ++ f.Leave caller ∷ []) (world_of m.old.state)) result m.new }
+    ensures light { IfOk result (λ turned. (m.new.state.heap ≡ m.old.state.heap) × (m.new.frames ≡ m.old.frames) × IsLight turned) }
+{
+    match signal {
+        Signal::Exit(exit) => Ok(Turned::Goes(leave(m, caller, exit))),
+        Signal::Value(_) => Err(stop(m, m.at.line, Halt::Code(0))),
+        Signal::Aim(_) => Err(stop(m, m.at.line, Halt::Code(0))),
+        Signal::Gathered(_) => Err(stop(m, m.at.line, Halt::Code(0))),
+    }
+}
+
+// Hands a signal to the topmost frame.
+fn hand(m: &mut Machine, e: &Environment, signal: Signal) -> Result<Turned, Stop>
+    ensures leads { Leads e.now (λ env. means env m.old (c.Signal signal)) result m.new }
+    ensures falls { IfOk result (λ turned. TurnFalls m.old (c.Signal signal) m.new turned) }
+{
+    let frame = match m.frames.pop() {
+        Some(frame) => frame,
+        None => return Ok(Turned::Ended(signal)),
+    };
+    match frame {
+        Frame::Leave(caller) => end_call(m, e, signal, caller),
+        frame => {
+            let line = frame_line(&frame, m.at.line);
+            match hand_down(&mut m.state, &mut m.frames, &m.at, frame, signal) {
+                Ok(control) => Ok(Turned::Goes(control)),
+                Err(halt) => Err(stop(m, line, halt)),
+            }
+        }
+    }
+}
+
+// A package call.
+fn call_package(
+    m: &mut Machine,
+    e: &Environment,
+    line: usize,
+    f: Builtin,
+    xs: Vec<Val>,
+    names: Arc<Vec<Text>, Global>,
+) -> Result<Turned, Stop>
+    ensures leads { Leads e.now (λ env. means env m.old (c.Package line f xs names)) result m.new }
+    ensures falls { IfOk result (λ turned. TurnFalls m.old (c.Package line f xs names) m.new turned) }
+{
+    match package_call(&mut m.state, &e.package, f, xs.as_slice(), names.as_slice()) {
+        Ok(Called::Value(value)) => Ok(Turned::Goes(Control::Signal(Signal::Value(value)))),
+        Ok(Called::Waits(patterns)) => {
+            Ok(Turned::Waits(Control::Package(line, f, xs, names), patterns))
+        }
+        Err(halt) => Err(stop(m, line, halt)),
+    }
+}
+
+// What is neither a signal nor a package call.
+fn act(m: &mut Machine, e: &Environment, control: Control) -> Result<Control, Halt>
+    ensures goes { Under e.now (λ env. Goes (on env m.old.left (here_in m.old) (control_line m.old.at.line control)).site (means env m.old control) result (λ next. means env m.new next)) }
+    ensures falls { IsActing control → IfOk result (λ next. Falls m.old control m.new next) }
+    ensures stands { OnErr result (m.new.at ≡ m.old.at) }
+{
+    match control {
+        Control::First(line, target, of, x) => {
+            begin_block(&mut m.state, &mut m.frames, line, target, of, x)
+        }
+        Control::Enter(line, place, xs, names) => {
+            enter(m, e, line, place, xs.as_slice(), names.as_slice())
+        }
+        Control::Builtin(line, f, xs, names) => built_in(&mut m.state, line, f, xs, names),
+        Control::Method(line, x, name, xs, names) => {
+            of_value(&mut m.state, line, x, name, xs, names)
+        }
+        Control::Add(line, aim, x, y) => added(&mut m.state, &m.at, line, aim, x, y),
+        Control::Define(line, def, xs) => define(&mut m.state, &m.at, line, &def, xs),
+        control => step(&mut m.state, &mut m.frames, &m.at, control),
+    }
+}
+
+// One turn.
+fn turn(m: &mut Machine, e: &Environment, control: Control) -> Result<Turned, Stop>
+    ensures leads { Leads e.now (λ env. means env m.old control) result m.new }
+    ensures falls { IfOk result (λ turned. TurnFalls m.old control m.new turned) }
+{
+    match control {
+        Control::Signal(signal) => hand(m, e, signal),
+        Control::Package(line, f, xs, names) => call_package(m, e, line, f, xs, names),
+        control => {
+            let line = control_line(&control, m.at.line);
+            match act(m, e, control) {
+                Ok(next) => Ok(Turned::Goes(next)),
+                Err(halt) => Err(stop(m, line, halt)),
+            }
+        }
+    }
+}
+
+// Turns until a step is paid for, or the end.
+fn stretch(m: &mut Machine, e: &Environment, control: Control) -> Result<Turned, Stop>
+    ensures leads { Leads e.now (λ env. means env m.old control) result m.new }
+    ensures fewer { IfOk result (λ turned. StepsFall m.old m.new turned) }
+{
+    let before = m.state.heap.steps;
+    let mut control = control;
+    loop {
+        match turn(m, e, control)? {
+            Turned::Goes(next) => {
+                if m.state.heap.steps < before {
+                    return Ok(Turned::Goes(next));
+                }
+                control = next;
+            }
+            ended => return Ok(ended),
+        }
+    }
+}
+
+/// Turns until the machine ends or waits.
+pub fn go(m: &mut Machine, e: &Environment, control: Control) -> Result<Turned, Stop>
+    ensures leads { Leads e.now (λ env. means env m.old control) result m.new }
+    ensures over { IfOk result IsOver }
+{
+    let mut control = control;
+    loop {
+        match stretch(m, e, control)? {
+            Turned::Goes(next) => control = next,
+            ended => return Ok(ended),
+        }
+    }
+}

@@ -1,0 +1,36 @@
+-- An operator between two expressions.
+use Rattle.std.proofs.Common.{◌≡◌, refl, sym, ap, ◌∙◌, Global}
+use Rattle.std.specs.declared.sync.Arc.{Arc}
+use Rattle.meaning.specs.declared.val.Val.{Val}
+use Rattle.tree.specs.Tree as t
+use Rattle.tree.specs.Tree.{Ex, Cl}
+use Rattle.tree.specs.declared.expr.BinaryOp.{BinaryOp}
+use Rattle.tree.specs.declared.expr.BinaryOp.TheVariants as o
+use Rattle.tree.specs.declared.expr.Expr.{Expr, fold-roll-Expr}
+use Rattle.tree.specs.declared.expr.Clause.TheOpen.{Expr-F}
+use Rattle.tree.specs.declared.expr.Expr.TheVariants as x
+use Rattle.tree.specs.View.{tree_of, shared_tree, expr_step, clause_step}
+use Rattle.language.specs.World.{World, Here, Runs, then_runs}
+use Rattle.language.specs.Expressions.{between}
+use Rattle.frames.specs.Frames.{right}
+
+pub tree-Binary : (op : BinaryOp) (a b : Arc Expr Global) → tree_of (x.Binary op a b) ≡ t.binary op (shared_tree a) (shared_tree b)
+tree-Binary op a b = ap tree_of (sym (x.rolls-Binary op a b)) ∙ fold-roll-Expr Cl Ex clause_step expr_step (Expr-F.Binary op a b)
+
+-- the first operand, and what is done behind it
+pub between_is : (op : BinaryOp) (first second : Runs Val) (h : Here) (w : World) → between op first second h w ≡ then_runs (first w) (λ v. right op v second h)
+between_is o.Or first second h w = refl
+between_is o.And first second h w = refl
+between_is o.Equal first second h w = refl
+between_is o.NotEqual first second h w = refl
+between_is o.Less first second h w = refl
+between_is o.LessEqual first second h w = refl
+between_is o.Greater first second h w = refl
+between_is o.GreaterEqual first second h w = refl
+between_is o.In first second h w = refl
+between_is o.NotIn first second h w = refl
+between_is o.Add first second h w = refl
+between_is o.Subtract first second h w = refl
+between_is o.Multiply first second h w = refl
+between_is o.Divide first second h w = refl
+between_is o.Remainder first second h w = refl

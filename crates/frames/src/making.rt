@@ -1,0 +1,133 @@
+//! What begins with nothing done: items, entries and loops.
+ghost use Rattle.std.specs.Prelude.{◌≡◌, ◌≤◌, ◌<◌, ◌+◌, ◌^◌, ℕ, List, [], IfOk, IsOkUnless};
+ghost use Rattle.heap.specs.declared.halt.Halt.TheVariants.{Memory};
+ghost use Rattle.std.specs.Arc.{arc_value};
+ghost use Rattle.language.specs.World.{World, Here};
+ghost use Rattle.language.specs.Environment.{Env};
+ghost use Rattle.language.specs.Calls.{call};
+ghost use Rattle.language.specs.Statements as s;
+ghost use Rattle.language.specs.Loops.{over};
+ghost use Rattle.tree.specs.View.{shared_tree};
+ghost use Rattle.names.specs.View.{world_of};
+ghost use Rattle.pieces.specs.View.{gathered_of};
+ghost use Rattle.frames.specs.declared.frame.Frame.{Frame};
+ghost use Rattle.frames.specs.Frames.{Goes, on, valued, exited, gathered, shared_trees, shared_suite, body, items_from, entries_from, each_does, above, machine_does};
+ghost use Rattle.frames.specs.Weight.{control_weight};
+
+use crate::frame::{Comprehension, Control, Gathering, Pairs, Purpose, Series, Turns};
+use heap::{Halt, Val};
+use indexmap::IndexMap;
+use names::State;
+use pieces::{Gathered, items, lock};
+use std::alloc::Global;
+use std::sync::Arc;
+use tree::{Expr, Stmt};
+
+/// Several expressions, of which none is done.
+pub fn items_of(
+    alloc: Global,
+    line: usize,
+    items: Arc<Vec<Expr>, Global>,
+    purpose: Purpose,
+) -> Result<Control, Halt>
+    ensures ok { IfOk result (λ control. (env : Env) (n : ℕ) (here : Here) (frames : List Frame) (w : World) → above env n here (valued (items_from env n here purpose (shared_trees items) [] line)) frames w ≡ machine_does env n here control frames w) }
+    ensures err { IsOkUnless result Memory }
+    ensures light { IfOk result (λ control. control_weight control ≡ 8) }
+{
+    let series = Series {
+        items,
+        done: Vec::new(alloc),
+        purpose,
+    };
+    Ok(Control::Items(line, Box::new(alloc, series)?))
+}
+
+/// The entries of a dictionary, of which none is done.
+pub fn entries_of(
+    alloc: Global,
+    line: usize,
+    keys: Arc<Vec<Expr>, Global>,
+    values: Arc<Vec<Expr>, Global>,
+) -> Result<Control, Halt>
+    ensures ok { IfOk result (λ control. (env : Env) (n : ℕ) (here : Here) (frames : List Frame) (w : World) → above env n here (valued (entries_from env n here (shared_trees keys) (shared_trees values) [] line)) frames w ≡ machine_does env n here control frames w) }
+    ensures err { IsOkUnless result Memory }
+    ensures light { IfOk result (λ control. control_weight control ≡ 3) }
+{
+    let pairs = Pairs {
+        keys,
+        values,
+        done: IndexMap::new(alloc),
+    };
+    Ok(Control::Entries(line, Box::new(alloc, pairs)?, 0))
+}
+
+/// A loop over the members of a value, before its first turn.
+pub fn turns_over(
+    state: &mut State,
+    line: usize,
+    target: Arc<Expr, Global>,
+    statements: Arc<Vec<Stmt>, Global>,
+    x: Val,
+) -> Result<Control, Halt>
+    ensures goes { (env : Env) (n : ℕ) (here : Here) (frames : List Frame) → Goes (on env n here line).site (above env n here (exited (over x (s.turns (s.turn env (call env n) (shared_tree target) (body env n here (shared_suite statements)) (on env n here line))) (on env n here line))) frames (world_of state.old)) result (λ control. machine_does env n here control frames (world_of state.new)) }
+    ensures light { IfOk result (λ control. (state.new.heap.steps ≤ state.old.heap.steps) × (control_weight control ≡ 1)) }
+{
+    let members = items(&state.heap, x)?;
+    lock(&mut state.heap, x)?;
+    let turns = Turns {
+        line,
+        target,
+        body: statements,
+        over: x,
+        items: members,
+        next: 0,
+    };
+    Ok(Control::Turns(Box::new(state.heap.alloc, turns)?))
+}
+
+/// A further clause over the members of a value, before its first turn.
+pub fn clause_over(
+    state: &mut State,
+    line: usize,
+    target: Arc<Expr, Global>,
+    of: Arc<Comprehension, Global>,
+    inner: usize,
+    got: Box<Gathered>,
+    x: Val,
+) -> Result<Control, Halt>
+    ensures goes { (env : Env) (n : ℕ) (here : Here) (frames : List Frame) → Goes (on env n here line).site (above env n here (gathered (each_does env n here (shared_tree target) (arc_value of) inner line (gathered_of got.value) x)) frames (world_of state.old)) result (λ control. machine_does env n here control frames (world_of state.new)) }
+    ensures light { IfOk result (λ control. (state.new.heap.steps ≤ state.old.heap.steps) × (control_weight control ≡ 1)) }
+{
+    let members = items(&state.heap, x)?;
+    lock(&mut state.heap, x)?;
+    let turns = Gathering {
+        line,
+        target,
+        of,
+        inner,
+        over: x,
+        items: members,
+        next: 0,
+    };
+    Ok(Control::Gather(Box::new(state.heap.alloc, turns)?, got))
+}
+
+/// The same loop, one member further.
+pub fn next_turns(turns: Box<Turns>) -> Box<Turns>
+    requires { turns.value.next + 1 < 2 ^ 64 }
+    ensures { result.value ≡ record turns.value { next = turns.value.next + 1 } }
+{
+    let mut turns = turns;
+    turns.next += 1;
+    turns
+}
+
+/// The same clause, one member further.
+pub fn next_gathering(turns: Box<Gathering>) -> Box<Gathering>
+    requires { turns.value.next + 1 < 2 ^ 64 }
+    ensures { result.value ≡ record turns.value { next = turns.value.next + 1 } }
+{
+    let mut turns = turns;
+    turns.next += 1;
+    turns
+}

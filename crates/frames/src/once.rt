@@ -1,0 +1,122 @@
+//! Expressions whose value is known at once.
+ghost use Rattle.std.specs.Prelude.{◌≡◌, ◌≤◌, ◌<◌, ◌+◌, ◌++◌, ◌∷◌, [], ℕ, List, length, IfOk, IsOkUnless};
+ghost use Rattle.heap.specs.declared.halt.Halt.TheVariants.{Memory};
+ghost use Rattle.meaning.specs.Binary.{binary};
+ghost use Rattle.language.specs.World.{World, Here, Ends, then_runs, on_heap};
+ghost use Rattle.language.specs.Environment.{Env};
+ghost use Rattle.language.specs.Expressions.{operator_of};
+ghost use Rattle.tree.specs.View.{tree_of, shared_tree};
+ghost use Rattle.names.specs.View.{world_of, here_of};
+ghost use Rattle.frames.specs.Immediate.{AtOnce, Costs};
+ghost use Rattle.frames.specs.Frames.{Sig, Goes, a_value, on, ex, valued, items_from, trees_from, frame_does, calls_below, here_below, above, machine_does};
+ghost use Rattle.frames.specs.Weight.{control_weight};
+ghost use Rattle.frames.specs.declared.frame.Frame.{Frame};
+
+use crate::frame::{Control, Frame, Series, Signal};
+use crate::items::begin_above;
+use crate::stack::push;
+use heap::{Halt, Val};
+use names::{Standing, State, read};
+use pieces::{both, tick};
+use std::alloc::Global;
+use std::sync::Arc;
+use tree::{BinaryOp, Expr};
+
+// The value of a name or a number; with another expression nothing is done.
+#[tactic(auto, unfolding(language::specs::World::tick))]
+fn at_once(state: &mut State, at: &Standing, e: &Expr) -> Result<Option<Val>, Halt>
+    ensures says { (env : Env) (n line : ℕ) (running : List (List ℕ × List ℕ)) → let here = here_of at.now at.now.line running in AtOnce (on env n here line).site (ex env n here (tree_of e.now) line (world_of state.old)) result (world_of state.new) }
+    ensures costs { Costs result state.old state.new }
+{
+    match e {
+        Expr::Name(x) => {
+            tick(&mut state.heap)?;
+            match read(state, at, x) {
+                Ok(value) => Ok(Some(value)),
+                Err(halt) => Err(halt),
+            }
+        }
+        Expr::Int(n) => {
+            tick(&mut state.heap)?;
+            Ok(Some(Val::Int(*n)))
+        }
+        _ => Ok(None),
+    }
+}
+
+// A further item is done.
+fn item_done(line: usize, series: Box<Series>, x: Val) -> Result<Control, Halt>
+    ensures ok { IfOk result (λ control. (env : Env) (n : ℕ) (here : Here) (frames : List Frame) (w : World) → above env n here (valued (items_from env n here series.value.purpose (trees_from (length series.value.done.items + 1) series.value.items) (series.value.done.items ++ x ∷ []) line)) frames w ≡ machine_does env n here control frames w) }
+    ensures err { IsOkUnless result Memory }
+{
+    let mut series = series;
+    series.done.push(x)?;
+    Ok(Control::Items(line, series))
+}
+
+/// The next item.
+pub fn one_item(
+    state: &mut State,
+    frames: &mut Vec<Frame>,
+    at: &Standing,
+    line: usize,
+    series: Box<Series>,
+    e: &Expr,
+) -> Result<Control, Halt>
+    ensures goes { (env : Env) (n : ℕ) (running : List (List ℕ × List ℕ)) → let here = here_of at.now at.now.line running in Goes (on env n here line).site (then_runs (ex env n here (tree_of e.now) line (world_of state.old)) (λ v. above env n here (valued (items_from env n here series.value.purpose (trees_from (length series.value.done.items + 1) series.value.items) (series.value.done.items ++ v ∷ []) line)) frames.old.items)) result (λ control. machine_does env n here control frames.new.items (world_of state.new)) }
+    ensures steps { IfOk result (λ _. state.new.heap.steps < state.old.heap.steps) }
+{
+    match at_once(state, at, e) {
+        Ok(Some(x)) => item_done(line, series, x),
+        Ok(None) => begin_above(state, frames, at, Frame::Items(line, series), line, e),
+        Err(halt) => Err(halt),
+    }
+}
+
+// Both operands are done.
+fn both_done(state: &mut State, op: BinaryOp, x: Val, y: Val) -> Result<Control, Halt>
+    ensures goes { (env : Env) (n line : ℕ) (here : Here) (frames : List Frame) → Goes (on env n here line).site (above env n here (valued (on_heap (on env n here line) (binary (operator_of op) x y))) frames (world_of state.old)) result (λ control. machine_does env n here control frames (world_of state.new)) }
+    ensures steps { IfOk result (λ _. state.new.heap.steps ≤ state.old.heap.steps) }
+{
+    Ok(Control::Signal(Signal::Value(both(&mut state.heap, op, x, y)?)))
+}
+
+/// The second operand, behind the first, where it is evaluated in any case.
+pub fn second_operand(
+    state: &mut State,
+    frames: &mut Vec<Frame>,
+    at: &Standing,
+    line: usize,
+    op: BinaryOp,
+    x: Val,
+    e: &Expr,
+) -> Result<Control, Halt>
+    ensures goes { (env : Env) (n : ℕ) (running : List (List ℕ × List ℕ)) → let here = here_of at.now at.now.line running in Goes (on env n here line).site (then_runs (ex env n here (tree_of e.now) line (world_of state.old)) (λ y. above env n here (valued (on_heap (on env n here line) (binary (operator_of op) x y))) frames.old.items)) result (λ control. machine_does env n here control frames.new.items (world_of state.new)) }
+    ensures steps { IfOk result (λ _. state.new.heap.steps < state.old.heap.steps) }
+{
+    match at_once(state, at, e) {
+        Ok(Some(y)) => both_done(state, op, x, y),
+        Ok(None) => begin_above(state, frames, at, Frame::Both(line, op, x), line, e),
+        Err(halt) => Err(halt),
+    }
+}
+
+/// An expression above a frame that waits for its value: with its value at once, or it is next.
+pub fn value_above(
+    state: &mut State,
+    frames: &mut Vec<Frame>,
+    at: &Standing,
+    frame: Frame,
+    line: usize,
+    e: &Arc<Expr, Global>,
+) -> Result<Control, Halt>
+    ensures goes { (env : Env) (n : ℕ) (running : List (List ℕ × List ℕ)) (before : Ends Sig) → let here = here_of at.now at.now.line running in calls_below frame n ≡ n → here_below frame here ≡ here → before ≡ then_runs (ex env n here (shared_tree e.now) line (world_of state.old)) (λ v. above env n here (frame_does env n here frame (a_value v)) frames.old.items) → Goes (on env n here line).site before result (λ control. machine_does env n here control frames.new.items (world_of state.new)) }
+    ensures steps { IfOk result (λ _. state.new.heap.steps ≤ state.old.heap.steps) }
+{
+    push(frames, frame)?;
+    match at_once(state, at, e) {
+        Ok(Some(x)) => Ok(Control::Signal(Signal::Value(x))),
+        Ok(None) => Ok(Control::Eval(line, Arc::try_clone(e)?)),
+        Err(halt) => Err(halt),
+    }
+}

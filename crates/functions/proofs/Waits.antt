@@ -1,0 +1,53 @@
+-- A paused evaluation, and what the answers to its globs lead it to.
+use Rattle.std.proofs.Common.{◌≡◌, ℕ, ◌<◌, ◌≤◌, List, ◌++◌, length, drop, refl, sym, ◌∙◌, ap, subst, Ok}
+use Rattle.std.specs.Prelude.{zip}
+use Rattle.evaluation.specs.Reply.{Ask}
+use Rattle.language.specs.Environment.{Env}
+use Rattle.language.specs.Laws.{with_answers}
+use Rattle.evaluator.specs.Evaluated.{Evaluates}
+use Rattle.evaluator.specs.Files.{answered}
+use Rattle.evaluator.specs.declared.outcome.Outcome.{Outcome}
+use Rattle.keys.specs.declared.key.Key.{Key}
+use Rattle.keys.specs.declared.value.Value.{Value}
+use Rattle.functions.specs.declared.reply.Paused.{Paused}
+use Rattle.functions.specs.Goes.{led, env_in, IsWaiting, IsNext}
+use Rattle.functions.specs.Once.{once}
+use Rattle.functions.specs.Sources.{glob_keys, glob_group, paths_by, with_paths}
+use Rattle.functions.proofs.EvaluationSteps.{some_group, led_to_group, led_further}
+
+module _ (paused : Paused) (w : IsWaiting paused) where
+  abbrev env : Env
+  env = env_in paused
+
+  abbrev patterns : List (List ℕ)
+  patterns = paused.suspended.patterns
+
+  keys_are : (keys : List Key) → keys ≡ glob_keys paused.package_name patterns → keys ≡ glob_keys env.package_name patterns
+  keys_are keys e = e ∙ ap (λ n. glob_keys n patterns) (sym w.named)
+
+  group_is : (keys group : List Key) → keys ≡ glob_keys paused.package_name patterns → group ≡ once keys → group ≡ glob_group env.package_name patterns
+  group_is keys group k g = g ∙ ap once (keys_are keys k)
+
+  module _ (keys group : List Key) (k : keys ≡ glob_keys paused.package_name patterns) (g : group ≡ once keys) (answers : List Value) where
+    -- with too few its group is asked again
+    pub asks_again : length answers < length group → led env answers ≡ Ask group
+    asks_again h =
+        let all = group_is keys group k g in
+        led_to_group env patterns answers w.asks (subst (λ (l : List Key). length answers < length l) all h) ∙ ap (λ (l : List Key). Ask l) (sym all)
+
+    -- with those of its group it goes on to the outcome of the file with their paths
+    pub goes_on_by : (n : ℕ) (paths : List (List (List ℕ))) (outcome : Outcome) → n ≡ length group → n ≤ length answers → paths ≡ paths_by group keys answers
+        → Evaluates (answered env patterns paths) (Ok outcome) → IsNext env answers outcome n
+    goes_on_by n paths outcome size h p evaluated =
+        let all = glob_group env.package_name patterns in
+        let count : n ≡ length all = size ∙ ap length (group_is keys group k g) in
+        let given : answered env patterns paths ≡ with_paths env patterns answers =
+        ap (λ ps. with_answers (env.globs ++ zip patterns ps) env) (p ∙ (λ i. paths_by (group_is keys group k g i) (keys_are keys k i) answers)) in
+        record {
+          given = with_paths env patterns answers;
+          named = refl;
+          is = subst (λ e. Evaluates e (Ok outcome)) given evaluated;
+          some = subst (λ m. 0 < m) (sym count) (some_group env patterns w.asks);
+          goes = λ more. led_further env patterns answers more w.asks (subst (λ m. m ≤ length answers) count h)
+              ∙ ap (λ m. led (with_paths env patterns answers) (drop m answers ++ more)) (sym count);
+        }

@@ -1,0 +1,18 @@
+use Rattle.std.proofs.Common.{drop, sym, subst, IfOk}
+use Rattle.keys.specs.Turns.{values}
+use Rattle.functions.specs.Goes.{led, env_in, IsMade}
+use Rattle.functions.specs.Next.{next}
+use Rattle.functions.proofs.Further.{carried_on}
+use Rattle.functions.proofs.HeldTurns.{held_on}
+use Rattle.functions.proofs.SourceSteps.{rest_values}
+use Rattle.functions.proofs.loading.reply_of.Goals as goal
+
+pub returns-in-Some : goal.returns-in-Some
+returns-in-Some c =
+    let held = c.in-Some.held in
+    let key = c.args.key.now in
+    let answers = c.args.answers.now in
+    let env = env_in held.paused in
+    let holds = rw c.in-Some.is at c.requires in
+    carried_on (next key) (values answers) (led env) (drop held.taken (values answers)) (held_on held key (values answers) holds) c.go_further.result
+    (subst (λ l. IfOk c.go_further.result (IsMade (led env) l)) (sym (rest_values answers held.taken)) c.go_further.ensures)

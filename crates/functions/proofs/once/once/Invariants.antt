@@ -1,0 +1,6 @@
+use Rattle.std.proofs.Common.{◌≡◌, ◌++◌, drop}
+use Rattle.functions.specs.Once.{once, once_behind}
+use Rattle.functions.proofs.once.once.Given as goal
+
+abbrev pub invariant-loop-key : goal.invariant-loop-key
+invariant-loop-key l = l.all.items ++ once_behind l.all.items (drop l.key-index l.keys) ≡ once l.keys

@@ -1,0 +1,33 @@
+-- What the nodes of names and patterns hold at the files.
+use Rattle.std.specs.Prelude.{◌≡◌, ℕ, List, true}
+use Rattle.std.specs.FinMap as map
+use Rattle.std.specs.Option.{option_map}
+use Rattle.evaluation.specs.Value.{Grounded}
+use Rattle.labels.specs.Paths.{segments, is_package_name}
+use Rattle.filetree.specs.Files.{Files}
+use Rattle.filetree.specs.Lawful.{HasPaths}
+use Rattle.filetree.specs.Listings.{listing}
+use Rattle.globs.specs.Globs.{is_package, found_below}
+use Rattle.keys.specs.Keys.{glob_key}
+use Rattle.keys.specs.declared.key.Key.{Key}
+use Rattle.keys.specs.declared.key.Key.TheVariants as key
+use Rattle.keys.specs.declared.value.Value.{Value}
+use Rattle.keys.specs.declared.value.Value.TheVariants as value
+use Rattle.functions.specs.Lookups.{build_of}
+use Rattle.functions.specs.Next.{next, read, listed_of}
+
+-- the key has this value at the files, and no other
+abbrev pub Holds : Files → Key → Value → Type 0
+Holds files k v = Grounded next (read files) k v × ((w : Value) → Grounded next (read files) k w → w ≡ v)
+
+-- a leaf holds what is read, a look-up which BUILD file the directory has
+abbrev pub NamesHold : Type 0
+NamesHold = (files : Files) (name : List ℕ)
+    → Holds files (key.File name) (value.File (map.get files name))
+    × Holds files (key.Listing name) (value.Listing (option_map listed_of (listing files name)))
+    × Holds files (key.Lookup name) (value.Lookup (build_of files name))
+
+-- a glob holds what its pattern finds among all paths that lead below the directory and into no package on the way
+abbrev pub GlobsHold : Type 0
+GlobsHold = (files : Files) (directory pattern : List ℕ) → HasPaths files → is_package_name directory ≡ true
+    → Holds files (glob_key directory pattern) (value.Glob (found_below (is_package files) (map.keys files) directory (segments pattern)))

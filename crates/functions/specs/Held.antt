@@ -1,0 +1,21 @@
+-- What is kept of a node, and from which answers it goes on.
+use Rattle.std.specs.Prelude.{◌≡◌, ◌≤◌, List, length, take, Option, Some, None}
+use Rattle.keys.specs.declared.key.Key.{Key}
+use Rattle.keys.specs.declared.value.Value.{Value}
+use Rattle.functions.specs.Goes.{IsPaused}
+use Rattle.functions.specs.Next.{next}
+use Rattle.functions.specs.declared.loading.Held.{Held}
+use Rattle.functions.specs.declared.loading.Kept.{Kept}
+
+-- what is held goes on behind the first of the answers as the node does
+pub record IsHeld (held : Held) (k : Key) (answers : List Value) : Type 0 where
+  pub within : held.taken ≤ length answers
+  pub is : IsPaused (next k) (take held.taken answers) held.paused
+
+abbrev pub HoldsFrom : Option Held → Key → List Value → Type 0
+HoldsFrom None k answers = Unit {0}
+HoldsFrom (Some held) k answers = IsHeld held k answers
+
+-- the state is of the key, and what it holds goes on from these answers
+abbrev pub fits : Kept → Key → List Value → Type 0
+fits state k answers = (state.key ≡ k) × HoldsFrom state.held k answers

@@ -1,0 +1,196 @@
+//! The evaluation of a file, which stops at each call of `glob` whose patterns have no answer, and goes on from there.
+ghost use Rattle.std.specs.Prelude.{◌≡◌, Ok, length, map, option_map, IfOk};
+ghost use Rattle.std.specs.Arc.{arc_value};
+ghost use Rattle.tree.specs.Statements.{file_of};
+ghost use Rattle.language.specs.Environment.{Env};
+ghost use Rattle.evaluator.specs.Machines.{env_of};
+ghost use Rattle.evaluator.specs.Files.{shared_texts};
+ghost use Rattle.keys.specs.Turns.{values};
+ghost use Rattle.functions.specs.Goes.{led, env_in, IsWaiting, IsMade, IsOutcome, IsOf, IsWent, IsWithin, LeadsTo};
+ghost use Rattle.functions.specs.Sources as specs;
+
+use crate::once::{answer_at, once};
+use crate::reply::{Paused, Reply};
+use crate::source::Source;
+use evaluator::{Environment, Outcome, resume, run};
+use keys::{Fault, Key, Value};
+use module_values::Loaded;
+use package_calls::Package;
+use std::alloc::Global;
+use std::sync::Arc;
+use syntax::File;
+use texts::{Memory, Text};
+
+// How far the answers lead an evaluation.
+#[derive(Drop)]
+pub enum Went {
+    // It ends, or asks.
+    Ends(Reply),
+    // It has gone on to this outcome, with so many answers.
+    Goes(Outcome, usize),
+}
+
+// The keys of the globs of patterns.
+fn glob_keys(alloc: Global, package_name: &Text, patterns: &[Text]) -> Result<Vec<Key>, Memory>
+    ensures { IfOk result (λ v. v.items ≡ specs.glob_keys package_name.now patterns.now) }
+{
+    let mut keys = Vec::new(alloc);
+    for pattern in patterns {
+        let key = Key::glob_of(alloc, package_name.as_str(), pattern.as_str())?;
+        keys.push(key)?;
+    }
+    Ok(keys)
+}
+
+// The paths of an answer, shared.
+fn paths_at(alloc: Global, answer: Option<&Value>) -> Result<Arc<Vec<Text>, Global>, Memory>
+    ensures { IfOk result (λ a. shared_texts a ≡ specs.paths_or_none (option_map (λ v. v.now) answer.entry)) }
+{
+    match answer {
+        Some(Value::Glob(paths)) => paths.share_items(),
+        _ => {
+            let none = Arc::new(alloc, Vec::new(alloc))?;
+            Ok(none)
+        }
+    }
+}
+
+// The paths that each key finds by the answers of a group.
+fn paths_by(
+    alloc: Global,
+    group: &[Key],
+    keys: &[Key],
+    answers: &[Arc<Value>],
+) -> Result<Vec<Arc<Vec<Text>, Global>>, Memory>
+    ensures { IfOk result (λ v. map shared_texts v.items ≡ specs.paths_by group.now keys.now (values answers.now)) }
+{
+    let mut all = Vec::new(alloc);
+    for key in keys {
+        all.push(paths_at(alloc, answer_at(key, group, answers))?)?;
+    }
+    Ok(all)
+}
+
+// Goes on with an evaluation that waits, if the answers of its group are there.
+fn wait(alloc: Global, paused: Paused, answers: &[Arc<Value>]) -> Result<Went, Memory>
+    ensures within { IfOk result (IsWithin (length answers.now)) }
+    ensures went { IfOk result (λ went. IsWaiting paused → IsWent (env_in paused) (values answers.now) went) }
+{
+    let patterns = paused.suspended.patterns();
+    let keys = glob_keys(alloc, &paused.package_name, patterns)?;
+    let group = once(alloc, keys.as_slice())?;
+    if answers.is_empty() {
+        return Ok(Went::Ends(Reply::Wait(group, paused)));
+    }
+    let count = group.as_slice().len();
+    if answers.len() < count {
+        return Ok(Went::Ends(Reply::Ask(group)));
+    }
+    let paths = paths_by(alloc, group.as_slice(), keys.as_slice(), answers)?;
+    Ok(Went::Goes(resume(paused.suspended, paths)?, count))
+}
+
+// Goes on with an outcome, if it waits and the answers of its group are there.
+fn go_on(
+    alloc: Global,
+    package_name: &Text,
+    outcome: Outcome,
+    answers: &[Arc<Value>],
+) -> Result<Went, Memory>
+    ensures within { IfOk result (IsWithin (length answers.now)) }
+    ensures went { IfOk result (λ went. (env : Env) → env.package_name ≡ package_name.now → IsOutcome env outcome → IsWent env (values answers.now) went) }
+{
+    match outcome {
+        Outcome::Module(loaded) => Ok(Went::Ends(Reply::Done(Value::Module(loaded)))),
+        Outcome::Package(targets) => Ok(Went::Ends(Reply::Done(Value::Package(targets)))),
+        Outcome::Fault(fault) => {
+            let fault = Fault {
+                code: fault.code,
+                path: fault.path,
+                line: fault.line,
+            };
+            Ok(Went::Ends(Reply::Done(Value::Fault(fault))))
+        }
+        Outcome::Need(_, suspended) => {
+            let paused = Paused {
+                package_name: package_name.share()?,
+                suspended,
+            };
+            wait(alloc, paused, answers)
+        }
+    }
+}
+
+// What the answers lead an outcome to.
+fn rounds(
+    alloc: Global,
+    package_name: &Text,
+    first: Outcome,
+    answers: &[Arc<Value>],
+) -> Result<Reply, Memory>
+    requires { IsOf package_name.now first }
+    ensures { IfOk result (LeadsTo package_name.now first (values answers.now)) }
+{
+    let mut outcome = first;
+    let mut left = answers;
+    loop {
+        match go_on(alloc, package_name, outcome, left)? {
+            Went::Ends(reply) => return Ok(reply),
+            Went::Goes(next, taken) => {
+                outcome = next;
+                let (_, behind) = left.split_at(taken);
+                left = behind;
+            }
+        }
+    }
+}
+
+/// What the answers lead a paused evaluation to.
+pub fn go_further(alloc: Global, paused: Paused, answers: &[Arc<Value>]) -> Result<Reply, Memory>
+    requires { IsWaiting paused }
+    ensures { IfOk result (IsMade (led (env_in paused)) (values answers.now)) }
+{
+    let package_name = paused.package_name.share()?;
+    match wait(alloc, paused, answers)? {
+        Went::Ends(reply) => Ok(reply),
+        Went::Goes(next, taken) => rounds(alloc, &package_name, next, &answers[taken..]),
+    }
+}
+
+// What the evaluation of a file is given, with no glob answered.
+fn environment(
+    alloc: Global,
+    source: &Source,
+    file: File,
+    loads: Vec<Loaded>,
+) -> Result<Environment, Memory>
+    ensures { IfOk result (λ e. env_of e ≡ specs.env_of source.now (file_of file) loads.items) }
+{
+    let package = Package {
+        kind: source.kind,
+        name: source.package_name.share()?,
+        answers: Vec::new(alloc),
+    };
+    Ok(Environment {
+        label: source.label.share()?,
+        path: source.path.share()?,
+        file: Arc::new(alloc, file)?,
+        loads,
+        package,
+    })
+}
+
+/// What the evaluation of a file asks or ends with, from the answers to its globs.
+pub fn evaluated(
+    alloc: Global,
+    source: &Source,
+    file: File,
+    loads: Vec<Loaded>,
+    answers: &[Arc<Value>],
+) -> Result<Reply, Memory>
+    ensures { IfOk result (IsMade (specs.after_modules source.now (file_of file) (Ok loads.items)) (values answers.now)) }
+{
+    let environment = environment(alloc, source, file, loads)?;
+    let first = run(alloc, environment)?;
+    rounds(alloc, &source.package_name, first, answers)
+}

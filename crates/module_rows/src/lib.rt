@@ -1,5 +1,0 @@
-//! Rows of modules and targets that are told apart, as tests.
-#![tactic(auto)]
-
-#[cfg(test)]
-mod rows;

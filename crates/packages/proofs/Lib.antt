@@ -1,0 +1,13 @@
+pub mod Runs
+pub mod KeysAsked
+pub mod LoadsRead
+pub mod Boundaries
+pub mod LookedUp
+pub mod NodesHold
+pub mod Halting
+pub mod CyclesShown
+pub mod Held
+pub mod OneValue
+pub mod NoValue
+pub mod OneCycle
+pub mod OneHeld

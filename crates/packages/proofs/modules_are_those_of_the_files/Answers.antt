@@ -1,0 +1,5 @@
+use Rattle.packages.proofs.Held.{modules_hold}
+use Rattle.packages.proofs.modules_are_those_of_the_files.Goals as goal
+
+pub returns : goal.returns
+returns c = modules_hold

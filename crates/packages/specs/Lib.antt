@@ -1,0 +1,3 @@
+pub mod Loads
+pub mod Loaded
+pub mod LoadedLaws

@@ -1,0 +1,47 @@
+//! What the nodes of modules and packages hold, told by the files alone.
+//!
+//! `specs/Loads` says which file is evaluated for a module or a package, which modules its load statements name, and
+//! where loads run in a circle. `specs/Loaded` says what the module of a label and the package of a directory are at one
+//! state of the files: the first fault of the file, else the first fault of its loads, else what the evaluation of the
+//! file leaves. Both look at the files, and at nothing that a node asks or keeps; the laws below tie the nodes to them.
+#![tactic(auto)]
+
+ghost use Rattle.packages.specs.Loaded.{ModulesHold, PackagesHold};
+ghost use Rattle.packages.specs.LoadedLaws.{CyclesHaveNoModule, CyclesHaveNoPackage, OneCycle, OneModule, OneModuleHeld, OnePackage, OnePackageHeld};
+
+/// The law of the modules: at files whose names are paths the value of the node of a module's label is the module that
+/// the files mean, or its fault, or, where a walk along its loads meets a module twice, the cycle to which they lead.
+pub fn modules_are_those_of_the_files()
+    ensures { ModulesHold }
+{}
+
+/// The law of the packages: the value of the node of a package's name is the list of targets that the files mean, or
+/// its fault, or likewise the cycle to which its loads lead. What a glob of its BUILD file gives is told by all paths of
+/// the files.
+pub fn packages_are_those_of_the_files()
+    ensures { PackagesHold }
+{}
+
+/// The law of one value: the files mean one module at most for a label, and one package at most for a name, by
+/// whatever right answers to its globs a BUILD file is evaluated.
+pub fn each_has_one_value()
+    ensures module { OneModule }
+    ensures package { OnePackage }
+{}
+
+/// The law of cycles: what is shown a cycle has no value at the files, and no fault either.
+pub fn cycles_have_no_value()
+    ensures module { CyclesHaveNoModule }
+    ensures package { CyclesHaveNoPackage }
+{}
+
+/// The law of one cycle: a module or a package is shown one cycle at most, wherever its loop is entered.
+pub fn one_cycle_is_shown()
+    ensures { OneCycle }
+{}
+
+/// The law of one answer: the files determine what the node of a module holds, and what the node of a package does.
+pub fn files_determine_what_nodes_hold()
+    ensures module { OneModuleHeld }
+    ensures package { OnePackageHeld }
+{}
