@@ -1,7 +1,0 @@
-//! Rows of files with what their packages and modules hold, as tests.
-#![tactic(auto)]
-
-#[cfg(test)]
-mod rounds;
-#[cfg(test)]
-mod rows;
