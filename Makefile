@@ -3,7 +3,7 @@
 
 PROGRAM := crates/cli/out/cli
 
-.PHONY: run build test limits allocations bench
+.PHONY: run build trials test limits allocations bench
 
 # Proves what the program stands on, builds it, and shows each line of an example with its answer.
 run: build
@@ -11,6 +11,10 @@ run: build
 
 build:
 	@cd crates/cli && rt run -- run < /dev/null > build.log 2>&1 || { tail -n 30 build.log; exit 1; }
+
+# What is compared and measured beside the product, proved and built; it compares, and then it can be measured with.
+trials:
+	@cd crates/trials && rt run < stdin > build.log 2>&1 || { tail -n 30 build.log; exit 1; }
 
 # Everything is proved from nothing, the wrong bodies are refused, the tests and the programs are run.
 test:
@@ -22,24 +26,14 @@ limits: build
 
 # Each allocation of the program refused in turn, over the example, each of the parser over two files, each of a
 # script of values and of one of edits and look-ups, and each of a program that waits for globs. Needs cc and python3.
-allocations: build
-	@cd crates/parse_times && rt run > build.log 2>&1 || { tail -n 30 build.log; exit 1; }
-	@cd crates/value_times && rt run > build.log 2>&1 || { tail -n 30 build.log; exit 1; }
-	@cd crates/graph_times && rt run > build.log 2>&1 || { tail -n 30 build.log; exit 1; }
+allocations: build trials
 	python3 tests/allocations.py
 	python3 tests/parse_allocations.py
 	python3 tests/script_allocations.py
-	@cd crates/program_rows && rt run < stdin > build.log 2>&1 || { tail -n 30 build.log; exit 1; }
 	python3 tests/program_allocations.py
 
 # Times of the program; prints a table. Needs python3.
-bench: build
-	@cd crates/parse_only && rt run < /dev/null > build.log 2>&1 || { tail -n 30 build.log; exit 1; }
-	@cd crates/tree_times && rt run > build.log 2>&1 || { tail -n 30 build.log; exit 1; }
-	@cd crates/parse_times && rt run > build.log 2>&1 || { tail -n 30 build.log; exit 1; }
-	@cd crates/graph_times && rt run > build.log 2>&1 || { tail -n 30 build.log; exit 1; }
-	@cd crates/value_times && rt run > build.log 2>&1 || { tail -n 30 build.log; exit 1; }
-	@cd crates/eval_times && rt run > build.log 2>&1 || { tail -n 30 build.log; exit 1; }
+bench: build trials
 	python3 bench/bench.py
 	python3 bench/values.py
 	python3 bench/programs.py

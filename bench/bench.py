@@ -1,7 +1,7 @@
 #!/usr/bin/env python3
 """Times of the program, on lines that this script makes. Run it by `make bench`.
 
-Times are noisy: each is the least of several runs, and what counts is the ratio to `parse_only`,
+Times are noisy: each is the least of several runs, and what counts is the ratio to `trials lines`,
 which parses the same lines as JSON and does nothing else, in the same minute.
 """
 import json
@@ -13,10 +13,8 @@ import time
 
 HERE = os.path.dirname(os.path.abspath(__file__))
 LOADER = [os.path.join(HERE, "../crates/cli/out/cli"), "run"]
-GRAPH_TIMES = os.path.join(HERE, "../crates/graph_times/out/graph_times")
-TREE_TIMES = os.path.join(HERE, "../crates/tree_times/out/tree_times")
-PARSE_TIMES = os.path.join(HERE, "../crates/parse_times/out/parse_times")
-PARSE_ONLY = [os.path.join(HERE, "../crates/parse_only/out/parse_only")]
+TRIALS = os.path.join(HERE, "../crates/trials/out/trials")
+PARSE_ONLY = [TRIALS, "lines"]
 
 
 def line(**members):
@@ -163,12 +161,12 @@ def long_line():
 
 def tree_times():
     for files in ("1000", "100000"):
-        print(subprocess.run([TREE_TIMES, files], capture_output=True, text=True, check=True).stdout, end="")
+        print(subprocess.run([TRIALS, "tree", files], capture_output=True, text=True, check=True).stdout, end="")
 
 
 def graph_times():
     for packages in ("1000", "100000"):
-        print(subprocess.run([GRAPH_TIMES, packages], capture_output=True, text=True, check=True).stdout, end="")
+        print(subprocess.run([TRIALS, "graph", packages], capture_output=True, text=True, check=True).stdout, end="")
 
 
 def function(n):
@@ -218,7 +216,7 @@ def parse_times(folder):
         with open(packages[-1], "w") as out:
             out.write(package(n))
     for kind, rounds, files in ("bzl", 30, [module]), ("build", 30, packages):
-        said = subprocess.run([PARSE_TIMES, kind, str(rounds)] + files, capture_output=True, text=True, check=True).stdout.splitlines()
+        said = subprocess.run([TRIALS, "parse", kind, str(rounds)] + files, capture_output=True, text=True, check=True).stdout.splitlines()
         size = sum(os.path.getsize(file) for file in files)
         print(f"parsed: {said[0]}: {size / int(said[1]) * 1e3:.1f} MB/s (the best of {rounds} rounds)")
 

@@ -1,5 +1,5 @@
 #!/usr/bin/env python3
-"""Times of evaluation: runs `eval_times` several times over the programs of bench/programs and prints, of each, the least
+"""Times of evaluation: runs `trials evaluation` several times over the programs of bench/programs and prints, of each, the least
 time and the nanoseconds a step of the language. Words behind the script are another interpreter's command, which is run
 with each program's path and has to print `min=TIMEms` somewhere on standard error; times are noisy, so what counts is
 the ratio of two in one run."""
@@ -9,14 +9,14 @@ import subprocess
 import sys
 
 HERE = os.path.dirname(os.path.abspath(__file__))
-EVAL_TIMES = os.path.join(HERE, "../crates/eval_times/out/eval_times")
+TRIALS = os.path.join(HERE, "../crates/trials/out/trials")
 
 # The steps of each program, counted by hand-made rules (an estimate from below where containers are compared).
 STEPS = {"loops": 463141, "lists": 350324, "dicts": 585826, "strings": 315839, "calls": 584998}
 
 
 def own(path):
-    out = subprocess.run([EVAL_TIMES, "10", path], capture_output=True, text=True, check=True).stdout
+    out = subprocess.run([TRIALS, "evaluation", "10", path], capture_output=True, text=True, check=True).stdout
     return int(out.rsplit(": ", 1)[1]) / 1e6
 
 

@@ -7,7 +7,7 @@ import sys
 import tempfile
 
 HERE = os.path.dirname(os.path.abspath(__file__))
-PARSER = os.path.join(HERE, "../crates/parse_times/out/parse_times")
+PARSER = [os.path.join(HERE, "../crates/trials/out/trials"), "parse"]
 BUILD = """'''A package.'''
 load("//tools:rules.bzl", "library", binary = "program")
 
@@ -35,7 +35,7 @@ def run(library, words, fails, count_file=None):
     env = dict(os.environ, LD_PRELOAD=library, FAIL_ALLOC=str(fails))
     if count_file:
         env["FAIL_ALLOC_COUNT"] = count_file
-    return subprocess.run([PARSER] + words, capture_output=True, env=env)
+    return subprocess.run(PARSER + words, capture_output=True, env=env)
 
 
 def each(folder, library, kind, text):

@@ -8,7 +8,7 @@ import tempfile
 import refusing
 
 HERE = os.path.dirname(os.path.abspath(__file__))
-PROGRAM = os.path.join(HERE, "../crates/program_rows/out/program_rows")
+PROGRAM = [os.path.join(HERE, "../crates/trials/out/trials"), "programs"]
 ROW = b"""> turns
 def src(p, n = [1]):
     return native.glob([p]) + [native.package_name() for i in n]
@@ -25,7 +25,7 @@ alias(name = "h", actual = "//z")
 def main():
     with tempfile.TemporaryDirectory() as folder:
         library = refusing.library_in(folder)
-        whole, _, right = refusing.refuse_each(folder, library, "a program", [PROGRAM], ROW)
+        whole, _, right = refusing.refuse_each(folder, library, "a program", PROGRAM, ROW)
         return 0 if right and whole.stdout == b"1 programs, 0 with another outcome\n" else 1
 
 

@@ -10,20 +10,20 @@ import tempfile
 import refusing
 
 HERE = os.path.dirname(os.path.abspath(__file__))
-# each script's program, and at most how many refusals may stop it, where that is limited
-SCRIPTS = {"value_times": None, "graph_times": 20}
+TRIALS = os.path.join(HERE, "../crates/trials/out/trials")
+# each script's word, and at most how many refusals may stop it, where that is limited
+SCRIPTS = {"values": None, "graph": 20}
 
 
-def is_right(program, limit, folder, library):
-    command = [os.path.join(HERE, "../crates", program, "out", program), "script"]
-    _, stopped, right = refusing.refuse_each(folder, library, program, command)
+def is_right(word, limit, folder, library):
+    _, stopped, right = refusing.refuse_each(folder, library, word, [TRIALS, word, "script"])
     return right and (limit is None or stopped < limit)
 
 
 def main():
     with tempfile.TemporaryDirectory() as folder:
         library = refusing.library_in(folder)
-        right = [is_right(program, limit, folder, library) for program, limit in SCRIPTS.items()]
+        right = [is_right(word, limit, folder, library) for word, limit in SCRIPTS.items()]
         return 0 if all(right) else 1
 
 
