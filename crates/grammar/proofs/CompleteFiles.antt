@@ -11,7 +11,7 @@ use Rattle.grammar.specs.declared.kind.FileKind.{FileKind}
 use Rattle.grammar.specs.declared.kind.Kind.TheVariants as k
 use Rattle.grammar.specs.Front.{is_at, tail, same, line_at, text_at}
 use Rattle.grammar.specs.Targets.{has_name, has_default, is_bound}
-use Rattle.grammar.specs.Statements.{test}
+use Rattle.grammar.specs.Statements.{a_test}
 use Rattle.grammar.specs.Files.{param, params, item, items_after, more_items, loads, loads_after, load_rest, top, tops, tops_after, leading, file, is_some_text}
 use Rattle.grammar.specs.Grammar as g
 use Rattle.grammar.specs.Grammar.{IsToken, Is, IsCommaOrNone, IsParam, IsSomeParams, IsParams, IsDef, IsItem, IsSomeItems, IsLoad, IsLoads, IsTop, IsTops, IsLeading, IsFile, IsTest}
@@ -85,7 +85,7 @@ tops_pass (g.more_tops d e) i x = let p = then (tops_pass d i x) (top_passes e i
 
 -- ---- parameters
 
-test_inside : {ts rest : List Lex} {e : t.Ex} → IsTest ts e rest → Inside 65 ts → StopsTest rest → Reads test ts e rest
+test_inside : {ts rest : List Lex} {e : t.Ex} → IsTest ts e rest → Inside 65 ts → StopsTest rest → Reads a_test ts e rest
 test_inside d x stops = reads_test (nested k.Test (inside_can x) (λ n y. test_reads d n y stops))
 
 no_default : (b : Bool) → (b ≡ true → false ≡ true) → b ≡ false

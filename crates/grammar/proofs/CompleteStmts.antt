@@ -11,7 +11,7 @@ use Rattle.grammar.specs.declared.kind.Kind.TheVariants as k
 use Rattle.grammar.specs.declared.kind.Within.{Within}
 use Rattle.grammar.specs.Front.{is_at, line_at, gives, same}
 use Rattle.grammar.specs.Targets.{is_target, all_targets, is_some_ex}
-use Rattle.grammar.specs.Statements.{test, exprs, exprs_after, more_exprs, small, simple, stmts, stmts_after, some_stmts, suite, branch, branches_after, more_branches, other, statement, stmt}
+use Rattle.grammar.specs.Statements.{a_test, exprs, exprs_after, more_exprs, small, simple, stmts, stmts_after, some_stmts, suite, branch, branches_after, more_branches, other, statement, stmt}
 use Rattle.grammar.specs.Grammar as g
 use Rattle.grammar.specs.Grammar.{IsToken, Is, IsTest, IsTests, IsTarget, IsSomeTargets, IsTargets, IsExprs, IsSmall, IsSimple, IsSuite, IsStmts, IsStmt, IsBranches, IsElse}
 use Rattle.grammar.proofs.Moves.{test_moves, tests_moves, targets_moves}
@@ -25,13 +25,13 @@ use Rattle.grammar.proofs.Stops.{not_at, at_is, StopsTest, comma_stops, colon_st
 
 -- ---- expressions
 
-pub test_read : {ts rest : List Lex} {e : Ex} → IsTest ts e rest → (i : ℕ) → Line i ts → StopsTest rest → Reads test ts e rest
+pub test_read : {ts rest : List Lex} {e : Ex} → IsTest ts e rest → (i : ℕ) → Line i ts → StopsTest rest → Reads a_test ts e rest
 test_read d i x stops = f.reads_test (nested k.Test (inside_can (line_inside x)) (λ n y. test_reads d n y stops))
 
 record Tested (ts : List Lex) (es : List Ex) (us : List Lex) : Type 0 where
   first : Ex
   left : List Lex
-  reads : Reads test ts first left
+  reads : Reads a_test ts first left
   at_comma : is_at s.Comma left ≡ true
   comes : Comes (more_exprs first left) (λ n. exprs_after n es us) us
 

@@ -12,7 +12,7 @@ use Rattle.grammar.specs.declared.kind.FileKind.{FileKind}
 use Rattle.grammar.specs.declared.kind.FileKind.TheVariants as kinds
 use Rattle.grammar.specs.Front.{Part, gives, is_at, tail, line_at, text_at, is_end}
 use Rattle.grammar.specs.Targets.{has_name, has_default}
-use Rattle.grammar.specs.Statements.{test, simple, suite, stmt}
+use Rattle.grammar.specs.Statements.{a_test, simple, suite, stmt}
 use Rattle.grammar.specs.Files.{param_rest, param, params, params_after, body, def_rest, a_string, a_name_string, item, items_after, more_items, load_rest, loads, loads_after, top, tops, tops_after, leading, file, is_some_text}
 use Rattle.grammar.specs.Grammar as g
 use Rattle.grammar.specs.Grammar.{IsToken, Is, IsCommaOrNone, at_top, in_def}
@@ -34,7 +34,7 @@ pub param_plain : {ts us : List Lex} {x : List ℕ} (ps : List Pa) → IsToken (
 unfolding param param_rest
 param_plain ps is h other none = record { is = rw (name_is is, tail_is is, h, other, none, param, param_rest) refl }
 
-pub param_default : {ts us vs rest : List Lex} {x : List ℕ} {e : Ex} (ps : List Pa) → IsToken (name x) ts us → has_name ps x ≡ false → Is s.Equal us vs → Reads test vs e rest
+pub param_default : {ts us vs rest : List Lex} {x : List ℕ} {e : Ex} (ps : List Pa) → IsToken (name x) ts us → has_name ps x ≡ false → Is s.Equal us vs → Reads a_test vs e rest
     → Reads (param ps) ts (record { name = x; default = t.bound e }) rest
 unfolding param param_rest
 param_default ps is h equal i = record { is = rw (name_is is, tail_is is, h, at_is equal, tail_is equal, i.is, param, param_rest) refl }

@@ -12,7 +12,7 @@ use Rattle.grammar.specs.declared.kind.FileKind.{FileKind}
 use Rattle.grammar.specs.declared.kind.FileKind.TheVariants as kinds
 use Rattle.grammar.specs.Front.{Part, gives, and_then, is_at, tail, line_at, text_at, is_end}
 use Rattle.grammar.specs.Targets.{has_name, has_default, is_bound}
-use Rattle.grammar.specs.Statements.{test, simple, stmt}
+use Rattle.grammar.specs.Statements.{a_test, simple, stmt}
 use Rattle.grammar.specs.Files.{param_rest, param, params, params_after, body, def_rest, string_of, a_string, name_string_of, a_name_string, is_some_text, item, items_after, more_items, load_rest, loads, loads_after, top, tops, tops_after, leading, file}
 use Rattle.grammar.specs.Grammar as g
 use Rattle.grammar.specs.Grammar.{IsToken, Is, IsCommaOrNone, IsSuite, IsParam, IsSomeParams, IsParams, IsDef, IsNameString, IsItem, IsSomeItems, IsLoad, IsLoads, IsTop, IsTops, IsLeading, IsFile, in_def, at_top}
@@ -34,7 +34,7 @@ param_rest_sound : (ps : List Pa) (x : List ℕ) (ts : List Lex) (p : Part Pa) �
 unfolding param_rest
 param_rest_sound ps x ts p is new h =
     test_of (is_at s.Equal (tail ts)) h
-    (λ equal i. step _ (test (tail (tail ts))) i (λ q j m. got (Added ps ts) m
+    (λ equal i. step _ (a_test (tail (tail ts))) i (λ q j m. got (Added ps ts) m
     (record { param = g.with_default is (is_next s.Equal (tail ts) equal) (test_sound (tail (tail ts)) q j); new = new; default = λ d. refl })))
     (λ other i. test_of (has_default ps) i (λ bad j. cc) (λ none j. got (Added ps ts) j (record { param = g.param is; new = new; default = λ d. absurd (false≢true (sym none ∙ d)) })))
 

@@ -12,15 +12,15 @@ use Rattle.grammar.specs.declared.kind.Within.{Within}
 use Rattle.grammar.specs.Front.{Part, gives, is_at, tail, line_at}
 use Rattle.grammar.specs.Targets.{is_target, all_targets, is_some_ex, can_augment, in_loop}
 use Rattle.grammar.specs.Expressions.{expr}
-use Rattle.grammar.specs.Statements.{test, loop_targets, exprs, exprs_after, more_exprs, augment_at, return_rest, expr_rest, small, simple, Inner, stmts, stmts_after, some_stmts, block, suite, branch, branches_after, more_branches, other, if_rest, for_rest, statement, stmt}
+use Rattle.grammar.specs.Statements.{a_test, loop_targets, exprs, exprs_after, more_exprs, augment_at, return_rest, expr_rest, small, simple, Inner, stmts, stmts_after, some_stmts, block, suite, branch, branches_after, more_branches, other, if_rest, for_rest, statement, stmt}
 use Rattle.grammar.specs.Grammar as g
 use Rattle.grammar.specs.Grammar.{Is, IsAug, IsTest, IsOr, IsAnd, IsNot, IsCmp, IsSum, IsTerm, IsUnary, IsPostfix, IsTests, IsTargets, IsSomeTargets, IsTarget, IsExprs, IsSmall, IsSimple, IsSuite, IsStmts, IsStmt, IsBranches, IsElse}
 use Rattle.grammar.proofs.Starts.{is_next}
 use Rattle.grammar.proofs.Steps.{token_counts}
 use Rattle.grammar.proofs.Sound.{Sound, some_is, got, step, test_of, expected, level_sound, targets_sound}
 
-pub test_sound : Sound test IsTest
-unfolding test
+pub test_sound : Sound a_test IsTest
+unfolding a_test
 test_sound = (level_sound 65).test
 
 loop_targets_sound : Sound loop_targets IsTargets
@@ -34,7 +34,7 @@ unfolding exprs_after
 exprs_after_sound zero start us es p d whole h = got (λ xs rest. IsExprs start (t.tuple (exs_of xs)) rest) h whole
 exprs_after_sound (suc n) start us es p d whole h =
     test_of (is_at s.Comma us) h
-    (λ is i. step _ (test (tail us)) i (λ q j m. let e = test_sound (tail us) q j in
+    (λ is i. step _ (a_test (tail us)) i (λ q j m. let e = test_sound (tail us) q j in
     exprs_after_sound n start q.rest (es ++ q.value ∷ []) p (g.more_tests d (is_next s.Comma us is) e) (g.exprs d (is_next s.Comma us is) e) m))
     (λ other i. got (λ xs rest. IsExprs start (t.tuple (exs_of xs)) rest) i whole)
 
@@ -43,14 +43,14 @@ unfolding exprs_after
 two_exprs zero start us e p d is same h = absurd (let one = token_counts (is_next s.Comma us is) in let none : ⊥ = omega (arith, one, same) in none)
 two_exprs (suc n) start us e p d is same h =
     test_of (is_at s.Comma us) h
-    (λ again i. step _ (test (tail us)) i (λ q j m. let f = test_sound (tail us) q j in
+    (λ again i. step _ (a_test (tail us)) i (λ q j m. let f = test_sound (tail us) q j in
     exprs_after_sound n start q.rest (e ∷ q.value ∷ []) p (g.more_tests (g.one_test d) (is_next s.Comma us is) f) (g.exprs (g.one_test d) (is_next s.Comma us is) f) m))
     (λ other i. absurd (false≢true (sym other ∙ is)))
 
 pub exprs_sound : Sound exprs IsExprs
 unfolding exprs more_exprs
 exprs_sound ts p h =
-    step _ (test ts) h (λ q is i. test_of (is_at s.Comma q.rest) i
+    step _ (a_test ts) h (λ q is i. test_of (is_at s.Comma q.rest) i
     (λ comma j. step _ (more_exprs q.value q.rest) j (λ r m n. got (λ e us. IsExprs ts e us) n (two_exprs (length q.rest) ts q.rest q.value r (test_sound ts q is) comma refl m)))
     (λ other j. got (λ e us. IsExprs ts e us) j (g.one_expr (test_sound ts q is))))
 
@@ -212,7 +212,7 @@ module _ (inner : Inner) (si : SoundInner inner) where
   branch_sound : (c : Within) (line : ℕ) → Sound (branch inner c line) (Branch c line)
   unfolding branch
   branch_sound c line ts p h =
-      step _ (test ts) h (λ q i j. expected _ s.Colon q.rest j (λ colon m. step _ (suite inner c (tail q.rest)) m (λ xs n o. got (Branch c line ts) o
+      step _ (a_test ts) h (λ q i j. expected _ s.Colon q.rest j (λ colon m. step _ (suite inner c (tail q.rest)) m (λ xs n o. got (Branch c line ts) o
       (record { condition = q.value; body = xs.value; us = q.rest; expression = test_sound ts q i; colon = colon; suite = suite_sound c (tail q.rest) xs n; same = refl }))))
 
   branches_after_sound : (n : ℕ) (c : Within) (start us : List Lex) (xs : List Br) (p : Part (List Br)) → IsBranches c start xs us → branches_after inner c n xs us ≡ Some p → IsBranches c start p.value p.rest

@@ -13,14 +13,14 @@ use Rattle.grammar.specs.declared.kind.Within.{Within}
 use Rattle.grammar.specs.Front.{Part, gives, is_at, tail, same, line_at}
 use Rattle.grammar.specs.Targets.{is_target, can_augment, in_loop}
 use Rattle.grammar.specs.Expressions.{expr, targets}
-use Rattle.grammar.specs.Statements.{test, loop_targets, exprs, exprs_after, more_exprs, augment_at, return_rest, expr_rest, small, simple, Inner, stmts, stmts_after, some_stmts, block, suite, branch, branches_after, more_branches, other, if_rest, for_rest, statement}
+use Rattle.grammar.specs.Statements.{a_test, loop_targets, exprs, exprs_after, more_exprs, augment_at, return_rest, expr_rest, small, simple, Inner, stmts, stmts_after, some_stmts, block, suite, branch, branches_after, more_branches, other, if_rest, for_rest, statement}
 use Rattle.grammar.specs.Grammar as g
 use Rattle.grammar.specs.Grammar.{IsToken, Is, IsAug}
 use Rattle.grammar.proofs.Stops.{front, tail_is, at_is, not_at}
 use Rattle.grammar.proofs.Steps.{Reads, Comes, comes_on, comes_to, token_counts}
 
-pub reads_test : {ts rest : List Lex} {e : Ex} → Reads (expr 65 k.Test) ts e rest → Reads test ts e rest
-unfolding test
+pub reads_test : {ts rest : List Lex} {e : Ex} → Reads (expr 65 k.Test) ts e rest → Reads a_test ts e rest
+unfolding a_test
 reads_test h = record { is = h.is }
 
 pub reads_loop_targets : {ts rest : List Lex} {e : Ex} → Reads (targets (expr 64)) ts e rest → Reads loop_targets ts e rest
@@ -29,11 +29,11 @@ reads_loop_targets h = record { is = h.is }
 
 -- ---- expressions
 
-pub reads_one_expr : {ts rest : List Lex} {e : Ex} → Reads test ts e rest → is_at s.Comma rest ≡ false → Reads exprs ts e rest
+pub reads_one_expr : {ts rest : List Lex} {e : Ex} → Reads a_test ts e rest → is_at s.Comma rest ≡ false → Reads exprs ts e rest
 unfolding exprs
 reads_one_expr h no_comma = record { is = rw (h.is, no_comma, exprs) refl }
 
-pub reads_exprs : {ts us rest : List Lex} {e : Ex} {es : List Ex} → Reads test ts e us → is_at s.Comma us ≡ true → Reads (more_exprs e) us es rest → Reads exprs ts (t.tuple (exs_of es)) rest
+pub reads_exprs : {ts us rest : List Lex} {e : Ex} {es : List Ex} → Reads a_test ts e us → is_at s.Comma us ≡ true → Reads (more_exprs e) us es rest → Reads exprs ts (t.tuple (exs_of es)) rest
 unfolding exprs
 reads_exprs h is i = record { is = rw (h.is, is, i.is, exprs) refl }
 
@@ -41,11 +41,11 @@ pub exprs_begin : (e : Ex) (ts : List Lex) → Comes (more_exprs e ts) (λ n. ex
 unfolding more_exprs
 exprs_begin e ts = record { turns = length ts; enough = omega arith; is = refl }
 
-expr_turn : {us vs rest : List Lex} {e : Ex} (es : List Ex) (n : ℕ) → Is s.Comma us vs → Reads test vs e rest → exprs_after (suc n) es us ≡ exprs_after n (es ++ e ∷ []) rest
+expr_turn : {us vs rest : List Lex} {e : Ex} (es : List Ex) (n : ℕ) → Is s.Comma us vs → Reads a_test vs e rest → exprs_after (suc n) es us ≡ exprs_after n (es ++ e ∷ []) rest
 unfolding exprs_after
 expr_turn es n is h = rw (at_is is, tail_is is, h.is, exprs_after) refl
 
-pub exprs_go : {from : Option (Part (List Ex))} {us vs rest : List Lex} {e : Ex} (es : List Ex) → Comes from (λ n. exprs_after n es us) us → Is s.Comma us vs → Reads test vs e rest
+pub exprs_go : {from : Option (Part (List Ex))} {us vs rest : List Lex} {e : Ex} (es : List Ex) → Comes from (λ n. exprs_after n es us) us → Is s.Comma us vs → Reads a_test vs e rest
     → length rest ≤ length vs → Comes from (λ n. exprs_after n (es ++ e ∷ []) rest) rest
 exprs_go es c is h fewer = comes_on c (let one = token_counts is in omega (arith, one, fewer)) (λ n. expr_turn es n is h)
 
@@ -174,7 +174,7 @@ module _ (inner : Inner) (c : Within) where
   pub stmts_stop : {ts us vs : List Lex} {xs : List St} → Comes (stmts inner c ts) (λ n. stmts_after inner c n xs us) us → Is s.Dedent us vs → Reads (stmts inner c) ts xs us
   stmts_stop {xs} d is = record { is = comes_to d (λ n. stmts_end xs n is) }
 
-  pub reads_branch : {ts us vs rest : List Lex} {e : Ex} {xs : List St} (line : ℕ) → Reads test ts e us → Is s.Colon us vs → Reads (suite inner c) vs xs rest
+  pub reads_branch : {ts us vs rest : List Lex} {e : Ex} {xs : List St} (line : ℕ) → Reads a_test ts e us → Is s.Colon us vs → Reads (suite inner c) vs xs rest
       → Reads (branch inner c line) ts (t.branch line e (suite_of xs)) rest
   unfolding branch
   reads_branch line h is i = record { is = rw (h.is, at_is is, tail_is is, i.is, branch) refl }

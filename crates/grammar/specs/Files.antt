@@ -12,14 +12,14 @@ use Rattle.grammar.specs.declared.kind.FileKind.{FileKind}
 use Rattle.grammar.specs.declared.kind.FileKind.TheVariants as kinds
 use Rattle.grammar.specs.Front.{Part, Reading, gives, and_then, ◌>>=◌, is_at, tail, expect, line_at, a_name, text_at, is_end}
 use Rattle.grammar.specs.Targets.{has_name, has_default}
-use Rattle.grammar.specs.Statements.{test, simple, suite, stmt}
+use Rattle.grammar.specs.Statements.{a_test, simple, suite, stmt}
 
 -- ---- functions
 
 -- no parameter without a default follows one with a default
 unfoldable pub param_rest : List Pa → List ℕ → Reading Pa
 param_rest ps x ts =
-    if is_at s.Equal ts then and_then (test (tail ts)) (λ e. gives (record { name = x; default = t.bound e }))
+    if is_at s.Equal ts then and_then (a_test (tail ts)) (λ e. gives (record { name = x; default = t.bound e }))
     else if has_default ps then None
     else gives (record { name = x; default = t.no_bound }) ts
 

@@ -16,8 +16,8 @@ use Rattle.grammar.specs.Expressions.{expr, targets}
 
 -- ---- expressions of a statement. No text whose tokens are nested at most 64 deep enters more than 64 levels in the first.
 
-unfoldable pub test : Reading Ex
-test = expr 65 k.Test
+unfoldable pub a_test : Reading Ex
+a_test = expr 65 k.Test
 
 unfoldable pub loop_targets : Reading Ex
 loop_targets = targets (expr 64)
@@ -25,14 +25,14 @@ loop_targets = targets (expr 64)
 -- {',' Test}
 unfoldable pub exprs_after : ℕ → List Ex → Reading (List Ex)
 exprs_after zero es ts = gives es ts
-exprs_after (suc n) es ts = if is_at s.Comma ts then and_then (test (tail ts)) (λ e. exprs_after n (es ++ e ∷ [])) else gives es ts
+exprs_after (suc n) es ts = if is_at s.Comma ts then and_then (a_test (tail ts)) (λ e. exprs_after n (es ++ e ∷ [])) else gives es ts
 
 unfoldable pub more_exprs : Ex → Reading (List Ex)
 more_exprs e ts = exprs_after (length ts) (e ∷ []) ts
 
 -- Exprs: a tuple if a comma
 unfoldable pub exprs : Reading Ex
-exprs ts = and_then (test ts) (λ e us. if is_at s.Comma us then and_then (more_exprs e us) (λ es. gives (t.tuple (exs_of es))) else gives e us)
+exprs ts = and_then (a_test ts) (λ e us. if is_at s.Comma us then and_then (more_exprs e us) (λ es. gives (t.tuple (exs_of es))) else gives e us)
 
 -- ---- small statements
 
@@ -103,7 +103,7 @@ suite inner c ts =
 
 -- Test ':' Suite
 unfoldable pub branch : Inner → Within → ℕ → Reading Br
-branch inner c line ts = and_then (test ts) (λ e. expect s.Colon >>= λ _. suite inner c >>= λ xs. gives (t.branch line e (suite_of xs)))
+branch inner c line ts = and_then (a_test ts) (λ e. expect s.Colon >>= λ _. suite inner c >>= λ xs. gives (t.branch line e (suite_of xs)))
 
 -- {'elif' Test ':' Suite}
 unfoldable pub branches_after : Inner → Within → ℕ → List Br → Reading (List Br)

@@ -19,9 +19,9 @@ use tree::{BinaryOp, Branch, Expr, Stmt};
 pub(crate) const LEVELS: usize = 65;
 
 /// Reads an expression.
-#[tactic(auto, unfolding(grammar::specs::Statements::test))]
+#[tactic(auto, unfolding(grammar::specs::Statements::a_test))]
 pub(crate) fn test(alloc: Global, t: &mut Tokens<'_, '_>) -> Result<Expr, Stop>
-    ensures { Reads tree_of (spec.test (left t.old)) result (left t.new) }
+    ensures { Reads tree_of (spec.a_test (left t.old)) result (left t.new) }
 {
     expr(alloc, t, LEVELS, Kind::Test)
 }
