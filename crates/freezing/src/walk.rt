@@ -50,33 +50,32 @@ fn freeze_object(
 ) -> Result<Frozen, Halt>
     ensures { SaysFrozen (visit_held (inner_freeze left (map object_of objects.now)) (held_object (slice_get (map object_of objects.now) place)) steps.old) result steps.new }
 {
-    let f = match object_at(objects, place) {
-        Some(Object::Text(bytes)) => settled(steps, Frozen::text(bytes.share()?))?,
+    match object_at(objects, place) {
+        Some(Object::Text(bytes)) => settled(steps, Frozen::text(bytes.share()?)),
         Some(Object::List(members, _)) => freeze_list(
             alloc,
             objects,
             steps,
             members.as_slice(),
             left,
-        )?,
+        ),
         Some(Object::Tuple(members)) => freeze_tuple(
             alloc,
             objects,
             steps,
             members.as_slice(),
             left,
-        )?,
-        Some(Object::Dict(entries, _)) => freeze_dict(alloc, objects, steps, entries, left)?,
+        ),
+        Some(Object::Dict(entries, _)) => freeze_dict(alloc, objects, steps, entries, left),
         Some(Object::Function(label, name)) => settled(
             steps,
             Frozen::function(label.share()?, name.share()?),
-        )?,
+        ),
         None => {
             tick(steps)?;
-            return Err(Halt::Code(5));
+            Err(Halt::Code(5))
         }
-    };
-    Ok(f)
+    }
 }
 
 // The tree of a list.
