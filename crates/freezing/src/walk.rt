@@ -21,14 +21,13 @@ pub fn freeze(
 ) -> Result<Frozen, Halt>
     ensures { SaysFrozen (freeze left (map object_of objects.now) x steps.old) result steps.new }
 {
-    let f = match x {
-        Val::Nothing => settled(steps, Frozen::nothing())?,
-        Val::Bool(b) => settled(steps, Frozen::boolean(b))?,
-        Val::Int(n) => settled(steps, Frozen::whole(n))?,
-        Val::Builtin(f) => settled(steps, Frozen::built_in(f))?,
-        Val::At(place) => freeze_object(alloc, objects, steps, place, left)?,
-    };
-    Ok(f)
+    match x {
+        Val::Nothing => settled(steps, Frozen::nothing()),
+        Val::Bool(b) => settled(steps, Frozen::boolean(b)),
+        Val::Int(n) => settled(steps, Frozen::whole(n)),
+        Val::Builtin(f) => settled(steps, Frozen::built_in(f)),
+        Val::At(place) => freeze_object(alloc, objects, steps, place, left),
+    }
 }
 
 // A value that holds nothing else.
