@@ -31,7 +31,10 @@ fn range_by(heap: &mut Heap, from: Val, to: Val, step: Val) -> Result<Val, Halt>
         return Err(Halt::Code(25));
     }
     match (from, to) {
-        (Val::Int(from), Val::Int(to)) => { make_range(heap, from, to, step) }
+        (Val::Int(from), Val::Int(to)) => {
+            let made = make_range(heap, from, to, step)?;
+            Ok(made)
+        }
         _ => Err(Halt::Code(5)),
     }
 }
@@ -42,7 +45,8 @@ fn make_range(heap: &mut Heap, from: i64, to: i64, step: i64) -> Result<Val, Hal
     ensures { Says (range_list from to step (store_of heap.old)) result (store_of heap.new) }
 {
     let members = numbers(heap.alloc, from, to, step)?;
-    heap.make_list(members)
+    let made = heap.make_list(members)?;
+    Ok(made)
 }
 
 // The numbers of a range, or fault 13.

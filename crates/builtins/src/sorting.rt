@@ -18,12 +18,16 @@ pub fn sorted(heap: &mut Heap, xs: &[Val], names: &[(Text, Val)]) -> Result<Val,
     ensures { Says (sorted xs.now names.now (store_of heap.old)) result (store_of heap.new) }
 {
     match (xs, names) {
-        ([x], []) => { sorted_list(heap, *x, false) }
+        ([x], []) => {
+            let made = sorted_list(heap, *x, false)?;
+            Ok(made)
+        }
         ([x], [named]) => {
             if named.0.as_str() != "reverse" {
                 return Err(Halt::Code(25));
             }
-            sorted_by(heap, *x, named.1)
+            let made = sorted_by(heap, *x, named.1)?;
+            Ok(made)
         }
         _ => Err(Halt::Code(25)),
     }
@@ -34,7 +38,10 @@ fn sorted_by(heap: &mut Heap, x: Val, reverse: Val) -> Result<Val, Halt>
     ensures { Says (sorted_by x reverse (store_of heap.old)) result (store_of heap.new) }
 {
     match reverse {
-        Val::Bool(reverse) => { sorted_list(heap, x, reverse) }
+        Val::Bool(reverse) => {
+            let made = sorted_list(heap, x, reverse)?;
+            Ok(made)
+        }
         _ => Err(Halt::Code(5)),
     }
 }
@@ -51,7 +58,8 @@ fn sorted_list(heap: &mut Heap, x: Val, reverse: bool) -> Result<Val, Halt>
     if reverse {
         members.reverse();
     }
-    heap.make_list(members)
+    let made = heap.make_list(members)?;
+    Ok(made)
 }
 
 // Ints or strings in order; equal ones keep their order.
@@ -60,9 +68,11 @@ fn sort(heap: &Heap, members: Vec<Val>) -> Result<Vec<Val>, Memory>
     ensures { IfOk result (λ v. v.items ≡ sort_from (plain_order (store_of heap.now)) [] members.items) }
 {
     if are_ints(members.as_slice()) {
-        sort_ints(members)
+        let members = sort_ints(members)?;
+        Ok(members)
     } else {
-        sort_texts(heap, members)
+        let members = sort_texts(heap, members)?;
+        Ok(members)
     }
 }
 
