@@ -13,10 +13,7 @@ pub fn add(heap: &mut Heap, a: Val, b: Val) -> Result<Val, Halt>
 {
     match (a, b) {
         (Val::Int(x), Val::Int(y)) => x.checked_add(y).map(Val::Int).ok_or(Halt::Code(9)),
-        (Val::At(x), Val::At(y)) => {
-            let made = join(heap, x, y)?;
-            Ok(made)
-        }
+        (Val::At(x), Val::At(y)) => { join(heap, x, y) }
         _ => Err(Halt::Code(5)),
     }
 }
@@ -28,18 +25,15 @@ fn join(heap: &mut Heap, a: usize, b: usize) -> Result<Val, Halt>
     match (heap.objects.get(a), heap.objects.get(b)) {
         (Some(Object::Text(x)), Some(Object::Text(y))) => {
             let bytes = joined(heap.alloc, x.as_slice(), y.as_slice())?;
-            let made = heap.make_text(bytes)?;
-            Ok(made)
+            heap.make_text(bytes)
         }
         (Some(Object::List(x, _)), Some(Object::List(y, _))) => {
             let members = joined(heap.alloc, x.as_slice(), y.as_slice())?;
-            let made = heap.make_list(members)?;
-            Ok(made)
+            heap.make_list(members)
         }
         (Some(Object::Tuple(x)), Some(Object::Tuple(y))) => {
             let members = joined(heap.alloc, x.as_slice(), y.as_slice())?;
-            let made = heap.make_tuple(members)?;
-            Ok(made)
+            heap.make_tuple(members)
         }
         _ => Err(Halt::Code(5)),
     }
@@ -61,14 +55,8 @@ pub fn multiply(heap: &mut Heap, a: Val, b: Val) -> Result<Val, Halt>
 {
     match (a, b) {
         (Val::Int(x), Val::Int(y)) => x.checked_mul(y).map(Val::Int).ok_or(Halt::Code(9)),
-        (Val::At(x), Val::Int(n)) => {
-            let made = repeat(heap, x, n)?;
-            Ok(made)
-        }
-        (Val::Int(n), Val::At(x)) => {
-            let made = repeat(heap, x, n)?;
-            Ok(made)
-        }
+        (Val::At(x), Val::Int(n)) => { repeat(heap, x, n) }
+        (Val::Int(n), Val::At(x)) => { repeat(heap, x, n) }
         _ => Err(Halt::Code(5)),
     }
 }
@@ -80,18 +68,15 @@ fn repeat(heap: &mut Heap, a: usize, n: i64) -> Result<Val, Halt>
     match heap.object(a) {
         Some(Object::Text(x)) => {
             let bytes = repeated(heap.alloc, x.as_slice(), n)?;
-            let made = heap.make_text(bytes)?;
-            Ok(made)
+            heap.make_text(bytes)
         }
         Some(Object::List(x, _)) => {
             let members = repeated(heap.alloc, x.as_slice(), n)?;
-            let made = heap.make_list(members)?;
-            Ok(made)
+            heap.make_list(members)
         }
         Some(Object::Tuple(x)) => {
             let members = repeated(heap.alloc, x.as_slice(), n)?;
-            let made = heap.make_tuple(members)?;
-            Ok(made)
+            heap.make_tuple(members)
         }
         Some(Object::Dict(_, _)) => Err(Halt::Code(5)),
         Some(Object::Function(_, _)) => Err(Halt::Code(5)),
@@ -104,10 +89,7 @@ pub fn divide(heap: &mut Heap, a: Val, b: Val) -> Result<Val, Halt>
     ensures { Says (divide a b (store_of heap.old)) result (store_of heap.new) }
 {
     match (a, b) {
-        (Val::Int(x), Val::Int(y)) => {
-            let made = numbers::divide(x, y)?;
-            Ok(made)
-        }
+        (Val::Int(x), Val::Int(y)) => { numbers::divide(x, y) }
         _ => Err(Halt::Code(5)),
     }
 }
@@ -117,10 +99,7 @@ pub fn remainder(heap: &mut Heap, a: Val, b: Val) -> Result<Val, Halt>
     ensures { Says (remainder a b (store_of heap.old)) result (store_of heap.new) }
 {
     match (a, b) {
-        (Val::Int(x), Val::Int(y)) => {
-            let made = numbers::remainder(x, y)?;
-            Ok(made)
-        }
+        (Val::Int(x), Val::Int(y)) => { numbers::remainder(x, y) }
         _ => Err(Halt::Code(5)),
     }
 }

@@ -24,8 +24,7 @@ pub fn dict(heap: &mut Heap, xs: &[Val], names: &[(Text, Val)]) -> Result<Val, H
     let mut entries = IndexMap::new(heap.alloc);
     add_from(heap, &mut entries, xs)?;
     add_named(heap, &mut entries, names)?;
-    let made = make_dict(heap, entries)?;
-    Ok(made)
+    make_dict(heap, entries)
 }
 
 // A new dictionary, or fault 13.
@@ -35,8 +34,7 @@ fn make_dict(heap: &mut Heap, entries: IndexMap<Key, Entry>) -> Result<Val, Halt
     if entries.len() > LONGEST {
         return Err(Halt::Code(13));
     }
-    let made = heap.make(Object::Dict(entries, false))?;
-    Ok(made)
+    heap.make(Object::Dict(entries, false))
 }
 
 // Adds what the arguments without a name give to a dictionary that is empty.
@@ -146,10 +144,7 @@ fn pair(heap: &Heap, x: Val) -> Result<(Val, Val), Halt>
     ensures { Checks (pair_of x (store_of heap.now)) result }
 {
     match x {
-        Val::At(place) => {
-            let pair = object_pair(heap, place)?;
-            Ok(pair)
-        }
+        Val::At(place) => { object_pair(heap, place) }
         _ => Err(Halt::Code(5)),
     }
 }
@@ -159,14 +154,8 @@ fn object_pair(heap: &Heap, place: usize) -> Result<(Val, Val), Halt>
     ensures { Checks (object_pair (at place (store_of heap.now))) result }
 {
     match heap.object(place) {
-        Some(Object::List(members, _)) => {
-            let pair = two_of(members.as_slice())?;
-            Ok(pair)
-        }
-        Some(Object::Tuple(members)) => {
-            let pair = two_of(members.as_slice())?;
-            Ok(pair)
-        }
+        Some(Object::List(members, _)) => { two_of(members.as_slice()) }
+        Some(Object::Tuple(members)) => { two_of(members.as_slice()) }
         Some(Object::Text(_)) => Err(Halt::Code(5)),
         Some(Object::Dict(_, _)) => Err(Halt::Code(5)),
         Some(Object::Function(_, _)) => Err(Halt::Code(5)),

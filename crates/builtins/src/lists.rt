@@ -11,8 +11,7 @@ use indexing::items;
 pub fn no_list(heap: &mut Heap) -> Result<Val, Halt>
     ensures { Says (makes_list [] (store_of heap.old)) result (store_of heap.new) }
 {
-    let made = heap.make_list(Vec::new(heap.alloc))?;
-    Ok(made)
+    heap.make_list(Vec::new(heap.alloc))
 }
 
 /// `list(x)`: fault 5.
@@ -20,16 +19,14 @@ pub fn list(heap: &mut Heap, x: Val) -> Result<Val, Halt>
     ensures { Says (list_from x (store_of heap.old)) result (store_of heap.new) }
 {
     let members = items(heap, x)?;
-    let made = heap.make_list(members)?;
-    Ok(made)
+    heap.make_list(members)
 }
 
 /// `tuple()`
 pub fn no_tuple(heap: &mut Heap) -> Result<Val, Halt>
     ensures { Says (makes_tuple [] (store_of heap.old)) result (store_of heap.new) }
 {
-    let made = heap.make_tuple(Vec::new(heap.alloc))?;
-    Ok(made)
+    heap.make_tuple(Vec::new(heap.alloc))
 }
 
 /// `tuple(x)`: fault 5.
@@ -37,8 +34,7 @@ pub fn tuple(heap: &mut Heap, x: Val) -> Result<Val, Halt>
     ensures { Says (tuple_from x (store_of heap.old)) result (store_of heap.new) }
 {
     let members = items(heap, x)?;
-    let made = heap.make_tuple(members)?;
-    Ok(made)
+    heap.make_tuple(members)
 }
 
 /// `reversed(x)`: fault 5.
@@ -47,6 +43,5 @@ pub fn reversed(heap: &mut Heap, x: Val) -> Result<Val, Halt>
 {
     let mut members = items(heap, x)?;
     members.reverse();
-    let made = heap.make_list(members)?;
-    Ok(made)
+    heap.make_list(members)
 }

@@ -14,8 +14,7 @@ pub fn enumerate(heap: &mut Heap, x: Val) -> Result<Val, Halt>
 {
     let members = items(heap, x)?;
     let pairs = numbered(heap, members.as_slice())?;
-    let made = heap.make_list(pairs)?;
-    Ok(made)
+    heap.make_list(pairs)
 }
 
 // Pairs of a place and a member.
@@ -38,6 +37,5 @@ fn make_pair(heap: &mut Heap, a: Val, b: Val) -> Result<Val, Halt>
     let mut members = Vec::new(heap.alloc);
     members.push(a)?;
     members.push(b)?;
-    let made = heap.make_tuple(members)?;
-    Ok(made)
+    heap.make_tuple(members)
 }

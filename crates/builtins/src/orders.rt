@@ -14,16 +14,14 @@ use std::cmp::Ordering;
 pub fn min(heap: &Heap, xs: &[Val]) -> Result<Val, Halt>
     ensures { Says (extreme is_lt xs.now (store_of heap.now)) result (store_of heap.now) }
 {
-    let found = extreme(heap, xs, false)?;
-    Ok(found)
+    extreme(heap, xs, false)
 }
 
 /// `max(..)`: fault 25 or 5.
 pub fn max(heap: &Heap, xs: &[Val]) -> Result<Val, Halt>
     ensures { Says (extreme is_gt xs.now (store_of heap.now)) result (store_of heap.now) }
 {
-    let found = extreme(heap, xs, true)?;
-    Ok(found)
+    extreme(heap, xs, true)
 }
 
 // The first of the least of the arguments or of the one's members, or of the greatest.
@@ -34,13 +32,9 @@ fn extreme(heap: &Heap, xs: &[Val], greatest: bool) -> Result<Val, Halt>
         [] => Err(Halt::Code(25)),
         [x] => {
             let members = items(heap, *x)?;
-            let found = best_of(heap, members.as_slice(), greatest)?;
-            Ok(found)
+            best_of(heap, members.as_slice(), greatest)
         }
-        [_, _, ..] => {
-            let found = best_of(heap, xs, greatest)?;
-            Ok(found)
-        }
+        [_, _, ..] => { best_of(heap, xs, greatest) }
     }
 }
 

@@ -45,8 +45,7 @@ pub fn type_of(heap: &mut Heap, x: Val) -> Result<Val, Halt>
 {
     let name = type_name(heap, x)?;
     let bytes = Vec::from_slice(heap.alloc, name)?;
-    let made = heap.make_text(bytes)?;
-    Ok(made)
+    heap.make_text(bytes)
 }
 
 // The name of a value's type.
@@ -58,10 +57,7 @@ fn type_name(heap: &Heap, x: Val) -> Result<&'static [u8], Halt>
         Val::Bool(_) => Ok(b"bool"),
         Val::Int(_) => Ok(b"int"),
         Val::Builtin(_) => Ok(b"function"),
-        Val::At(place) => {
-            let name = object_type(heap, place)?;
-            Ok(name)
-        }
+        Val::At(place) => { object_type(heap, place) }
     }
 }
 

@@ -16,8 +16,7 @@ pub fn zip(heap: &mut Heap, xs: &[Val]) -> Result<Val, Halt>
 {
     let lists = each_items(heap, xs)?;
     let tuples = make_rows(heap, lists.as_slice())?;
-    let made = heap.make_list(tuples)?;
-    Ok(made)
+    heap.make_list(tuples)
 }
 
 // What each of several values is iterated over.

@@ -108,14 +108,8 @@ pub fn equal(objects: &[Object], steps: &mut u64, a: Val, b: Val, left: u32) -> 
             tick(steps)?;
             Ok(same)
         }
-        Pair::Members(xs, ys) => {
-            let same = equal_lists(objects, steps, xs, ys, left)?;
-            Ok(same)
-        }
-        Pair::Entries(xs, ys) => {
-            let same = equal_dicts(objects, steps, xs, ys, left)?;
-            Ok(same)
-        }
+        Pair::Members(xs, ys) => { equal_lists(objects, steps, xs, ys, left) }
+        Pair::Entries(xs, ys) => { equal_dicts(objects, steps, xs, ys, left) }
     }
 }
 
@@ -135,8 +129,7 @@ fn equal_lists(
         return Err(Halt::Code(12));
     }
     tick(steps)?;
-    let same = equal_members(objects, steps, xs, ys, left - 1)?;
-    Ok(same)
+    equal_members(objects, steps, xs, ys, left - 1)
 }
 
 // Whether members are equal, up to the first that are not.
@@ -183,8 +176,7 @@ fn equal_dicts(
         return Err(Halt::Code(12));
     }
     tick(steps)?;
-    let same = equal_entries(objects, steps, xs, ys, left - 1)?;
-    Ok(same)
+    equal_entries(objects, steps, xs, ys, left - 1)
 }
 
 // Whether the right has the keys of the left with equal values, up to the first that it has not.
@@ -225,8 +217,7 @@ fn equal_entry(
     ensures { Says (equal_entry (equal left (map object_of objects.now)) key.now x ys.now.entries steps.old) result steps.new }
 {
     spend(steps, key.parts.len())?;
-    let same = equal_found(objects, steps, x, found(ys, key), left)?;
-    Ok(same)
+    equal_found(objects, steps, x, found(ys, key), left)
 }
 
 // Whether a value is equal to the one of an entry, if there is an entry.
@@ -241,10 +232,7 @@ fn equal_found(
     ensures { Says (equal_found (equal left (map object_of objects.now)) x found steps.old) result steps.new }
 {
     match found {
-        Some(entry) => {
-            let same = equal(objects, steps, x, entry.value, left)?;
-            Ok(same)
-        }
+        Some(entry) => { equal(objects, steps, x, entry.value, left) }
         None => Ok(false),
     }
 }

@@ -47,18 +47,12 @@ pub fn key(
     ensures { SaysItems (key left (map object_of objects.now) x steps.old) result steps.new }
 {
     match as_key(objects, x)? {
-        AsKey::Part(part) => {
-            let all = one_part(alloc, steps, part)?;
-            Ok(all)
-        }
+        AsKey::Part(part) => { one_part(alloc, steps, part) }
         AsKey::NoKey => {
             tick(steps)?;
             Err(Halt::Code(5))
         }
-        AsKey::Parts(members) => {
-            let all = tuple_key(alloc, objects, steps, members, left)?;
-            Ok(all)
-        }
+        AsKey::Parts(members) => { tuple_key(alloc, objects, steps, members, left) }
     }
 }
 

@@ -48,10 +48,7 @@ pub fn has(heap: &mut Heap, x: Val, a: Val) -> Result<bool, Halt>
     ensures { Says (has x a (store_of heap.old)) result (store_of heap.new) }
 {
     match a {
-        Val::At(place) => {
-            let there = object_has(heap, place, x)?;
-            Ok(there)
-        }
+        Val::At(place) => { object_has(heap, place, x) }
         _ => Err(Halt::Code(5)),
     }
 }
@@ -61,34 +58,26 @@ fn object_has(heap: &mut Heap, a: usize, x: Val) -> Result<bool, Halt>
     ensures { Says (object_has (at a (store_of heap.old)) x (store_of heap.old)) result (store_of heap.new) }
 {
     match heap.objects.get(a) {
-        Some(Object::Text(whole)) => {
-            let there = text_has(heap.objects.as_slice(), whole.as_slice(), x)?;
-            Ok(there)
-        }
+        Some(Object::Text(whole)) => { text_has(heap.objects.as_slice(), whole.as_slice(), x) }
         Some(Object::List(members, _)) => {
-            let there = any_equal(
+            any_equal(
                 heap.objects.as_slice(),
                 &mut heap.steps,
                 x,
                 members.as_slice(),
                 DEEPEST,
-            )?;
-            Ok(there)
+            )
         }
         Some(Object::Tuple(members)) => {
-            let there = any_equal(
+            any_equal(
                 heap.objects.as_slice(),
                 &mut heap.steps,
                 x,
                 members.as_slice(),
                 DEEPEST,
-            )?;
-            Ok(there)
+            )
         }
-        Some(Object::Dict(_, _)) => {
-            let there = hashed_has(heap, a, x)?;
-            Ok(there)
-        }
+        Some(Object::Dict(_, _)) => { hashed_has(heap, a, x) }
         Some(Object::Function(_, _)) => Err(Halt::Code(5)),
         None => Err(Halt::Code(5)),
     }
@@ -100,8 +89,7 @@ fn hashed_has(heap: &mut Heap, a: usize, x: Val) -> Result<bool, Halt>
     ensures { Says (hashed_has (at a (store_of heap.old)) x (store_of heap.old)) result (store_of heap.new) }
 {
     let key = hash(heap, x)?;
-    let there = has_key(heap, a, &key)?;
-    Ok(there)
+    has_key(heap, a, &key)
 }
 
 // Whether a dictionary has a key.

@@ -73,10 +73,7 @@ pub fn order(
             tick(steps)?;
             Ok(o)
         }
-        Sides::Listed(xs, ys) => {
-            let o = order_lists(objects, steps, xs, ys, left)?;
-            Ok(o)
-        }
+        Sides::Listed(xs, ys) => { order_lists(objects, steps, xs, ys, left) }
         Sides::NoOrder => {
             tick(steps)?;
             Err(Halt::Code(5))
@@ -102,10 +99,7 @@ fn order_lists(
     tick(steps)?;
     match part(objects, steps, xs, ys, left - 1)? {
         Parting::SettledAs(o) => Ok(o),
-        Parting::Unequal(x, y) => {
-            let o = order(objects, steps, x, y, left - 1)?;
-            Ok(o)
-        }
+        Parting::Unequal(x, y) => { order(objects, steps, x, y, left - 1) }
     }
 }
 

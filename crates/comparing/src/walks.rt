@@ -29,14 +29,12 @@ pub fn hash(heap: &mut Heap, x: Val) -> Result<Key, Halt>
 pub fn equal(heap: &mut Heap, a: Val, b: Val) -> Result<bool, Halt>
     ensures { Says (equals a b (store_of heap.old)) result (store_of heap.new) }
 {
-    let same = equality::equal(heap.objects.as_slice(), &mut heap.steps, a, b, DEEPEST)?;
-    Ok(same)
+    equality::equal(heap.objects.as_slice(), &mut heap.steps, a, b, DEEPEST)
 }
 
 /// The order of two values: fault 5, 11 or 12.
 pub fn compare(heap: &mut Heap, a: Val, b: Val) -> Result<Ordering, Halt>
     ensures { Says (compares a b (store_of heap.old)) result (store_of heap.new) }
 {
-    let o = order(heap.objects.as_slice(), &mut heap.steps, a, b, DEEPEST)?;
-    Ok(o)
+    order(heap.objects.as_slice(), &mut heap.steps, a, b, DEEPEST)
 }

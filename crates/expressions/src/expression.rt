@@ -114,8 +114,7 @@ impl<F: Fn(Global, &mut Tokens<'_, '_>, usize, Kind) -> Result<Expr, Stop>> Gram
             return Ok(first);
         }
         let found = self.more_targets(t, first)?;
-        let whole = Expr::tuple(self.alloc, found)?;
-        Ok(whole)
+        Ok(Expr::tuple(self.alloc, found)?)
     }
 
     /// Reads a `for` clause behind its `for`.
@@ -127,8 +126,7 @@ impl<F: Fn(Global, &mut Tokens<'_, '_>, usize, Kind) -> Result<Expr, Stop>> Gram
         let target = self.targets(t)?;
         t.expect(Symbol::In)?;
         let sequence = self.expr(t, Kind::Or)?;
-        let clause = Clause::for_in(self.alloc, target, sequence)?;
-        Ok(clause)
+        Ok(Clause::for_in(self.alloc, target, sequence)?)
     }
 
     /// Reads the clauses of a comprehension.
@@ -162,8 +160,7 @@ impl<F: Fn(Global, &mut Tokens<'_, '_>, usize, Kind) -> Result<Expr, Stop>> Gram
         ensures { Reads tree_of (spec.in_parens (spec.expr self.now.depth) (left t.old)) result (left t.new) }
     {
         if t.eat(Symbol::RightParen) {
-            let none = Expr::tuple(self.alloc, Vec::new(self.alloc))?;
-            return Ok(none);
+            return Ok(Expr::tuple(self.alloc, Vec::new(self.alloc))?);
         }
         let first = self.expr(t, Kind::Test)?;
         if !t.is_at(Symbol::Comma) {
@@ -172,8 +169,7 @@ impl<F: Fn(Global, &mut Tokens<'_, '_>, usize, Kind) -> Result<Expr, Stop>> Gram
         }
         let found = self.items(t, Symbol::RightParen, first)?;
         t.expect(Symbol::RightParen)?;
-        let whole = Expr::tuple(self.alloc, found)?;
-        Ok(whole)
+        Ok(Expr::tuple(self.alloc, found)?)
     }
 
     /// Reads what stands behind the opening bracket of a list.
@@ -183,20 +179,17 @@ impl<F: Fn(Global, &mut Tokens<'_, '_>, usize, Kind) -> Result<Expr, Stop>> Gram
         ensures { Reads tree_of (spec.in_brackets (spec.expr self.now.depth) (left t.old)) result (left t.new) }
     {
         if t.eat(Symbol::RightBracket) {
-            let none = Expr::list(self.alloc, Vec::new(self.alloc))?;
-            return Ok(none);
+            return Ok(Expr::list(self.alloc, Vec::new(self.alloc))?);
         }
         let first = self.expr(t, Kind::Test)?;
         if t.is_at(Symbol::For) {
             let clauses = self.clauses(t)?;
             t.expect(Symbol::RightBracket)?;
-            let whole = Expr::list_of(self.alloc, first, clauses)?;
-            return Ok(whole);
+            return Ok(Expr::list_of(self.alloc, first, clauses)?);
         }
         let found = self.items(t, Symbol::RightBracket, first)?;
         t.expect(Symbol::RightBracket)?;
-        let whole = Expr::list(self.alloc, found)?;
-        Ok(whole)
+        Ok(Expr::list(self.alloc, found)?)
     }
 
     /// Reads an entry of a dictionary.
@@ -241,15 +234,13 @@ impl<F: Fn(Global, &mut Tokens<'_, '_>, usize, Kind) -> Result<Expr, Stop>> Gram
         if t.is_at(Symbol::For) {
             let clauses = self.clauses(t)?;
             t.expect(Symbol::RightBrace)?;
-            let whole = Expr::dict_of(self.alloc, key, value, clauses)?;
-            return Ok(whole);
+            return Ok(Expr::dict_of(self.alloc, key, value, clauses)?);
         }
         let first = one_entry(self.alloc, key, value)?;
         let found = self.entries(t, first)?;
         t.expect(Symbol::RightBrace)?;
         let EntriesSoFar { keys, values } = found;
-        let whole = Expr::dict(self.alloc, keys, values)?;
-        Ok(whole)
+        Ok(Expr::dict(self.alloc, keys, values)?)
     }
 
     /// Reads what stands behind an opening brace.
@@ -259,14 +250,12 @@ impl<F: Fn(Global, &mut Tokens<'_, '_>, usize, Kind) -> Result<Expr, Stop>> Gram
         ensures { Reads tree_of (spec.in_braces (spec.expr self.now.depth) (left t.old)) result (left t.new) }
     {
         if t.eat(Symbol::RightBrace) {
-            let none = Expr::dict(self.alloc, Vec::new(self.alloc), Vec::new(self.alloc))?;
-            return Ok(none);
+            return Ok(Expr::dict(self.alloc, Vec::new(self.alloc), Vec::new(self.alloc))?);
         }
         let key = self.expr(t, Kind::Test)?;
         t.expect(Symbol::Colon)?;
         let value = self.expr(t, Kind::Test)?;
-        let whole = self.dict_after(t, key, value)?;
-        Ok(whole)
+        self.dict_after(t, key, value)
     }
 
     /// Reads an argument of a call.
@@ -351,8 +340,7 @@ impl<F: Fn(Global, &mut Tokens<'_, '_>, usize, Kind) -> Result<Expr, Stop>> Gram
     {
         let to = self.upper_bound(t)?;
         t.expect(Symbol::RightBracket)?;
-        let whole = Expr::slice(self.alloc, value, from, to)?;
-        Ok(whole)
+        Ok(Expr::slice(self.alloc, value, from, to)?)
     }
 
     /// Reads an index or a slice behind its opening bracket.
@@ -362,18 +350,15 @@ impl<F: Fn(Global, &mut Tokens<'_, '_>, usize, Kind) -> Result<Expr, Stop>> Gram
         ensures { Reads tree_of (spec.subscript (spec.expr self.now.depth) (tree_of value) (left t.old)) result (left t.new) }
     {
         if t.eat(Symbol::Colon) {
-            let whole = self.slice_from(t, value, None)?;
-            return Ok(whole);
+            return self.slice_from(t, value, None);
         }
         let at = self.expr(t, Kind::Test)?;
         if t.eat(Symbol::Colon) {
             let from = Arc::new(self.alloc, at)?;
-            let whole = self.slice_from(t, value, Some(from))?;
-            return Ok(whole);
+            return self.slice_from(t, value, Some(from));
         }
         t.expect(Symbol::RightBracket)?;
-        let whole = Expr::index(self.alloc, value, at)?;
-        Ok(whole)
+        Ok(Expr::index(self.alloc, value, at)?)
     }
 
     /// Reads a call of a method behind its dot.
@@ -386,8 +371,7 @@ impl<F: Fn(Global, &mut Tokens<'_, '_>, usize, Kind) -> Result<Expr, Stop>> Gram
         t.expect(Symbol::LeftParen)?;
         let found = self.arguments(t)?;
         let ArgumentsSoFar { values, names } = found;
-        let whole = Expr::method(self.alloc, value, name, values, names)?;
-        Ok(whole)
+        Ok(Expr::method(self.alloc, value, name, values, names)?)
     }
 
     /// Reads a call behind its opening bracket.
@@ -398,8 +382,7 @@ impl<F: Fn(Global, &mut Tokens<'_, '_>, usize, Kind) -> Result<Expr, Stop>> Gram
     {
         let found = self.arguments(t)?;
         let ArgumentsSoFar { values, names } = found;
-        let whole = Expr::call(self.alloc, value, values, names)?;
-        Ok(whole)
+        Ok(Expr::call(self.alloc, value, values, names)?)
     }
 
     /// Reads calls, indexes and slices behind an operand.
@@ -437,18 +420,9 @@ impl<F: Fn(Global, &mut Tokens<'_, '_>, usize, Kind) -> Result<Expr, Stop>> Gram
             Symbol::NoneValue => Ok(Expr::literal(Literal::NoneValue)),
             Symbol::TrueValue => Ok(Expr::literal(Literal::TrueValue)),
             Symbol::FalseValue => Ok(Expr::literal(Literal::FalseValue)),
-            Symbol::LeftParen => {
-                let whole = self.in_parens(t)?;
-                Ok(whole)
-            }
-            Symbol::LeftBracket => {
-                let whole = self.in_brackets(t)?;
-                Ok(whole)
-            }
-            Symbol::LeftBrace => {
-                let whole = self.in_braces(t)?;
-                Ok(whole)
-            }
+            Symbol::LeftParen => self.in_parens(t),
+            Symbol::LeftBracket => self.in_brackets(t),
+            Symbol::LeftBrace => self.in_braces(t),
             _ => Err(Stop::Malformed),
         }
     }
@@ -469,10 +443,7 @@ impl<F: Fn(Global, &mut Tokens<'_, '_>, usize, Kind) -> Result<Expr, Stop>> Gram
                 let text = string_text(self.alloc, written)?;
                 Ok(Expr::string(text))
             }
-            Some(Token::Symbol(first)) => {
-                let whole = self.symbol_atom(t, first)?;
-                Ok(whole)
-            }
+            Some(Token::Symbol(first)) => self.symbol_atom(t, first),
             None => Err(Stop::Malformed),
         }
     }
@@ -484,8 +455,7 @@ impl<F: Fn(Global, &mut Tokens<'_, '_>, usize, Kind) -> Result<Expr, Stop>> Gram
         ensures { Reads tree_of (spec.postfix (spec.expr self.now.depth) (left t.old)) result (left t.new) }
     {
         let first = self.atom(t)?;
-        let whole = self.postfix_rest(t, first)?;
-        Ok(whole)
+        self.postfix_rest(t, first)
     }
 
     /// Reads an operand with its signs.
@@ -496,16 +466,13 @@ impl<F: Fn(Global, &mut Tokens<'_, '_>, usize, Kind) -> Result<Expr, Stop>> Gram
     {
         if t.eat(Symbol::Plus) {
             let operand = self.expr(t, Kind::Unary)?;
-            let whole = Expr::unary(self.alloc, UnaryOp::Plus, operand)?;
-            return Ok(whole);
+            return Ok(Expr::unary(self.alloc, UnaryOp::Plus, operand)?);
         }
         if t.eat(Symbol::Minus) {
             let operand = self.expr(t, Kind::Unary)?;
-            let whole = Expr::unary(self.alloc, UnaryOp::Minus, operand)?;
-            return Ok(whole);
+            return Ok(Expr::unary(self.alloc, UnaryOp::Minus, operand)?);
         }
-        let whole = self.postfix(t)?;
-        Ok(whole)
+        self.postfix(t)
     }
 
     /// Reads a product.
@@ -555,8 +522,7 @@ impl<F: Fn(Global, &mut Tokens<'_, '_>, usize, Kind) -> Result<Expr, Stop>> Gram
             return Ok(first);
         };
         let right = self.sum(t)?;
-        let whole = Expr::binary(self.alloc, op, first, right)?;
-        Ok(whole)
+        Ok(Expr::binary(self.alloc, op, first, right)?)
     }
 
     /// Reads a comparison, or the negation of one.
@@ -567,11 +533,9 @@ impl<F: Fn(Global, &mut Tokens<'_, '_>, usize, Kind) -> Result<Expr, Stop>> Gram
     {
         if t.eat(Symbol::Not) {
             let operand = self.expr(t, Kind::Not)?;
-            let whole = Expr::unary(self.alloc, UnaryOp::Not, operand)?;
-            return Ok(whole);
+            return Ok(Expr::unary(self.alloc, UnaryOp::Not, operand)?);
         }
-        let whole = self.comparison(t)?;
-        Ok(whole)
+        self.comparison(t)
     }
 
     /// Reads a conjunction.
@@ -623,8 +587,7 @@ impl<F: Fn(Global, &mut Tokens<'_, '_>, usize, Kind) -> Result<Expr, Stop>> Gram
         let condition = self.or_test(t)?;
         t.expect(Symbol::Else)?;
         let other = self.expr(t, Kind::Test)?;
-        let whole = Expr::choice(self.alloc, first, condition, other)?;
-        Ok(whole)
+        Ok(Expr::choice(self.alloc, first, condition, other)?)
     }
 
     /// Reads an expression of a kind.

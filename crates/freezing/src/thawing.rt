@@ -14,31 +14,27 @@ use texts::Memory;
 pub fn thaw(heap: &mut Heap, f: &Frozen) -> Result<Val, Halt>
     ensures { Says (thaw (frozen_of f.now) (store_of heap.old)) result (store_of heap.new) }
 {
-    let made = match f {
-        Frozen::Nothing => Val::Nothing,
-        Frozen::Bool(b) => Val::Bool(*b),
-        Frozen::Int(n) => Val::Int(*n),
-        Frozen::Builtin(b) => Val::Builtin(*b),
-        Frozen::Text(bytes) => heap.make(Object::Text(bytes.share()?))?,
+    match f {
+        Frozen::Nothing => Ok(Val::Nothing),
+        Frozen::Bool(b) => Ok(Val::Bool(*b)),
+        Frozen::Int(n) => Ok(Val::Int(*n)),
+        Frozen::Builtin(b) => Ok(Val::Builtin(*b)),
+        Frozen::Text(bytes) => heap.make(Object::Text(bytes.share()?)),
         Frozen::List(members) => {
             let xs = thaw_members(heap, members.as_slice())?;
-            heap.make(Object::List(xs, true))?
+            heap.make(Object::List(xs, true))
         }
         Frozen::Tuple(members) => {
             let xs = thaw_members(heap, members.as_slice())?;
-            heap.make(Object::Tuple(xs))?
+            heap.make(Object::Tuple(xs))
         }
         Frozen::Dict(entries) => {
             let mut all = IndexMap::new(heap.alloc);
             thaw_entries(heap, entries.as_slice(), &mut all)?;
-            heap.make(Object::Dict(all, true))?
+            heap.make(Object::Dict(all, true))
         }
-        Frozen::Function(label, name) => heap.make(Object::Function(
-            label.share()?,
-            name.share()?,
-        ))?,
-    };
-    Ok(made)
+        Frozen::Function(label, name) => heap.make(Object::Function(label.share()?, name.share()?)),
+    }
 }
 
 // Members on a heap, in order.

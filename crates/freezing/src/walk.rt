@@ -21,14 +21,13 @@ pub fn freeze(
 ) -> Result<Frozen, Halt>
     ensures { SaysFrozen (freeze left (map object_of objects.now) x steps.old) result steps.new }
 {
-    let f = match x {
-        Val::Nothing => settled(steps, Frozen::nothing())?,
-        Val::Bool(b) => settled(steps, Frozen::boolean(b))?,
-        Val::Int(n) => settled(steps, Frozen::whole(n))?,
-        Val::Builtin(f) => settled(steps, Frozen::built_in(f))?,
-        Val::At(place) => freeze_object(alloc, objects, steps, place, left)?,
-    };
-    Ok(f)
+    match x {
+        Val::Nothing => settled(steps, Frozen::nothing()),
+        Val::Bool(b) => settled(steps, Frozen::boolean(b)),
+        Val::Int(n) => settled(steps, Frozen::whole(n)),
+        Val::Builtin(f) => settled(steps, Frozen::built_in(f)),
+        Val::At(place) => freeze_object(alloc, objects, steps, place, left),
+    }
 }
 
 // A value that holds nothing else.
@@ -50,33 +49,32 @@ fn freeze_object(
 ) -> Result<Frozen, Halt>
     ensures { SaysFrozen (visit_held (inner_freeze left (map object_of objects.now)) (held_object (slice_get (map object_of objects.now) place)) steps.old) result steps.new }
 {
-    let f = match object_at(objects, place) {
-        Some(Object::Text(bytes)) => settled(steps, Frozen::text(bytes.share()?))?,
+    match object_at(objects, place) {
+        Some(Object::Text(bytes)) => settled(steps, Frozen::text(bytes.share()?)),
         Some(Object::List(members, _)) => freeze_list(
             alloc,
             objects,
             steps,
             members.as_slice(),
             left,
-        )?,
+        ),
         Some(Object::Tuple(members)) => freeze_tuple(
             alloc,
             objects,
             steps,
             members.as_slice(),
             left,
-        )?,
-        Some(Object::Dict(entries, _)) => freeze_dict(alloc, objects, steps, entries, left)?,
+        ),
+        Some(Object::Dict(entries, _)) => freeze_dict(alloc, objects, steps, entries, left),
         Some(Object::Function(label, name)) => settled(
             steps,
             Frozen::function(label.share()?, name.share()?),
-        )?,
+        ),
         None => {
             tick(steps)?;
-            return Err(Halt::Code(5));
+            Err(Halt::Code(5))
         }
-    };
-    Ok(f)
+    }
 }
 
 // The tree of a list.

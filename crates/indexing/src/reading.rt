@@ -33,10 +33,7 @@ pub fn index(heap: &mut Heap, a: Val, i: Val) -> Result<Val, Halt>
     ensures { Says (index a i (store_of heap.old)) result (store_of heap.new) }
 {
     match a {
-        Val::At(place) => {
-            let found = index_object(heap, place, i)?;
-            Ok(found)
-        }
+        Val::At(place) => { index_object(heap, place, i) }
         _ => Err(Halt::Code(5)),
     }
 }
@@ -48,21 +45,11 @@ fn index_object(heap: &mut Heap, a: usize, i: Val) -> Result<Val, Halt>
     match heap.object(a) {
         Some(Object::Text(bytes)) => {
             let byte = found_at(bytes.as_slice(), i)?;
-            let made = make_letter(heap, byte)?;
-            Ok(made)
+            make_letter(heap, byte)
         }
-        Some(Object::List(members, _)) => {
-            let found = found_at(members.as_slice(), i)?;
-            Ok(found)
-        }
-        Some(Object::Tuple(members)) => {
-            let found = found_at(members.as_slice(), i)?;
-            Ok(found)
-        }
-        Some(Object::Dict(_, _)) => {
-            let found = found_key(heap, a, i)?;
-            Ok(found)
-        }
+        Some(Object::List(members, _)) => { found_at(members.as_slice(), i) }
+        Some(Object::Tuple(members)) => { found_at(members.as_slice(), i) }
+        Some(Object::Dict(_, _)) => { found_key(heap, a, i) }
         Some(Object::Function(_, _)) => Err(Halt::Code(5)),
         None => Err(Halt::Code(5)),
     }
@@ -74,8 +61,7 @@ fn found_key(heap: &mut Heap, a: usize, i: Val) -> Result<Val, Halt>
     ensures { Says (found_key (at a (store_of heap.old)) i (store_of heap.old)) result (store_of heap.new) }
 {
     let key = hash(heap, i)?;
-    let found = at_key(heap, a, &key)?;
-    Ok(found)
+    at_key(heap, a, &key)
 }
 
 // The value at a key.
@@ -97,8 +83,7 @@ fn make_letter(heap: &mut Heap, byte: u8) -> Result<Val, Halt>
 {
     let mut bytes = Vec::new(heap.alloc);
     bytes.push(byte)?;
-    let made = heap.make_text(bytes)?;
-    Ok(made)
+    heap.make_text(bytes)
 }
 
 /// `a[i:j]`, where a bound that is not given is `None`: fault 5.
@@ -106,10 +91,7 @@ pub fn slice(heap: &mut Heap, a: Val, i: Val, j: Val) -> Result<Val, Halt>
     ensures { Says (slice a i j (store_of heap.old)) result (store_of heap.new) }
 {
     match a {
-        Val::At(place) => {
-            let made = slice_object(heap, place, i, j)?;
-            Ok(made)
-        }
+        Val::At(place) => { slice_object(heap, place, i, j) }
         _ => Err(Halt::Code(5)),
     }
 }
@@ -121,18 +103,15 @@ fn slice_object(heap: &mut Heap, a: usize, i: Val, j: Val) -> Result<Val, Halt>
     match heap.objects.get(a) {
         Some(Object::Text(bytes)) => {
             let part = cut(heap.alloc, bytes.as_slice(), i, j)?;
-            let made = heap.make_text(part)?;
-            Ok(made)
+            heap.make_text(part)
         }
         Some(Object::List(members, _)) => {
             let part = cut(heap.alloc, members.as_slice(), i, j)?;
-            let made = heap.make_list(part)?;
-            Ok(made)
+            heap.make_list(part)
         }
         Some(Object::Tuple(members)) => {
             let part = cut(heap.alloc, members.as_slice(), i, j)?;
-            let made = heap.make_tuple(part)?;
-            Ok(made)
+            heap.make_tuple(part)
         }
         _ => Err(Halt::Code(5)),
     }
@@ -143,10 +122,7 @@ pub fn items(heap: &Heap, a: Val) -> Result<Vec<Val>, Halt>
     ensures { ChecksItems (items a (store_of heap.now)) result }
 {
     match a {
-        Val::At(place) => {
-            let all = object_items(heap, place)?;
-            Ok(all)
-        }
+        Val::At(place) => { object_items(heap, place) }
         _ => Err(Halt::Code(5)),
     }
 }

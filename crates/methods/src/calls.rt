@@ -30,8 +30,7 @@ pub fn method(
                 }
                 return Err(Halt::Code(5));
             }
-            let made = object_method(heap, place, name, xs)?;
-            Ok(made)
+            object_method(heap, place, name, xs)
         }
         _ => Err(Halt::Code(5)),
     }
@@ -45,17 +44,10 @@ fn object_method(heap: &mut Heap, a: usize, name: &str, xs: &[Val]) -> Result<Va
     match heap.object(a) {
         Some(Object::Text(bytes)) => {
             let whole = bytes.share()?;
-            let made = text_method(heap, whole.as_slice(), name, xs)?;
-            Ok(made)
+            text_method(heap, whole.as_slice(), name, xs)
         }
-        Some(Object::List(_, _)) => {
-            let made = list_method(heap, a, name, xs)?;
-            Ok(made)
-        }
-        Some(Object::Dict(_, _)) => {
-            let made = dict_method(heap, a, name, xs)?;
-            Ok(made)
-        }
+        Some(Object::List(_, _)) => { list_method(heap, a, name, xs) }
+        Some(Object::Dict(_, _)) => { dict_method(heap, a, name, xs) }
         Some(Object::Tuple(_)) => Err(Halt::Code(5)),
         Some(Object::Function(_, _)) => Err(Halt::Code(5)),
         None => Err(Halt::Code(5)),

@@ -16,23 +16,19 @@ pub fn dict_method(heap: &mut Heap, a: usize, name: &str, xs: &[Val]) -> Result<
     ensures { Says (of_dict (at a (store_of heap.old)) name.now xs.now (store_of heap.old)) result (store_of heap.new) }
 {
     if is_name(name, "get") {
-        let made = get(heap, a, xs)?;
-        return Ok(made);
+        return get(heap, a, xs);
     }
     if is_name(name, "keys") {
         no_arguments(xs)?;
-        let made = all_keys(heap, a)?;
-        return Ok(made);
+        return all_keys(heap, a);
     }
     if is_name(name, "values") {
         no_arguments(xs)?;
-        let made = all_values(heap, a)?;
-        return Ok(made);
+        return all_values(heap, a);
     }
     if is_name(name, "items") {
         no_arguments(xs)?;
-        let made = all_items(heap, a)?;
-        return Ok(made);
+        return all_items(heap, a);
     }
     Err(Halt::Code(5))
 }
@@ -48,8 +44,7 @@ fn get(heap: &mut Heap, a: usize, xs: &[Val]) -> Result<Val, Halt>
                 [k, other] => (*k, *other),
                 _ => return Err(Halt::Code(25)),
             };
-            let found = get_or_else(heap, a, k, other)?;
-            Ok(found)
+            get_or_else(heap, a, k, other)
         }
         _ => Err(Halt::Code(5)),
     }
@@ -61,8 +56,7 @@ fn get_or_else(heap: &mut Heap, a: usize, k: Val, other: Val) -> Result<Val, Hal
     ensures { Says (get_other (at a (store_of heap.old)) k other (store_of heap.old)) result (store_of heap.new) }
 {
     let key = hash(heap, k)?;
-    let found = found_or(heap, a, &key, other)?;
-    Ok(found)
+    found_or(heap, a, &key, other)
 }
 
 // `keys()`, a new list.
@@ -72,8 +66,7 @@ fn all_keys(heap: &mut Heap, a: usize) -> Result<Val, Halt>
     match heap.object(a) {
         Some(Object::Dict(entries, _)) => {
             let all = keys(heap.alloc, entries)?;
-            let made = heap.make_list(all)?;
-            Ok(made)
+            heap.make_list(all)
         }
         _ => Err(Halt::Code(5)),
     }
@@ -86,8 +79,7 @@ fn all_values(heap: &mut Heap, a: usize) -> Result<Val, Halt>
     match heap.object(a) {
         Some(Object::Dict(entries, _)) => {
             let all = values(heap.alloc, entries)?;
-            let made = heap.make_list(all)?;
-            Ok(made)
+            heap.make_list(all)
         }
         _ => Err(Halt::Code(5)),
     }
@@ -101,8 +93,7 @@ fn all_items(heap: &mut Heap, a: usize) -> Result<Val, Halt>
         Some(Object::Dict(entries, _)) => {
             let pairs = pairs(heap.alloc, entries)?;
             let all = tuples(heap, pairs.as_slice())?;
-            let made = heap.make_list(all)?;
-            Ok(made)
+            heap.make_list(all)
         }
         _ => Err(Halt::Code(5)),
     }
@@ -145,8 +136,7 @@ fn tuple(heap: &mut Heap, pair: Entry) -> Result<Val, Halt>
     ensures { Says (entry_tuple pair (store_of heap.old)) result (store_of heap.new) }
 {
     let members = vec![in heap.alloc; pair.key, pair.value]?;
-    let made = heap.make_tuple(members)?;
-    Ok(made)
+    heap.make_tuple(members)
 }
 
 // The value that a dictionary has at a key, or another.

@@ -15,12 +15,10 @@ pub fn list_method(heap: &mut Heap, a: usize, name: &str, xs: &[Val]) -> Result<
     ensures { Says (of_list a (at a (store_of heap.old)) name.now xs.now (store_of heap.old)) result (store_of heap.new) }
 {
     if is_name(name, "append") {
-        let made = append(heap, a, xs)?;
-        return Ok(made);
+        return append(heap, a, xs);
     }
     if is_name(name, "extend") {
-        let made = extend(heap, a, xs)?;
-        return Ok(made);
+        return extend(heap, a, xs);
     }
     Err(Halt::Code(5))
 }
@@ -31,11 +29,9 @@ pub fn add_in_place(heap: &mut Heap, x: Val, y: Val) -> Result<Val, Halt>
     ensures { Says (added x y (store_of heap.old)) result (store_of heap.new) }
 {
     if let (Val::At(a), Val::At(b)) = (x, y) {
-        let made = add_objects(heap, a, b)?;
-        return Ok(made);
+        return add_objects(heap, a, b);
     }
-    let made = add(heap, x, y)?;
-    Ok(made)
+    add(heap, x, y)
 }
 
 // Adds what stands at a place to what stands at another, in place where both are lists.
@@ -47,8 +43,7 @@ fn add_objects(heap: &mut Heap, a: usize, b: usize) -> Result<Val, Halt>
             Vec::from_slice(heap.alloc, members.as_slice())?
         }
         _ => {
-            let made = add(heap, Val::At(a), Val::At(b))?;
-            return Ok(made);
+            return add(heap, Val::At(a), Val::At(b));
         }
     };
     adds(heap, a, more.as_slice())?;

@@ -24,21 +24,17 @@ pub fn text_method(heap: &mut Heap, whole: &[u8], name: &str, xs: &[Val]) -> Res
         return Ok(Val::Bool(ends(part, whole)));
     }
     if is_name(name, "join") {
-        let made = join(heap, whole, xs)?;
-        return Ok(made);
+        return join(heap, whole, xs);
     }
     if is_name(name, "split") {
-        let made = split(heap, whole, xs)?;
-        return Ok(made);
+        return split(heap, whole, xs);
     }
     if is_name(name, "replace") {
-        let made = replace(heap, whole, xs)?;
-        return Ok(made);
+        return replace(heap, whole, xs);
     }
     if is_name(name, "strip") {
         no_arguments(xs)?;
-        let made = make_copy(heap, stripped(whole))?;
-        return Ok(made);
+        return make_copy(heap, stripped(whole));
     }
     Err(Halt::Code(5))
 }
@@ -63,8 +59,7 @@ fn only_text<'a>(heap: &'a Heap, xs: &[Val]) -> Result<&'a [u8], Halt>
     let [x] = xs else {
         return Err(Halt::Code(25));
     };
-    let text = text_at(heap, *x)?;
-    Ok(text)
+    text_at(heap, *x)
 }
 
 // The texts of values, or fault 5.
@@ -86,8 +81,7 @@ fn make_copy(heap: &mut Heap, bytes: &[u8]) -> Result<Val, Halt>
     ensures { Says (makes_text bytes.now (store_of heap.old)) result (store_of heap.new) }
 {
     let copy = Vec::from_slice(heap.alloc, bytes)?;
-    let made = heap.make_text(copy)?;
-    Ok(made)
+    heap.make_text(copy)
 }
 
 // New strings, in order.
@@ -115,8 +109,7 @@ fn join(heap: &mut Heap, separator: &[u8], xs: &[Val]) -> Result<Val, Halt>
     let texts = texts_at(heap, members.as_slice())?;
     let all = join_parts(heap.alloc, separator, texts.as_slice())?;
     drop(texts);
-    let made = heap.make_text(all)?;
-    Ok(made)
+    heap.make_text(all)
 }
 
 // `split(s)`
@@ -132,8 +125,7 @@ fn split(heap: &mut Heap, whole: &[u8], xs: &[Val]) -> Result<Val, Halt>
         return Err(Halt::Code(13));
     }
     let all = make_copies(heap, parts.as_slice())?;
-    let made = heap.make_list(all)?;
-    Ok(made)
+    heap.make_list(all)
 }
 
 // `replace(old, new)`
@@ -150,6 +142,5 @@ fn replace(heap: &mut Heap, whole: &[u8], xs: &[Val]) -> Result<Val, Halt>
     let new = text_at(heap, *new)?;
     let parts = split_parts(heap.alloc, whole, old)?;
     let all = join_parts(heap.alloc, new, parts.as_slice())?;
-    let made = heap.make_text(all)?;
-    Ok(made)
+    heap.make_text(all)
 }

@@ -36,8 +36,7 @@ fn top(alloc: Global, t: &mut Tokens<'_, '_>, kind: FileKind) -> Result<Top, Sto
     if is_def {
         t.skip();
         let found = def_rest(alloc, t, line)?;
-        let whole = Top::function(alloc, found)?;
-        return Ok(whole);
+        return Ok(Top::function(alloc, found)?);
     }
     let within = Within {
         in_def: false,

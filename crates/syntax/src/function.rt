@@ -74,8 +74,7 @@ fn param(alloc: Global, t: &mut Tokens<'_, '_>, params: &[Param]) -> Result<Para
     if has_name(params, &name) {
         return Err(Stop::Malformed);
     }
-    let found = param_rest(alloc, t, params, name)?;
-    Ok(found)
+    param_rest(alloc, t, params, name)
 }
 
 /// Reads parameters up to their closing bracket.

@@ -61,8 +61,7 @@ fn exprs(alloc: Global, t: &mut Tokens<'_, '_>) -> Result<Expr, Stop>
         return Ok(first);
     }
     let found = more_exprs(alloc, t, first)?;
-    let whole = Expr::tuple(alloc, found)?;
-    Ok(whole)
+    Ok(Expr::tuple(alloc, found)?)
 }
 
 /// The operator of an augmented assignment that the next token is.
@@ -138,20 +137,17 @@ fn expr_rest(
             return Err(Stop::Malformed);
         }
         let value = exprs(alloc, t)?;
-        let whole = Stmt::assign(alloc, line, first, value)?;
-        return Ok(whole);
+        return Ok(Stmt::assign(alloc, line, first, value)?);
     }
     let Some(op) = augment_at(t) else {
-        let whole = Stmt::eval(alloc, line, first)?;
-        return Ok(whole);
+        return Ok(Stmt::eval(alloc, line, first)?);
     };
     if !can_augment(&first, within.in_def) {
         return Err(Stop::Malformed);
     }
     t.skip();
     let value = exprs(alloc, t)?;
-    let whole = Stmt::augment(alloc, line, first, op, value)?;
-    Ok(whole)
+    Ok(Stmt::augment(alloc, line, first, op, value)?)
 }
 
 /// Reads a small statement.
@@ -179,12 +175,10 @@ fn small(alloc: Global, t: &mut Tokens<'_, '_>, within: Within) -> Result<Stmt, 
         if !within.in_def {
             return Err(Stop::Malformed);
         }
-        let found = return_rest(alloc, t, line)?;
-        return Ok(found);
+        return return_rest(alloc, t, line);
     }
     let first = exprs(alloc, t)?;
-    let found = expr_rest(alloc, t, within, line, first)?;
-    Ok(found)
+    expr_rest(alloc, t, within, line, first)
 }
 
 /// Reads a small statement and the end of its line.
@@ -254,8 +248,7 @@ impl<F: Fn(Global, &mut Tokens<'_, '_>, usize, Within) -> Result<Stmt, Stop>> Su
         ensures { Reads (λ v. map stmt_of v.items) (spec.suite (spec.stmt self.now.depth) within (left t.old)) result (left t.new) }
     {
         if t.eat(Symbol::NewLine) {
-            let found = self.block(t, within)?;
-            return Ok(found);
+            return self.block(t, within);
         }
         let only = simple(self.alloc, t, within)?;
         let mut found = Vec::new(self.alloc);
@@ -272,8 +265,7 @@ impl<F: Fn(Global, &mut Tokens<'_, '_>, usize, Within) -> Result<Stmt, Stop>> Su
         let condition = test(self.alloc, t)?;
         t.expect(Symbol::Colon)?;
         let body = self.suite(t, within)?;
-        let whole = Branch::new(self.alloc, line, condition, body)?;
-        Ok(whole)
+        Ok(Branch::new(self.alloc, line, condition, body)?)
     }
 
     /// Reads the `elif` branches behind the first one.
@@ -309,8 +301,7 @@ impl<F: Fn(Global, &mut Tokens<'_, '_>, usize, Within) -> Result<Stmt, Stop>> Su
             return Ok(Vec::new(self.alloc));
         }
         t.expect(Symbol::Colon)?;
-        let found = self.suite(t, within)?;
-        Ok(found)
+        self.suite(t, within)
     }
 
     /// Reads what stands behind `if`.
@@ -322,8 +313,7 @@ impl<F: Fn(Global, &mut Tokens<'_, '_>, usize, Within) -> Result<Stmt, Stop>> Su
         let first = self.branch(t, within, line)?;
         let branches = self.more_branches(t, within, &first)?;
         let other = self.other(t, within)?;
-        let whole = Stmt::choose(self.alloc, first, branches, other)?;
-        Ok(whole)
+        Ok(Stmt::choose(self.alloc, first, branches, other)?)
     }
 
     /// Reads what stands behind `for`.
@@ -341,8 +331,7 @@ impl<F: Fn(Global, &mut Tokens<'_, '_>, usize, Within) -> Result<Stmt, Stop>> Su
             in_for: true,
         };
         let body = self.suite(t, inside)?;
-        let whole = Stmt::for_each(self.alloc, line, target, sequence, body)?;
-        Ok(whole)
+        Ok(Stmt::for_each(self.alloc, line, target, sequence, body)?)
     }
 
     /// Reads a statement.
@@ -353,15 +342,12 @@ impl<F: Fn(Global, &mut Tokens<'_, '_>, usize, Within) -> Result<Stmt, Stop>> Su
     {
         let line = t.line();
         if t.eat(Symbol::If) {
-            let found = self.if_rest(t, within, line)?;
-            return Ok(found);
+            return self.if_rest(t, within, line);
         }
         if t.eat(Symbol::For) {
-            let found = self.for_rest(t, within, line)?;
-            return Ok(found);
+            return self.for_rest(t, within, line);
         }
-        let found = simple(self.alloc, t, within)?;
-        Ok(found)
+        simple(self.alloc, t, within)
     }
 }
 
