@@ -20,8 +20,8 @@ hand_out-requires-3-send-R-State c κs = search (kept_send, sendable)
 pub ready-requires-2-send-R-State : goal.ready-requires-2-send-R-State
 ready-requires-2-send-R-State c κs = search (kept_send, sendable)
 
-pub stalled-requires-send-R-State : goal.stalled-requires-send-R-State
-stalled-requires-send-R-State c κs = search (kept_send, sendable)
+pub stalled-open-requires-send-R-State : goal.stalled-open-requires-send-R-State
+stalled-open-requires-send-R-State c κs = search (kept_send, sendable)
 
 pub make-requires-send-R-State : goal.make-requires-send-R-State
 make-requires-send-R-State c κs = search (kept_send, sendable)
