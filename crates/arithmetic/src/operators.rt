@@ -13,7 +13,7 @@ pub fn add(heap: &mut Heap, a: Val, b: Val) -> Result<Val, Halt>
 {
     match (a, b) {
         (Val::Int(x), Val::Int(y)) => x.checked_add(y).map(Val::Int).ok_or(Halt::Code(9)),
-        (Val::At(x), Val::At(y)) => { join(heap, x, y) }
+        (Val::At(x), Val::At(y)) => join(heap, x, y),
         _ => Err(Halt::Code(5)),
     }
 }
@@ -55,8 +55,8 @@ pub fn multiply(heap: &mut Heap, a: Val, b: Val) -> Result<Val, Halt>
 {
     match (a, b) {
         (Val::Int(x), Val::Int(y)) => x.checked_mul(y).map(Val::Int).ok_or(Halt::Code(9)),
-        (Val::At(x), Val::Int(n)) => { repeat(heap, x, n) }
-        (Val::Int(n), Val::At(x)) => { repeat(heap, x, n) }
+        (Val::At(x), Val::Int(n)) => repeat(heap, x, n),
+        (Val::Int(n), Val::At(x)) => repeat(heap, x, n),
         _ => Err(Halt::Code(5)),
     }
 }
@@ -89,7 +89,7 @@ pub fn divide(heap: &mut Heap, a: Val, b: Val) -> Result<Val, Halt>
     ensures { Says (divide a b (store_of heap.old)) result (store_of heap.new) }
 {
     match (a, b) {
-        (Val::Int(x), Val::Int(y)) => { numbers::divide(x, y) }
+        (Val::Int(x), Val::Int(y)) => numbers::divide(x, y),
         _ => Err(Halt::Code(5)),
     }
 }
@@ -99,7 +99,7 @@ pub fn remainder(heap: &mut Heap, a: Val, b: Val) -> Result<Val, Halt>
     ensures { Says (remainder a b (store_of heap.old)) result (store_of heap.new) }
 {
     match (a, b) {
-        (Val::Int(x), Val::Int(y)) => { numbers::remainder(x, y) }
+        (Val::Int(x), Val::Int(y)) => numbers::remainder(x, y),
         _ => Err(Halt::Code(5)),
     }
 }

@@ -144,7 +144,7 @@ fn pair(heap: &Heap, x: Val) -> Result<(Val, Val), Halt>
     ensures { Checks (pair_of x (store_of heap.now)) result }
 {
     match x {
-        Val::At(place) => { object_pair(heap, place) }
+        Val::At(place) => object_pair(heap, place),
         _ => Err(Halt::Code(5)),
     }
 }
@@ -154,8 +154,8 @@ fn object_pair(heap: &Heap, place: usize) -> Result<(Val, Val), Halt>
     ensures { Checks (object_pair (at place (store_of heap.now))) result }
 {
     match heap.object(place) {
-        Some(Object::List(members, _)) => { two_of(members.as_slice()) }
-        Some(Object::Tuple(members)) => { two_of(members.as_slice()) }
+        Some(Object::List(members, _)) => two_of(members.as_slice()),
+        Some(Object::Tuple(members)) => two_of(members.as_slice()),
         Some(Object::Text(_)) => Err(Halt::Code(5)),
         Some(Object::Dict(_, _)) => Err(Halt::Code(5)),
         Some(Object::Function(_, _)) => Err(Halt::Code(5)),

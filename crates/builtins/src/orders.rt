@@ -34,7 +34,7 @@ fn extreme(heap: &Heap, xs: &[Val], greatest: bool) -> Result<Val, Halt>
             let members = items(heap, *x)?;
             best_of(heap, members.as_slice(), greatest)
         }
-        [_, _, ..] => { best_of(heap, xs, greatest) }
+        [_, _, ..] => best_of(heap, xs, greatest),
     }
 }
 

@@ -57,7 +57,7 @@ fn type_name(heap: &Heap, x: Val) -> Result<&'static [u8], Halt>
         Val::Bool(_) => Ok(b"bool"),
         Val::Int(_) => Ok(b"int"),
         Val::Builtin(_) => Ok(b"function"),
-        Val::At(place) => { object_type(heap, place) }
+        Val::At(place) => object_type(heap, place),
     }
 }
 

@@ -108,8 +108,8 @@ pub fn equal(objects: &[Object], steps: &mut u64, a: Val, b: Val, left: u32) -> 
             tick(steps)?;
             Ok(same)
         }
-        Pair::Members(xs, ys) => { equal_lists(objects, steps, xs, ys, left) }
-        Pair::Entries(xs, ys) => { equal_dicts(objects, steps, xs, ys, left) }
+        Pair::Members(xs, ys) => equal_lists(objects, steps, xs, ys, left),
+        Pair::Entries(xs, ys) => equal_dicts(objects, steps, xs, ys, left),
     }
 }
 
@@ -232,7 +232,7 @@ fn equal_found(
     ensures { Says (equal_found (equal left (map object_of objects.now)) x found steps.old) result steps.new }
 {
     match found {
-        Some(entry) => { equal(objects, steps, x, entry.value, left) }
+        Some(entry) => equal(objects, steps, x, entry.value, left),
         None => Ok(false),
     }
 }

@@ -47,12 +47,12 @@ pub fn key(
     ensures { SaysItems (key left (map object_of objects.now) x steps.old) result steps.new }
 {
     match as_key(objects, x)? {
-        AsKey::Part(part) => { one_part(alloc, steps, part) }
+        AsKey::Part(part) => one_part(alloc, steps, part),
         AsKey::NoKey => {
             tick(steps)?;
             Err(Halt::Code(5))
         }
-        AsKey::Parts(members) => { tuple_key(alloc, objects, steps, members, left) }
+        AsKey::Parts(members) => tuple_key(alloc, objects, steps, members, left),
     }
 }
 

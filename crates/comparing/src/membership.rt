@@ -48,7 +48,7 @@ pub fn has(heap: &mut Heap, x: Val, a: Val) -> Result<bool, Halt>
     ensures { Says (has x a (store_of heap.old)) result (store_of heap.new) }
 {
     match a {
-        Val::At(place) => { object_has(heap, place, x) }
+        Val::At(place) => object_has(heap, place, x),
         _ => Err(Halt::Code(5)),
     }
 }
@@ -58,7 +58,7 @@ fn object_has(heap: &mut Heap, a: usize, x: Val) -> Result<bool, Halt>
     ensures { Says (object_has (at a (store_of heap.old)) x (store_of heap.old)) result (store_of heap.new) }
 {
     match heap.objects.get(a) {
-        Some(Object::Text(whole)) => { text_has(heap.objects.as_slice(), whole.as_slice(), x) }
+        Some(Object::Text(whole)) => text_has(heap.objects.as_slice(), whole.as_slice(), x),
         Some(Object::List(members, _)) => {
             any_equal(
                 heap.objects.as_slice(),
@@ -77,7 +77,7 @@ fn object_has(heap: &mut Heap, a: usize, x: Val) -> Result<bool, Halt>
                 DEEPEST,
             )
         }
-        Some(Object::Dict(_, _)) => { hashed_has(heap, a, x) }
+        Some(Object::Dict(_, _)) => hashed_has(heap, a, x),
         Some(Object::Function(_, _)) => Err(Halt::Code(5)),
         None => Err(Halt::Code(5)),
     }

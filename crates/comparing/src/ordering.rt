@@ -73,7 +73,7 @@ pub fn order(
             tick(steps)?;
             Ok(o)
         }
-        Sides::Listed(xs, ys) => { order_lists(objects, steps, xs, ys, left) }
+        Sides::Listed(xs, ys) => order_lists(objects, steps, xs, ys, left),
         Sides::NoOrder => {
             tick(steps)?;
             Err(Halt::Code(5))
@@ -99,7 +99,7 @@ fn order_lists(
     tick(steps)?;
     match part(objects, steps, xs, ys, left - 1)? {
         Parting::SettledAs(o) => Ok(o),
-        Parting::Unequal(x, y) => { order(objects, steps, x, y, left - 1) }
+        Parting::Unequal(x, y) => order(objects, steps, x, y, left - 1),
     }
 }
 

@@ -33,7 +33,7 @@ pub fn index(heap: &mut Heap, a: Val, i: Val) -> Result<Val, Halt>
     ensures { Says (index a i (store_of heap.old)) result (store_of heap.new) }
 {
     match a {
-        Val::At(place) => { index_object(heap, place, i) }
+        Val::At(place) => index_object(heap, place, i),
         _ => Err(Halt::Code(5)),
     }
 }
@@ -47,9 +47,9 @@ fn index_object(heap: &mut Heap, a: usize, i: Val) -> Result<Val, Halt>
             let byte = found_at(bytes.as_slice(), i)?;
             make_letter(heap, byte)
         }
-        Some(Object::List(members, _)) => { found_at(members.as_slice(), i) }
-        Some(Object::Tuple(members)) => { found_at(members.as_slice(), i) }
-        Some(Object::Dict(_, _)) => { found_key(heap, a, i) }
+        Some(Object::List(members, _)) => found_at(members.as_slice(), i),
+        Some(Object::Tuple(members)) => found_at(members.as_slice(), i),
+        Some(Object::Dict(_, _)) => found_key(heap, a, i),
         Some(Object::Function(_, _)) => Err(Halt::Code(5)),
         None => Err(Halt::Code(5)),
     }
@@ -91,7 +91,7 @@ pub fn slice(heap: &mut Heap, a: Val, i: Val, j: Val) -> Result<Val, Halt>
     ensures { Says (slice a i j (store_of heap.old)) result (store_of heap.new) }
 {
     match a {
-        Val::At(place) => { slice_object(heap, place, i, j) }
+        Val::At(place) => slice_object(heap, place, i, j),
         _ => Err(Halt::Code(5)),
     }
 }
@@ -122,7 +122,7 @@ pub fn items(heap: &Heap, a: Val) -> Result<Vec<Val>, Halt>
     ensures { ChecksItems (items a (store_of heap.now)) result }
 {
     match a {
-        Val::At(place) => { object_items(heap, place) }
+        Val::At(place) => object_items(heap, place),
         _ => Err(Halt::Code(5)),
     }
 }

@@ -46,8 +46,8 @@ fn object_method(heap: &mut Heap, a: usize, name: &str, xs: &[Val]) -> Result<Va
             let whole = bytes.share()?;
             text_method(heap, whole.as_slice(), name, xs)
         }
-        Some(Object::List(_, _)) => { list_method(heap, a, name, xs) }
-        Some(Object::Dict(_, _)) => { dict_method(heap, a, name, xs) }
+        Some(Object::List(_, _)) => list_method(heap, a, name, xs),
+        Some(Object::Dict(_, _)) => dict_method(heap, a, name, xs),
         Some(Object::Tuple(_)) => Err(Halt::Code(5)),
         Some(Object::Function(_, _)) => Err(Halt::Code(5)),
         None => Err(Halt::Code(5)),
