@@ -15,7 +15,7 @@ pub fn find_target(found: &mut Found, target: &Expr) -> Result<(), Memory>
     ensures { OnOk result (Finds found.old (target_names (tree_of target.now)) found.new) }
 {
     match target {
-        Expr::Name(x) => find(found, x)?,
+        Expr::Name(x, _) => find(found, x)?,
         Expr::Tuple(es) => find_targets(found, es.as_slice())?,
         Expr::List(es) => find_targets(found, es.as_slice())?,
         _ => {}

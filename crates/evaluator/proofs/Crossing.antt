@@ -26,7 +26,7 @@ use Rattle.freezing.specs.contracts.value.FrozenValue
 use Rattle.module_values.specs.contracts.bindings.Function
 use Rattle.module_values.specs.contracts.modules.Loaded
 use Rattle.module_values.specs.contracts.modules.Module
-use Rattle.names.proofs.state.Slot.TheSendSync as SlotSends
+use Rattle.names.proofs.state.Block.TheSendSync as BlockSends
 use Rattle.names.proofs.state.Standing.TheSendSync as StandingSends
 use Rattle.names.proofs.state.State.TheSendSync as StateSends
 use Rattle.pieces.proofs.aims.Aim.TheLaws.TheKnot as aims
@@ -72,7 +72,7 @@ entries_send e h b w = IndexMapSends.the_send _ _ _ _ Hasher.the_row _ _ _ _ _ K
 
 ruleset plain_cross = (ValSends.the_field_send, ValSends.the_send, BuiltinSends.the_field_send, TextSends.the_send, TextSends.the_sync, BinarySends.the_field_send, UnarySends.the_field_send)
 
-ruleset parts_cross = (ExitSends.the_field_send, PurposeSends.the_field_send, StandingSends.the_field_send, SlotSends.the_send, GatheredSends.the_field_send, entries_send)
+ruleset parts_cross = (ExitSends.the_field_send, PurposeSends.the_field_send, StandingSends.the_field_send, BlockSends.the_send, GatheredSends.the_field_send, entries_send)
 
 aim_send : IsSend Aim.the_row
 aim_send = search (aims.crosses, crosses, sendable) depth 60 fits 20000

@@ -12,10 +12,11 @@ use calls::comprehension_block;
 use frames::{Comprehension, Control, Exit, Frame, Gathering, Signal, push};
 use heap::{Builtin, Bytes, Halt, Object, Val};
 use modules::keep_defaults;
-use names::{Standing, State, bind};
+use names::{Block, Standing, State, bind};
 use pieces::{Aim, add, call_builtin, call_method, items, lock, nothing_yet, store};
 use std::alloc::Global;
 use std::sync::Arc;
+use std::sync::atomic::AtomicUsize;
 use texts::Text;
 use tree::{Def, Expr};
 
@@ -84,7 +85,8 @@ pub fn begin_block(
     let members = items(&state.heap, x)?;
     lock(&mut state.heap, x)?;
     let alloc = state.heap.alloc;
-    let block = comprehension_block(alloc, of.clauses.as_slice())?;
+    let slots = comprehension_block(alloc, of.clauses.as_slice())?;
+    let block = Block::new(slots)?;
     state.blocks.insert(0, block)?;
     push(frames, Frame::EndBlock)?;
     let turns = Gathering {
@@ -119,7 +121,7 @@ pub fn define(
     if let Err(halt) = keep_defaults(state, &at.label, name, xs) {
         return Err(halt);
     }
-    if let Err(halt) = bind(state, at, name, made) {
+    if let Err(halt) = bind(state, at, name, &AtomicUsize::new(0), made) {
         return Err(halt);
     }
     Ok(Control::Signal(Signal::Exit(Exit::GoesOn)))

@@ -25,7 +25,7 @@ use frames::{Caller, Control, Exit, Frame, Signal, given, push};
 use grammar::FileKind;
 use heap::{Bytes, Halt, Heap, Object, Val};
 use modules::need_names;
-use names::{Slot, Standing};
+use names::{Block, Slot, Standing};
 use std::alloc::Global;
 use std::mem;
 use std::sync::Arc;
@@ -124,7 +124,8 @@ fn begin_body(
     ensures err { IsOkUnless result Memory }
     ensures light { IfOk result (λ control. (m.new.state.heap ≡ m.old.state.heap) × (frames_weight m.new.frames.items + control_weight control ≡ frames_weight m.old.frames.items + 3)) }
 {
-    let block = function_block(def, parameters)?;
+    let slots = function_block(def, parameters)?;
+    let block = Block::new(slots)?;
     let mut blocks = Vec::new(m.state.heap.alloc);
     blocks.push(block)?;
     let open = Open {

@@ -16,7 +16,7 @@ use heap::{Halt, Heap};
 use made_targets::targets_made;
 use module_values::{Loaded, Module};
 use modules::{frozen_module, load_items};
-use names::{FileNames, Standing, State};
+use names::{Block, FileNames, Standing, State};
 use pieces::tick;
 use std::alloc::Global;
 use texts::Memory;
@@ -41,10 +41,11 @@ pub fn level(e: &Environment) -> Result<Standing, Memory>
 pub fn first_state(alloc: Global, e: &Environment) -> Result<State, Memory>
     ensures { IfOk result (λ state. world_of state ≡ start all_steps (env_of e.now)) }
 {
-    let block = match file_block(alloc, &e.file) {
-        Ok(block) => block,
+    let slots = match file_block(alloc, &e.file) {
+        Ok(slots) => slots,
         Err(_) => return Err(Memory),
     };
+    let block = Block::new(slots)?;
     let label = e.label.share()?;
     let mut files = Vec::new(alloc);
     files.push(FileNames {

@@ -11,7 +11,7 @@ pub fn is_target(e: &Expr) -> bool
     ensures { result ≡ is_target (tree_of e.now) }
 {
     match e {
-        Expr::Name(_) => true,
+        Expr::Name(_, _) => true,
         Expr::Index(_, _) => true,
         Expr::Tuple(items) => are_targets(items.as_slice()),
         Expr::List(items) => are_targets(items.as_slice()),

@@ -3,6 +3,7 @@ use Rattle.std.proofs.Common.{◌≡◌, ℕ, sym, ap, ◌∙◌, map, Vec, Glob
 use Rattle.std.specs.declared.sync.Arc.{Arc}
 use Rattle.std.specs.Arc.{arc_value}
 use Rattle.texts.specs.declared.text.Text.{Text}
+use Rattle.std.specs.declared.sync.atomic.AtomicUsize.{AtomicUsize}
 use Rattle.tree.specs.Tree as t
 use Rattle.tree.specs.Tree.{Ex, Cl, St, Br}
 use Rattle.tree.specs.declared.expr.BinaryOp.{BinaryOp}
@@ -24,8 +25,8 @@ use Rattle.pieces.specs.declared.aims.Aim.TheOpen.{Aim-F}
 use Rattle.pieces.specs.declared.aims.Aim.TheVariants.{Each, rolls-Each}
 use Rattle.tree.specs.View.{tree_of, trees_of, clause_trees, shared_tree, clause_of, expr_step, clause_step}
 
-pub tree-Name : (n : Text) → tree_of (x.Name n) ≡ t.name n
-tree-Name n = ap tree_of (sym (x.rolls-Name n)) ∙ fold-roll-Expr Cl Ex clause_step expr_step (Expr-F.Name n)
+pub tree-Name : (n : Text) (last : AtomicUsize) → tree_of (x.Name n last) ≡ t.name n
+tree-Name n last = ap tree_of (sym (x.rolls-Name n last)) ∙ fold-roll-Expr Cl Ex clause_step expr_step (Expr-F.Name n last)
 
 pub tree-Tuple : (es : Arc (Vec Expr Global) Global) → tree_of (x.Tuple es) ≡ t.tuple (trees_of (arc_value es).items)
 tree-Tuple es = ap tree_of (sym (x.rolls-Tuple es)) ∙ fold-roll-Expr Cl Ex clause_step expr_step (Expr-F.Tuple es)

@@ -47,7 +47,7 @@ use Rattle.language.specs.Statements as s
 use Rattle.language.specs.Statements.{goes_on, breaks, continues, returns, unless_over, added, changed, present, after_turn, turns, turn, exec, suite, first_true}
 use Rattle.language.specs.Calls.{call, given}
 use Rattle.language.specs.Files.{keep_defaults}
-use Rattle.names.specs.View.{block_of, here_of}
+use Rattle.names.specs.View.{held, here_of}
 use Rattle.pieces.specs.View.{before, aim_of, gathered_of}
 use Rattle.frames.specs.declared.frame.Exit.{Exit}
 use Rattle.frames.specs.declared.frame.Exit.TheVariants as x
@@ -340,7 +340,7 @@ module _ (env : Env) (n : ℕ) (here : Here) where
   frame_does (f.Turn u v) = on_aim (on u.value.line) λ a. exited ((store a v (on u.value.line) >>= λ _. body (shared_suite u.value.body)) >>= turns_behind u.value)
   frame_does (f.Turns u) = on_exit (on u.value.line) λ exit. exited (turns_behind u.value exit)
   frame_does (f.Rest ss next) = on_exit here λ exit. exited (unless_over exit (body (suite_from next ss)))
-  frame_does (f.Leave caller) = on_exit here λ exit w. ended (a_value (given exit)) (with_blocks (map block_of caller.value.blocks.items) w)
+  frame_does (f.Leave caller) = on_exit here λ exit w. ended (a_value (given exit)) (with_blocks (map held caller.value.blocks.items) w)
   frame_does (f.First line target comp) = on_value (on line) λ v. gathered (first_does (shared_tree target) (arc_value comp) line v)
   frame_does (f.Each line target comp inner got) = on_value (on line) λ v. gathered (each_does (shared_tree target) (arc_value comp) inner line (gathered_of got.value) v)
   frame_does (f.Only line comp inner got) = on_value (on line) λ v. gathered (by_truth v (clauses_do (arc_value comp) inner line (gathered_of got.value)) (pure (gathered_of got.value)))

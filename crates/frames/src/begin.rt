@@ -49,7 +49,7 @@ pub fn begin(
     tick(&mut state.heap)?;
     let alloc = state.heap.alloc;
     match e {
-        Expr::Name(x) => match read(state, at, x) {
+        Expr::Name(x, last) => match read(state, at, x, last) {
             Ok(value) => Ok(Control::Signal(Signal::Value(value))),
             Err(halt) => Err(halt),
         },
@@ -145,7 +145,7 @@ fn is_native(state: &State, at: &Standing, e: &Expr) -> bool
     ensures { (line : ℕ) (running : List (List ℕ × List ℕ)) → result ≡ is_native_name (tree_of e.now) (here_of at.now line running) (world_of state.now) }
 {
     match e {
-        Expr::Name(x) => is_native_name(state, at, x),
+        Expr::Name(x, last) => is_native_name(state, at, x, last),
         _ => false,
     }
 }

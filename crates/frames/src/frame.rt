@@ -2,7 +2,7 @@
 
 use heap::{Builtin, Entry, Key, Val};
 use indexmap::IndexMap;
-use names::{Slot, Standing};
+use names::{Block, Standing};
 use pieces::{Aim, Gathered};
 use std::alloc::Global;
 use std::sync::Arc;
@@ -102,7 +102,7 @@ pub struct Pairs {
 #[derive(Drop)]
 pub struct Caller {
     pub at: Standing,
-    pub blocks: Vec<Vec<Slot>>,
+    pub blocks: Vec<Block>,
     pub left: usize,
 }
 

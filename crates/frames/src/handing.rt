@@ -22,6 +22,7 @@ use names::{Standing, State, bind};
 use pieces::{Aim, both, fresh, index, is_true, one_entry, one_more, slice, store};
 use std::alloc::Global;
 use std::sync::Arc;
+use std::sync::atomic::AtomicUsize;
 use texts::Text;
 use tree::{BinaryOp, Expr};
 
@@ -31,12 +32,13 @@ fn assign_name(
     at: &Standing,
     line: usize,
     name: &Text,
+    last: &AtomicUsize,
     x: Val,
 ) -> Result<Control, Halt>
     ensures goes { (env : Env) (n : ℕ) (running : List (List ℕ × List ℕ)) (frames : List Frame) → let here = here_of at.now at.now.line running in Goes (on env n here line).site (above env n here (assigned env n here (t.name name.now) x line) frames (world_of state.old)) result (λ control. machine_does env n here control frames (world_of state.new)) }
     ensures light { IfOk result (λ control. (state.new.heap ≡ state.old.heap) × (control_weight control ≡ 0)) }
 {
-    if let Err(halt) = bind(state, at, name, x) {
+    if let Err(halt) = bind(state, at, name, last, x) {
         return Err(halt);
     }
     Ok(Control::Signal(Signal::Exit(Exit::GoesOn)))
@@ -55,7 +57,7 @@ fn assign(
     ensures lighter { IfOk result (λ control. Lighter state.old.heap.steps (frames_weight frames.old.items + (aim_size (shared_tree target.now) + 4)) state.new.heap.steps (frames_weight frames.new.items + control_weight control)) }
 {
     match &**target {
-        Expr::Name(name) => assign_name(state, at, line, name, x),
+        Expr::Name(name, last) => assign_name(state, at, line, name, last, x),
         _ => {
             push(frames, Frame::Store(line, x))?;
             begin_aim(state, frames, at, line, target)

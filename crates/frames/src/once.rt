@@ -29,9 +29,9 @@ fn at_once(state: &mut State, at: &Standing, e: &Expr) -> Result<Option<Val>, Ha
     ensures costs { Costs result state.old state.new }
 {
     match e {
-        Expr::Name(x) => {
+        Expr::Name(x, last) => {
             tick(&mut state.heap)?;
-            match read(state, at, x) {
+            match read(state, at, x, last) {
                 Ok(value) => Ok(Some(value)),
                 Err(halt) => Err(halt),
             }

@@ -13,10 +13,11 @@ use crate::frame::{Control, Frame, Signal};
 use crate::items::begin_above;
 use crate::stack::push;
 use heap::Halt;
-use names::{Standing, State};
+use names::{Standing, State, slot};
 use pieces::Aim;
 use std::alloc::Global;
 use std::sync::Arc;
+use std::sync::atomic::Ordering;
 use tree::Expr;
 
 /// A target, above a frame that waits for what it aims at.
@@ -45,7 +46,12 @@ pub fn begin_aim(
     ensures lighter { IfOk result (λ control. Lighter state.old.heap.steps (frames_weight frames.old.items + aim_size (tree_of e.now)) state.new.heap.steps (frames_weight frames.new.items + control_weight control)) }
 {
     match e {
-        Expr::Name(x) => Ok(Control::Signal(Signal::Aim(Aim::Name(x.share()?)))),
+        Expr::Name(x, last) => {
+            // The name is looked for, so that its place is known from here on.
+            let _slot = slot(state, at, x, last);
+            let place = last.load(Ordering::Relaxed);
+            Ok(Control::Signal(Signal::Aim(Aim::Name(x.share()?, place))))
+        }
         Expr::Index(a, i) => {
             let frame = Frame::Container(line, Arc::try_clone(i)?);
             begin_above(state, frames, at, frame, line, a)

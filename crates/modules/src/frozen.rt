@@ -82,7 +82,7 @@ pub fn freeze_globals(
     ensures steps { IfOk result (λ _. heap.new.steps ≤ heap.old.steps) }
 {
     match file_with(files, label) {
-        Some(file) => freeze_names(heap, file.block.as_slice(), names),
+        Some(file) => freeze_names(heap, file.block.slots.as_slice(), names),
         None => freeze_names(heap, &[], names),
     }
 }

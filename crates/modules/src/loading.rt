@@ -9,6 +9,7 @@ use crate::thawed::thaw_value;
 use heap::Halt;
 use module_values::Module;
 use names::{Standing, State, bind};
+use std::sync::atomic::AtomicUsize;
 use tree::LoadItem;
 
 // Binds an item of a load.
@@ -23,7 +24,7 @@ fn load_item(state: &mut State, at: &Standing, body: &Module, item: &LoadItem) -
         Ok(x) => x,
         Err(halt) => return Err(halt),
     };
-    bind(state, at, &item.local, x)
+    bind(state, at, &item.local, &AtomicUsize::new(0), x)
 }
 
 /// Binds the items of a load, in order. It takes no steps.

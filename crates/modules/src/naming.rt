@@ -9,7 +9,7 @@ use crate::thawed::{thaw_defaults, thaw_names};
 use calls::file_with;
 use heap::Halt;
 use module_values::{Loaded, Module};
-use names::{FileNames, State};
+use names::{Block, FileNames, State};
 use texts::Text;
 
 // Puts the names of a module on the heap.
@@ -17,11 +17,11 @@ fn thaw_body(state: &mut State, body: &Module) -> Result<(), Halt>
     ensures says { (here : Here) → Ran here.site (thaw_body (Some body.now) here (world_of state.old)) result (world_of state.new) }
     ensures steps { IfOk result (λ _. state.new.heap.steps ≡ state.old.heap.steps) }
 {
-    let mut block = Vec::new(state.heap.alloc);
-    if let Err(halt) = thaw_names(&mut state.heap, body.own(), &mut block) {
+    let mut slots = Vec::new(state.heap.alloc);
+    if let Err(halt) = thaw_names(&mut state.heap, body.own(), &mut slots) {
         return Err(halt);
     }
-    if let Err(halt) = thaw_names(&mut state.heap, body.loaded(), &mut block) {
+    if let Err(halt) = thaw_names(&mut state.heap, body.loaded(), &mut slots) {
         return Err(halt);
     }
     let defaults = match thaw_defaults(&mut state.heap, body.defaults()) {
@@ -29,6 +29,7 @@ fn thaw_body(state: &mut State, body: &Module) -> Result<(), Halt>
         Err(halt) => return Err(halt),
     };
     let label = body.label().share()?;
+    let block = Block::new(slots)?;
     state.files.push(FileNames {
         label,
         block,

@@ -1,5 +1,5 @@
 -- The first item that passes a test: how a search goes on, and what it finds in blocks and files.
-use Rattle.std.proofs.Common.{◌≡◌, ◌<◌, ◌+◌, ◌++◌, ℕ, zero, suc, Bool, true, false, cond, List, [], ◌∷◌, length, take, get_or, map, Option, Some, None, is_some, refl, ap, sym, ◌∙◌, arith, add-one, Vec, Global}
+use Rattle.std.proofs.Common.{◌≡◌, ◌<◌, ◌+◌, ◌++◌, ℕ, zero, suc, Bool, true, false, cond, List, [], ◌∷◌, length, take, get_or, map, Option, Some, None, is_some, refl, ap, sym, ◌∙◌, arith, add-one}
 use Rattle.std.specs.Prelude.{slice_set}
 use Rattle.meaning.specs.declared.val.Val.{Val}
 use Rattle.meaning.specs.declared.val.Builtin.{Builtin}
@@ -8,8 +8,9 @@ use Rattle.meaning.specs.Comparing.{same_text}
 use Rattle.language.specs.World.{Names, World, Here, ended, failed}
 use Rattle.language.specs.Names.{slot_in, bind_in, slot_among, bind_among, or_else, names_at, change_names, first_named, slot, read, read_slot, bind, bind_global, file_slot}
 use Rattle.names.specs.declared.state.Slot.{Slot}
+use Rattle.names.specs.declared.state.Block as m
 use Rattle.names.specs.declared.state.FileNames.{FileNames}
-use Rattle.names.specs.View.{slot_of, slots_of, block_of, names_of}
+use Rattle.names.specs.View.{slot_of, slots_of, held, names_of}
 use Rattle.names.specs.Places.{NoneSo, is_slot, has_slot, is_file}
 
 none_suc : {X : Type 0} → (test : X → Bool) (xs : List X) (i : ℕ) (d : X) → i < length xs → NoneSo test (take i xs) → test (get_or xs i d) ≡ false → NoneSo test (take (suc i) xs)
@@ -25,6 +26,11 @@ pub slot_none : (x : List ℕ) (slots : List Slot) → NoneSo (is_slot x) slots 
 slot_none x [] h = refl
 slot_none x (s ∷ ss) h = ap (λ t. cond t (Some s.value) (slot_in x (slots_of ss))) h.0 ∙ slot_none x ss h.1
 
+pub slot_there : (x : List ℕ) (slots : List Slot) (i : ℕ) (d : Slot) → i < length slots → NoneSo (is_slot x) (take i slots) → same_text x (get_or slots i d).name ≡ true → slot_in x (slots_of slots) ≡ Some (get_or slots i d).value
+slot_there x [] i d lt h e = absurd (omega arith)
+slot_there x (s ∷ ss) zero d lt h e = ap (λ t. cond t (Some s.value) (slot_in x (slots_of ss))) e
+slot_there x (s ∷ ss) (suc i) d lt h e = ap (λ t. cond t (Some s.value) (slot_in x (slots_of ss))) h.0 ∙ slot_there x ss i d (omega arith) h.1 e
+
 pub bind_none : (x : List ℕ) (v : Val) (slots : List Slot) → NoneSo (is_slot x) slots → bind_in x v (slots_of slots) ≡ slots_of slots
 bind_none x v [] h = refl
 bind_none x v (s ∷ ss) h = ap (λ t. cond t ((s.name, Some v) ∷ slots_of ss) (slot_of s ∷ bind_in x v (slots_of ss))) h.0 ∙ ap (λ l. slot_of s ∷ l) (bind_none x v ss h.1)
@@ -39,27 +45,27 @@ not_some None e = refl
 not_some (Some a) e = cc
 
 -- no block has the name
-pub among_none : (x : List ℕ) (blocks : List (Vec Slot Global)) → NoneSo (has_slot x) blocks → slot_among x (map block_of blocks) ≡ None
+pub among_none : (x : List ℕ) (blocks : List m.Block) → NoneSo (has_slot x) blocks → slot_among x (map held blocks) ≡ None
 among_none x [] h = refl
-among_none x (b ∷ bs) h = ap (λ o. or_else o (slot_among x (map block_of bs))) (not_some (slot_in x (block_of b)) h.0) ∙ among_none x bs h.1
+among_none x (b ∷ bs) h = ap (λ o. or_else o (slot_among x (map held bs))) (not_some (slot_in x (held b)) h.0) ∙ among_none x bs h.1
 
-pub bind_among_none : (x : List ℕ) (v : Val) (blocks : List (Vec Slot Global)) → NoneSo (has_slot x) blocks → bind_among x v (map block_of blocks) ≡ map block_of blocks
+pub bind_among_none : (x : List ℕ) (v : Val) (blocks : List m.Block) → NoneSo (has_slot x) blocks → bind_among x v (map held blocks) ≡ map held blocks
 bind_among_none x v [] h = refl
-bind_among_none x v (b ∷ bs) h = ap (λ t. cond t (bind_in x v (block_of b) ∷ map block_of bs) (block_of b ∷ bind_among x v (map block_of bs))) h.0 ∙ ap (λ l. block_of b ∷ l) (bind_among_none x v bs h.1)
+bind_among_none x v (b ∷ bs) h = ap (λ t. cond t (bind_in x v (held b) ∷ map held bs) (held b ∷ bind_among x v (map held bs))) h.0 ∙ ap (λ l. held b ∷ l) (bind_among_none x v bs h.1)
 
 some_else : {A : Type 0} (o other : Option A) → is_some o ≡ true → is_some (or_else o other) ≡ true
 some_else None other e = cc
 some_else (Some a) other e = refl
 
-pub among_there : (x : List ℕ) (blocks : List (Vec Slot Global)) (i : ℕ) (d : Vec Slot Global) → i < length blocks → NoneSo (has_slot x) (take i blocks) → has_slot x (get_or blocks i d) ≡ true → is_some (slot_among x (map block_of blocks)) ≡ true
+pub among_there : (x : List ℕ) (blocks : List m.Block) (i : ℕ) (d : m.Block) → i < length blocks → NoneSo (has_slot x) (take i blocks) → has_slot x (get_or blocks i d) ≡ true → is_some (slot_among x (map held blocks)) ≡ true
 among_there x [] i d lt h e = absurd (omega arith)
-among_there x (b ∷ bs) zero d lt h e = some_else (slot_in x (block_of b)) (slot_among x (map block_of bs)) e
-among_there x (b ∷ bs) (suc i) d lt h e = ap (λ o. is_some (or_else o (slot_among x (map block_of bs)))) (not_some (slot_in x (block_of b)) h.0) ∙ among_there x bs i d (omega arith) h.1 e
+among_there x (b ∷ bs) zero d lt h e = some_else (slot_in x (held b)) (slot_among x (map held bs)) e
+among_there x (b ∷ bs) (suc i) d lt h e = ap (λ o. is_some (or_else o (slot_among x (map held bs)))) (not_some (slot_in x (held b)) h.0) ∙ among_there x bs i d (omega arith) h.1 e
 
-pub bind_among_there : (x : List ℕ) (v : Val) (blocks : List (Vec Slot Global)) (i : ℕ) (d b' : Vec Slot Global) → i < length blocks → NoneSo (has_slot x) (take i blocks) → has_slot x (get_or blocks i d) ≡ true → block_of b' ≡ bind_in x v (block_of (get_or blocks i d)) → bind_among x v (map block_of blocks) ≡ map block_of (slice_set blocks i b')
+pub bind_among_there : (x : List ℕ) (v : Val) (blocks : List m.Block) (i : ℕ) (d b' : m.Block) → i < length blocks → NoneSo (has_slot x) (take i blocks) → has_slot x (get_or blocks i d) ≡ true → held b' ≡ bind_in x v (held (get_or blocks i d)) → bind_among x v (map held blocks) ≡ map held (slice_set blocks i b')
 bind_among_there x v [] i d b' lt h e is = absurd (omega arith)
-bind_among_there x v (b ∷ bs) zero d b' lt h e is = ap (λ t. cond t (bind_in x v (block_of b) ∷ map block_of bs) (block_of b ∷ bind_among x v (map block_of bs))) e ∙ ap (λ l. l ∷ map block_of bs) (sym is)
-bind_among_there x v (b ∷ bs) (suc i) d b' lt h e is = ap (λ t. cond t (bind_in x v (block_of b) ∷ map block_of bs) (block_of b ∷ bind_among x v (map block_of bs))) h.0 ∙ ap (λ l. block_of b ∷ l) (bind_among_there x v bs i d b' (omega arith) h.1 e is)
+bind_among_there x v (b ∷ bs) zero d b' lt h e is = ap (λ t. cond t (bind_in x v (held b) ∷ map held bs) (held b ∷ bind_among x v (map held bs))) e ∙ ap (λ l. l ∷ map held bs) (sym is)
+bind_among_there x v (b ∷ bs) (suc i) d b' lt h e is = ap (λ t. cond t (bind_in x v (held b) ∷ map held bs) (held b ∷ bind_among x v (map held bs))) h.0 ∙ ap (λ l. held b ∷ l) (bind_among_there x v bs i d b' (omega arith) h.1 e is)
 
 -- no file has the label
 pub names_none : (label : List ℕ) (files : List FileNames) → NoneSo (is_file label) files → names_at label (map names_of files) ≡ None
@@ -99,13 +105,13 @@ unfolding bind
 bind_file x value here w e = ap (λ b. cond b (λ (u : World). ended tt (record u { blocks = bind_among x value u.blocks })) (bind_global (file_slot x (names_at here.label w.files)) x value here) w) e
 
 -- what a file has at a name
-slot_there : (label x : List ℕ) (files : List FileNames) (u : World) (i : ℕ) (d : FileNames) → u.files ≡ map names_of files → i < length files → NoneSo (is_file label) (take i files) → same_text label (get_or files i d).label ≡ true → file_slot x (names_at label u.files) ≡ slot_in x (block_of (get_or files i d).block)
-slot_there label x files u i d is lt h e = ap (λ fs. file_slot x (names_at label fs)) is ∙ ap (λ o. file_slot x o) (names_there label files i d lt h e)
+slot_of_file : (label x : List ℕ) (files : List FileNames) (u : World) (i : ℕ) (d : FileNames) → u.files ≡ map names_of files → i < length files → NoneSo (is_file label) (take i files) → same_text label (get_or files i d).label ≡ true → file_slot x (names_at label u.files) ≡ slot_in x (held (get_or files i d).block)
+slot_of_file label x files u i d is lt h e = ap (λ fs. file_slot x (names_at label fs)) is ∙ ap (λ o. file_slot x o) (names_there label files i d lt h e)
 
-pub global_bound : (label x : List ℕ) (value : Val) (files : List FileNames) (u : World) (here : Here) (i : ℕ) (d f' : FileNames) → here.label ≡ label → u.files ≡ map names_of files → i < length files → NoneSo (is_file label) (take i files) → same_text label (get_or files i d).label ≡ true → slot_in x (block_of (get_or files i d).block) ≡ Some None → names_of f' ≡ record (names_of (get_or files i d)) { block = bind_in x value (block_of (get_or files i d).block) } → bind_global (file_slot x (names_at label u.files)) x value here u ≡ ended tt (record u { files = map names_of (slice_set files i f') })
+pub global_bound : (label x : List ℕ) (value : Val) (files : List FileNames) (u : World) (here : Here) (i : ℕ) (d f' : FileNames) → here.label ≡ label → u.files ≡ map names_of files → i < length files → NoneSo (is_file label) (take i files) → same_text label (get_or files i d).label ≡ true → slot_in x (held (get_or files i d).block) ≡ Some None → names_of f' ≡ record (names_of (get_or files i d)) { block = bind_in x value (held (get_or files i d).block) } → bind_global (file_slot x (names_at label u.files)) x value here u ≡ ended tt (record u { files = map names_of (slice_set files i f') })
 global_bound label x value files u here i d f' at is lt h e free made =
     let change = λ (f : Names). record f { block = bind_in x value f.block } in
-    ap (λ o. bind_global o x value here u) (slot_there label x files u i d is lt h e ∙ free)
+    ap (λ o. bind_global o x value here u) (slot_of_file label x files u i d is lt h e ∙ free)
     ∙ ap (λ l. ended tt (record u { files = change_names l change u.files })) at
     ∙ ap (λ fs. ended tt (record u { files = change_names label change fs })) is
     ∙ ap (λ fs. ended tt (record u { files = fs })) (change_there label change files i d f' lt h e made)
@@ -115,8 +121,8 @@ refused None x value here u n = refl
 refused (Some None) x value here u n = absurd (n refl)
 refused (Some (Some y)) x value here u n = refl
 
-pub global_refused : (label x : List ℕ) (value : Val) (files : List FileNames) (u : World) (here : Here) (i : ℕ) (d : FileNames) (o : Option (Option Val)) → u.files ≡ map names_of files → i < length files → NoneSo (is_file label) (take i files) → same_text label (get_or files i d).label ≡ true → slot_in x (block_of (get_or files i d).block) ≡ o → (o ≡ Some None → ⊥) → bind_global (file_slot x (names_at label u.files)) x value here u ≡ failed 26 here.site
-global_refused label x value files u here i d o is lt h e there n = ap (λ o. bind_global o x value here u) (slot_there label x files u i d is lt h e ∙ there) ∙ refused o x value here u n
+pub global_refused : (label x : List ℕ) (value : Val) (files : List FileNames) (u : World) (here : Here) (i : ℕ) (d : FileNames) (o : Option (Option Val)) → u.files ≡ map names_of files → i < length files → NoneSo (is_file label) (take i files) → same_text label (get_or files i d).label ≡ true → slot_in x (held (get_or files i d).block) ≡ o → (o ≡ Some None → ⊥) → bind_global (file_slot x (names_at label u.files)) x value here u ≡ failed 26 here.site
+global_refused label x value files u here i d o is lt h e there n = ap (λ o. bind_global o x value here u) (slot_of_file label x files u i d is lt h e ∙ there) ∙ refused o x value here u n
 
 pub global_absent : (label x : List ℕ) (value : Val) (files : List FileNames) (u : World) (here : Here) → u.files ≡ map names_of files → NoneSo (is_file label) files → bind_global (file_slot x (names_at label u.files)) x value here u ≡ failed 26 here.site
 global_absent label x value files u here is none = ap (λ fs. bind_global (file_slot x (names_at label fs)) x value here u) is ∙ ap (λ o. bind_global (file_slot x o) x value here u) (names_none label files none)

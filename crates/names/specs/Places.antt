@@ -5,9 +5,8 @@ use Rattle.meaning.specs.Comparing.{same_text}
 use Rattle.language.specs.Names.{slot_in}
 use Rattle.names.specs.declared.state.Slot.{Slot}
 use Rattle.names.specs.declared.state.FileNames.{FileNames}
-use Rattle.names.specs.View.{block_of}
-use Rattle.std.specs.declared.vec.Vec.{Vec}
-use Rattle.std.specs.declared.alloc.Global.{Global}
+use Rattle.names.specs.declared.state.Block.{Block}
+use Rattle.names.specs.View.{held}
 
 abbrev pub NoneSo : {X : Type 0} → (X → Bool) → List X → Type 0
 NoneSo test [] = Unit {0}
@@ -25,8 +24,8 @@ FirstPlace test xs (Some i) = FirstSo test xs i
 abbrev pub is_slot : List ℕ → Slot → Bool
 is_slot x s = same_text x s.name
 
-abbrev pub has_slot : List ℕ → Vec Slot Global → Bool
-has_slot x block = is_some (slot_in x (block_of block))
+abbrev pub has_slot : List ℕ → Block → Bool
+has_slot x block = is_some (slot_in x (held block))
 
 abbrev pub is_file : List ℕ → FileNames → Bool
 is_file label f = same_text label f.label

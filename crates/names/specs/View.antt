@@ -8,8 +8,9 @@ use Rattle.heap.specs.declared.halt.Halt.{Halt}
 use Rattle.heap.specs.declared.halt.Halt.TheVariants.{Code, Memory}
 use Rattle.heap.specs.View.{store_of}
 use Rattle.module_values.specs.Values as v
-use Rattle.language.specs.World.{World, Block, Names, Site, Here, Ends, ended, failed, waits}
+use Rattle.language.specs.World.{World, Block, Names, Site, Here, Ends, ended, failed}
 use Rattle.names.specs.declared.state.Slot.{Slot}
+use Rattle.names.specs.declared.state.Block as m
 use Rattle.names.specs.declared.state.Kept.{Kept}
 use Rattle.names.specs.declared.state.FileNames.{FileNames}
 use Rattle.names.specs.declared.state.Attribute.{Attribute}
@@ -28,11 +29,14 @@ slots_of slots = map slot_of slots
 abbrev pub block_of : Vec Slot Global → Block
 block_of block = map slot_of block.items
 
+abbrev pub held : m.Block → Block
+held b = block_of b.slots
+
 abbrev pub kept_of : Kept → List ℕ × List Val
 kept_of k = (k.function, k.values.items)
 
 abbrev pub names_of : FileNames → Names
-names_of f = record { label = f.label; block = block_of f.block; defaults = map kept_of f.defaults.items }
+names_of f = record { label = f.label; block = held f.block; defaults = map kept_of f.defaults.items }
 
 abbrev pub attribute_of : Attribute → v.Attribute
 attribute_of (a.Single text) = v.single text
@@ -47,7 +51,7 @@ target_of t = record { kind = builtin_name t.rule; name = t.name; attributes = m
 abbrev pub world_of : State → World
 world_of s = record {
   store = store_of s.heap;
-  blocks = map block_of s.blocks.items;
+  blocks = map held s.blocks.items;
   files = map names_of s.files.items;
   targets = map target_of s.targets.items;
 }

@@ -1,71 +1,43 @@
 //! Blocks of names.
 ghost use Rattle.std.specs.Prelude.{◌≡◌, false, map, is_some};
-ghost use Rattle.meaning.specs.Comparing.{same_text};
-ghost use Rattle.language.specs.Names.{slot_in, slot_among, bind_in, bind_among, names_at};
-ghost use Rattle.names.specs.View.{slots_of, block_of, names_of};
+ghost use Rattle.language.specs.Names.{slot_in, slot_among, bind_in, bind_among};
+ghost use Rattle.names.specs.View.{held};
 ghost use Rattle.names.specs.Places.{FirstPlace, is_slot, has_slot, is_file};
 
-use crate::state::{FileNames, Slot};
+use crate::places::place_in;
+use crate::state::{Block, FileNames};
 use heap::Val;
+use std::sync::atomic::AtomicUsize;
 use texts::Text;
 
-// Whether two names are the same. Most that differ do so in their lengths or first bytes.
-fn is_same(x: &Text, y: &Text) -> bool
-    ensures { result ≡ same_text x.now y.now }
-{
-    let a = x.as_str().as_bytes();
-    let b = y.as_str().as_bytes();
-    if a.len() != b.len() {
-        return false;
-    }
-    if a.len() > 0 && a[0] != b[0] {
-        return false;
-    }
-    *x == *y
-}
-
 /// What a block has at a name, where it has the name.
-pub fn slot_in(block: &[Slot], x: &Text) -> Option<Option<Val>>
-    ensures { result ≡ slot_in x.now (slots_of block.now) }
+pub fn slot_in(block: &Block, x: &Text, last: &AtomicUsize) -> Option<Option<Val>>
+    ensures { result ≡ slot_in x.now (held block.now) }
 {
-    for slot in block.iter() {
-        if is_same(x, &slot.name) {
-            return Some(slot.value);
-        }
+    match place_in(block, x, last) {
+        Some(i) => Some(block.slots[i].value),
+        None => None,
     }
-    None
 }
 
 /// What the innermost block that has a name has there.
-pub fn slot_among(blocks: &[Vec<Slot>], x: &Text) -> Option<Option<Val>>
-    ensures { result ≡ slot_among x.now (map block_of blocks.now) }
+pub fn slot_among(blocks: &[Block], x: &Text, last: &AtomicUsize) -> Option<Option<Val>>
+    ensures { result ≡ slot_among x.now (map held blocks.now) }
 {
     for block in blocks.iter() {
-        if let Some(value) = slot_in(block.as_slice(), x) {
+        if let Some(value) = slot_in(block, x, last) {
             return Some(value);
         }
     }
     None
 }
 
-// The place of a name in a block.
-fn place_in(block: &[Slot], x: &Text) -> Option<usize>
-    ensures { FirstPlace (is_slot x.now) block.now result }
-{
-    for i in 0..block.len() {
-        if is_same(x, &block[i].name) {
-            return Some(i);
-        }
-    }
-    None
-}
-
 // The innermost block that has a name.
-fn block_with(blocks: &[Vec<Slot>], x: &Text) -> Option<usize>
+fn block_with(blocks: &[Block], x: &Text, last: &AtomicUsize) -> Option<usize>
     ensures { FirstPlace (has_slot x.now) blocks.now result }
 {
     for i in 0..blocks.len() {
-        if slot_in(blocks[i].as_slice(), x).is_some() {
+        if slot_in(&blocks[i], x, last).is_some() {
             return Some(i);
         }
     }
@@ -85,26 +57,26 @@ pub fn file_at(files: &[FileNames], label: &Text) -> Option<usize>
 }
 
 /// Binds a name of a block, where the block has it.
-pub fn bind_in(block: &mut Vec<Slot>, x: &Text, value: Val)
-    ensures { block_of block.new ≡ bind_in x.now value (block_of block.old) }
+pub fn bind_in(block: &mut Block, x: &Text, last: &AtomicUsize, value: Val)
+    ensures { held block.new ≡ bind_in x.now value (held block.old) }
 {
-    if let Some(i) = place_in(block.as_slice(), x) {
-        if let Some(slot) = block.get_mut(i) {
+    if let Some(i) = place_in(block, x, last) {
+        if let Some(slot) = block.slots.get_mut(i) {
             slot.value = Some(value);
         }
     }
 }
 
 /// Binds a name in the innermost block that has it, and tells whether there is one.
-pub fn bind_among(blocks: &mut Vec<Vec<Slot>>, x: &Text, value: Val) -> bool
-    ensures had { result ≡ is_some (slot_among x.now (map block_of blocks.old.items)) }
-    ensures bound { map block_of blocks.new.items ≡ bind_among x.now value (map block_of blocks.old.items) }
+pub fn bind_among(blocks: &mut Vec<Block>, x: &Text, last: &AtomicUsize, value: Val) -> bool
+    ensures had { result ≡ is_some (slot_among x.now (map held blocks.old.items)) }
+    ensures bound { map held blocks.new.items ≡ bind_among x.now value (map held blocks.old.items) }
     ensures kept { result ≡ false → blocks.new ≡ blocks.old }
 {
-    match block_with(blocks.as_slice(), x) {
+    match block_with(blocks.as_slice(), x, last) {
         Some(i) => {
             if let Some(block) = blocks.get_mut(i) {
-                bind_in(block, x, value);
+                bind_in(block, x, last, value);
             }
             true
         }

@@ -2,10 +2,11 @@
 #![tactic(auto)]
 
 mod blocks;
+mod places;
 mod reading;
 mod state;
 mod universal;
 
-pub use reading::{bind, is_native_name, read};
-pub use state::{Attribute, Attributed, FileNames, Kept, Slot, Standing, State, Target};
+pub use reading::{bind, is_native_name, read, slot};
+pub use state::{Attribute, Attributed, Block, FileNames, Kept, Slot, Standing, State, Target};
 pub use universal::package_function;

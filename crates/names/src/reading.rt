@@ -1,7 +1,7 @@
 //! Reading and binding of names.
 ghost use Rattle.std.specs.Prelude.{◌≡◌, ℕ, List, map};
 ghost use Rattle.language.specs.Names.{or_else, slot_among, file_slot, names_at, read, read_slot, read_universal, bind, bind_global, is_native_name};
-ghost use Rattle.names.specs.View.{world_of, here_of, block_of, names_of, Ran};
+ghost use Rattle.names.specs.View.{world_of, here_of, held, names_of, Ran};
 ghost use Rattle.names.specs.declared.state.State.{State};
 ghost use Rattle.language.specs.World.{World};
 ghost use Rattle.tree.specs.Tree as tree;
@@ -10,25 +10,26 @@ use crate::blocks::{bind_among, bind_in, file_at, slot_among, slot_in};
 use crate::state::{FileNames, Standing, State};
 use crate::universal::{is_native, universal};
 use heap::{Halt, Val};
+use std::sync::atomic::AtomicUsize;
 use texts::Text;
 
 // What a file has at a name.
-fn file_slot(files: &[FileNames], label: &Text, x: &Text) -> Option<Option<Val>>
+fn file_slot(files: &[FileNames], label: &Text, x: &Text, last: &AtomicUsize) -> Option<Option<Val>>
     ensures { result ≡ file_slot x.now (names_at label.now (map names_of files.now)) }
 {
     match file_at(files, label) {
-        Some(i) => slot_in(files[i].block.as_slice(), x),
+        Some(i) => slot_in(&files[i].block, x, last),
         None => None,
     }
 }
 
-// What a name is where it stands: one of the blocks, else a global of the file.
-fn slot(state: &State, at: &Standing, x: &Text) -> Option<Option<Val>>
-    ensures { result ≡ or_else (slot_among x.now (map block_of state.now.blocks.items)) (file_slot x.now (names_at at.now.label (map names_of state.now.files.items))) }
+/// What a name is where it stands: one of the blocks, else a global of the file; `last` is where it was found last.
+pub fn slot(state: &State, at: &Standing, x: &Text, last: &AtomicUsize) -> Option<Option<Val>>
+    ensures { result ≡ or_else (slot_among x.now (map held state.now.blocks.items)) (file_slot x.now (names_at at.now.label (map names_of state.now.files.items))) }
 {
-    match slot_among(state.blocks.as_slice(), x) {
+    match slot_among(state.blocks.as_slice(), x, last) {
         Some(value) => Some(value),
-        None => file_slot(state.files.as_slice(), &at.label, x),
+        None => file_slot(state.files.as_slice(), &at.label, x, last),
     }
 }
 
@@ -46,10 +47,10 @@ fn read_universal(at: &Standing, x: &Text) -> Result<Val, Halt>
 }
 
 /// The value of a name: fault 4 where it has none, and 5 for `native` that is not before a dot.
-pub fn read(state: &State, at: &Standing, x: &Text) -> Result<Val, Halt>
+pub fn read(state: &State, at: &Standing, x: &Text, last: &AtomicUsize) -> Result<Val, Halt>
     ensures { (line : ℕ) (running : List (List ℕ × List ℕ)) → let here = here_of at.now line running in Ran here.site (read x.now here (world_of state.now)) result (world_of state.now) }
 {
-    match slot(state, at, x) {
+    match slot(state, at, x, last) {
         Some(Some(value)) => Ok(value),
         Some(None) => Err(Halt::Code(4)),
         None => read_universal(at, x),
@@ -57,37 +58,49 @@ pub fn read(state: &State, at: &Standing, x: &Text) -> Result<Val, Halt>
 }
 
 /// Whether a name is the `native` of .bzl files.
-pub fn is_native_name(state: &State, at: &Standing, x: &Text) -> bool
+pub fn is_native_name(state: &State, at: &Standing, x: &Text, last: &AtomicUsize) -> bool
     ensures { (line : ℕ) (running : List (List ℕ × List ℕ)) → result ≡ is_native_name (tree.name x.now) (here_of at.now line running) (world_of state.now) }
 {
-    match slot(state, at, x) {
-        Some(_) => false,
-        None => is_native(at.kind, x),
+    if !is_native(at.kind, x) {
+        return false;
     }
+    slot(state, at, x, last).is_none()
 }
 
 /// Binds a name in the innermost block that has it, else as a global: fault 26 where it is bound.
-pub fn bind(state: &mut State, at: &Standing, x: &Text, value: Val) -> Result<(), Halt>
+pub fn bind(
+    state: &mut State,
+    at: &Standing,
+    x: &Text,
+    last: &AtomicUsize,
+    value: Val,
+) -> Result<(), Halt>
     ensures says { (line : ℕ) (running : List (List ℕ × List ℕ)) → let here = here_of at.now line running in Ran here.site (bind x.now value here (world_of state.old)) result (world_of state.new) }
     ensures heap { state.new.heap ≡ state.old.heap }
 {
-    if bind_among(&mut state.blocks, x, value) {
+    if bind_among(&mut state.blocks, x, last, value) {
         return Ok(());
     }
-    bind_global(&mut state.files, at, x, value)
+    bind_global(&mut state.files, at, x, last, value)
 }
 
 // Binds a global that is not bound.
-fn bind_global(files: &mut Vec<FileNames>, at: &Standing, x: &Text, value: Val) -> Result<(), Halt>
+fn bind_global(
+    files: &mut Vec<FileNames>,
+    at: &Standing,
+    x: &Text,
+    last: &AtomicUsize,
+    value: Val,
+) -> Result<(), Halt>
     ensures { (line : ℕ) (running : List (List ℕ × List ℕ)) (u : World) → u.files ≡ map names_of files.old.items → let here = here_of at.now line running in Ran here.site (bind_global (file_slot x.now (names_at at.now.label u.files)) x.now value here u) result (record u { files = map names_of files.new.items }) }
 {
     let Some(i) = file_at(files.as_slice(), &at.label) else {
         return Err(Halt::Code(26));
     };
     let file = &mut files[i];
-    match slot_in(file.block.as_slice(), x) {
+    match slot_in(&file.block, x, last) {
         Some(None) => {
-            bind_in(&mut file.block, x, value);
+            bind_in(&mut file.block, x, last, value);
             Ok(())
         }
         Some(Some(_)) => Err(Halt::Code(26)),

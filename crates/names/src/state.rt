@@ -1,7 +1,11 @@
 //! The state of an evaluation.
+ghost use Rattle.std.specs.Prelude.{◌≡◌, true, cond};
+ghost use Rattle.std.specs.Option.{ForSome};
+ghost use Rattle.names.specs.Once.{names_in, differ};
 
 use grammar::FileKind;
 use heap::{Builtin, Bytes, Heap, Val};
+use indexmap::IndexSet;
 use texts::Text;
 
 /// A name of a block, with its value once it is bound.
@@ -9,6 +13,18 @@ use texts::Text;
 pub struct Slot {
     pub name: Text,
     pub value: Option<Val>,
+}
+
+/// The names of a function, a comprehension or a file.
+#[derive(Drop)]
+pub struct Block {
+    pub slots: Vec<Slot>,
+    /// Whether each name is known to stand there once, so that it need not be looked for where it is found.
+    pub once: bool,
+    /// The names of many slots.
+    pub index: Option<IndexSet<Text>>,
+    pub ghost distinct: { cond once (differ (names_in slots.items)) true ≡ true },
+    pub ghost listed: { ForSome index (λ s. s.keys ≡ names_in slots.items) },
 }
 
 /// The values of a function's defaults, in the order of its parameters.
@@ -22,7 +38,7 @@ pub struct Kept {
 #[derive(Drop)]
 pub struct FileNames {
     pub label: Text,
-    pub block: Vec<Slot>,
+    pub block: Block,
     pub defaults: Vec<Kept>,
 }
 
@@ -54,7 +70,7 @@ pub struct Target {
 #[derive(Drop)]
 pub struct State {
     pub heap: Heap,
-    pub blocks: Vec<Vec<Slot>>,
+    pub blocks: Vec<Block>,
     pub files: Vec<FileNames>,
     pub targets: Vec<Target>,
 }

@@ -24,7 +24,7 @@ abbrev pub aims_of : List t.Aim → Aims
 aims_of as' = before as' no_aims
 
 abbrev pub aim_step : Aim-F t.Aim → t.Aim
-aim_step (Aim-F.Name x) = to_name x
+aim_step (Aim-F.Name x place) = to_name x
 aim_step (Aim-F.Member container index) = to_member container index
 aim_step (Aim-F.Each aims) = to_each (aims_of aims.items)
 

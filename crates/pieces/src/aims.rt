@@ -9,13 +9,15 @@ ghost use Rattle.pieces.specs.View.{aim_of, aims_of};
 use crate::objects::{index, set_index};
 use heap::{Halt, Heap, Object, Val};
 use names::{Standing, State, bind, read};
+use std::sync::atomic::AtomicUsize;
 use texts::Text;
 
 /// A target whose operands are evaluated.
 #[cycle(aims)]
 #[derive(Drop)]
 pub enum Aim {
-    Name(Text),
+    /// A name, and the place at which it was found.
+    Name(Text, usize),
     /// The container and the index.
     Member(Val, Val),
     Each(Vec<Aim>),
@@ -27,7 +29,7 @@ pub fn present(state: &mut State, at: &Standing, aim: &Aim) -> Result<Val, Halt>
     ensures steps { IfOk result (λ _. state.new.heap.steps ≤ state.old.heap.steps) }
 {
     match aim {
-        Aim::Name(x) => read(state, at, x),
+        Aim::Name(x, place) => read(state, at, x, &AtomicUsize::new(*place)),
         Aim::Member(container, i) => index(&mut state.heap, *container, *i),
         Aim::Each(_) => Err(Halt::Code(5)),
     }
@@ -59,7 +61,7 @@ pub fn store(state: &mut State, at: &Standing, aim: &Aim, value: Val) -> Result<
     ensures steps { IfOk result (λ _. state.new.heap.steps ≤ state.old.heap.steps) }
 {
     match aim {
-        Aim::Name(x) => bind(state, at, x, value),
+        Aim::Name(x, place) => bind(state, at, x, &AtomicUsize::new(*place), value),
         Aim::Member(container, i) => set_index(&mut state.heap, *container, *i, value),
         Aim::Each(aims) => {
             let xs = match unpack(&state.heap, aims.len(), value) {

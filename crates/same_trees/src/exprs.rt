@@ -14,7 +14,7 @@ pub fn same_expr(a: &Expr, b: &Expr) -> bool
     ensures { result ≡ same_ex (tree_of a.now) (tree_of b.now) }
 {
     match (a, b) {
-        (Expr::Name(x), Expr::Name(y)) => x == y,
+        (Expr::Name(x, _), Expr::Name(y, _)) => x == y,
         (Expr::Int(x), Expr::Int(y)) => *x == *y,
         (Expr::Str(x), Expr::Str(y)) => x == y,
         (Expr::Literal(x), Expr::Literal(y)) => literal_number(*x) == literal_number(*y),

@@ -89,7 +89,7 @@ fn can_augment(e: &Expr, in_def: bool) -> bool
     ensures { result ≡ can_augment in_def (tree_of e.now) }
 {
     match e {
-        Expr::Name(_) => in_def,
+        Expr::Name(_, _) => in_def,
         Expr::Index(_, _) => true,
         Expr::Tuple(_) => false,
         Expr::List(_) => false,

@@ -22,7 +22,7 @@ bound_of (Some e) = bound (arc_value e)
 
 -- one level, with each expression inside already seen as its tree
 abbrev pub expr_step : Expr-F Cl Ex → Ex
-expr_step (Expr-F.Name x) = name x
+expr_step (Expr-F.Name x last) = name x
 expr_step (Expr-F.Int n) = int n
 expr_step (Expr-F.Str x) = str x
 expr_step (Expr-F.Literal l) = literal l

@@ -2,6 +2,7 @@
 
 use std::alloc::Global;
 use std::sync::Arc;
+use std::sync::atomic::AtomicUsize;
 use texts::Text;
 
 /// A literal that is a word.
@@ -49,7 +50,9 @@ pub enum BinaryOp {
 #[cycle(ast)]
 #[derive(Drop)]
 pub enum Expr {
-    Name(Text),
+    /// A name, and the place at which it was found last. What a tree is does not depend on that place, and whoever looks
+    /// there confirms what is there.
+    Name(Text, AtomicUsize),
     Int(i64),
     Str(Text),
     Literal(Literal),

@@ -6,14 +6,15 @@ ghost use Rattle.tree.specs.View.{tree_of, trees_of, clause_of, clause_trees, bo
 use crate::expr::{BinaryOp, Clause, Expr, Literal, UnaryOp};
 use std::alloc::Global;
 use std::sync::Arc;
+use std::sync::atomic::AtomicUsize;
 use texts::{Memory, Text};
 
 impl Expr {
-    /// A name.
+    /// A name, which was not looked for yet.
     pub fn name(text: Text) -> Expr
         ensures { tree_of result ≡ name text }
     {
-        Expr::Name(text)
+        Expr::Name(text, AtomicUsize::new(0))
     }
 
     /// A whole number.

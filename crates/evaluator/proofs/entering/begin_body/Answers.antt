@@ -3,13 +3,13 @@ use Rattle.std.specs.declared.alloc.Global.{Global}
 use Rattle.grammar.specs.declared.kind.FileKind.TheVariants as k
 use Rattle.tree.specs.declared.stmt.Stmt.{Stmt}
 use Rattle.tree.specs.Statements.{fn_of, stmts_of}
-use Rattle.names.specs.declared.state.Slot.{Slot}
+use Rattle.names.specs.declared.state.Block as state
 use Rattle.meaning.specs.declared.val.Val.{Val}
 use Rattle.language.specs.World.{World, Block, Here, ended, Runs, then_runs, with_blocks}
 use Rattle.language.specs.Statements.{suite}
 use Rattle.language.specs.Calls.{call, inside, function_block, given}
 use Rattle.names.specs.declared.state.Standing.{Standing}
-use Rattle.names.specs.View.{world_of, here_of, block_of}
+use Rattle.names.specs.View.{world_of, here_of, block_of, held}
 use Rattle.calls.specs.View.{running_of}
 use Rattle.frames.specs.declared.frame.Caller.{Caller}
 use Rattle.frames.specs.Frames.{Sig, a_value, on, on_exit, valued, exited, above, stack_does}
@@ -40,19 +40,19 @@ returns-clause-goes c = λ env line path.
     let place : within ≡ stands =
     ap (λ (p : List ℕ). here_of (record { label = c.args.label; path = p; kind = k.Bzl; line = c.args.def.now.line }) c.args.def.now.line ((c.args.label, f.name) ∷ running_of m.running.items)) (sym path)
     ∙ ap (λ (r : List (List ℕ × List ℕ)). here_of (record { label = c.args.label; path = c.args.path; kind = k.Bzl; line = c.args.def.now.line }) c.args.def.now.line r) (sym opened) in
-    let blocks : block ∷ [] ≡ map block_of c.replace-callers.new.dest.items =
-    ap (λ (b : Block). b ∷ []) (good_is block (block_of c.in_ok-block.block) c.in_ok-block.ensures)
-    ∙ ap (λ (l : List (Vec Slot Global)). map block_of (l ++ c.in_ok-block.block ∷ [])) (sym c.new-blocks.ensures.items)
-    ∙ ap (λ (l : List (Vec Slot Global)). map block_of l) (sym c.in_ok-push.ensures.items)
-    ∙ ap (λ (v : Vec (Vec Slot Global) Global). map block_of v.items) (sym c.replace-callers.ensures.after) in
-    let u : World = record w { blocks = map block_of c.replace-callers.new.dest.items } in
+    let blocks : block ∷ [] ≡ map held c.replace-callers.new.dest.items =
+    ap (λ (b : Block). b ∷ []) (good_is block (block_of c.in_ok-slots.slots) c.in_ok-slots.ensures ∙ sym c.in_ok-block.ensures)
+    ∙ ap (λ (l : List state.Block). map held (l ++ c.in_ok-block.block ∷ [])) (sym c.new-blocks.ensures.items)
+    ∙ ap (λ (l : List state.Block). map held l) (sym c.in_ok-push.ensures.items)
+    ∙ ap (λ (v : Vec state.Block Global). map held v.items) (sym c.replace-callers.ensures.after) in
+    let u : World = record w { blocks = map held c.replace-callers.new.dest.items } in
     let world : with_blocks (block ∷ []) w ≡ u = ap (λ (bs : List Block). with_blocks bs w) blocks in
-    let ends : Vec (Vec Slot Global) Global → Here → Sig → Runs Sig = λ b below sig z. then_runs (on_exit stands (λ exit v. ended (a_value (given exit)) (with_blocks (map block_of b.items) v)) sig z) (stack_does env left below frames) in
+    let ends : Vec state.Block Global → Here → Sig → Runs Sig = λ b below sig z. then_runs (on_exit stands (λ exit v. ended (a_value (given exit)) (with_blocks (map held b.items) v)) sig z) (stack_does env left below frames) in
     let caller : Standing → List (List ℕ × List ℕ) → Here = λ at r. here_of at at.line (drop 1 r) in
-    let below : Caller → Sig → Runs Sig = λ d sig z. then_runs (on_exit stands (λ exit v. ended (a_value (given exit)) (with_blocks (map block_of d.blocks.items) v)) sig z) (stack_does env d.left (caller d.at stands.running) frames) in
+    let below : Caller → Sig → Runs Sig = λ d sig z. then_runs (on_exit stands (λ exit v. ended (a_value (given exit)) (with_blocks (map held d.blocks.items) v)) sig z) (stack_does env d.left (caller d.at stands.running) frames) in
     let above_frame : stack_does env n stands c.push-3.new.frames.items ≡ ends m.state.blocks here = c.in_ok-push-3.ensures.ok env n stands
     ∙ ap below c.in_ok-back.ensures.ok
-    ∙ ap (λ (b : Vec (Vec Slot Global) Global). ends b (caller c.in_ok-caller.caller stands.running)) c.replace-callers.ensures.value
+    ∙ ap (λ (b : Vec state.Block Global). ends b (caller c.in_ok-caller.caller stands.running)) c.replace-callers.ensures.value
     ∙ ap (λ (at : Standing). ends m.state.blocks (caller at stands.running)) c.in_ok-caller.ensures.ok
     ∙ ap (λ (r : List (List ℕ × List ℕ)). ends m.state.blocks (caller m.at r)) opened in
     ap (λ (r : Runs Val). above env left here (valued r) frames w) (body_goes env left n f (block_of c.args.parameters) within h succ)

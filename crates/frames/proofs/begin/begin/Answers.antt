@@ -22,7 +22,7 @@ use Rattle.frames.proofs.begin.begin.Goals as goal
 
 pub returns-in-Err-clause-goes : goal.returns-in-Err-clause-goes
 returns-in-Err-clause-goes c = λ env n running.
-    name_stops env n (here_of c.args.at.now c.args.at.now.line running) c.args.line c.in-Name.x (tree_of c.args.e.now) (world_of c.args.state.now) _ (store_of c.tick.new.heap) c.in-Err.halt c.args.frames.now.items _ (ap tree_of c.in-Name.is ∙ tree-Name c.in-Name.x) c.in_ok-tick.ensures.says (c.in-Err.ensures c.args.line running)
+    name_stops env n (here_of c.args.at.now c.args.at.now.line running) c.args.line c.in-Name.x (tree_of c.args.e.now) (world_of c.args.state.now) _ (store_of c.tick.new.heap) c.in-Err.halt c.args.frames.now.items _ (ap tree_of c.in-Name.is ∙ tree-Name c.in-Name.x c.in-Name.last) c.in_ok-tick.ensures.says (c.in-Err.ensures c.args.line running)
 
 pub returns-in_ok-push-in-ListOf-clause-goes : goal.returns-in_ok-push-in-ListOf-clause-goes
 returns-in_ok-push-in-ListOf-clause-goes c = λ env n running.

@@ -7,4 +7,4 @@ use Rattle.frames.proofs.Trees.{tree-Name}
 use Rattle.frames.proofs.begin.is_native.Goals as goal
 
 pub returns-in-Name : goal.returns-in-Name
-returns-in-Name c = λ line running. c.is_native_name.ensures line running ∙ ap (λ (e : Ex). is_native_name e (here_of c.args.at.now line running) (world_of c.args.state.now)) (sym (ap tree_of c.in-Name.is ∙ tree-Name c.in-Name.x))
+returns-in-Name c = λ line running. c.is_native_name.ensures line running ∙ ap (λ (e : Ex). is_native_name e (here_of c.args.at.now line running) (world_of c.args.state.now)) (sym (ap tree_of c.in-Name.is ∙ tree-Name c.in-Name.x c.in-Name.last))

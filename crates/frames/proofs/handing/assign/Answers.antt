@@ -45,5 +45,5 @@ returns-in-Name-clause-goes c = λ env n running.
     let line = c.args.line in
     let h = on env n here line in
     let after = λ (control : Control). machine_does env n here control frames (world_of c.assign_name.new.state) in
-    let tree : shared_tree c.args.target.now ≡ t.name c.in-Name.name = ap tree_of (sym c.deref.ensures ∙ c.in-Name.is) ∙ tree-Name c.in-Name.name in
+    let tree : shared_tree c.args.target.now ≡ t.name c.in-Name.name = ap tree_of (sym c.deref.ensures ∙ c.in-Name.is) ∙ tree-Name c.in-Name.name c.in-Name.last in
     subst (λ (d : Ex). Goes h.site (above env n here (assigned env n here d c.args.x line) frames w) c.assign_name.result after) (sym tree) (c.assign_name.ensures.goes env n running frames)

@@ -1,7 +1,7 @@
 use Rattle.std.proofs.Common.{◌≡◌, List, Some, get_or, refl, sym, subst, ap, ◌∙◌}
 use Rattle.language.specs.Names.{slot_in, bind_in}
 use Rattle.names.specs.declared.state.FileNames.{FileNames}
-use Rattle.names.specs.View.{here_of, slots_of, block_of, names_of}
+use Rattle.names.specs.View.{here_of, held, names_of}
 use Rattle.names.specs.Places.{FirstSo, NoneSo, is_file}
 use Rattle.names.proofs.Found.{global_bound, global_refused, global_absent}
 use Rattle.names.proofs.reading.bind_global.Goals as goal
@@ -22,9 +22,9 @@ returns-in-Some-None c = λ line running u is.
     let f = c.index_mut-file.result.now in
     let here : f ≡ get_or files i f = c.index_mut-file.ensures.value in
     let first : FirstSo (is_file label) files i = subst (λ (l : List FileNames). FirstSo (is_file label) l i) c.as_slice.ensures.value c.in-Some.ensures in
-    let free = ap (λ (g : FileNames). slot_in x (block_of g.block)) (sym here) ∙ ap (λ l. slot_in x (slots_of l)) (sym c.as_slice-2.ensures.value) ∙ sym c.slot_in.ensures ∙ c.in-Some-None.is ∙ ap (λ o. Some o) c.in-Some-None.field-0-is in
+    let free = ap (λ (g : FileNames). slot_in x (held g.block)) (sym here) ∙ sym c.slot_in.ensures ∙ c.in-Some-None.is ∙ ap (λ o. Some o) c.in-Some-None.field-0-is in
     global_bound label x c.args.value files u (here_of c.args.at.now line running) i f (record f { block = c.bind_in.new.block }) refl is first.within first.before (first.here f) free
-    (ap (λ b. record (names_of f) { block = b }) c.bind_in.ensures ∙ ap (λ (g : FileNames). record (names_of g) { block = bind_in x c.args.value (block_of g.block) }) here)
+    (ap (λ b. record (names_of f) { block = b }) c.bind_in.ensures ∙ ap (λ (g : FileNames). record (names_of g) { block = bind_in x c.args.value (held g.block) }) here)
 
 pub returns-in-Some-Some : goal.returns-in-Some-Some
 returns-in-Some-Some c = λ line running u is.
@@ -35,7 +35,7 @@ returns-in-Some-Some c = λ line running u is.
     let f = c.index_mut-file.result.now in
     let here : f ≡ get_or files i f = c.index_mut-file.ensures.value in
     let first : FirstSo (is_file label) files i = subst (λ (l : List FileNames). FirstSo (is_file label) l i) c.as_slice.ensures.value c.in-Some.ensures in
-    let there = ap (λ (g : FileNames). slot_in x (block_of g.block)) (sym here) ∙ ap (λ l. slot_in x (slots_of l)) (sym c.as_slice-2.ensures.value) ∙ sym c.slot_in.ensures ∙ c.in-Some-Some.is ∙ ap (λ o. Some o) c.in-Some-Some.field-0-is in
+    let there = ap (λ (g : FileNames). slot_in x (held g.block)) (sym here) ∙ sym c.slot_in.ensures ∙ c.in-Some-Some.is ∙ ap (λ o. Some o) c.in-Some-Some.field-0-is in
     global_refused label x c.args.value files u (here_of c.args.at.now line running) i f _ is first.within first.before (first.here f) there (λ e. cc)
 
 pub returns-in-None : goal.returns-in-None
@@ -47,5 +47,5 @@ returns-in-None c = λ line running u is.
     let f = c.index_mut-file.result.now in
     let here : f ≡ get_or files i f = c.index_mut-file.ensures.value in
     let first : FirstSo (is_file label) files i = subst (λ (l : List FileNames). FirstSo (is_file label) l i) c.as_slice.ensures.value c.in-Some.ensures in
-    let there = ap (λ (g : FileNames). slot_in x (block_of g.block)) (sym here) ∙ ap (λ l. slot_in x (slots_of l)) (sym c.as_slice-2.ensures.value) ∙ sym c.slot_in.ensures ∙ c.in-None.is in
+    let there = ap (λ (g : FileNames). slot_in x (held g.block)) (sym here) ∙ sym c.slot_in.ensures ∙ c.in-None.is in
     global_refused label x c.args.value files u (here_of c.args.at.now line running) i f _ is first.within first.before (first.here f) there (λ e. cc)

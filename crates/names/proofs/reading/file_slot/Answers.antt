@@ -1,6 +1,5 @@
 use Rattle.std.proofs.Common.{ap, sym, ◌∙◌}
-use Rattle.language.specs.Names.{slot_in, file_slot}
-use Rattle.names.specs.View.{slots_of}
+use Rattle.language.specs.Names.{file_slot}
 use Rattle.names.proofs.Found.{names_there, names_none}
 use Rattle.names.proofs.reading.file_slot.Goals as goal
 
@@ -10,7 +9,7 @@ returns-in-Some c =
     let x = c.args.x.now in
     let f = c.index-files-i.result in
     let first = c.in-Some.ensures in
-    c.slot_in.ensures ∙ ap (λ l. slot_in x (slots_of l)) c.as_slice.ensures.value ∙ ap (λ o. file_slot x o) (sym (names_there c.args.label.now files c.in-Some.i f first.within first.before (first.here f)))
+    c.slot_in.ensures ∙ ap (λ o. file_slot x o) (sym (names_there c.args.label.now files c.in-Some.i f first.within first.before (first.here f)))
 
 pub returns-in-None : goal.returns-in-None
 returns-in-None c = ap (λ o. file_slot c.args.x.now o) (sym (names_none c.args.label.now c.args.files.now c.in-None.ensures))

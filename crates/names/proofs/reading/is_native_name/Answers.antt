@@ -1,9 +1,11 @@
-use Rattle.std.proofs.Common.{false, is_some, if◌then◌else◌, sym, ap, ◌∙◌}
-use Rattle.language.specs.Names.{is_native}
+use Rattle.std.proofs.Common.{is_some, sym, ap, ◌∙◌}
+use Rattle.language.specs.Names.{is_native, slot}
+use Rattle.names.specs.View.{world_of, here_of}
+use Rattle.names.proofs.Distinct.{free, never}
 use Rattle.names.proofs.reading.is_native_name.Goals as goal
 
-pub returns-in-Some : goal.returns-in-Some
-returns-in-Some c = λ line running. ap (λ o. if is_some o then false else is_native c.args.at.now.kind c.args.x.now) (sym (sym c.slot.ensures ∙ c.in-Some.is))
+pub returns-then-not-is_native : goal.returns-then-not-is_native
+returns-then-not-is_native c = λ line running. never (is_some (slot c.args.x.now (here_of c.args.at.now line running) (world_of c.args.state.now))) (is_native c.args.at.now.kind c.args.x.now) c.if-not-is_native.ensures
 
-pub returns-in-None : goal.returns-in-None
-returns-in-None c = λ line running. c.is_native.ensures ∙ ap (λ o. if is_some o then false else is_native c.args.at.now.kind c.args.x.now) (sym (sym c.slot.ensures ∙ c.in-None.is))
+pub returns : goal.returns
+returns c = λ line running. free (is_some (slot c.args.x.now (here_of c.args.at.now line running) (world_of c.args.state.now))) c.is_none.result (is_native c.args.at.now.kind c.args.x.now) (sym (ap (λ o. is_some o) c.slot.ensures) ∙ c.is_none.ensures) c.if-not-is_native.ensures

@@ -1,0 +1,127 @@
+//! Places of names in blocks. Each name of a tree keeps the place at which it was found last, which is its place whenever
+//! the same code runs; there it is looked for first.
+ghost use Rattle.std.specs.Prelude.{◌≡◌, true, IfOk, IfSome};
+ghost use Rattle.meaning.specs.Comparing.{same_text};
+ghost use Rattle.names.specs.Once.{names_in, differ};
+ghost use Rattle.names.specs.View.{block_of, held};
+ghost use Rattle.names.specs.Places.{FirstPlace, FirstSo, is_slot};
+
+use crate::state::{Block, Slot};
+use indexmap::IndexSet;
+use std::alloc::Global;
+use std::sync::atomic::{AtomicUsize, Ordering};
+use texts::{Memory, Text};
+
+/// So many names are compared with each other; for more a set is made.
+const FEW: usize = 16;
+
+// Whether two names are the same. Most that differ do so in their lengths or first bytes.
+fn is_same(x: &Text, y: &Text) -> bool
+    ensures { result ≡ same_text x.now y.now }
+{
+    let a = x.as_str().as_bytes();
+    let b = y.as_str().as_bytes();
+    if a.len() != b.len() {
+        return false;
+    }
+    if a.len() > 0 && a[0] != b[0] {
+        return false;
+    }
+    *x == *y
+}
+
+// The first place of a name.
+fn first_place(slots: &[Slot], x: &Text) -> Option<usize>
+    ensures { FirstPlace (is_slot x.now) slots.now result }
+{
+    for i in 0..slots.len() {
+        if is_same(x, &slots[i].name) {
+            return Some(i);
+        }
+    }
+    None
+}
+
+// Whether a name is known to stand first at a place.
+fn is_at(block: &Block, x: &Text, place: usize) -> bool
+    ensures { result ≡ true → FirstSo (is_slot x.now) block.now.slots.items place }
+{
+    if !block.once || place >= block.slots.len() {
+        return false;
+    }
+    is_same(x, &block.slots[place].name)
+}
+
+// The place of a name in a block, wherever it was found before.
+fn looked_up(block: &Block, x: &Text) -> Option<usize>
+    ensures { FirstPlace (is_slot x.now) block.now.slots.items result }
+{
+    match &block.index {
+        Some(index) => index.get_index_of(x),
+        None => first_place(block.slots.as_slice(), x),
+    }
+}
+
+/// The place of a name in a block, which is where it was found last unless other code ran in between.
+pub fn place_in(block: &Block, x: &Text, last: &AtomicUsize) -> Option<usize>
+    ensures { FirstPlace (is_slot x.now) block.now.slots.items result }
+{
+    let place = last.load(Ordering::Relaxed);
+    if is_at(block, x, place) {
+        return Some(place);
+    }
+    let found = looked_up(block, x);
+    if let Some(i) = found {
+        last.store(i, Ordering::Relaxed);
+    }
+    found
+}
+
+// Whether each of a few names stands once.
+fn few_differ(slots: &[Slot]) -> bool
+    ensures { result ≡ true → differ (names_in slots.now) ≡ true }
+{
+    for i in 0..slots.len() {
+        if first_place(&slots[..i], &slots[i].name).is_some() {
+            return false;
+        }
+    }
+    true
+}
+
+// The names of many slots, where each stands once.
+fn index_of(alloc: Global, slots: &[Slot]) -> Result<Option<IndexSet<Text>>, Memory>
+    ensures { IfOk result (λ o. IfSome o (λ s. (s.keys ≡ names_in slots.now) × (differ (names_in slots.now) ≡ true))) }
+{
+    let mut index = IndexSet::new(alloc);
+    for slot in slots.iter() {
+        if index.contains(&slot.name) {
+            return Ok(None);
+        }
+        index.insert(slot.name.share()?)?;
+    }
+    Ok(Some(index))
+}
+
+impl Block {
+    /// A block with these slots.
+    ///
+    /// # Errors
+    ///
+    /// `Memory` where memory is refused.
+    pub fn new(slots: Vec<Slot>) -> Result<Block, Memory>
+        ensures { IfOk result (λ b. held b ≡ block_of slots) }
+    {
+        if slots.len() <= FEW {
+            let once = few_differ(slots.as_slice());
+            return Ok(Block {
+                slots,
+                once,
+                index: None,
+            });
+        }
+        let index = index_of(*slots.allocator(), slots.as_slice())?;
+        let once = index.is_some();
+        Ok(Block { slots, once, index })
+    }
+}
