@@ -1,6 +1,7 @@
 -- Pieces one after another, and one more frame.
-use Rattle.std.proofs.Common.{◌≡◌, ◌≤◌, ℕ, zero, suc, List, [], ◌∷◌, ◌++◌, length, drop, arith, reverse, Result, Ok, Err, IfOk, refl, ap, sym, ◌∙◌}
+use Rattle.std.proofs.Common.{◌≡◌, ◌≤◌, ℕ, zero, suc, List, [], ◌∷◌, ◌++◌, length, drop, arith, reverse, Result, Ok, Err, IfOk, refl, ap, sym, subst, ◌∙◌}
 use Rattle.std.proofs.lemmas.List.{reverse-append}
+use Rattle.meaning.specs.declared.val.Val.{Val}
 use Rattle.heap.specs.declared.halt.Halt.{Halt}
 use Rattle.heap.specs.declared.halt.Halt.TheVariants.{Code, Memory}
 use Rattle.meaning.specs.Outcome as o
@@ -63,6 +64,13 @@ name_stops env n here line x e w u s (Code c) frames after is ticks h =
     ∙ ap (λ o. then_runs (then_runs (then_runs o (λ _. read x (at_line line here))) (λ v. pure (a_value v))) (stack_does env n here frames)) (tick_ends (at_line line here) w s ticks)
     ∙ ap (λ o. then_runs (then_runs o (λ v. pure (a_value v))) (stack_does env n here frames)) h
 name_stops env n here line x e w u s Memory frames after is ticks h = tt
+
+-- behind the step that an expression takes: what it does
+pub stepped : (env : Env) (n : ℕ) (here : Here) (line : ℕ) (e d : Ex) (does : Runs Val) (w : World) (s : Store) (frames : List Frame) (r : Result Control Halt) (after : Control → Ends Sig) → e ≡ d → ex env n here d line w ≡ then_runs (tick (at_line line here) w) (λ _. does) → walks (λ objects. o.tick) w.store ≡ o.gives tt s → Goes (at_line line here).site (above env n here (valued does) frames (record w { store = s })) r after → Goes (at_line line here).site (above env n here (valued (ex env n here e line)) frames w) r after
+stepped env n here line e d does w s frames r after is form ticks goes =
+    let rest = λ (o : Ends Val). then_runs (then_runs o (λ v. pure (a_value v))) (stack_does env n here frames) in
+    let before = ap (λ (x : Ex). rest (ex env n here x line w)) is ∙ ap rest form ∙ ap (λ o. rest (then_runs o (λ _. does))) (tick_ends (at_line line here) w s ticks) in
+    subst (λ (o : Ends Sig). Goes (at_line line here).site o r after) (sym before) goes
 
 pub drop_past : {X : Type 0} → (xs : List X) (k : ℕ) → length xs ≤ k → drop k xs ≡ []
 drop_past [] zero h = refl

@@ -16,6 +16,7 @@ use Rattle.std.specs.Arc.{arc_value}
 use Rattle.tree.specs.Tree as t
 use Rattle.tree.specs.Tree.{Ex, Exs, Bound, Clauses, Suite, Branches, Pa, Fn, Tp}
 use Rattle.tree.specs.declared.expr.BinaryOp.{BinaryOp}
+use Rattle.tree.specs.declared.expr.UnaryOp.{UnaryOp}
 use Rattle.tree.specs.declared.expr.BinaryOp.TheVariants as o
 use Rattle.tree.specs.declared.expr.Expr.{Expr}
 use Rattle.tree.specs.declared.stmt.Stmt.{Stmt}
@@ -42,7 +43,7 @@ use Rattle.language.specs.Packages.{package_call}
 use Rattle.language.specs.Loops as l
 use Rattle.language.specs.Loops.{nothing_yet, one_more, one_entry, gather, over, unlocks}
 use Rattle.language.specs.Expressions as e
-use Rattle.language.specs.Expressions.{Call, unary, operator_of, fresh, call_object, apply, apply_method, on_receiver, value, values, each_value, entries, bound_value, aim, aims, clauses}
+use Rattle.language.specs.Expressions.{Call, unary, between, comprehension, operator_of, fresh, call_object, apply, apply_method, on_receiver, value, values, each_value, entries, bound_value, aim, aims, clauses}
 use Rattle.language.specs.Statements as s
 use Rattle.language.specs.Statements.{goes_on, breaks, continues, returns, unless_over, added, changed, present, after_turn, turns, turn, exec, suite, first_true}
 use Rattle.language.specs.Calls.{call, given}
@@ -266,6 +267,31 @@ module _ (env : Env) (n : ℕ) (here : Here) where
   -- a call of a method: the receiver, the arguments, the call
   abbrev pub method_does : Ex → List ℕ → Exs → List (List ℕ) → ℕ → Runs Val
   method_does e name es names line = on_receiver e (ex e line) (on line) >>= λ r. values env (call env n) es (on line) >>= λ xs. apply_method env r name (plain_part xs names) (named_part xs names) (on line)
+
+  -- the other forms with parts, behind the step that each takes
+  abbrev pub unary_does : UnaryOp → Ex → ℕ → Runs Val
+  unary_does op a line = ex a line >>= λ v. unary op v (on line)
+
+  abbrev pub binary_does : BinaryOp → Ex → Ex → ℕ → Runs Val
+  binary_does op a b line = between op (ex a line) (ex b line) (on line)
+
+  abbrev pub choice_does : Ex → Ex → Ex → ℕ → Runs Val
+  choice_does a condition b line = ex condition line >>= λ v. by_truth v (ex a line) (ex b line)
+
+  abbrev pub index_does : Ex → Ex → ℕ → Runs Val
+  index_does a i line = ex a line >>= λ v. ex i line >>= λ y. on_heap (on line) (index v y)
+
+  abbrev pub slice_does : Ex → Bound → Bound → ℕ → Runs Val
+  slice_does a i j line = ex a line >>= λ v. sliced_from v i j line
+
+  abbrev pub call_does : Ex → Exs → List (List ℕ) → ℕ → Runs Val
+  call_does f es names line = ex f line >>= λ g. values env (call env n) es (on line) >>= λ xs. apply env (call env n) g (plain_part xs names) (named_part xs names) (on line)
+
+  abbrev pub list_of_does : Ex → Clauses → ℕ → Runs Val
+  list_of_does e cs line = comprehension env (call env n) cs (λ got. ex e line >>= λ x. one_more x got (on line)) (on line) >>= λ got. on_heap (on line) (makes_list got.members)
+
+  abbrev pub dict_of_does : Ex → Ex → Clauses → ℕ → Runs Val
+  dict_of_does k e cs line = comprehension env (call env n) cs (λ got. ex k line >>= λ x. ex e line >>= λ y. one_entry x y got (on line)) (on line) >>= λ got. on_heap (on line) (makes_dict got.entries)
 
   -- a comprehension, whose first clause goes over a value
   abbrev pub first_does : Ex → Comprehension → ℕ → Val → Runs l.Gathered

@@ -3,6 +3,7 @@
 
 mod begin;
 mod deliver;
+mod forms;
 mod frame;
 mod gather;
 mod handing;

@@ -1,89 +1,109 @@
-use Rattle.std.proofs.Common.{◌≡◌, refl, sym, subst, ap, ◌∙◌}
+use Rattle.std.proofs.Common.{◌≡◌, [], refl, ap, ◌∙◌}
 use Rattle.std.specs.Arc.{arc_value}
-use Rattle.tree.specs.Tree as t
-use Rattle.tree.specs.Tree.{Ex}
-use Rattle.meaning.specs.declared.val.Val.{Val}
-use Rattle.tree.specs.declared.expr.Expr.{Expr}
+use Rattle.meaning.specs.Heap.{makes_text}
 use Rattle.heap.specs.View.{store_of}
-use Rattle.meaning.specs.Heap.{makes_list, makes_dict}
-use Rattle.language.specs.World.{World, Ends, tick, then_runs, pure, on_heap}
-use Rattle.language.specs.Loops as l
-use Rattle.language.specs.Expressions.{comprehension, between}
-use Rattle.language.specs.Calls.{call}
-use Rattle.tree.specs.View.{tree_of, shared_tree, clause_trees}
+use Rattle.language.specs.World.{on_heap}
+use Rattle.tree.specs.View.{tree_of, shared_tree, bound_tree, clause_trees}
 use Rattle.names.specs.View.{world_of, here_of}
-use Rattle.frames.specs.declared.frame.Item.TheVariants as i
-use Rattle.frames.specs.declared.frame.Frame.TheVariants as f
-use Rattle.frames.specs.Frames.{Sig, a_value, a_gathered, Goes, on, ex, valued, item_does, method_does, shared_trees, right, above, machine_does, frame_does, stack_does}
-use Rattle.frames.proofs.Trees.{tree-Name, tree-ListOf, tree-DictOf, tree-Method}
-use Rattle.frames.proofs.Between.{tree-Binary, between_is}
-use Rattle.frames.proofs.Bind.{under, ticked, tick_ends, name_stops}
+use Rattle.frames.specs.declared.frame.Purpose.TheVariants as p
+use Rattle.frames.specs.Frames.{on, items_from, entries_from, method_does, unary_does, binary_does, choice_does, index_does, slice_does, call_does, list_of_does, dict_of_does, shared_trees}
+use Rattle.frames.proofs.Trees.{tree-Name, tree-Str, tree-Tuple, tree-List, tree-Dict, tree-ListOf, tree-DictOf, tree-Unary, tree-Choice, tree-Index, tree-Slice, tree-Call, tree-Method}
+use Rattle.frames.proofs.Between.{tree-Binary}
+use Rattle.frames.proofs.Bind.{name_stops, stepped}
+use Rattle.frames.proofs.Clauses.{went}
 use Rattle.frames.proofs.begin.begin.Goals as goal
 
 pub returns-in-Err-clause-goes : goal.returns-in-Err-clause-goes
 returns-in-Err-clause-goes c = λ env n running.
     name_stops env n (here_of c.args.at.now c.args.at.now.line running) c.args.line c.in-Name.x (tree_of c.args.e.now) (world_of c.args.state.now) _ (store_of c.tick.new.heap) c.in-Err.halt c.args.frames.now.items _ (ap tree_of c.in-Name.is ∙ tree-Name c.in-Name.x c.in-Name.last) c.in_ok-tick.ensures.says (c.in-Err.ensures c.args.line running)
 
-pub returns-in_ok-push-in-ListOf-clause-goes : goal.returns-in_ok-push-in-ListOf-clause-goes
-returns-in_ok-push-in-ListOf-clause-goes c = λ env n running.
+pub returns-in-Str-clause-goes : goal.returns-in-Str-clause-goes
+returns-in-Str-clause-goes c = λ env n running.
     let here = here_of c.args.at.now c.args.at.now.line running in
     let line = c.args.line in
-    let w = world_of c.args.state.now in
-    let u : World = record w { store = store_of c.tick.new.heap } in
-    let frames = c.args.frames.now.items in
-    let cs = clause_trees (arc_value c.in-ListOf.clauses).items in
-    let item = i.Member c.in_ok-try_clone-in-ListOf.field-0 in
-    let tree : tree_of c.args.e.now ≡ t.list_of (shared_tree c.in-ListOf.item) cs = ap tree_of c.in-ListOf.is ∙ tree-ListOf c.in-ListOf.item c.in-ListOf.clauses in
-    let same = ap tree_of c.in_ok-try_clone-in-ListOf.ensures in
-    let before = ap (λ (d : Ex). above env n here (valued (ex env n here d line)) frames w) (tree ∙ ap (λ (d : Ex). t.list_of d cs) (sym same)) in
-    let runs = ticked (tick (on env n here line) w) u (comprehension env (call env n) cs (item_does env n here item line) (on env n here line)) (λ (g : l.Gathered). on_heap (on env n here line) (makes_list g.members)) (λ v. pure (a_value v)) (stack_does env n here frames) (stack_does env n here c.push.new.frames.items) a_gathered (frame_does env n here (f.MakeList line)) (tick_ends (on env n here line) w (store_of c.tick.new.heap) c.in_ok-tick.ensures.says) (λ g v. refl) (c.in_ok-push-in-ListOf.ensures.ok env n here) in
-    subst (λ (o : Ends Sig). Goes (on env n here line).site o c.begin_comprehension.result (λ control. machine_does env n here control c.begin_comprehension.new.frames.items (world_of c.begin_comprehension.new.state))) (sym (before ∙ runs)) (c.begin_comprehension.ensures.goes env n here)
+    let does = on_heap (on env n here line) (makes_text c.in-Str.x) in
+    stepped env n here line (tree_of c.args.e.now) _ does (world_of c.args.state.now) (store_of c.tick.new.heap) c.args.frames.now.items c.text_value.result _ (ap tree_of c.in-Str.is ∙ tree-Str c.in-Str.x) refl c.in_ok-tick.ensures.says (c.text_value.ensures.goes env n line here c.args.frames.now.items)
 
-pub returns-in_ok-push-in-DictOf-clause-goes : goal.returns-in_ok-push-in-DictOf-clause-goes
-returns-in_ok-push-in-DictOf-clause-goes c = λ env n running.
+pub returns-in-Tuple-clause-goes : goal.returns-in-Tuple-clause-goes
+returns-in-Tuple-clause-goes c = λ env n running.
     let here = here_of c.args.at.now c.args.at.now.line running in
     let line = c.args.line in
-    let w = world_of c.args.state.now in
-    let u : World = record w { store = store_of c.tick.new.heap } in
-    let frames = c.args.frames.now.items in
-    let cs = clause_trees (arc_value c.in-DictOf.clauses).items in
-    let item = i.Entry c.in_ok-try_clone-in-DictOf.field-0 c.in_ok-try_clone-in-DictOf-2.field-0 in
-    let tree : tree_of c.args.e.now ≡ t.dict_of (shared_tree c.in-DictOf.key) (shared_tree c.in-DictOf.value) cs = ap tree_of c.in-DictOf.is ∙ tree-DictOf c.in-DictOf.key c.in-DictOf.value c.in-DictOf.clauses in
-    let same = ap tree_of c.in_ok-try_clone-in-DictOf.ensures in
-    let same_value = ap tree_of c.in_ok-try_clone-in-DictOf-2.ensures in
-    let before = ap (λ (d : Ex). above env n here (valued (ex env n here d line)) frames w) (tree ∙ ap (λ (d : Ex). t.dict_of d (shared_tree c.in-DictOf.value) cs) (sym same) ∙ ap (λ (d : Ex). t.dict_of (shared_tree c.in_ok-try_clone-in-DictOf.field-0) d cs) (sym same_value)) in
-    let runs = ticked (tick (on env n here line) w) u (comprehension env (call env n) cs (item_does env n here item line) (on env n here line)) (λ (g : l.Gathered). on_heap (on env n here line) (makes_dict g.entries)) (λ v. pure (a_value v)) (stack_does env n here frames) (stack_does env n here c.push-in-DictOf.new.frames.items) a_gathered (frame_does env n here (f.MakeDict line)) (tick_ends (on env n here line) w (store_of c.tick.new.heap) c.in_ok-tick.ensures.says) (λ g v. refl) (c.in_ok-push-in-DictOf.ensures.ok env n here) in
-    subst (λ (o : Ends Sig). Goes (on env n here line).site o c.begin_comprehension-in-DictOf.result (λ control. machine_does env n here control c.begin_comprehension-in-DictOf.new.frames.items (world_of c.begin_comprehension-in-DictOf.new.state))) (sym (before ∙ runs)) (c.begin_comprehension-in-DictOf.ensures.goes env n here)
+    let does = items_from env n here p.Tuple (shared_trees c.in-Tuple.es) [] line in
+    stepped env n here line (tree_of c.args.e.now) _ does (world_of c.args.state.now) (store_of c.tick.new.heap) c.args.frames.now.items c.begin_items.result _ (ap tree_of c.in-Tuple.is ∙ tree-Tuple c.in-Tuple.es) refl c.in_ok-tick.ensures.says (went c.begin_items.result (on env n here line).site _ _ _ (λ control q. q env n here c.args.frames.now.items (record (world_of c.args.state.now) { store = store_of c.tick.new.heap })) c.begin_items.ensures.ok c.begin_items.ensures.err)
+
+pub returns-in-List-clause-goes : goal.returns-in-List-clause-goes
+returns-in-List-clause-goes c = λ env n running.
+    let here = here_of c.args.at.now c.args.at.now.line running in
+    let line = c.args.line in
+    let does = items_from env n here p.List (shared_trees c.in-List.es) [] line in
+    stepped env n here line (tree_of c.args.e.now) _ does (world_of c.args.state.now) (store_of c.tick.new.heap) c.args.frames.now.items c.begin_items-in-List.result _ (ap tree_of c.in-List.is ∙ tree-List c.in-List.es) refl c.in_ok-tick.ensures.says (went c.begin_items-in-List.result (on env n here line).site _ _ _ (λ control q. q env n here c.args.frames.now.items (record (world_of c.args.state.now) { store = store_of c.tick.new.heap })) c.begin_items-in-List.ensures.ok c.begin_items-in-List.ensures.err)
+
+pub returns-in-Dict-clause-goes : goal.returns-in-Dict-clause-goes
+returns-in-Dict-clause-goes c = λ env n running.
+    let here = here_of c.args.at.now c.args.at.now.line running in
+    let line = c.args.line in
+    let does = entries_from env n here (shared_trees c.in-Dict.ks) (shared_trees c.in-Dict.vs) [] line in
+    stepped env n here line (tree_of c.args.e.now) _ does (world_of c.args.state.now) (store_of c.tick.new.heap) c.args.frames.now.items c.begin_dict.result _ (ap tree_of c.in-Dict.is ∙ tree-Dict c.in-Dict.ks c.in-Dict.vs) refl c.in_ok-tick.ensures.says (went c.begin_dict.result (on env n here line).site _ _ _ (λ control q. q env n here c.args.frames.now.items (record (world_of c.args.state.now) { store = store_of c.tick.new.heap })) c.begin_dict.ensures.ok c.begin_dict.ensures.err)
+
+pub returns-in-ListOf-clause-goes : goal.returns-in-ListOf-clause-goes
+returns-in-ListOf-clause-goes c = λ env n running.
+    let here = here_of c.args.at.now c.args.at.now.line running in
+    let line = c.args.line in
+    let does = list_of_does env n here (shared_tree c.in-ListOf.item) (clause_trees (arc_value c.in-ListOf.clauses).items) line in
+    stepped env n here line (tree_of c.args.e.now) _ does (world_of c.args.state.now) (store_of c.tick.new.heap) c.args.frames.now.items c.begin_list_of.result _ (ap tree_of c.in-ListOf.is ∙ tree-ListOf c.in-ListOf.item c.in-ListOf.clauses) refl c.in_ok-tick.ensures.says (c.begin_list_of.ensures.goes env n here)
+
+pub returns-in-DictOf-clause-goes : goal.returns-in-DictOf-clause-goes
+returns-in-DictOf-clause-goes c = λ env n running.
+    let here = here_of c.args.at.now c.args.at.now.line running in
+    let line = c.args.line in
+    let does = dict_of_does env n here (shared_tree c.in-DictOf.k) (shared_tree c.in-DictOf.v) (clause_trees (arc_value c.in-DictOf.clauses).items) line in
+    stepped env n here line (tree_of c.args.e.now) _ does (world_of c.args.state.now) (store_of c.tick.new.heap) c.args.frames.now.items c.begin_dict_of.result _ (ap tree_of c.in-DictOf.is ∙ tree-DictOf c.in-DictOf.k c.in-DictOf.v c.in-DictOf.clauses) refl c.in_ok-tick.ensures.says (c.begin_dict_of.ensures.goes env n here)
+
+pub returns-in-Unary-clause-goes : goal.returns-in-Unary-clause-goes
+returns-in-Unary-clause-goes c = λ env n running.
+    let here = here_of c.args.at.now c.args.at.now.line running in
+    let line = c.args.line in
+    let does = unary_does env n here c.in-Unary.op (shared_tree c.in-Unary.a) line in
+    stepped env n here line (tree_of c.args.e.now) _ does (world_of c.args.state.now) (store_of c.tick.new.heap) c.args.frames.now.items c.begin_unary.result _ (ap tree_of c.in-Unary.is ∙ tree-Unary c.in-Unary.op c.in-Unary.a) refl c.in_ok-tick.ensures.says (c.begin_unary.ensures.goes env n here (record (world_of c.args.state.now) { store = store_of c.tick.new.heap }))
+
+pub returns-in-Binary-clause-goes : goal.returns-in-Binary-clause-goes
+returns-in-Binary-clause-goes c = λ env n running.
+    let here = here_of c.args.at.now c.args.at.now.line running in
+    let line = c.args.line in
+    let does = binary_does env n here c.in-Binary.op (shared_tree c.in-Binary.a) (shared_tree c.in-Binary.b) line in
+    stepped env n here line (tree_of c.args.e.now) _ does (world_of c.args.state.now) (store_of c.tick.new.heap) c.args.frames.now.items c.begin_binary.result _ (ap tree_of c.in-Binary.is ∙ tree-Binary c.in-Binary.op c.in-Binary.a c.in-Binary.b) refl c.in_ok-tick.ensures.says (c.begin_binary.ensures.goes env n running)
+
+pub returns-in-Choice-clause-goes : goal.returns-in-Choice-clause-goes
+returns-in-Choice-clause-goes c = λ env n running.
+    let here = here_of c.args.at.now c.args.at.now.line running in
+    let line = c.args.line in
+    let does = choice_does env n here (shared_tree c.in-Choice.a) (shared_tree c.in-Choice.condition) (shared_tree c.in-Choice.b) line in
+    stepped env n here line (tree_of c.args.e.now) _ does (world_of c.args.state.now) (store_of c.tick.new.heap) c.args.frames.now.items c.begin_choice.result _ (ap tree_of c.in-Choice.is ∙ tree-Choice c.in-Choice.a c.in-Choice.condition c.in-Choice.b) refl c.in_ok-tick.ensures.says (c.begin_choice.ensures.goes env n here (record (world_of c.args.state.now) { store = store_of c.tick.new.heap }))
+
+pub returns-in-Index-clause-goes : goal.returns-in-Index-clause-goes
+returns-in-Index-clause-goes c = λ env n running.
+    let here = here_of c.args.at.now c.args.at.now.line running in
+    let line = c.args.line in
+    let does = index_does env n here (shared_tree c.in-Index.a) (shared_tree c.in-Index.i) line in
+    stepped env n here line (tree_of c.args.e.now) _ does (world_of c.args.state.now) (store_of c.tick.new.heap) c.args.frames.now.items c.begin_index.result _ (ap tree_of c.in-Index.is ∙ tree-Index c.in-Index.a c.in-Index.i) refl c.in_ok-tick.ensures.says (c.begin_index.ensures.goes env n running)
+
+pub returns-in-Slice-clause-goes : goal.returns-in-Slice-clause-goes
+returns-in-Slice-clause-goes c = λ env n running.
+    let here = here_of c.args.at.now c.args.at.now.line running in
+    let line = c.args.line in
+    let does = slice_does env n here (shared_tree c.in-Slice.a) (bound_tree c.in-Slice.i) (bound_tree c.in-Slice.j) line in
+    stepped env n here line (tree_of c.args.e.now) _ does (world_of c.args.state.now) (store_of c.tick.new.heap) c.args.frames.now.items c.begin_slice.result _ (ap tree_of c.in-Slice.is ∙ tree-Slice c.in-Slice.a c.in-Slice.i c.in-Slice.j) refl c.in_ok-tick.ensures.says (c.begin_slice.ensures.goes env n here (record (world_of c.args.state.now) { store = store_of c.tick.new.heap }))
+
+pub returns-in-Call-clause-goes : goal.returns-in-Call-clause-goes
+returns-in-Call-clause-goes c = λ env n running.
+    let here = here_of c.args.at.now c.args.at.now.line running in
+    let line = c.args.line in
+    let does = call_does env n here (shared_tree c.in-Call.f) (shared_trees c.in-Call.es) (arc_value c.in-Call.names).items line in
+    stepped env n here line (tree_of c.args.e.now) _ does (world_of c.args.state.now) (store_of c.tick.new.heap) c.args.frames.now.items c.begin_call.result _ (ap tree_of c.in-Call.is ∙ tree-Call c.in-Call.f c.in-Call.es c.in-Call.names) refl c.in_ok-tick.ensures.says (c.begin_call.ensures.goes env n running)
 
 pub returns-in-Method-clause-goes : goal.returns-in-Method-clause-goes
 returns-in-Method-clause-goes c = λ env n running.
     let here = here_of c.args.at.now c.args.at.now.line running in
     let line = c.args.line in
-    let w = world_of c.args.state.now in
-    let frames = c.args.frames.now.items in
-    let x = shared_tree c.in-Method.x in
-    let does = method_does env n here x c.in-Method.name (shared_trees c.in-Method.es) (arc_value c.in-Method.names).items line in
-    let before = ap (λ (d : Ex). above env n here (valued (ex env n here d line)) frames w) (ap tree_of c.in-Method.is ∙ tree-Method c.in-Method.x c.in-Method.name c.in-Method.es c.in-Method.names) in
-    let runs = ap (λ o. then_runs (then_runs (then_runs o (λ _. does)) (λ v. pure (a_value v))) (stack_does env n here frames)) (tick_ends (on env n here line) w (store_of c.tick.new.heap) c.in_ok-tick.ensures.says) in
-    subst (λ (o : Ends Sig). Goes (on env n here line).site o c.begin_method.result (λ control. machine_does env n here control c.begin_method.new.frames.items (world_of c.begin_method.new.state))) (sym (before ∙ runs)) (c.begin_method.ensures.goes env n running)
-
-pub returns-in_ok-right-in-Binary-clause-goes : goal.returns-in_ok-right-in-Binary-clause-goes
-returns-in_ok-right-in-Binary-clause-goes c = λ env n running.
-    let here = here_of c.args.at.now c.args.at.now.line running in
-    let line = c.args.line in
-    let h = on env n here line in
-    let w = world_of c.args.state.now in
-    let u : World = record w { store = store_of c.tick.new.heap } in
-    let frames = c.args.frames.now.items in
-    let op = c.in-Binary.op in
-    let b = arc_value c.in-Binary.b in
-    let first = ex env n here (shared_tree c.in-Binary.a) line in
-    let second = λ (d : Expr). ex env n here (tree_of d) line in
-    let p = λ (v : Val). pure (a_value v) in
-    let j = stack_does env n here frames in
-    let before = ap (λ (d : Ex). above env n here (valued (ex env n here d line)) frames w) (ap tree_of c.in-Binary.is ∙ tree-Binary op c.in-Binary.a c.in-Binary.b)
-    ∙ ap (λ o. then_runs (then_runs (then_runs o (λ _. between op first (second b) h)) p) j) (tick_ends h w (store_of c.tick.new.heap) c.in_ok-tick.ensures.says)
-    ∙ ap (λ o. then_runs (then_runs o p) j) (between_is op first (second b) h u)
-    ∙ under (first u) (λ v. right op v (second b) h) p j
-    ∙ ap (λ (d : Expr). then_runs (first u) (λ v. above env n here (valued (right op v (second d) h)) frames)) (sym c.in_ok-right-in-Binary.ensures) in
-    c.value_above.ensures.goes env n running _ refl refl before
+    let does = method_does env n here (shared_tree c.in-Method.x) c.in-Method.name (shared_trees c.in-Method.es) (arc_value c.in-Method.names).items line in
+    stepped env n here line (tree_of c.args.e.now) _ does (world_of c.args.state.now) (store_of c.tick.new.heap) c.args.frames.now.items c.begin_method.result _ (ap tree_of c.in-Method.is ∙ tree-Method c.in-Method.x c.in-Method.name c.in-Method.es c.in-Method.names) refl c.in_ok-tick.ensures.says (c.begin_method.ensures.goes env n running)

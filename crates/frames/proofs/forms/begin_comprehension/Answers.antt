@@ -12,7 +12,7 @@ use Rattle.frames.specs.declared.frame.Comprehension.{Comprehension}
 use Rattle.frames.specs.Frames.{on, ex, gathered, item_does, first_does, above}
 use Rattle.frames.proofs.Trees.{clause-For, clause-If}
 use Rattle.frames.proofs.Clauses.{went, first_begins, no_first, front_of}
-use Rattle.frames.proofs.begin.begin_comprehension.Goals as goal
+use Rattle.frames.proofs.forms.begin_comprehension.Goals as goal
 
 pub returns-in_ok-try_clone-in-Some-For-2-clause-goes : goal.returns-in_ok-try_clone-in-Some-For-2-clause-goes
 returns-in_ok-try_clone-in-Some-For-2-clause-goes c = λ env n here.
