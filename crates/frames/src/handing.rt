@@ -12,14 +12,19 @@ ghost use Rattle.frames.specs.Weight.{Lighter, frames_weight, frame_weight, cont
 
 use crate::deliver::{deliver_aim, deliver_exit, deliver_gathered};
 use crate::frame::{Control, Exit, Frame, Purpose, Receiver, Signal};
+use crate::handed::{
+    branch_known, clause_known, default_done, entry_done, entry_gathered, index_done,
+    member_gathered, slice_done,
+};
 use crate::items::begin_above;
 use crate::making::{clause_over, items_of, turns_over};
+use crate::once::{both_done, item_done};
 use crate::operands::{choose, entry_value, right_operand, slice_from, slice_to, unary_done};
 use crate::stack::push;
 use crate::targets::begin_aim;
 use heap::{Halt, Val};
 use names::{Standing, State, bind};
-use pieces::{Aim, both, fresh, index, is_true, one_entry, one_more, slice, store};
+use pieces::{Aim, both, store};
 use std::alloc::Global;
 use std::sync::Arc;
 use std::sync::atomic::AtomicUsize;
@@ -103,31 +108,18 @@ pub fn deliver_value(
     ensures lighter { IfOk result (λ control. Lighter state.old.heap.steps (frames_weight frames.old.items + frame_weight frame) state.new.heap.steps (frames_weight frames.new.items + control_weight control)) }
 {
     match frame {
-        Frame::Items(line, series) => {
-            let mut series = series;
-            series.done.push(x)?;
-            Ok(Control::Items(line, series))
-        }
+        Frame::Items(line, series) => item_done(line, series, x),
         Frame::Key(line, pairs, next) => entry_value(state, frames, at, line, pairs, next, x),
-        Frame::Entry(line, pairs, next, k) => {
-            let mut pairs = pairs;
-            fresh(&mut state.heap, &mut pairs.done, k, x)?;
-            Ok(Control::Entries(line, pairs, next))
-        }
+        Frame::Entry(line, pairs, next, k) => entry_done(state, line, pairs, next, k, x),
         Frame::Unary(_, op) => unary_done(state, op, x),
         Frame::Right(line, op, b) => right_operand(state, frames, at, line, op, x, &b),
-        Frame::Both(_, op, v) => Ok(Control::Signal(Signal::Value(both(
-            &mut state.heap,
-            op,
-            v,
-            x,
-        )?))),
+        Frame::Both(_, op, v) => both_done(state, op, v, x),
         Frame::Choice(line, a, b) => choose(state, frames, at, line, x, &a, &b),
         Frame::Indexed(line, i) => begin_above(state, frames, at, Frame::Index(line, x), line, &i),
-        Frame::Index(_, v) => Ok(Control::Signal(Signal::Value(index(&mut state.heap, v, x)?))),
+        Frame::Index(line, v) => index_done(state, line, v, x),
         Frame::Sliced(line, i, j) => slice_from(state, frames, at, line, x, &i, j),
         Frame::From(line, v, j) => slice_to(state, frames, at, line, v, x, &j),
-        Frame::To(_, v, y) => Ok(Control::Signal(Signal::Value(slice(&mut state.heap, v, y, x)?))),
+        Frame::To(line, v, y) => slice_done(state, line, v, y, x),
         Frame::Called(line, es, names) => {
             items_of(state.heap.alloc, line, es, Purpose::Call(x, names))
         }
@@ -143,45 +135,19 @@ pub fn deliver_value(
         Frame::Assign(line, target) => assign(state, frames, at, line, &target, x),
         Frame::Change(line, op, aim, v) => change(state, at, frames, line, op, aim, v, x),
         Frame::Return => Ok(Control::Signal(Signal::Exit(Exit::Returns(x)))),
-        Frame::Branch(ss, bs, next, other) => {
-            if is_true(&state.heap, x) {
-                Ok(Control::Suite(ss, 0))
-            } else {
-                Ok(Control::Branches(bs, next, other))
-            }
-        }
+        Frame::Branch(ss, bs, next, other) => Ok(branch_known(state, ss, bs, next, other, x)),
         Frame::For(line, target, body) => { turns_over(state, line, target, body, x) }
         Frame::First(line, target, of) => Ok(Control::First(line, target, of, x)),
         Frame::Each(line, target, of, inner, got) => {
             clause_over(state, line, target, of, inner, got, x)
         }
-        Frame::Only(line, of, inner, got) => {
-            if is_true(&state.heap, x) {
-                Ok(Control::Clauses(line, of, inner, got))
-            } else {
-                Ok(Control::Signal(Signal::Gathered(got)))
-            }
-        }
-        Frame::OneMore(_, got) => {
-            let mut got = got;
-            if let Err(halt) = one_more(&mut got, x) {
-                return Err(halt);
-            }
-            Ok(Control::Signal(Signal::Gathered(got)))
-        }
+        Frame::Only(line, of, inner, got) => Ok(clause_known(state, line, of, inner, got, x)),
+        Frame::OneMore(line, got) => member_gathered(line, got, x),
         Frame::OneKey(line, e, got) => {
             begin_above(state, frames, at, Frame::OneEntry(line, x, got), line, &e)
         }
-        Frame::OneEntry(_, k, got) => {
-            let mut got = got;
-            one_entry(&mut state.heap, &mut got, k, x)?;
-            Ok(Control::Signal(Signal::Gathered(got)))
-        }
-        Frame::Default(line, def, next, done) => {
-            let mut done = done;
-            done.push(x)?;
-            Ok(Control::Defaults(line, def, next, done))
-        }
+        Frame::OneEntry(line, k, got) => entry_gathered(state, line, k, got, x),
+        Frame::Default(line, def, next, done) => default_done(line, def, next, done, x),
         Frame::Aims(_, _, _) => Err(Halt::Code(0)),
         Frame::Store(_, _) => Err(Halt::Code(0)),
         Frame::Augment(_, _, _) => Err(Halt::Code(0)),

@@ -6,6 +6,7 @@ mod deliver;
 mod forms;
 mod frame;
 mod gather;
+mod handed;
 mod handing;
 mod items;
 mod loops;

@@ -44,10 +44,11 @@ fn at_once(state: &mut State, at: &Standing, e: &Expr) -> Result<Option<Val>, Ha
     }
 }
 
-// A further item is done.
-fn item_done(line: usize, series: Box<Series>, x: Val) -> Result<Control, Halt>
+/// A further item is done.
+pub fn item_done(line: usize, series: Box<Series>, x: Val) -> Result<Control, Halt>
     ensures ok { IfOk result (λ control. (env : Env) (n : ℕ) (here : Here) (frames : List Frame) (w : World) → above env n here (valued (items_from env n here series.value.purpose (trees_from (length series.value.done.items + 1) series.value.items) (series.value.done.items ++ x ∷ []) line)) frames w ≡ machine_does env n here control frames w) }
     ensures err { IsOkUnless result Memory }
+    ensures light { IfOk result (λ control. control_weight control ≡ 8) }
 {
     let mut series = series;
     series.done.push(x)?;
@@ -73,10 +74,11 @@ pub fn one_item(
     }
 }
 
-// Both operands are done.
-fn both_done(state: &mut State, op: BinaryOp, x: Val, y: Val) -> Result<Control, Halt>
+/// Both operands are done.
+pub fn both_done(state: &mut State, op: BinaryOp, x: Val, y: Val) -> Result<Control, Halt>
     ensures goes { (env : Env) (n line : ℕ) (here : Here) (frames : List Frame) → Goes (on env n here line).site (above env n here (valued (on_heap (on env n here line) (binary (operator_of op) x y))) frames (world_of state.old)) result (λ control. machine_does env n here control frames (world_of state.new)) }
     ensures steps { IfOk result (λ _. state.new.heap.steps ≤ state.old.heap.steps) }
+    ensures light { IfOk result (λ control. control_weight control ≡ 0) }
 {
     Ok(Control::Signal(Signal::Value(both(&mut state.heap, op, x, y)?)))
 }

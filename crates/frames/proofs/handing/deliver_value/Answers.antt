@@ -1,4 +1,4 @@
-use Rattle.std.proofs.Common.{Err, refl, sym, subst, ap, ◌∙◌}
+use Rattle.std.proofs.Common.{Ok, refl, sym, subst, ap, ◌∙◌}
 use Rattle.meaning.specs.declared.val.Val.{Val}
 use Rattle.meaning.specs.Indexing as ix
 use Rattle.tree.specs.declared.expr.Expr.{Expr}
@@ -7,15 +7,14 @@ use Rattle.language.specs.World.{Ends, then_runs, pure, on_heap}
 use Rattle.language.specs.Targets as ta
 use Rattle.language.specs.Targets.{store, to_member}
 use Rattle.language.specs.Loops as l
-use Rattle.language.specs.Loops.{one_more, one_entry}
+use Rattle.language.specs.Loops.{one_entry}
 use Rattle.names.specs.View.{world_of, here_of}
-use Rattle.pieces.specs.declared.gathering.Gathered.{Gathered}
 use Rattle.pieces.specs.View.{gathered_of}
 use Rattle.frames.specs.declared.frame.Control.{Control}
 use Rattle.frames.specs.declared.frame.Frame.{Frame}
 use Rattle.frames.specs.Frames.{Sig, a_value, an_aim, a_gathered, Goes, on, ex, valued, aimed, gathered, frame_does, frame_line, above, stack_does, machine_does}
 use Rattle.frames.proofs.Bind.{under}
-use Rattle.frames.proofs.Changed.{stops_into}
+use Rattle.frames.proofs.Clauses.{went}
 use Rattle.frames.proofs.handing.deliver_value.Goals as goal
 
 pub returns-in-Key-clause-goes : goal.returns-in-Key-clause-goes
@@ -127,18 +126,6 @@ returns-in-OneKey-clause-goes c = λ env n running.
     subst (λ (fr : Frame). Goes (on env n here (frame_line c.args.at.now.line fr)).site (above env n here (frame_does env n here fr (a_value c.args.x)) frames w) c.begin_above-in-OneKey.result after) (sym c.in-OneKey.is)
     (subst (λ (q : Ends Sig). Goes h.site q c.begin_above-in-OneKey.result after) (sym before) (c.begin_above-in-OneKey.ensures.goes env n running refl refl))
 
-pub returns-in-Err-clause-goes : goal.returns-in-Err-clause-goes
-returns-in-Err-clause-goes c = λ env n running.
-    let here = here_of c.args.at.now c.args.at.now.line running in
-    let w = world_of c.args.state.now in
-    let frames = c.args.frames.now.items in
-    let line = c.in-OneMore.field-0 in
-    let h = on env n here line in
-    let after = λ (control : Control). machine_does env n here control frames w in
-    subst (λ (fr : Frame). Goes (on env n here (frame_line c.args.at.now.line fr)).site (above env n here (frame_does env n here fr (a_value c.args.x)) frames w) (Err c.in-Err.halt) after) (sym c.in-OneMore.is)
-    (subst (λ (g : Gathered). Goes h.site (above env n here (gathered (one_more c.args.x (gathered_of g) h)) frames w) (Err c.in-Err.halt) after) c.deref_mut-in-OneMore.ensures.value
-    (stops_into (one_more c.args.x (gathered_of c.deref_mut-in-OneMore.result.now) h w) (λ (g : l.Gathered). pure (a_gathered g)) (stack_does env n here frames) h.site c.in-Err.halt (gathered_of c.one_more.new.g) w after (c.in-Err.ensures h w)))
-
 pub returns-in-For-clause-goes : goal.returns-in-For-clause-goes
 returns-in-For-clause-goes c = λ env n running.
     let here = here_of c.args.at.now c.args.at.now.line running in
@@ -154,3 +141,83 @@ returns-in-Each-clause-goes c = λ env n running.
     let frames = c.args.frames.now.items in
     let after = λ (control : Control). machine_does env n here control frames (world_of c.clause_over.new.state) in
     subst (λ (fr : Frame). Goes (on env n here (frame_line c.args.at.now.line fr)).site (above env n here (frame_does env n here fr (a_value c.args.x)) frames w) c.clause_over.result after) (sym c.in-Each.is) (c.clause_over.ensures.goes env n here frames)
+
+pub returns-in-Items-clause-goes : goal.returns-in-Items-clause-goes
+returns-in-Items-clause-goes c = λ env n running.
+    let here = here_of c.args.at.now c.args.at.now.line running in
+    let w = world_of c.args.state.now in
+    let frames = c.args.frames.now.items in
+    let after = λ (control : Control). machine_does env n here control frames (world_of c.args.state.now) in
+    subst (λ (fr : Frame). Goes (on env n here (frame_line c.args.at.now.line fr)).site (above env n here (frame_does env n here fr (a_value c.args.x)) frames w) c.item_done.result after) (sym c.in-Items.is) (went c.item_done.result _ _ after _ (λ control q. q env n here frames w) c.item_done.ensures.ok c.item_done.ensures.err)
+
+pub returns-in-Entry-clause-goes : goal.returns-in-Entry-clause-goes
+returns-in-Entry-clause-goes c = λ env n running.
+    let here = here_of c.args.at.now c.args.at.now.line running in
+    let w = world_of c.args.state.now in
+    let frames = c.args.frames.now.items in
+    let after = λ (control : Control). machine_does env n here control frames (world_of c.entry_done.new.state) in
+    subst (λ (fr : Frame). Goes (on env n here (frame_line c.args.at.now.line fr)).site (above env n here (frame_does env n here fr (a_value c.args.x)) frames w) c.entry_done.result after) (sym c.in-Entry.is) (c.entry_done.ensures.goes env n here frames)
+
+pub returns-in-Both-clause-goes : goal.returns-in-Both-clause-goes
+returns-in-Both-clause-goes c = λ env n running.
+    let here = here_of c.args.at.now c.args.at.now.line running in
+    let w = world_of c.args.state.now in
+    let frames = c.args.frames.now.items in
+    let after = λ (control : Control). machine_does env n here control frames (world_of c.both_done.new.state) in
+    subst (λ (fr : Frame). Goes (on env n here (frame_line c.args.at.now.line fr)).site (above env n here (frame_does env n here fr (a_value c.args.x)) frames w) c.both_done.result after) (sym c.in-Both.is) (c.both_done.ensures.goes env n c.in-Both.field-0 here frames)
+
+pub returns-in-Index-clause-goes : goal.returns-in-Index-clause-goes
+returns-in-Index-clause-goes c = λ env n running.
+    let here = here_of c.args.at.now c.args.at.now.line running in
+    let w = world_of c.args.state.now in
+    let frames = c.args.frames.now.items in
+    let after = λ (control : Control). machine_does env n here control frames (world_of c.index_done.new.state) in
+    subst (λ (fr : Frame). Goes (on env n here (frame_line c.args.at.now.line fr)).site (above env n here (frame_does env n here fr (a_value c.args.x)) frames w) c.index_done.result after) (sym c.in-Index.is) (c.index_done.ensures.goes env n here frames)
+
+pub returns-in-To-clause-goes : goal.returns-in-To-clause-goes
+returns-in-To-clause-goes c = λ env n running.
+    let here = here_of c.args.at.now c.args.at.now.line running in
+    let w = world_of c.args.state.now in
+    let frames = c.args.frames.now.items in
+    let after = λ (control : Control). machine_does env n here control frames (world_of c.slice_done.new.state) in
+    subst (λ (fr : Frame). Goes (on env n here (frame_line c.args.at.now.line fr)).site (above env n here (frame_does env n here fr (a_value c.args.x)) frames w) c.slice_done.result after) (sym c.in-To.is) (c.slice_done.ensures.goes env n here frames)
+
+pub returns-in-OneMore-clause-goes : goal.returns-in-OneMore-clause-goes
+returns-in-OneMore-clause-goes c = λ env n running.
+    let here = here_of c.args.at.now c.args.at.now.line running in
+    let w = world_of c.args.state.now in
+    let frames = c.args.frames.now.items in
+    let after = λ (control : Control). machine_does env n here control frames (world_of c.args.state.now) in
+    subst (λ (fr : Frame). Goes (on env n here (frame_line c.args.at.now.line fr)).site (above env n here (frame_does env n here fr (a_value c.args.x)) frames w) c.member_gathered.result after) (sym c.in-OneMore.is) (c.member_gathered.ensures.goes env n here frames w)
+
+pub returns-in-OneEntry-clause-goes : goal.returns-in-OneEntry-clause-goes
+returns-in-OneEntry-clause-goes c = λ env n running.
+    let here = here_of c.args.at.now c.args.at.now.line running in
+    let w = world_of c.args.state.now in
+    let frames = c.args.frames.now.items in
+    let after = λ (control : Control). machine_does env n here control frames (world_of c.entry_gathered.new.state) in
+    subst (λ (fr : Frame). Goes (on env n here (frame_line c.args.at.now.line fr)).site (above env n here (frame_does env n here fr (a_value c.args.x)) frames w) c.entry_gathered.result after) (sym c.in-OneEntry.is) (c.entry_gathered.ensures.goes env n here frames)
+
+pub returns-in-Default-clause-goes : goal.returns-in-Default-clause-goes
+returns-in-Default-clause-goes c = λ env n running.
+    let here = here_of c.args.at.now c.args.at.now.line running in
+    let w = world_of c.args.state.now in
+    let frames = c.args.frames.now.items in
+    let after = λ (control : Control). machine_does env n here control frames (world_of c.args.state.now) in
+    subst (λ (fr : Frame). Goes (on env n here (frame_line c.args.at.now.line fr)).site (above env n here (frame_does env n here fr (a_value c.args.x)) frames w) c.default_done.result after) (sym c.in-Default.is) (went c.default_done.result _ _ after _ (λ control q. q env n here frames w) c.default_done.ensures.ok c.default_done.ensures.err)
+
+pub returns-in-Branch-clause-goes : goal.returns-in-Branch-clause-goes
+returns-in-Branch-clause-goes c = λ env n running.
+    let here = here_of c.args.at.now c.args.at.now.line running in
+    let w = world_of c.args.state.now in
+    let frames = c.args.frames.now.items in
+    let after = λ (control : Control). machine_does env n here control frames (world_of c.args.state.now) in
+    subst (λ (fr : Frame). Goes (on env n here (frame_line c.args.at.now.line fr)).site (above env n here (frame_does env n here fr (a_value c.args.x)) frames w) (Ok c.branch_known.result) after) (sym c.in-Branch.is) (c.branch_known.ensures.goes env n here frames)
+
+pub returns-in-Only-clause-goes : goal.returns-in-Only-clause-goes
+returns-in-Only-clause-goes c = λ env n running.
+    let here = here_of c.args.at.now c.args.at.now.line running in
+    let w = world_of c.args.state.now in
+    let frames = c.args.frames.now.items in
+    let after = λ (control : Control). machine_does env n here control frames (world_of c.args.state.now) in
+    subst (λ (fr : Frame). Goes (on env n here (frame_line c.args.at.now.line fr)).site (above env n here (frame_does env n here fr (a_value c.args.x)) frames w) (Ok c.clause_known.result) after) (sym c.in-Only.is) (c.clause_known.ensures.goes env n here frames)

@@ -1,0 +1,134 @@
+//! What a frame does with the value that it waits for, where nothing is begun.
+ghost use Rattle.std.specs.Prelude.{◌≡◌, ◌≤◌, ◌+◌, ℕ, List, length, IfOk, IsOkUnless};
+ghost use Rattle.heap.specs.declared.halt.Halt.TheVariants.{Memory};
+ghost use Rattle.language.specs.World.{World, Here};
+ghost use Rattle.language.specs.Environment.{Env};
+ghost use Rattle.names.specs.View.{world_of};
+ghost use Rattle.frames.specs.declared.frame.Frame.{Frame};
+ghost use Rattle.frames.specs.declared.frame.Frame.TheVariants as f;
+ghost use Rattle.frames.specs.Frames.{Goes, a_value, on, frame_does, params_at, above, machine_does};
+ghost use Rattle.frames.specs.Weight.{control_weight};
+
+use crate::frame::{Comprehension, Control, Pairs, Signal};
+use heap::{Halt, Val};
+use names::State;
+use pieces::{Gathered, fresh, index, is_true, one_entry, one_more, slice};
+use std::alloc::Global;
+use std::sync::Arc;
+use tree::{Branch, Def, Stmt};
+
+/// The value of a key.
+pub fn entry_done(
+    state: &mut State,
+    line: usize,
+    pairs: Box<Pairs>,
+    next: usize,
+    k: Val,
+    x: Val,
+) -> Result<Control, Halt>
+    ensures goes { (env : Env) (n : ℕ) (here : Here) (frames : List Frame) → Goes (on env n here line).site (above env n here (frame_does env n here (f.Entry line pairs next k) (a_value x)) frames (world_of state.old)) result (λ control. machine_does env n here control frames (world_of state.new)) }
+    ensures light { IfOk result (λ control. (state.new.heap.steps ≤ state.old.heap.steps) × (control_weight control ≡ 3)) }
+{
+    let mut pairs = pairs;
+    fresh(&mut state.heap, &mut pairs.done, k, x)?;
+    Ok(Control::Entries(line, pairs, next))
+}
+
+/// An index.
+pub fn index_done(state: &mut State, line: usize, v: Val, x: Val) -> Result<Control, Halt>
+    ensures goes { (env : Env) (n : ℕ) (here : Here) (frames : List Frame) → Goes (on env n here line).site (above env n here (frame_does env n here (f.Index line v) (a_value x)) frames (world_of state.old)) result (λ control. machine_does env n here control frames (world_of state.new)) }
+    ensures light { IfOk result (λ control. (state.new.heap.steps ≤ state.old.heap.steps) × (control_weight control ≡ 0)) }
+{
+    Ok(Control::Signal(Signal::Value(index(&mut state.heap, v, x)?)))
+}
+
+/// The upper bound of a slice.
+pub fn slice_done(state: &mut State, line: usize, v: Val, y: Val, x: Val) -> Result<Control, Halt>
+    ensures goes { (env : Env) (n : ℕ) (here : Here) (frames : List Frame) → Goes (on env n here line).site (above env n here (frame_does env n here (f.To line v y) (a_value x)) frames (world_of state.old)) result (λ control. machine_does env n here control frames (world_of state.new)) }
+    ensures light { IfOk result (λ control. (state.new.heap.steps ≤ state.old.heap.steps) × (control_weight control ≡ 0)) }
+{
+    Ok(Control::Signal(Signal::Value(slice(&mut state.heap, v, y, x)?)))
+}
+
+/// The condition of a branch.
+pub fn branch_known(
+    state: &State,
+    ss: Arc<Vec<Stmt>, Global>,
+    bs: Arc<Vec<Branch>, Global>,
+    next: usize,
+    other: Arc<Vec<Stmt>, Global>,
+    x: Val,
+) -> Control
+    ensures goes { (env : Env) (n : ℕ) (here : Here) (frames : List Frame) → above env n here (frame_does env n here (f.Branch ss bs next other) (a_value x)) frames (world_of state.now) ≡ machine_does env n here result frames (world_of state.now) }
+    ensures light { control_weight result ≤ 2 }
+{
+    if is_true(&state.heap, x) {
+        Control::Suite(ss, 0)
+    } else {
+        Control::Branches(bs, next, other)
+    }
+}
+
+/// The condition of a clause.
+pub fn clause_known(
+    state: &State,
+    line: usize,
+    of: Arc<Comprehension, Global>,
+    inner: usize,
+    got: Box<Gathered>,
+    x: Val,
+) -> Control
+    ensures goes { (env : Env) (n : ℕ) (here : Here) (frames : List Frame) → above env n here (frame_does env n here (f.Only line of inner got) (a_value x)) frames (world_of state.now) ≡ machine_does env n here result frames (world_of state.now) }
+    ensures light { control_weight result ≤ 1 }
+{
+    if is_true(&state.heap, x) {
+        Control::Clauses(line, of, inner, got)
+    } else {
+        Control::Signal(Signal::Gathered(got))
+    }
+}
+
+/// A member of a comprehension.
+pub fn member_gathered(line: usize, got: Box<Gathered>, x: Val) -> Result<Control, Halt>
+    ensures goes { (env : Env) (n : ℕ) (here : Here) (frames : List Frame) (w : World) → Goes (on env n here line).site (above env n here (frame_does env n here (f.OneMore line got) (a_value x)) frames w) result (λ control. machine_does env n here control frames w) }
+    ensures light { IfOk result (λ control. control_weight control ≡ 0) }
+{
+    let mut got = got;
+    if let Err(halt) = one_more(&mut got, x) {
+        return Err(halt);
+    }
+    Ok(Control::Signal(Signal::Gathered(got)))
+}
+
+/// The value of a key in a comprehension.
+pub fn entry_gathered(
+    state: &mut State,
+    line: usize,
+    k: Val,
+    got: Box<Gathered>,
+    x: Val,
+) -> Result<Control, Halt>
+    ensures goes { (env : Env) (n : ℕ) (here : Here) (frames : List Frame) → Goes (on env n here line).site (above env n here (frame_does env n here (f.OneEntry line k got) (a_value x)) frames (world_of state.old)) result (λ control. machine_does env n here control frames (world_of state.new)) }
+    ensures light { IfOk result (λ control. (state.new.heap.steps ≤ state.old.heap.steps) × (control_weight control ≡ 0)) }
+{
+    let mut got = got;
+    one_entry(&mut state.heap, &mut got, k, x)?;
+    Ok(Control::Signal(Signal::Gathered(got)))
+}
+
+/// The value of a default.
+pub fn default_done(
+    line: usize,
+    def: Arc<Def, Global>,
+    next: usize,
+    done: Vec<Val>,
+    x: Val,
+) -> Result<Control, Halt>
+    ensures ok { IfOk result (λ control. (env : Env) (n : ℕ) (here : Here) (frames : List Frame) (w : World) → above env n here (frame_does env n here (f.Default line def next done) (a_value x)) frames w ≡ machine_does env n here control frames w) }
+    ensures err { IsOkUnless result Memory }
+    ensures light { IfOk result (λ control. control_weight control ≡ length (params_at next def) + 7) }
+{
+    let mut done = done;
+    done.push(x)?;
+    Ok(Control::Defaults(line, def, next, done))
+}
