@@ -3,10 +3,14 @@
 ghost use Rattle.std.specs.Prelude.{◌≡◌, ◌∷◌, ◌++◌, [], length, map, IfOk, IsOkUnless};
 ghost use Rattle.std.specs.Option.{option_map};
 ghost use Rattle.grammar.specs.Expressions as spec;
+ghost use Rattle.grammar.specs.Front.{and_then, gives, expect};
+ghost use Rattle.grammar.specs.declared.kind.Kind.TheVariants as k;
+ghost use Rattle.tokens.specs.declared.symbol.Symbol.TheVariants as s;
+ghost use Rattle.tree.specs.Tree as tree;
 ghost use Rattle.expressions.specs.Nests.{Nests};
 ghost use Rattle.expressions.specs.Parts.{pairs_of, arguments_of, Compares};
 ghost use Rattle.expressions.specs.View.{left, Reads};
-ghost use Rattle.tree.specs.View.{tree_of, clause_of, bound_tree};
+ghost use Rattle.tree.specs.View.{tree_of, clause_of, bound_tree, exs_of, clauses_of};
 ghost use Rattle.expressions.specs.declared.front.Stop.TheVariants.{Memory};
 
 use crate::front::{Stop, Tokens};
@@ -48,6 +52,15 @@ impl<F: Fn(Global, &mut Tokens<'_, '_>, usize, Kind) -> Result<Expr, Stop>> Gram
         ensures { Reads tree_of (spec.expr self.now.depth kind (left t.old)) result (left t.new) }
     {
         (self.expr)(self.alloc, t, self.depth, kind)
+    }
+
+    /// Reads an expression one level down, behind a symbol.
+    fn behind(&self, t: &mut Tokens<'_, '_>, symbol: Symbol, kind: Kind) -> Result<Expr, Stop>
+        requires { Nests self.now.depth (F.pre self.now.expr) (F.post self.now.expr) }
+        ensures { Reads tree_of (and_then (expect symbol (left t.old)) (λ _. spec.expr self.now.depth kind)) result (left t.new) }
+    {
+        t.expect(symbol)?;
+        self.expr(t, kind)
     }
 
     /// Reads the rest of a list of expressions up to a closing bracket, which stays.
@@ -124,8 +137,7 @@ impl<F: Fn(Global, &mut Tokens<'_, '_>, usize, Kind) -> Result<Expr, Stop>> Gram
         ensures { Reads clause_of (spec.for_clause (spec.expr self.now.depth) (left t.old)) result (left t.new) }
     {
         let target = self.targets(t)?;
-        t.expect(Symbol::In)?;
-        let sequence = self.expr(t, Kind::Or)?;
+        let sequence = self.behind(t, Symbol::In, Kind::Or)?;
         Ok(Clause::for_in(self.alloc, target, sequence)?)
     }
 
@@ -164,12 +176,21 @@ impl<F: Fn(Global, &mut Tokens<'_, '_>, usize, Kind) -> Result<Expr, Stop>> Gram
         }
         let first = self.expr(t, Kind::Test)?;
         if !t.is_at(Symbol::Comma) {
-            t.expect(Symbol::RightParen)?;
-            return Ok(first);
+            return closed(t, Symbol::RightParen, first);
         }
         let found = self.items(t, Symbol::RightParen, first)?;
-        t.expect(Symbol::RightParen)?;
-        Ok(Expr::tuple(self.alloc, found)?)
+        let whole = Expr::tuple(self.alloc, found)?;
+        closed(t, Symbol::RightParen, whole)
+    }
+
+    /// Reads the clauses of a list, and its closing bracket.
+    fn list_of(&self, t: &mut Tokens<'_, '_>, first: Expr) -> Result<Expr, Stop>
+        requires { Nests self.now.depth (F.pre self.now.expr) (F.post self.now.expr) }
+        ensures { Reads tree_of (and_then (spec.clauses (spec.expr self.now.depth) (left t.old)) (λ cs us. and_then (expect s.RightBracket us) (λ _. gives (tree.list_of (tree_of first) (clauses_of cs))))) result (left t.new) }
+    {
+        let clauses = self.clauses(t)?;
+        let whole = Expr::list_of(self.alloc, first, clauses)?;
+        closed(t, Symbol::RightBracket, whole)
     }
 
     /// Reads what stands behind the opening bracket of a list.
@@ -183,13 +204,27 @@ impl<F: Fn(Global, &mut Tokens<'_, '_>, usize, Kind) -> Result<Expr, Stop>> Gram
         }
         let first = self.expr(t, Kind::Test)?;
         if t.is_at(Symbol::For) {
-            let clauses = self.clauses(t)?;
-            t.expect(Symbol::RightBracket)?;
-            return Ok(Expr::list_of(self.alloc, first, clauses)?);
+            return self.list_of(t, first);
         }
         let found = self.items(t, Symbol::RightBracket, first)?;
-        t.expect(Symbol::RightBracket)?;
-        Ok(Expr::list(self.alloc, found)?)
+        let whole = Expr::list(self.alloc, found)?;
+        closed(t, Symbol::RightBracket, whole)
+    }
+
+    /// Reads an entry of a dictionary behind its key.
+    fn entry_value(
+        &self,
+        t: &mut Tokens<'_, '_>,
+        entries: &mut EntriesSoFar,
+        key: Expr,
+    ) -> Result<(), Stop>
+        requires { Nests self.now.depth (F.pre self.now.expr) (F.post self.now.expr) }
+        ensures { Reads (λ _. pairs_of entries.new) (and_then (expect s.Colon (left t.old)) (λ _ us. and_then (spec.expr self.now.depth k.Test us) (λ value. gives (spec.with_pair (pairs_of entries.old) (tree_of key) value)))) result (left t.new) }
+    {
+        let value = self.behind(t, Symbol::Colon, Kind::Test)?;
+        entries.keys.push(key)?;
+        entries.values.push(value)?;
+        Ok(())
     }
 
     /// Reads an entry of a dictionary.
@@ -199,11 +234,7 @@ impl<F: Fn(Global, &mut Tokens<'_, '_>, usize, Kind) -> Result<Expr, Stop>> Gram
         ensures { Reads (λ _. pairs_of entries.new) (spec.entry (spec.expr self.now.depth) (pairs_of entries.old) (left t.old)) result (left t.new) }
     {
         let key = self.expr(t, Kind::Test)?;
-        t.expect(Symbol::Colon)?;
-        let value = self.expr(t, Kind::Test)?;
-        entries.keys.push(key)?;
-        entries.values.push(value)?;
-        Ok(())
+        self.entry_value(t, entries, key)
     }
 
     /// Reads the rest of the entries of a dictionary.
@@ -225,6 +256,16 @@ impl<F: Fn(Global, &mut Tokens<'_, '_>, usize, Kind) -> Result<Expr, Stop>> Gram
         Ok(found)
     }
 
+    /// Reads the clauses of a dictionary, and its closing brace.
+    fn dict_of(&self, t: &mut Tokens<'_, '_>, key: Expr, value: Expr) -> Result<Expr, Stop>
+        requires { Nests self.now.depth (F.pre self.now.expr) (F.post self.now.expr) }
+        ensures { Reads tree_of (and_then (spec.clauses (spec.expr self.now.depth) (left t.old)) (λ cs us. and_then (expect s.RightBrace us) (λ _. gives (tree.dict_of (tree_of key) (tree_of value) (clauses_of cs))))) result (left t.new) }
+    {
+        let clauses = self.clauses(t)?;
+        let whole = Expr::dict_of(self.alloc, key, value, clauses)?;
+        closed(t, Symbol::RightBrace, whole)
+    }
+
     /// Reads a dictionary behind its first entry.
     #[tactic(auto, unfolding(grammar::specs::Expressions::dict_after))]
     fn dict_after(&self, t: &mut Tokens<'_, '_>, key: Expr, value: Expr) -> Result<Expr, Stop>
@@ -232,15 +273,12 @@ impl<F: Fn(Global, &mut Tokens<'_, '_>, usize, Kind) -> Result<Expr, Stop>> Gram
         ensures { Reads tree_of (spec.dict_after (spec.expr self.now.depth) (tree_of key) (tree_of value) (left t.old)) result (left t.new) }
     {
         if t.is_at(Symbol::For) {
-            let clauses = self.clauses(t)?;
-            t.expect(Symbol::RightBrace)?;
-            return Ok(Expr::dict_of(self.alloc, key, value, clauses)?);
+            return self.dict_of(t, key, value);
         }
         let first = one_entry(self.alloc, key, value)?;
-        let found = self.entries(t, first)?;
-        t.expect(Symbol::RightBrace)?;
-        let EntriesSoFar { keys, values } = found;
-        Ok(Expr::dict(self.alloc, keys, values)?)
+        let EntriesSoFar { keys, values } = self.entries(t, first)?;
+        let whole = Expr::dict(self.alloc, keys, values)?;
+        closed(t, Symbol::RightBrace, whole)
     }
 
     /// Reads what stands behind an opening brace.
@@ -253,8 +291,7 @@ impl<F: Fn(Global, &mut Tokens<'_, '_>, usize, Kind) -> Result<Expr, Stop>> Gram
             return Ok(Expr::dict(self.alloc, Vec::new(self.alloc), Vec::new(self.alloc))?);
         }
         let key = self.expr(t, Kind::Test)?;
-        t.expect(Symbol::Colon)?;
-        let value = self.expr(t, Kind::Test)?;
+        let value = self.behind(t, Symbol::Colon, Kind::Test)?;
         self.dict_after(t, key, value)
     }
 
@@ -313,6 +350,15 @@ impl<F: Fn(Global, &mut Tokens<'_, '_>, usize, Kind) -> Result<Expr, Stop>> Gram
         Ok(found)
     }
 
+    /// Reads the arguments of a call with both brackets.
+    fn arguments_behind(&self, t: &mut Tokens<'_, '_>) -> Result<ArgumentsSoFar, Stop>
+        requires { Nests self.now.depth (F.pre self.now.expr) (F.post self.now.expr) }
+        ensures { Reads arguments_of (and_then (expect s.LeftParen (left t.old)) (λ _. spec.arguments (spec.expr self.now.depth))) result (left t.new) }
+    {
+        t.expect(Symbol::LeftParen)?;
+        self.arguments(t)
+    }
+
     /// Reads the upper bound of a slice.
     #[tactic(auto, unfolding(grammar::specs::Expressions::upper_bound))]
     fn upper_bound(&self, t: &mut Tokens<'_, '_>) -> Result<Option<Arc<Expr, Global>>, Stop>
@@ -339,8 +385,8 @@ impl<F: Fn(Global, &mut Tokens<'_, '_>, usize, Kind) -> Result<Expr, Stop>> Gram
         ensures { Reads tree_of (spec.slice_from (spec.expr self.now.depth) (tree_of value) (bound_tree from) (left t.old)) result (left t.new) }
     {
         let to = self.upper_bound(t)?;
-        t.expect(Symbol::RightBracket)?;
-        Ok(Expr::slice(self.alloc, value, from, to)?)
+        let whole = Expr::slice(self.alloc, value, from, to)?;
+        closed(t, Symbol::RightBracket, whole)
     }
 
     /// Reads an index or a slice behind its opening bracket.
@@ -357,8 +403,8 @@ impl<F: Fn(Global, &mut Tokens<'_, '_>, usize, Kind) -> Result<Expr, Stop>> Gram
             let from = Arc::new(self.alloc, at)?;
             return self.slice_from(t, value, Some(from));
         }
-        t.expect(Symbol::RightBracket)?;
-        Ok(Expr::index(self.alloc, value, at)?)
+        let whole = Expr::index(self.alloc, value, at)?;
+        closed(t, Symbol::RightBracket, whole)
     }
 
     /// Reads a call of a method behind its dot.
@@ -368,9 +414,7 @@ impl<F: Fn(Global, &mut Tokens<'_, '_>, usize, Kind) -> Result<Expr, Stop>> Gram
         ensures { Reads tree_of (spec.method_call (spec.expr self.now.depth) (tree_of value) (left t.old)) result (left t.new) }
     {
         let name = t.take_name(self.alloc)?;
-        t.expect(Symbol::LeftParen)?;
-        let found = self.arguments(t)?;
-        let ArgumentsSoFar { values, names } = found;
+        let ArgumentsSoFar { values, names } = self.arguments_behind(t)?;
         Ok(Expr::method(self.alloc, value, name, values, names)?)
     }
 
@@ -380,8 +424,7 @@ impl<F: Fn(Global, &mut Tokens<'_, '_>, usize, Kind) -> Result<Expr, Stop>> Gram
         requires { Nests self.now.depth (F.pre self.now.expr) (F.post self.now.expr) }
         ensures { Reads tree_of (spec.call (spec.expr self.now.depth) (tree_of value) (left t.old)) result (left t.new) }
     {
-        let found = self.arguments(t)?;
-        let ArgumentsSoFar { values, names } = found;
+        let ArgumentsSoFar { values, names } = self.arguments(t)?;
         Ok(Expr::call(self.alloc, value, values, names)?)
     }
 
@@ -574,6 +617,15 @@ impl<F: Fn(Global, &mut Tokens<'_, '_>, usize, Kind) -> Result<Expr, Stop>> Gram
         Ok(whole)
     }
 
+    /// Reads a choice behind its condition.
+    fn choice(&self, t: &mut Tokens<'_, '_>, first: Expr, condition: Expr) -> Result<Expr, Stop>
+        requires { Nests self.now.depth (F.pre self.now.expr) (F.post self.now.expr) }
+        ensures { Reads tree_of (and_then (expect s.Else (left t.old)) (λ _ us. and_then (spec.expr self.now.depth k.Test us) (λ other. gives (tree.choice (tree_of first) (tree_of condition) other)))) result (left t.new) }
+    {
+        let other = self.behind(t, Symbol::Else, Kind::Test)?;
+        Ok(Expr::choice(self.alloc, first, condition, other)?)
+    }
+
     /// Reads an expression that may be a choice.
     #[tactic(auto, unfolding(grammar::specs::Expressions::conditional))]
     fn test(&self, t: &mut Tokens<'_, '_>) -> Result<Expr, Stop>
@@ -585,9 +637,7 @@ impl<F: Fn(Global, &mut Tokens<'_, '_>, usize, Kind) -> Result<Expr, Stop>> Gram
             return Ok(first);
         }
         let condition = self.or_test(t)?;
-        t.expect(Symbol::Else)?;
-        let other = self.expr(t, Kind::Test)?;
-        Ok(Expr::choice(self.alloc, first, condition, other)?)
+        self.choice(t, first, condition)
     }
 
     /// Reads an expression of a kind.
@@ -603,6 +653,14 @@ impl<F: Fn(Global, &mut Tokens<'_, '_>, usize, Kind) -> Result<Expr, Stop>> Gram
             Kind::Postfix => self.postfix(t),
         }
     }
+}
+
+/// Reads what closes an expression.
+fn closed(t: &mut Tokens<'_, '_>, closer: Symbol, whole: Expr) -> Result<Expr, Stop>
+    ensures { Reads tree_of (and_then (expect closer (left t.old)) (λ _. gives (tree_of whole))) result (left t.new) }
+{
+    t.expect(closer)?;
+    Ok(whole)
 }
 
 /// The first entry of a dictionary.
