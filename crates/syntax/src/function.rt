@@ -1,9 +1,11 @@
 //! Functions.
 ghost use Rattle.std.specs.Prelude.{◌≡◌, [], length, map};
+ghost use Rattle.grammar.specs.Front.{and_then, gives, expect};
 ghost use Rattle.grammar.specs.Files as spec;
 ghost use Rattle.grammar.specs.Targets.{has_name, has_default};
 ghost use Rattle.expressions.specs.View.{left, Reads};
 ghost use Rattle.tree.specs.Statements.{stmt_of, param_of, fn_of};
+ghost use Rattle.tokens.specs.declared.symbol.Symbol.TheVariants as s;
 
 use crate::statement::{LEVELS, Suites, stmt, test};
 use expressions::{Stop, Tokens};
@@ -113,18 +115,32 @@ fn body(alloc: Global, t: &mut Tokens<'_, '_>) -> Result<Vec<Stmt>, Stop>
     levels.suite(t, within)
 }
 
+/// Reads parameters with both brackets.
+fn params_in_brackets(alloc: Global, t: &mut Tokens<'_, '_>) -> Result<Vec<Param>, Stop>
+    ensures { Reads (λ v. map param_of v.items) (and_then (expect s.LeftParen (left t.old)) (λ _ us. and_then (spec.params us) (λ ps vs. and_then (expect s.RightParen vs) (λ _. gives ps)))) result (left t.new) }
+{
+    t.expect(Symbol::LeftParen)?;
+    let found = params(alloc, t)?;
+    t.expect(Symbol::RightParen)?;
+    Ok(found)
+}
+
+/// Reads the suite of a function with its colon.
+fn body_behind(alloc: Global, t: &mut Tokens<'_, '_>) -> Result<Vec<Stmt>, Stop>
+    ensures { Reads (λ v. map stmt_of v.items) (and_then (expect s.Colon (left t.old)) (λ _. spec.body)) result (left t.new) }
+{
+    t.expect(Symbol::Colon)?;
+    body(alloc, t)
+}
+
 /// Reads a function behind its `def`.
 #[tactic(auto, unfolding(grammar::specs::Files::def_rest))]
 pub(crate) fn def_rest(alloc: Global, t: &mut Tokens<'_, '_>, line: usize) -> Result<Def, Stop>
     ensures { Reads fn_of (spec.def_rest line (left t.old)) result (left t.new) }
 {
     let name = t.take_name(alloc)?;
-    t.expect(Symbol::LeftParen)?;
-    let params = params(alloc, t)?;
-    t.expect(Symbol::RightParen)?;
-    t.expect(Symbol::Colon)?;
-    let statements = body(alloc, t)?;
-    let body = Arc::new(alloc, statements)?;
+    let params = params_in_brackets(alloc, t)?;
+    let body = Arc::new(alloc, body_behind(alloc, t)?)?;
     Ok(Def {
         line,
         name,

@@ -1,8 +1,10 @@
 //! Load statements.
 ghost use Rattle.std.specs.Prelude.{◌≡◌, ◌∷◌, [], length, map};
+ghost use Rattle.grammar.specs.Front.{and_then, gives, expect};
 ghost use Rattle.grammar.specs.Files as spec;
 ghost use Rattle.expressions.specs.View.{left, Reads};
 ghost use Rattle.tree.specs.Statements.{item_of, load_of};
+ghost use Rattle.tokens.specs.declared.symbol.Symbol.TheVariants as s;
 
 use expressions::{Stop, Tokens};
 use std::alloc::Global;
@@ -79,6 +81,18 @@ fn more_items(alloc: Global, t: &mut Tokens<'_, '_>, first: LoadItem) -> Result<
     Ok(found)
 }
 
+/// Reads the items of a load behind its label, and the end of its line.
+fn items_behind(alloc: Global, t: &mut Tokens<'_, '_>) -> Result<Vec<LoadItem>, Stop>
+    ensures { Reads (λ v. map item_of v.items) (and_then (expect s.Comma (left t.old)) (λ _ us. and_then (spec.item us) (λ x vs. and_then (spec.more_items x vs) (λ xs ws. and_then (expect s.RightParen ws) (λ _ zs. and_then (expect s.NewLine zs) (λ _. gives xs)))))) result (left t.new) }
+{
+    t.expect(Symbol::Comma)?;
+    let first = item(alloc, t)?;
+    let found = more_items(alloc, t, first)?;
+    t.expect(Symbol::RightParen)?;
+    t.expect(Symbol::NewLine)?;
+    Ok(found)
+}
+
 /// Reads a load statement behind its `load`.
 #[tactic(auto, unfolding(grammar::specs::Files::load_rest))]
 fn load_rest(alloc: Global, t: &mut Tokens<'_, '_>, line: usize) -> Result<LoadStmt, Stop>
@@ -86,11 +100,7 @@ fn load_rest(alloc: Global, t: &mut Tokens<'_, '_>, line: usize) -> Result<LoadS
 {
     t.expect(Symbol::LeftParen)?;
     let label = a_string(alloc, t)?;
-    t.expect(Symbol::Comma)?;
-    let first = item(alloc, t)?;
-    let items = more_items(alloc, t, first)?;
-    t.expect(Symbol::RightParen)?;
-    t.expect(Symbol::NewLine)?;
+    let items = items_behind(alloc, t)?;
     Ok(LoadStmt { line, label, items })
 }
 

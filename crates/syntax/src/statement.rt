@@ -1,12 +1,15 @@
 //! Statements. What holds a statement one level down takes the parser of those as a parameter, so that each function
 //! is proved by itself.
-ghost use Rattle.std.specs.Prelude.{◌≡◌, ◌∷◌, ◌++◌, [], length, map};
+ghost use Rattle.std.specs.Prelude.{◌≡◌, ◌∷◌, ◌++◌, [], None, length, map, if◌then◌else◌};
 ghost use Rattle.syntax.specs.Inners.{Holds};
+ghost use Rattle.grammar.specs.Front.{and_then, gives, expect};
 ghost use Rattle.grammar.specs.Statements as spec;
-ghost use Rattle.grammar.specs.Targets.{can_augment};
+ghost use Rattle.grammar.specs.Targets.{is_target, can_augment};
 ghost use Rattle.expressions.specs.View.{left, Reads};
+ghost use Rattle.tree.specs.Tree as tree;
 ghost use Rattle.tree.specs.View.{tree_of};
 ghost use Rattle.tree.specs.Statements.{stmt_of, branch_of};
+ghost use Rattle.tokens.specs.declared.symbol.Symbol.TheVariants as s;
 
 use expressions::{Stop, Tokens, expr, is_target, targets};
 use grammar::{Kind, Within};
@@ -62,6 +65,14 @@ fn exprs(alloc: Global, t: &mut Tokens<'_, '_>) -> Result<Expr, Stop>
     }
     let found = more_exprs(alloc, t, first)?;
     Ok(Expr::tuple(alloc, found)?)
+}
+
+/// Reads what a `for` goes over, with its word.
+fn gone_over(alloc: Global, t: &mut Tokens<'_, '_>) -> Result<Expr, Stop>
+    ensures { Reads tree_of (and_then (expect s.In (left t.old)) (λ _. spec.exprs)) result (left t.new) }
+{
+    t.expect(Symbol::In)?;
+    exprs(alloc, t)
 }
 
 /// The operator of an augmented assignment that the next token is.
@@ -121,6 +132,22 @@ fn return_rest(alloc: Global, t: &mut Tokens<'_, '_>, line: usize) -> Result<Stm
     Ok(Stmt::give(line, Some(value)))
 }
 
+/// Reads an assignment behind its `=`.
+fn assign_rest(
+    alloc: Global,
+    t: &mut Tokens<'_, '_>,
+    line: usize,
+    first: Expr,
+) -> Result<Stmt, Stop>
+    ensures { Reads stmt_of (if is_target (tree_of first) then and_then (spec.exprs (left t.old)) (λ value. gives (tree.assign line (tree_of first) value)) else None) result (left t.new) }
+{
+    if !is_target(&first) {
+        return Err(Stop::Malformed);
+    }
+    let value = exprs(alloc, t)?;
+    Ok(Stmt::assign(alloc, line, first, value)?)
+}
+
 /// Reads what stands behind the first expressions of a statement.
 #[tactic(auto, unfolding(grammar::specs::Statements::expr_rest))]
 fn expr_rest(
@@ -133,11 +160,7 @@ fn expr_rest(
     ensures { Reads stmt_of (spec.expr_rest within line (tree_of first) (left t.old)) result (left t.new) }
 {
     if t.eat(Symbol::Equal) {
-        if !is_target(&first) {
-            return Err(Stop::Malformed);
-        }
-        let value = exprs(alloc, t)?;
-        return Ok(Stmt::assign(alloc, line, first, value)?);
+        return assign_rest(alloc, t, line, first);
     }
     let Some(op) = augment_at(t) else {
         return Ok(Stmt::eval(alloc, line, first)?);
@@ -256,6 +279,15 @@ impl<F: Fn(Global, &mut Tokens<'_, '_>, usize, Within) -> Result<Stmt, Stop>> Su
         Ok(found)
     }
 
+    /// Reads a suite with its colon.
+    fn suite_behind(&self, t: &mut Tokens<'_, '_>, within: Within) -> Result<Vec<Stmt>, Stop>
+        requires { Holds self.now.depth (F.pre self.now.stmt) (F.post self.now.stmt) }
+        ensures { Reads (λ v. map stmt_of v.items) (and_then (expect s.Colon (left t.old)) (λ _. spec.suite (spec.stmt self.now.depth) within)) result (left t.new) }
+    {
+        t.expect(Symbol::Colon)?;
+        self.suite(t, within)
+    }
+
     /// Reads a branch behind its word.
     #[tactic(auto, unfolding(grammar::specs::Statements::branch))]
     fn branch(&self, t: &mut Tokens<'_, '_>, within: Within, line: usize) -> Result<Branch, Stop>
@@ -263,8 +295,7 @@ impl<F: Fn(Global, &mut Tokens<'_, '_>, usize, Within) -> Result<Stmt, Stop>> Su
         ensures { Reads branch_of (spec.branch (spec.stmt self.now.depth) within line (left t.old)) result (left t.new) }
     {
         let condition = test(self.alloc, t)?;
-        t.expect(Symbol::Colon)?;
-        let body = self.suite(t, within)?;
+        let body = self.suite_behind(t, within)?;
         Ok(Branch::new(self.alloc, line, condition, body)?)
     }
 
@@ -300,8 +331,7 @@ impl<F: Fn(Global, &mut Tokens<'_, '_>, usize, Within) -> Result<Stmt, Stop>> Su
         if !t.eat(Symbol::Else) {
             return Ok(Vec::new(self.alloc));
         }
-        t.expect(Symbol::Colon)?;
-        self.suite(t, within)
+        self.suite_behind(t, within)
     }
 
     /// Reads what stands behind `if`.
@@ -322,15 +352,13 @@ impl<F: Fn(Global, &mut Tokens<'_, '_>, usize, Within) -> Result<Stmt, Stop>> Su
         requires { Holds self.now.depth (F.pre self.now.stmt) (F.post self.now.stmt) }
         ensures { Reads stmt_of (spec.for_rest (spec.stmt self.now.depth) within line (left t.old)) result (left t.new) }
     {
-        let target = loop_targets(self.alloc, t)?;
-        t.expect(Symbol::In)?;
-        let sequence = exprs(self.alloc, t)?;
-        t.expect(Symbol::Colon)?;
         let inside = Within {
             in_def: within.in_def,
             in_for: true,
         };
-        let body = self.suite(t, inside)?;
+        let target = loop_targets(self.alloc, t)?;
+        let sequence = gone_over(self.alloc, t)?;
+        let body = self.suite_behind(t, inside)?;
         Ok(Stmt::for_each(self.alloc, line, target, sequence, body)?)
     }
 
