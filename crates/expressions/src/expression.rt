@@ -10,7 +10,7 @@ ghost use Rattle.tree.specs.Tree as tree;
 ghost use Rattle.expressions.specs.Nests.{Nests};
 ghost use Rattle.expressions.specs.Parts.{pairs_of, arguments_of, Compares};
 ghost use Rattle.expressions.specs.View.{left, Reads};
-ghost use Rattle.tree.specs.View.{tree_of, clause_of, bound_tree, exs_of, clauses_of};
+ghost use Rattle.tree.specs.View.{tree_of, clause_of, bound_tree, clauses_of};
 ghost use Rattle.expressions.specs.declared.front.Stop.TheVariants.{Memory};
 
 use crate::front::{Stop, Tokens};

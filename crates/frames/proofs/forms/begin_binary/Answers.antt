@@ -1,4 +1,4 @@
-use Rattle.std.proofs.Common.{◌≡◌, refl, sym, ap, ◌∙◌}
+use Rattle.std.proofs.Common.{refl, sym, ap, ◌∙◌}
 use Rattle.std.specs.Arc.{arc_value}
 use Rattle.meaning.specs.declared.val.Val.{Val}
 use Rattle.tree.specs.declared.expr.Expr.{Expr}

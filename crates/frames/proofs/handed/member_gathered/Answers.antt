@@ -1,5 +1,5 @@
-use Rattle.std.proofs.Common.{Err, sym, subst}
-use Rattle.language.specs.World.{World, pure}
+use Rattle.std.proofs.Common.{Err, subst}
+use Rattle.language.specs.World.{pure}
 use Rattle.language.specs.Loops as l
 use Rattle.language.specs.Loops.{one_more}
 use Rattle.pieces.specs.declared.gathering.Gathered.{Gathered}

@@ -5,7 +5,7 @@ use Rattle.tree.specs.declared.expr.Expr.{Expr}
 use Rattle.tree.specs.View.{tree_of, shared_tree}
 use Rattle.language.specs.World.{Ends, then_runs, pure, on_heap}
 use Rattle.language.specs.Targets as ta
-use Rattle.language.specs.Targets.{store, to_member}
+use Rattle.language.specs.Targets.{to_member}
 use Rattle.language.specs.Loops as l
 use Rattle.language.specs.Loops.{one_entry}
 use Rattle.names.specs.View.{world_of, here_of}
