@@ -1,8 +1,8 @@
 #!/usr/bin/env python3
-"""Times of the program, on lines that this script makes. Run it by `make bench`.
+"""Times the program, on lines that this script makes. Run it by `make bench`.
 
-Times are noisy: each is the least of several runs, and what counts is the ratio to `trials lines`,
-which parses the same lines as JSON and does nothing else, in the same minute.
+Times are noisy, so each is the least of several runs. What counts is the ratio to `measures lines` in the same minute,
+which parses the same lines as JSON and does nothing else.
 """
 import json
 import os
@@ -13,8 +13,8 @@ import time
 
 HERE = os.path.dirname(os.path.abspath(__file__))
 LOADER = [os.path.join(HERE, "../crates/cli/out/cli"), "run"]
-TRIALS = os.path.join(HERE, "../crates/trials/out/trials")
-PARSE_ONLY = [TRIALS, "lines"]
+MEASURES = os.path.join(HERE, "out/measures")
+PARSE_ONLY = [MEASURES, "lines"]
 
 
 def line(**members):
@@ -22,7 +22,7 @@ def line(**members):
 
 
 def path(file, directories):
-    """Ten files or so in each of the directories, which are a hundred to a level."""
+    """Places about ten files in each directory. A hundred directories are in one above."""
     directory = file % directories
     return f"d{directory // 100}/p{directory % 100}/f{file // directories}"
 
@@ -62,7 +62,7 @@ def throughput(folder):
 
 
 class Session:
-    """The program at work, a line at a time."""
+    """A run of the program, a line at a time."""
 
     def __init__(self):
         self.process = subprocess.Popen(LOADER, stdin=subprocess.PIPE, stdout=subprocess.PIPE)
@@ -106,7 +106,7 @@ def one_edit(files):
 
 
 def marks(lookups):
-    """Edits and finds beside a graph of so many look-ups: each edit reaches one of them, and its find runs that one."""
+    """Times edits and finds beside so many look-ups. Each edit reaches one of them, and its find runs that one."""
     session = Session()
     lines = [line(op="put", path=f"d{n // 100}/p{n % 100}/BUILD", text="") for n in range(lookups)]
     session.load("".join(lines).encode())
@@ -132,7 +132,7 @@ def marks(lookups):
 
 
 def finds_again(folder):
-    """Finds without a change, against parsing them."""
+    """Times finds without a change, against parsing them."""
     file, puts, times = os.path.join(folder, "again"), 1000, 200
     with open(file, "w") as lines:
         for n in range(puts):
@@ -161,16 +161,16 @@ def long_line():
 
 def tree_times():
     for files in ("1000", "100000"):
-        print(subprocess.run([TRIALS, "tree", files], capture_output=True, text=True, check=True).stdout, end="")
+        print(subprocess.run([MEASURES, "tree", files], capture_output=True, text=True, check=True).stdout, end="")
 
 
 def graph_times():
     for packages in ("1000", "100000"):
-        print(subprocess.run([TRIALS, "graph", packages], capture_output=True, text=True, check=True).stdout, end="")
+        print(subprocess.run([MEASURES, "graph", packages], capture_output=True, text=True, check=True).stdout, end="")
 
 
 def function(n):
-    """A function of some ten lines, with most of the forms."""
+    """Returns a function of some ten lines, with most of the forms."""
     return f'''def rule_{n}(name, srcs = [], deps = None):
     """Makes target number {n}."""
     labels = [":%s_%d" % (name, i) for i in range({n % 7 + 1}) if i % 2 == 0]
@@ -216,7 +216,7 @@ def parse_times(folder):
         with open(packages[-1], "w") as out:
             out.write(package(n))
     for kind, rounds, files in ("bzl", 30, [module]), ("build", 30, packages):
-        said = subprocess.run([TRIALS, "parse", kind, str(rounds)] + files, capture_output=True, text=True, check=True).stdout.splitlines()
+        said = subprocess.run([MEASURES, "parse", kind, str(rounds)] + files, capture_output=True, text=True, check=True).stdout.splitlines()
         size = sum(os.path.getsize(file) for file in files)
         print(f"parsed: {said[0]}: {size / int(said[1]) * 1e3:.1f} MB/s (the best of {rounds} rounds)")
 

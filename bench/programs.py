@@ -1,22 +1,24 @@
 #!/usr/bin/env python3
-"""Times of evaluation: runs `trials evaluation` several times over the programs of bench/programs and prints, of each, the least
-time and the nanoseconds a step of the language. Words behind the script are another interpreter's command, which is run
-with each program's path and has to print `min=TIMEms` somewhere on standard error; times are noisy, so what counts is
-the ratio of two in one run."""
+"""Times evaluation: runs `measures evaluation` several times over the programs of bench/programs.
+
+Printed are the least time of each, and the nanoseconds a step of the language. Words behind the script are the command
+of another interpreter. It is run with the path of each program, and has to print `min=TIMEms` on standard error. Times
+are noisy, so what counts is the ratio of two in one run.
+"""
 import os
 import re
 import subprocess
 import sys
 
 HERE = os.path.dirname(os.path.abspath(__file__))
-TRIALS = os.path.join(HERE, "../crates/trials/out/trials")
+MEASURES = os.path.join(HERE, "out/measures")
 
-# The steps of each program, counted by hand-made rules (an estimate from below where containers are compared).
+# The steps of each program, counted by hand-made rules. Where containers are compared they are fewer than the real ones.
 STEPS = {"loops": 463141, "lists": 350324, "dicts": 585826, "strings": 315839, "calls": 584998}
 
 
 def own(path):
-    out = subprocess.run([TRIALS, "evaluation", "10", path], capture_output=True, text=True, check=True).stdout
+    out = subprocess.run([MEASURES, "evaluation", "10", path], capture_output=True, text=True, check=True).stdout
     return int(out.rsplit(": ", 1)[1]) / 1e6
 
 

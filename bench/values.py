@@ -1,11 +1,11 @@
 #!/usr/bin/env python3
-"""Times of values: runs `trials values` several times and prints the least of each line. Times are noisy; what counts is
-the ratio of two lines of one minute."""
+"""Times values: runs `measures values` several times and prints the least of each line. Times are noisy, so what counts
+is the ratio of two lines of one minute."""
 import os
 import subprocess
 
 HERE = os.path.dirname(os.path.abspath(__file__))
-VALUE_TIMES = [os.path.join(HERE, "../crates/trials/out/trials"), "values", "2000"]
+VALUE_TIMES = [os.path.join(HERE, "out/measures"), "values", "2000"]
 
 
 def main(runs=5):

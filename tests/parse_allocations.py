@@ -1,13 +1,16 @@
 #!/usr/bin/env python3
-"""Refuses each allocation of the parser in turn, over a BUILD file and a module: the program that parses them then says
-that memory ran out, or writes what it writes else. Run it by `make allocations`."""
+"""Refuses each allocation of the parser in turn, over a BUILD file and a module. Run it by `make allocations`.
+
+The program that parses them writes what it always writes, or says that memory ran out.
+"""
 import os
-import subprocess
 import sys
 import tempfile
 
+import refusing
+
 HERE = os.path.dirname(os.path.abspath(__file__))
-PARSER = [os.path.join(HERE, "../crates/trials/out/trials"), "parse"]
+PARSER = [os.path.join(HERE, "../bench/out/measures"), "parse"]
 BUILD = """'''A package.'''
 load("//tools:rules.bzl", "library", binary = "program")
 
@@ -31,41 +34,19 @@ X = g((1, 2), c = {})
 """
 
 
-def run(library, words, fails, count_file=None):
-    env = dict(os.environ, LD_PRELOAD=library, FAIL_ALLOC=str(fails))
-    if count_file:
-        env["FAIL_ALLOC_COUNT"] = count_file
-    return subprocess.run(PARSER + words, capture_output=True, env=env)
-
-
-def each(folder, library, kind, text):
+def is_right(folder, library, kind, text):
     file = os.path.join(folder, "text")
     with open(file, "w") as out:
         out.write(text)
-    words = [kind, "0", file]
-    count_file = os.path.join(folder, "count")
-    whole = run(library, words, 0, count_file)
-    with open(count_file) as count:
-        allocations = int(count.read())
-    wrong, stopped = [], 0
-    for fails in range(1, allocations + 1):
-        ran = run(library, words, fails)
-        if ran.returncode == 0 and ran.stdout == whole.stdout:
-            continue
-        stopped += 1
-        if ran.returncode <= 0 or ran.stdout or not ran.stderr:
-            wrong.append((fails, ran.returncode, ran.stdout[-60:], ran.stderr[-60:]))
-    for row in wrong[:10]:
-        print("allocation %d: status %d, wrote ..%r, said ..%r" % row)
-    print(f"{kind}: {allocations} allocations refused in turn, {stopped} stopped the parser: {len(wrong)} wrong")
-    return not wrong and whole.returncode == 0 and b" 0 refused" in whole.stdout and stopped > 0
+    whole, _, right = refusing.refuse_each(folder, library, kind, [*PARSER, kind, "0", file])
+    return right and b" 0 refused" in whole.stdout
 
 
 def main():
     with tempfile.TemporaryDirectory() as folder:
-        library = os.path.join(folder, "fail_alloc.so")
-        subprocess.run(["cc", "-shared", "-fPIC", "-O1", "-o", library, os.path.join(HERE, "fail_alloc.c"), "-ldl"], check=True)
-        return 0 if all([each(folder, library, "build", BUILD), each(folder, library, "bzl", BZL)]) else 1
+        library = refusing.library_in(folder)
+        right = [is_right(folder, library, "build", BUILD), is_right(folder, library, "bzl", BZL)]
+        return 0 if all(right) else 1
 
 
 if __name__ == "__main__":

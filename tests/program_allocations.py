@@ -1,6 +1,9 @@
 #!/usr/bin/env python3
-"""Refuses each allocation in turn of a program that is evaluated, waits for two globs, and is resumed twice: where
-memory was refused it says so and tells no outcome, else the outcome is the one that it must have."""
+"""Refuses each allocation in turn of a program that is evaluated. Run it by `make allocations`.
+
+The program waits for two globs, and is resumed twice. Where memory is refused, that is said and no outcome is told.
+Else the outcome is the one that it must have.
+"""
 import os
 import sys
 import tempfile

@@ -1,4 +1,4 @@
-"""Refuses each allocation of a run in turn: what the scripts of `make allocations` that stop with no output share."""
+"""Refuses each allocation of a run in turn. The scripts of `make allocations` share this."""
 import os
 import subprocess
 
@@ -6,14 +6,14 @@ HERE = os.path.dirname(os.path.abspath(__file__))
 
 
 def library_in(folder):
-    """The library that refuses allocations, compiled into a folder."""
+    """Compiles the library that refuses allocations into a folder."""
     library = os.path.join(folder, "fail_alloc.so")
     subprocess.run(["cc", "-shared", "-fPIC", "-O1", "-o", library, os.path.join(HERE, "fail_alloc.c"), "-ldl"], check=True)
     return library
 
 
 def started(library, fails, command, given=None, count_file=None):
-    """A run of a command with its allocation of that number refused, none where it is 0."""
+    """Runs a command. Its allocation of that number is refused, or none where the number is 0."""
     env = dict(os.environ, LD_PRELOAD=library, FAIL_ALLOC=str(fails))
     if count_file:
         env["FAIL_ALLOC_COUNT"] = count_file
@@ -21,8 +21,10 @@ def started(library, fails, command, given=None, count_file=None):
 
 
 def refuse_each(folder, library, what, command, given=None):
-    """Refuses each allocation in turn: the run has then its whole output, or none and says that memory was refused.
-    Answers the whole run, how many refusals stopped it, and whether all went as they must."""
+    """Refuses each allocation in turn. A run then writes all that it always writes, or nothing, and says why.
+
+    Returns the run with no refusal, how many refusals stopped a run, and whether all went as they must.
+    """
     count_file = os.path.join(folder, "count")
     whole = started(library, 0, command, given, count_file)
     with open(count_file) as count:

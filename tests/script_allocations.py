@@ -1,8 +1,12 @@
 #!/usr/bin/env python3
-"""Refuses each allocation in turn of two scripts, and runs them by `make allocations`. The one of values touches each
-kind of object: the program then says that memory ran out, and what the script only read is as it was, or it writes
-what it writes else. The one of edits and look-ups over a graph makes each call a second time where memory was refused:
-it writes then what it writes else, but for a few allocations that are none of a call's."""
+"""Refuses each allocation of two scripts in turn. Run it by `make allocations`.
+
+The script of values touches each kind of object. It writes what it always writes, or the program says that memory ran
+out. What the script only reads stays as it was.
+
+The script of edits and look-ups makes each call a second time where memory was refused. So it writes what it always
+writes, but for a few allocations outside the calls.
+"""
 import os
 import sys
 import tempfile
@@ -10,13 +14,13 @@ import tempfile
 import refusing
 
 HERE = os.path.dirname(os.path.abspath(__file__))
-TRIALS = os.path.join(HERE, "../crates/trials/out/trials")
-# each script's word, and at most how many refusals may stop it, where that is limited
+MEASURES = os.path.join(HERE, "../bench/out/measures")
+# The word of each script, and how many refusals may stop it, where that is limited.
 SCRIPTS = {"values": None, "graph": 20}
 
 
 def is_right(word, limit, folder, library):
-    _, stopped, right = refusing.refuse_each(folder, library, word, [TRIALS, word, "script"])
+    _, stopped, right = refusing.refuse_each(folder, library, word, [MEASURES, word, "script"])
     return right and (limit is None or stopped < limit)
 
 

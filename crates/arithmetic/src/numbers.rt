@@ -7,7 +7,7 @@ ghost use Rattle.heap.specs.View.{Checks};
 use heap::{Halt, Val};
 
 /// A number: itself, or -1 less what is told.
-#[derive(Clone, Copy, Debug, PartialEq, Eq)]
+#[derive(Clone, Copy)]
 pub enum Wide {
     Up(u64),
     Down(u64),

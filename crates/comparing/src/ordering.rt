@@ -18,7 +18,7 @@ pub enum Sides<'a> {
 }
 
 /// Where two lists part.
-#[derive(Clone, Copy, Debug, PartialEq, Eq)]
+#[derive(Clone, Copy)]
 pub enum Parting {
     SettledAs(Ordering),
     Unequal(Val, Val),

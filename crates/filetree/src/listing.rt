@@ -2,7 +2,7 @@
 use texts::Text;
 
 /// The names in a directory: of the files in it, and of its subdirectories, each in byte order.
-#[derive(Drop, PartialEq, Eq)]
+#[derive(Drop)]
 pub struct Listing {
     /// The names of the files.
     pub files: Vec<Text>,

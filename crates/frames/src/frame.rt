@@ -10,7 +10,7 @@ use texts::Text;
 use tree::{BinaryOp, Branch, Clause, Def, Expr, File, Stmt, UnaryOp};
 
 /// How a statement ends.
-#[derive(Clone, Copy, PartialEq, Eq, Debug)]
+#[derive(Clone, Copy)]
 pub enum Exit {
     GoesOn,
     Breaks,
@@ -28,7 +28,7 @@ pub enum Signal {
 }
 
 /// What a method is called on.
-#[derive(Clone, Copy, PartialEq, Eq, Debug)]
+#[derive(Clone, Copy)]
 pub enum Receiver {
     Native,
     Of(Val),

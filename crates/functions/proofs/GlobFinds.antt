@@ -31,7 +31,8 @@ use Rattle.keys.specs.declared.value.Value.{Value}
 use Rattle.keys.specs.declared.value.Value.TheVariants as value
 use Rattle.functions.specs.Lookups.{file_name, build_path, is_short, has_file, build_of}
 use Rattle.functions.specs.Globs as glob
-use Rattle.functions.specs.Next.{next, read, listed_of}
+use Rattle.functions.specs.Next.{next}
+use Rattle.leaves.specs.Leaves.{read, listed_of}
 use Rattle.functions.proofs.LookupValue.{lookup_grounded}
 use Rattle.functions.proofs.NamesInOrder.{none_sorted}
 use Rattle.functions.proofs.GlobTexts.{NoSpace, path_no_space, front_no_space, directory_back, pattern_back, cut_pattern, shorter, ends_match}

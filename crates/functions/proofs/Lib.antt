@@ -1,6 +1,5 @@
 pub mod Lookups
 pub mod LookupValue
-pub mod LeafReads
 pub mod NamesInOrder
 pub mod GlobSteps
 pub mod GlobTexts

@@ -13,7 +13,8 @@ use Rattle.keys.specs.declared.value.BuildName.TheVariants.{BuildBazel, Build}
 use Rattle.keys.specs.declared.value.Value.{Value}
 use Rattle.keys.specs.declared.value.Value.TheVariants as value
 use Rattle.functions.specs.Lookups.{build_path, is_short, candidates, asks_first, is_there, first_there, build_of}
-use Rattle.functions.specs.Next.{next, read}
+use Rattle.functions.specs.Next.{next}
+use Rattle.leaves.specs.Leaves.{read}
 
 module _ (files : Files) (directory : List ℕ) where
   file_of : BuildName → Key

@@ -14,7 +14,8 @@ use Rattle.keys.specs.declared.key.Key.TheVariants as key
 use Rattle.keys.specs.declared.value.Value.{Value}
 use Rattle.keys.specs.declared.value.Value.TheVariants as value
 use Rattle.functions.specs.Lookups.{build_of}
-use Rattle.functions.specs.Next.{next, read, listed_of}
+use Rattle.functions.specs.Next.{next}
+use Rattle.leaves.specs.Leaves.{read, listed_of}
 
 -- the key has this value at the files, and no other
 abbrev pub Holds : Files → Key → Value → Type 0

@@ -27,7 +27,6 @@ mod evaluating;
 mod file_node;
 mod glob;
 mod glob_pattern;
-mod leaf;
 mod loading;
 mod lookup;
 mod once;
@@ -35,7 +34,6 @@ mod ordering;
 mod reply;
 mod source;
 
-pub use leaf::{is_leaf, read_leaf};
 pub use loading::{LoadRules, Loading};
 
 /// The law of the leaves and the look-ups: at each state of the files a file's node holds its text or none, a listing's

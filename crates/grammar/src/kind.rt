@@ -1,7 +1,7 @@
 //! Kinds of files, of expressions and of places.
 
 /// A kind of files.
-#[derive(Clone, Copy, Debug, PartialEq, Eq, Drop)]
+#[derive(Clone, Copy, Drop)]
 pub enum FileKind {
     /// A BUILD file, which has no functions.
     Build,

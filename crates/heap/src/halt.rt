@@ -7,7 +7,7 @@ use texts::Memory;
 use thiserror::Error;
 
 /// Why an evaluation stops. Afterwards its heap is only given up.
-#[derive(Debug, Drop, PartialEq, Eq, Error)]
+#[derive(Debug, Drop, Error)]
 pub enum Halt {
     /// A fault, by its code.
     #[error("fault {0}")]

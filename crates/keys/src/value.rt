@@ -14,7 +14,7 @@ use std::sync::Arc;
 use texts::{Memory, Text};
 
 /// The file that makes a directory a package.
-#[derive(Clone, Copy, Debug)]
+#[derive(Clone, Copy)]
 pub enum BuildName {
     /// `BUILD.bazel`, which wins where both are there.
     BuildBazel,

@@ -2,8 +2,9 @@
 use Rattle.std.proofs.Common.{◌≡◌, ℕ, suc, ◌+◌, ◌-◌, List, [], ◌∷◌, ◌++◌, length, refl, sym, ◌∙◌, ap, subst, arith, length-append, append_assoc, take}
 use Rattle.std.specs.FinMap as map_of
 use Rattle.filetree.specs.Files.{Files}
-use Rattle.functions.specs.Next.{next, read}
-use Rattle.functions.proofs.LeafReads.{leaf_stays, put_reads, del_reads}
+use Rattle.functions.specs.Next.{next}
+use Rattle.leaves.specs.Leaves.{read}
+use Rattle.leaves.proofs.LeafReads.{leaf_stays, put_reads, del_reads}
 use Rattle.keys.specs.declared.key.Key.{Key}
 use Rattle.node.specs.Graphs.{Recorded, IsTouched}
 use Rattle.node.specs.Laws.{TouchKeepsLawful, IsAlwaysLawful}

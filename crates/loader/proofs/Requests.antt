@@ -4,8 +4,9 @@ use Rattle.std.specs.Prelude.{Result, Ok, Err, IfOk, Option, codes, false, nat_l
 use Rattle.evaluation.specs.Value.{In, first, after as further, Grounded, is_leaf, has_run, HasValue, leaf, run}
 use Rattle.filetree.specs.Files.{Files}
 use Rattle.functions.specs.Lookups.{build_of}
-use Rattle.functions.specs.Next.{next, read}
-use Rattle.functions.proofs.LeafReads.{leaf_stays}
+use Rattle.functions.specs.Next.{next}
+use Rattle.leaves.specs.Leaves.{read}
+use Rattle.leaves.proofs.LeafReads.{leaf_stays}
 use Rattle.functions.proofs.LookupValue.{lookup_grounded}
 use Rattle.evaluation.proofs.Plain.{one_value}
 use Rattle.keys.specs.Cycles.{cycle}

@@ -4,7 +4,8 @@ use Rattle.evaluation.specs.Graph.{Marks}
 use Rattle.evaluation.specs.Value.{HasValue, In}
 use Rattle.labels.specs.Labels.{Target, label_text}
 use Rattle.filetree.specs.Files.{Files}
-use Rattle.functions.specs.Next.{next, read}
+use Rattle.functions.specs.Next.{next}
+use Rattle.leaves.specs.Leaves.{read}
 use Rattle.keys.specs.Cycles.{cycle}
 use Rattle.keys.specs.declared.key.Key.{Key}
 use Rattle.keys.specs.declared.value.Value.{Value}

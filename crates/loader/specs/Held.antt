@@ -2,7 +2,8 @@
 use Rattle.std.specs.Prelude.{◌≡◌, ℕ, zero, suc, ◌+◌, List, [], ◌∷◌, length, take, ⊤}
 use Rattle.std.specs.FinMap as map
 use Rattle.filetree.specs.Files.{Files}
-use Rattle.functions.specs.Next.{next, read}
+use Rattle.functions.specs.Next.{next}
+use Rattle.leaves.specs.Leaves.{read}
 use Rattle.node.specs.Graphs.{Recorded}
 use Rattle.node.specs.Laws.{IsLawfulFor}
 pub use Rattle.commands.specs.Commands.{path_of}

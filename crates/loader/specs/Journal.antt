@@ -5,7 +5,8 @@ use Rattle.evaluation.specs.Graph.{Differs}
 use Rattle.evaluation.specs.Reached.{AsksGroup, Reached}
 use Rattle.evaluation.specs.Value.{AllDiffer, Grounded, HasValue, In}
 use Rattle.filetree.specs.Files.{Files}
-use Rattle.functions.specs.Next.{next, read}
+use Rattle.functions.specs.Next.{next}
+use Rattle.leaves.specs.Leaves.{read}
 use Rattle.keys.specs.Cycles.{cycle}
 use Rattle.keys.specs.declared.key.Key.{Key}
 use Rattle.keys.specs.declared.value.Value.{Value}

@@ -3,7 +3,8 @@ ghost use Rattle.std.specs.Prelude.{◌≡◌, ◌<◌, ◌++◌, ◌∷◌, [],
 ghost use Rattle.evaluation.specs.Graph.{Marks};
 ghost use Rattle.filetree.specs.Edits as edits;
 ghost use Rattle.node.specs.Graphs.{record_at, IsTouched};
-ghost use Rattle.functions.specs.Next.{next, read};
+ghost use Rattle.functions.specs.Next.{next};
+ghost use Rattle.leaves.specs.Leaves.{read};
 ghost use Rattle.round.specs.Call.{Calls};
 ghost use Rattle.serde_json.specs.Written.{compact_text};
 ghost use Rattle.loader.specs.Answers as answers;

@@ -1,7 +1,7 @@
 //! Values.
 
 /// A function that every file has.
-#[derive(Clone, Copy, Debug, PartialEq, Eq)]
+#[derive(Clone, Copy)]
 pub enum Builtin {
     Len,
     Range,
@@ -30,7 +30,7 @@ pub enum Builtin {
 }
 
 /// A value. A string, a list, a tuple, a dictionary or a function of a file is named by its place in the heap.
-#[derive(Clone, Copy, Debug, PartialEq, Eq)]
+#[derive(Clone, Copy)]
 pub enum Val {
     /// `None`
     Nothing,
@@ -42,14 +42,14 @@ pub enum Val {
 }
 
 /// What a dictionary has at a key: the key's value, and the value.
-#[derive(Clone, Copy, Debug, PartialEq, Eq)]
+#[derive(Clone, Copy)]
 pub struct Entry {
     pub key: Val,
     pub value: Val,
 }
 
 /// An operator between two values that are both evaluated.
-#[derive(Clone, Copy, Debug, PartialEq, Eq)]
+#[derive(Clone, Copy)]
 pub enum Operator {
     Equal,
     NotEqual,

@@ -7,7 +7,7 @@ use crate::kept::Records;
 use keys::Key;
 
 /// How many records and how many edges a graph has.
-#[derive(Clone, Copy, Debug)]
+#[derive(Clone, Copy)]
 pub struct Counts {
     /// The records, dirty or not.
     pub records: u64,

@@ -34,7 +34,7 @@ pub fn not_none(alloc: Global, ns: &[(Text, Val)]) -> Result<Vec<(Text, Val)>, M
 {
     let mut all = Vec::new(alloc);
     for n in ns {
-        if n.1 != Val::Nothing {
+        if !matches!(n.1, Val::Nothing) {
             all.push((n.0.share()?, n.1))?;
         }
     }

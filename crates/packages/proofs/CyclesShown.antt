@@ -15,7 +15,8 @@ use Rattle.keys.specs.declared.value.Value.{Value}
 use Rattle.keys.specs.declared.value.Value.TheVariants as value
 use Rattle.keys.specs.Cycles as cycles
 use Rattle.keys.specs.Cycles.{cycle}
-use Rattle.functions.specs.Next.{next, read}
+use Rattle.functions.specs.Next.{next}
+use Rattle.leaves.specs.Leaves.{read}
 use Rattle.packages.specs.Loads.{Node, of_module, of_package, File, loads_in, loads, Path, stay, load, ReachesCycle, FirstCyclic, at_head, further, Follows, once, more, ShowsCycle}
 use Rattle.packages.specs.Loaded.{Module, IsModule, AreModules, none, one, of_file, of_load, evaluated}
 use Rattle.packages.proofs.KeysAsked.{load_of, module_value}

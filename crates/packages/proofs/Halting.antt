@@ -30,7 +30,8 @@ use Rattle.keys.specs.declared.value.Value.{Value}
 use Rattle.keys.specs.declared.value.Value.TheVariants as value
 use Rattle.functions.specs.declared.source.Source.{Source}
 use Rattle.functions.specs.Lookups.{build_of}
-use Rattle.functions.specs.Next.{next, read}
+use Rattle.functions.specs.Next.{next}
+use Rattle.leaves.specs.Leaves.{read}
 use Rattle.functions.specs.Once.{has_key, once_behind, once}
 use Rattle.functions.specs.Sources.{fault_at, before, each_or_fault, load_key, all_modules, glob_keys, glob_group, with_paths, value_or_group, goes_on, rounds, env_of, after_modules, after_loads, after_parse, text_in, after_text, by_file}
 use Rattle.functions.specs.Modules as modules

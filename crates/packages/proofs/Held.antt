@@ -9,7 +9,8 @@ use Rattle.keys.specs.Cycles.{cycle}
 use Rattle.keys.specs.declared.key.Key.{Key}
 use Rattle.keys.specs.declared.key.Key.TheVariants as key
 use Rattle.keys.specs.declared.value.Value.{Value}
-use Rattle.functions.specs.Next.{next, read}
+use Rattle.functions.specs.Next.{next}
+use Rattle.leaves.specs.Leaves.{read}
 use Rattle.packages.specs.Loaded.{Module, Package, IsModule, IsPackage, HoldsModule, HoldsPackage, ModulesHold, PackagesHold}
 use Rattle.packages.proofs.KeysAsked.{module_value}
 use Rattle.packages.proofs.LoadsRead.{IsValid, package_value}

@@ -21,7 +21,8 @@ use Rattle.keys.specs.declared.value.Fault.{Fault}
 use Rattle.keys.specs.declared.value.Value.{Value}
 use Rattle.keys.specs.declared.value.Value.TheVariants as value
 use Rattle.functions.specs.declared.source.Source.{Source}
-use Rattle.functions.specs.Next.{next, read}
+use Rattle.functions.specs.Next.{next}
+use Rattle.leaves.specs.Leaves.{read}
 use Rattle.functions.specs.Once.{has_key, once, answer_at}
 use Rattle.functions.specs.Sources.{fault_at, before, each_or_fault, module_key, load_key, module_in, all_modules, env_of, rounds, after_modules, after_loads, after_parse, text_in, after_text, by_file}
 use Rattle.packages.specs.Loads.{File, if_module, loaded_by, with_loads, parsed, of_text}

@@ -32,7 +32,8 @@ use Rattle.keys.specs.declared.value.Fault.{Fault}
 use Rattle.keys.specs.declared.value.Value.{Value}
 use Rattle.keys.specs.declared.value.Value.TheVariants as value
 use Rattle.functions.specs.Lookups.{build_of}
-use Rattle.functions.specs.Next.{next, read}
+use Rattle.functions.specs.Next.{next}
+use Rattle.leaves.specs.Leaves.{read}
 use Rattle.functions.specs.Once.{has_key, answer_at}
 use Rattle.functions.specs.Sources.{fault_at, env_of, glob_keys, glob_group, paths_or_none, paths_by, with_paths, value_or_group, goes_on, rounds, by_file}
 use Rattle.functions.specs.Modules as modules

@@ -18,7 +18,8 @@ use Rattle.keys.specs.declared.value.Fault.{Fault}
 use Rattle.keys.specs.declared.value.Value.{Value}
 use Rattle.keys.specs.declared.value.Value.TheVariants as value
 use Rattle.keys.specs.Cycles.{cycle}
-use Rattle.functions.specs.Next.{next, read}
+use Rattle.functions.specs.Next.{next}
+use Rattle.leaves.specs.Leaves.{read}
 use Rattle.functions.specs.Sources.{fault_at, each_or_fault}
 use Rattle.packages.specs.Loads.{of_module, of_package, File, file_of, ShowsCycle}
 

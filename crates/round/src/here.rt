@@ -2,7 +2,7 @@
 ghost use Rattle.std.specs.Prelude.{◌≡◌, ◌+◌, ◌≤◌, ℕ, List, [], Option, IfOk, IfErr, IfSome, IfNone, OnOk, IsErrOf, Ok, Err};
 ghost use Rattle.evaluation.specs.Reply.{Reply};
 ghost use Rattle.evaluation.specs.Value.{In};
-ghost use Rattle.functions.specs.Next as leaves;
+ghost use Rattle.leaves.specs.Leaves as leaves;
 ghost use Rattle.keys.specs.declared.key.Key.{Key};
 ghost use Rattle.keys.specs.declared.value.Value.{Value};
 ghost use Rattle.texts.specs.declared.memory.Memory.{Memory};

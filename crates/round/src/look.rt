@@ -7,7 +7,7 @@ ghost use Rattle.open_nodes.specs.Nodes.{IsClean};
 ghost use Rattle.evaluation.specs.Graph.{Record};
 ghost use Rattle.evaluation.specs.Value.{In};
 ghost use Rattle.open_nodes.specs.Nodes.{IsClean};
-ghost use Rattle.functions.specs.Next as leaves;
+ghost use Rattle.leaves.specs.Leaves as leaves;
 ghost use Rattle.keys.specs.declared.key.Key.{Key};
 ghost use Rattle.keys.specs.declared.value.Value.{Value};
 ghost use Rattle.node.specs.Graphs.{record_at};

@@ -9,7 +9,7 @@ ghost use Rattle.node.specs.Graphs.{Recorded};
 ghost use Rattle.round.specs.Paused.{Keeps, FewerKept};
 ghost use Rattle.evaluation.specs.Reply.{Reply};
 ghost use Rattle.evaluation.specs.Value.{In};
-ghost use Rattle.functions.specs.Next as leaves;
+ghost use Rattle.leaves.specs.Leaves as leaves;
 ghost use Rattle.keys.specs.Jobs.{Made};
 ghost use Rattle.keys.specs.Keys.{key_cmp};
 ghost use Rattle.keys.specs.declared.key.Key.{Key};

@@ -5,7 +5,7 @@ ghost use Rattle.evaluation.specs.Value.{In};
 ghost use Rattle.keys.specs.declared.key.Key.{Key};
 ghost use Rattle.node.specs.Graphs.{record_at};
 ghost use Rattle.filetree.specs.Files.{Files};
-ghost use Rattle.functions.specs.Next as leaves;
+ghost use Rattle.leaves.specs.Leaves as leaves;
 ghost use Rattle.open_nodes.specs.Nodes.{node_at, IsUnsettled, IsClean, IsWhole, pending};
 ghost use Rattle.std.specs.Prelude.{Option};
 ghost use Rattle.keys.specs.declared.value.Value.{Value};
@@ -20,8 +20,8 @@ ghost use Rattle.round.specs.Moves.{KeepsTrue, KeepsTrueOf, KeepsOut, KeepsWante
 
 use crate::members::is_settled;
 use filetree::Tree;
-use functions::{is_leaf, read_leaf};
 use keys::{Key, Value};
+use leaves::{is_leaf, read_leaf};
 use node::Graph;
 use open_nodes::{Nodes, Table, begin_check, begin_run, leave, note};
 use std::alloc::Global;

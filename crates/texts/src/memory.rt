@@ -3,7 +3,7 @@ use std::alloc::{AllocError, AllocFailed};
 use thiserror::Error;
 
 /// A growth was refused. The call that answers it leaves what it was lent as it was, unless it says otherwise.
-#[derive(Debug, Drop, PartialEq, Eq, Error)]
+#[derive(Debug, Drop, Error)]
 #[error("out of memory")]
 pub struct Memory;
 

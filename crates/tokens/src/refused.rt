@@ -6,7 +6,7 @@ use std::alloc::{AllocError, AllocFailed};
 use thiserror::Error;
 
 /// Why a file is refused.
-#[derive(Clone, Copy, Debug, PartialEq, Eq, Drop, Error)]
+#[derive(Clone, Copy, Debug, Drop, Error)]
 pub enum Refused {
     /// The text is none of the language: 2 where a byte is over 127, with the line of the first one, counted from 1;
     /// 3 where it breaks the syntax, and 12 where it is nested too deep, both with the line 0.

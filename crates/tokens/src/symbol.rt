@@ -1,7 +1,7 @@
 //! Tokens that are always spelled the same way, and those of the layout.
 
 /// A keyword, a literal word, an operator, a bracket or other delimiter, or a token of the layout.
-#[derive(Clone, Copy, Debug, PartialEq, Eq)]
+#[derive(Clone, Copy)]
 pub enum Symbol {
     /// The end of a statement's line.
     NewLine,

@@ -6,14 +6,14 @@ ghost use Rattle.std.specs.Str.{IsAscii};
 use crate::symbol::Symbol;
 
 /// A part of the text, all of it ASCII.
-#[derive(Clone, Copy, Debug)]
+#[derive(Clone, Copy)]
 pub struct Ascii<'a> {
     pub bytes: &'a [u8],
     ghost ascii: { IsAscii bytes.now },
 }
 
 /// A token. Names and strings are lent by the text.
-#[derive(Clone, Copy, Debug)]
+#[derive(Clone, Copy)]
 pub enum Token<'a> {
     Name(Ascii<'a>),
     /// Not negative.
@@ -24,7 +24,7 @@ pub enum Token<'a> {
 }
 
 /// A token with its line, counted from 1.
-#[derive(Clone, Copy, Debug)]
+#[derive(Clone, Copy)]
 pub struct Lexed<'a> {
     pub token: Token<'a>,
     pub line: usize,

@@ -6,7 +6,7 @@ use std::sync::atomic::AtomicUsize;
 use texts::Text;
 
 /// A literal that is a word.
-#[derive(Clone, Copy, Debug, PartialEq, Eq)]
+#[derive(Clone, Copy)]
 pub enum Literal {
     /// `None`
     NoneValue,
@@ -17,7 +17,7 @@ pub enum Literal {
 }
 
 /// An operator before one operand.
-#[derive(Clone, Copy, Debug, PartialEq, Eq)]
+#[derive(Clone, Copy)]
 pub enum UnaryOp {
     Not,
     Plus,
@@ -25,7 +25,7 @@ pub enum UnaryOp {
 }
 
 /// An operator between two operands.
-#[derive(Clone, Copy, Debug, PartialEq, Eq)]
+#[derive(Clone, Copy)]
 pub enum BinaryOp {
     Or,
     And,

@@ -2,7 +2,7 @@
 
 use std::io::{self, ErrorKind, Read, Write};
 
-/// Whether a call goes through, as the count of calls says.
+/// Says which calls go through, by their count.
 #[derive(Drop)]
 pub struct Turns {
     calls: u64,
@@ -13,6 +13,7 @@ pub struct Turns {
 }
 
 impl Turns {
+    /// Counts from the first call.
     pub fn new(fails_at: u64, interrupted: bool) -> Turns {
         Turns {
             calls: 0,
@@ -21,6 +22,7 @@ impl Turns {
         }
     }
 
+    // Counts a call, which goes through or fails.
     fn next(&mut self) -> io::Result<()> {
         self.calls = self.calls.wrapping_add(1);
         if self.calls == self.fails_at {
@@ -42,6 +44,7 @@ pub struct Source<'a> {
 }
 
 impl<'a> Source<'a> {
+    /// Makes a reader of the bytes.
     pub fn new(bytes: &'a [u8], step: usize, turns: Turns) -> Source<'a> {
         Source { bytes, step, turns }
     }
@@ -66,6 +69,7 @@ pub struct Sink<'a> {
 }
 
 impl<'a> Sink<'a> {
+    /// Makes a writer that adds to what is held.
     pub fn new(held: &'a mut Vec<u8>, step: usize, turns: Turns) -> Sink<'a> {
         Sink { held, step, turns }
     }

@@ -1,12 +1,13 @@
-//! Programs with the outcomes that they must have, as a table on standard input. A row begins with a line `> ` and its
-//! kind, which says how the text below it is run (`programs`); a line `>>` ends the text of a module that the file
-//! loads; and a line `< ` and the outcome ends the row. It tells each row that has another outcome, and counts them.
+//! Programs with the outcomes that they must have, as the rows of a table.
+//!
+//! A row begins with `> ` and its kind, which says how the text below is run (`programs`). A line `>>` ends the text of
+//! a module that the file loads. A line `< ` with the outcome ends the row.
 
 use crate::programs::outcome_of;
 use anyhow::Result;
-use std::{io, mem};
+use std::mem;
 
-// Runs all rows, and tells those that have another outcome: how many rows there are, and how many are such.
+// Runs all rows, and tells those that have another outcome. Returns how many rows and how many of those there are.
 fn check_rows(rt: &HostRuntime, table: &str) -> Result<(u64, u64)> {
     let alloc = rt.alloc();
     let (mut rows, mut other) = (0u64, 0u64);
@@ -36,15 +37,9 @@ fn check_rows(rt: &HostRuntime, table: &str) -> Result<(u64, u64)> {
     Ok((rows, other))
 }
 
-/// Runs all rows of a table, and tells how many there are.
+/// Runs all rows of a table. Tells how many there are, and each that has another outcome.
 pub fn tell_programs(rt: &HostRuntime, table: &str) -> Result<()> {
     let (rows, other) = check_rows(rt, table)?;
     println!(rt; "{rows} programs, {other} with another outcome")?;
     Ok(())
-}
-
-/// Runs all rows of standard input.
-pub fn run(rt: &HostRuntime) -> Result<()> {
-    let table = io::read_to_string(rt.alloc(), rt.reader())?;
-    tell_programs(rt, table.as_str())
 }

@@ -1,27 +1,24 @@
-//! Texts, parsed and run as the files of a package: k/BUILD, k/m.bzl and k/b.bzl.
+//! Texts that are parsed and run as the files of a package: k/BUILD, k/m.bzl and k/b.bzl.
 
 use crate::shown::{Shown, show, show_targets};
 use anyhow::Result;
 use evaluator::{Environment, Fault, Outcome, Suspended, resume, run};
-use grammar::FileKind;
 use module_values::Loaded;
 use package_calls::{Answer, Package};
 use std::alloc::Global;
 use std::sync::Arc;
-use syntax::parse;
+use syntax::{File, FileKind, Refused, parse};
 use texts::{Memory, Text};
-use tokens::Refused;
-use tree::File;
 
-/// A file of the package.
+// A file of the package.
 #[derive(Clone, Copy)]
-pub enum Name {
+enum Name {
     Build,
     Module,
     Base,
 }
 
-// What a file is given.
+// Makes what a file is given.
 fn environment(
     alloc: Global,
     name: Name,
@@ -47,7 +44,7 @@ fn environment(
     })
 }
 
-// The outcome of a file. A text that has no tree ends with its fault, at no path.
+// Returns the outcome of a file. A text that has no tree ends with its fault, at no path.
 fn evaluate(
     alloc: Global,
     name: Name,
@@ -69,7 +66,7 @@ fn evaluate(
     }
 }
 
-// Some texts.
+// Makes texts of words.
 fn texts(alloc: Global, words: &[&str]) -> Result<Arc<Vec<Text>, Global>, Memory> {
     let mut all = Vec::new(alloc);
     for word in words {
@@ -78,7 +75,7 @@ fn texts(alloc: Global, words: &[&str]) -> Result<Arc<Vec<Text>, Global>, Memory
     Ok(Arc::new(alloc, all)?)
 }
 
-// The answers that the rows `glob` have.
+// Makes the answers that the rows `glob` have.
 fn known_answers(alloc: Global) -> Result<Vec<Answer>, Memory> {
     let sources = Answer {
         pattern: Text::new(alloc, "*.c")?,
@@ -95,12 +92,12 @@ fn known_answers(alloc: Global) -> Result<Vec<Answer>, Memory> {
     Ok(vec![in alloc; sources, all, none]?)
 }
 
-/// The outcome of a file that is alone.
-pub fn alone(alloc: Global, name: Name, text: &str) -> Result<Outcome, Memory> {
+// Returns the outcome of a file that is alone.
+fn alone(alloc: Global, name: Name, text: &str) -> Result<Outcome, Memory> {
     evaluate(alloc, name, text, Vec::new(alloc), Vec::new(alloc))
 }
 
-// A file over one that it loads. Where that one leaves no module, its own outcome.
+// Runs a file over one that it loads. The outcome is that one's own where it leaves no module.
 fn over(
     alloc: Global,
     lower: Name,
@@ -117,13 +114,13 @@ fn over(
     }
 }
 
-// An expression, by its text.
+// Runs an expression, and tells its text.
 fn give(alloc: Global, text: &str) -> Result<Outcome> {
     let file = format!(in alloc; "filegroup(name = \"t\", tags = [repr({text})])\n")?;
     Ok(alone(alloc, Name::Build, file.as_str())?)
 }
 
-// An expression as tags, with some globs answered.
+// Runs an expression as tags, with some globs answered.
 fn glob(alloc: Global, text: &str) -> Result<Outcome> {
     let file = format!(in alloc; "filegroup(name = \"t\", tags = {text})\n")?;
     let answers = known_answers(alloc)?;
@@ -131,7 +128,7 @@ fn glob(alloc: Global, text: &str) -> Result<Outcome> {
     Ok(evaluate(alloc, Name::Build, file.as_str(), none, answers)?)
 }
 
-// The answer to a pattern in the rows `turns`: the path that it becomes where each `*` is an `a`.
+// Answers a pattern in the rows `turns`, by the path that it becomes where each `*` is an `a`.
 fn answer(alloc: Global, pattern: &str) -> Result<Arc<Vec<Text>, Global>, Memory> {
     let mut path = String::new(alloc);
     for c in pattern.chars() {
@@ -140,7 +137,7 @@ fn answer(alloc: Global, pattern: &str) -> Result<Arc<Vec<Text>, Global>, Memory
     texts(alloc, [path.as_str()].as_slice())
 }
 
-// What an evaluation that waits leads to once its patterns are answered.
+// Answers the patterns of an evaluation that waits, and resumes it.
 fn answered(alloc: Global, waiting: Suspended) -> Result<Outcome, Memory> {
     let mut results = Vec::new(alloc);
     for pattern in waiting.patterns() {
@@ -149,13 +146,13 @@ fn answered(alloc: Global, waiting: Suspended) -> Result<Outcome, Memory> {
     resume(waiting, results)
 }
 
-// The outcome of what waits, behind others.
+// Resumes what waits, and shows its outcome behind the others.
 fn next(alloc: Global, all: &mut String, waiting: Suspended) -> Result<Shown, Memory> {
     all.push_str(", ")?;
     Ok(show(alloc, answered(alloc, waiting)?)?)
 }
 
-// The outcomes of a file each of whose patterns is answered as it asks for them, in order.
+// Returns the outcomes of a file, in order. Its patterns are answered as it asks for them.
 fn turns(alloc: Global, first: Outcome) -> Result<String, Memory> {
     let mut all = String::new(alloc);
     let mut shown = show(alloc, first)?;
@@ -170,14 +167,14 @@ fn turns(alloc: Global, first: Outcome) -> Result<String, Memory> {
     Ok(all)
 }
 
-// The outcome of a file alone.
+// Takes the text of an outcome, and drops what waits.
 fn last(shown: Shown) -> String {
     let Shown { text, waiting } = shown;
     drop(waiting);
     text
 }
 
-// Evaluates each beginning of a text, byte by byte, and tells how many there are.
+// Runs each beginning of a text, and tells how many there are.
 fn cuts(alloc: Global, text: &str) -> Result<String> {
     let mut count = 0u64;
     for i in 0..=text.len() {
@@ -189,7 +186,7 @@ fn cuts(alloc: Global, text: &str) -> Result<String> {
     Ok(format!(in alloc; "{count} cuts")?)
 }
 
-// The outcome of a file, of a kind of row.
+// Returns the outcome of a file, by the kind of its row.
 fn outcome(alloc: Global, kind: &str, below: &str, text: &str) -> Result<Outcome> {
     let call = "load(\":m.bzl\", \"f\")\nfilegroup(name = \"t\", tags = [repr(f())])\n";
     Ok(match kind {
@@ -203,12 +200,16 @@ fn outcome(alloc: Global, kind: &str, below: &str, text: &str) -> Result<Outcome
     })
 }
 
-/// The outcome of a row, as a text: of a BUILD file (`build`, and with all its targets `targets`), of a .bzl file
-/// (`module`); of an expression, by its text (`give`), or as the tags of a target with some globs answered (`glob`); of
-/// a call of `f` of a .bzl file, by its text (`call`); of a .bzl file or a BUILD file that loads the text above it
-/// (`module over`, `build over`); and all outcomes of a BUILD file that loads the text above it, where each pattern is
-/// answered once it is asked for (`turns`). All beginnings of a BUILD file are run in a row `cuts`, which tells their
-/// number.
+/// Returns the outcome of a row as a text. The kind of the row says what the text of the row is:
+///
+/// - `build`, `targets`: a BUILD file; `targets` shows all its targets.
+/// - `module`: a .bzl file.
+/// - `give`: an expression, whose text is told.
+/// - `glob`: an expression that gives the tags of a target, with some globs answered.
+/// - `call`: a .bzl file, whose function `f` is called.
+/// - `module over`, `build over`: a file that loads the text above it.
+/// - `turns`: a BUILD file that loads the text above it. Each pattern is answered once it is asked for.
+/// - `cuts`: a BUILD file, all of whose beginnings are run. Their number is told.
 pub fn outcome_of(alloc: Global, kind: &str, below: &str, text: &str) -> Result<String> {
     match kind {
         "cuts" => cuts(alloc, text),

@@ -1,4 +1,4 @@
-//! What the program answers where a device fails, where words are bad, and where a budget is spent.
+//! What the product answers where a device fails, where words are bad, and where a budget is spent.
 
 use crate::devices::{Sink, Source, Turns};
 use anyhow::Result;
@@ -11,7 +11,7 @@ const RUN: [&str; 2] = ["loader", "run"];
 
 const FIND: &str = "{\"op\":\"find\",\"name\":\"x\"}\n";
 
-// The status, what was written and what was said.
+// A run of the product: its status, what it wrote and what it said.
 #[derive(Drop)]
 struct Ran {
     status: u8,
@@ -19,7 +19,7 @@ struct Ran {
     errors: Vec<u8>,
 }
 
-// What fails at a call, or that each second call is interrupted.
+// What fails: one read, one write, or each second call.
 #[derive(Clone, Copy)]
 enum Fault {
     Read,
@@ -27,6 +27,7 @@ enum Fault {
     Interrupted,
 }
 
+// Runs the product with words on an input, over devices that move so many bytes a call.
 fn run_on(
     alloc: Global,
     words: &[&str],
@@ -48,12 +49,13 @@ fn run_on(
     }
 }
 
-// The same with devices that never fail.
+// Runs the product over devices that never fail.
 fn run_whole(alloc: Global, words: &[&str], input: &str) -> Ran {
     let (reads, writes) = (Turns::new(0, false), Turns::new(0, false));
     run_on(alloc, words, input.as_bytes(), 65536, reads, writes)
 }
 
+// Writes bytes.
 fn write_bytes(rt: &HostRuntime, bytes: &[u8]) -> Result<()> {
     let mut out = io::writer(rt);
     out.write_all(bytes)?;
@@ -68,7 +70,7 @@ pub fn tell_journal(rt: &HostRuntime, lines: &str) -> Result<()> {
     Ok(())
 }
 
-// Serves by three bytes a call, with a fault.
+// Runs the product by three bytes a call, with a fault.
 fn fail_at(alloc: Global, fault: Fault, at: u64, input: &str) -> Ran {
     let (reads, writes) = match fault {
         Fault::Read => (Turns::new(at, false), Turns::new(0, false)),
@@ -78,7 +80,7 @@ fn fail_at(alloc: Global, fault: Fault, at: u64, input: &str) -> Ran {
     run_on(alloc, &RUN, input.as_bytes(), 3, reads, writes)
 }
 
-// Tells the status, how many bytes were written, whether they begin the answers, and what was said.
+// Tells a run: its status, how many bytes it wrote, whether they begin the answers, and what it said.
 fn tell_ran(rt: &HostRuntime, what: &str, ran: &Ran, answers: &[u8]) -> Result<()> {
     let are = if answers.starts_with(ran.written.as_slice()) {
         "right"
@@ -94,7 +96,7 @@ fn tell_ran(rt: &HostRuntime, what: &str, ran: &Ran, answers: &[u8]) -> Result<(
     Ok(())
 }
 
-// Each call fails in turn, up to the first that is not made.
+// Fails each call in turn, up to the first that is not made.
 fn tell_stops(
     rt: &HostRuntime,
     fault: Fault,
@@ -124,7 +126,7 @@ pub fn tell_failures(rt: &HostRuntime, lines: &str) -> Result<()> {
     tell_stops(rt, Fault::Write, "write", lines, answers)
 }
 
-// What errors are.
+// Names what was said.
 fn kind_of(errors: &[u8]) -> &'static str {
     if errors.is_empty() {
         "nothing"
@@ -135,7 +137,7 @@ fn kind_of(errors: &[u8]) -> &'static str {
     }
 }
 
-// Runs the program with the words of a row.
+// Runs the product with the words of a row.
 fn tell_row(rt: &HostRuntime, row: &str) -> Result<()> {
     let words: Vec<&str> = row.split(' ').collect(rt.alloc())?;
     let ran = run_whole(rt.alloc(), words.as_slice(), FIND);
@@ -145,7 +147,7 @@ fn tell_row(rt: &HostRuntime, row: &str) -> Result<()> {
     Ok(())
 }
 
-/// Runs the program with the words of each row.
+/// Runs the product with the words of each row.
 pub fn tell_words(rt: &HostRuntime, rows: &str) -> Result<()> {
     for row in rows.lines() {
         tell_row(rt, row)?;
@@ -153,7 +155,7 @@ pub fn tell_words(rt: &HostRuntime, rows: &str) -> Result<()> {
     Ok(())
 }
 
-// Serves a request within a budget of turns: how many bytes were written, and why it stopped.
+// Serves a request within a budget of turns. Tells how many bytes were written, and why it stopped.
 fn serve_within(alloc: Global, budget: u64) -> Result<String> {
     let mut written = Vec::new(alloc);
     let source = Source::new(FIND.as_bytes(), 64, Turns::new(0, false));

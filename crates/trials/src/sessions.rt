@@ -1,12 +1,12 @@
-//! Sessions, line by line, with what each line took. A line `new V` begins a session at version V; any other is a number
-//! of turns, within which a request has to be answered, and a command.
+//! Sessions, line by line, with what each line took. A line `new V` begins a session at version V. Any other has a
+//! budget of turns and a command.
 
 use anyhow::{Context, Result, bail};
 use commands::{Command, command_of, data_of};
 use loader::{EditError, Request, Run, Session, Stop};
 use std::alloc::Global;
 
-// The turns of runs.
+// Adds the turns of runs.
 fn turns_of(runs: &[Run]) -> u64 {
     let mut turns: u64 = 0;
     for run in runs {
@@ -15,7 +15,7 @@ fn turns_of(runs: &[Run]) -> u64 {
     turns
 }
 
-// What an edit is answered.
+// Tells the answer of an edit.
 fn edited(alloc: Global, answer: Result<u32, EditError>) -> Result<String> {
     match answer {
         Ok(version) => Ok(format!(in alloc; "ok: {version}")?),
@@ -24,7 +24,7 @@ fn edited(alloc: Global, answer: Result<u32, EditError>) -> Result<String> {
     }
 }
 
-// What a request is answered, with how many items and turns that took.
+// Tells the answer of a request, with how many items and turns it took.
 fn asked(
     alloc: Global,
     session: &mut Session,
@@ -42,7 +42,7 @@ fn asked(
     }
 }
 
-// What a command is answered.
+// Tells the answer of a command.
 fn answer(alloc: Global, session: &mut Session, line: &str, budget: u64) -> Result<String> {
     let Some(value) = data_of(alloc, line.as_bytes())? else {
         bail!("no JSON: {line}");
@@ -54,13 +54,13 @@ fn answer(alloc: Global, session: &mut Session, line: &str, budget: u64) -> Resu
     }
 }
 
-// A session that begins at a version.
+// Begins a session at a version.
 fn begin(alloc: Global, version: &str) -> Result<Session> {
     let version = version.parse::<u32>().context("reading a version")?;
     Ok(Session::new_at(alloc, version))
 }
 
-// Tells what a command is answered, and the version then.
+// Writes the answer of a command, and the version then.
 fn tell_line(rt: &HostRuntime, session: &mut Session, turns: &str, line: &str) -> Result<()> {
     let budget = turns.parse::<u64>().context("reading a budget")?;
     let told = answer(rt.alloc(), session, line, budget)?;
@@ -68,7 +68,7 @@ fn tell_line(rt: &HostRuntime, session: &mut Session, turns: &str, line: &str) -
     Ok(())
 }
 
-/// Tells what each line is answered.
+/// Tells the answer of each line.
 pub fn tell_sessions(rt: &HostRuntime, table: &str) -> Result<()> {
     let mut session = Session::new(rt.alloc());
     for line in table.lines() {

@@ -6,14 +6,14 @@ use module_values::{Binding, Held, Target};
 use std::alloc::{AllocError, Global};
 use texts::Text;
 
-/// An outcome as a text, and what goes on where it waits.
+/// An outcome as a text, with what can be resumed where it waits.
 #[derive(Drop)]
 pub struct Shown {
     pub text: String,
     pub waiting: Option<Suspended>,
 }
 
-// Adds a text behind others: behind a space, or behind `|`.
+// Adds a text, behind a space where it is the first, and else behind `|`.
 fn add(all: &mut Vec<u8>, first: bool, text: &[u8]) -> Result<(), AllocError> {
     all.push(if first { b' ' } else { b'|' })?;
     all.extend_from_slice(text)?;
@@ -50,7 +50,7 @@ fn add_list(all: &mut Vec<u8>, texts: &[Bytes]) -> Result<(), AllocError> {
     Ok(())
 }
 
-// Adds a target: its rule, its name and its attributes.
+// Adds the rule, the name and the attributes of a target.
 fn add_target(all: &mut Vec<u8>, target: &Target) -> Result<(), AllocError> {
     add(all, true, target.kind().as_str().as_bytes())?;
     add(all, true, target.name().as_slice())?;
@@ -68,7 +68,7 @@ fn add_target(all: &mut Vec<u8>, target: &Target) -> Result<(), AllocError> {
     Ok(())
 }
 
-// All targets of a package.
+// Shows all targets of a package.
 fn targets_text(alloc: Global, targets: &[Target]) -> Result<String, AllocError> {
     let mut all = Vec::new(alloc);
     for target in targets {
@@ -77,7 +77,7 @@ fn targets_text(alloc: Global, targets: &[Target]) -> Result<String, AllocError>
     String::from_utf8_lossy(alloc, all.as_slice())
 }
 
-// The names that a module exports.
+// Shows the names that a module exports.
 fn names_text(alloc: Global, own: &[Binding]) -> Result<String, AllocError> {
     let mut all = Vec::from_slice(alloc, b"exports")?;
     let mut first = true;
@@ -91,7 +91,7 @@ fn names_text(alloc: Global, own: &[Binding]) -> Result<String, AllocError> {
     String::from_utf8_lossy(alloc, all.as_slice())
 }
 
-// The strings of the first target.
+// Shows the strings of the first target.
 fn tags_text(alloc: Global, targets: &[Target]) -> Result<String, AllocError> {
     let mut all = Vec::from_slice(alloc, b"tags")?;
     if let Some(target) = targets.first() {
@@ -100,7 +100,7 @@ fn tags_text(alloc: Global, targets: &[Target]) -> Result<String, AllocError> {
     String::from_utf8_lossy(alloc, all.as_slice())
 }
 
-// Patterns without an answer.
+// Shows patterns without an answer.
 fn needs_text(alloc: Global, patterns: &[Text]) -> Result<String, AllocError> {
     let mut all = Vec::from_slice(alloc, b"needs")?;
     let mut first = true;
@@ -111,13 +111,13 @@ fn needs_text(alloc: Global, patterns: &[Text]) -> Result<String, AllocError> {
     String::from_utf8_lossy(alloc, all.as_slice())
 }
 
-// A fault.
+// Shows a fault.
 fn fault_text(alloc: Global, fault: &Fault) -> Result<String, AllocError> {
     let path = fault.path.as_str();
     format!(in alloc; "fault {} {path}:{}", fault.code, fault.line)
 }
 
-// A text behind which nothing waits.
+// Makes an outcome that does not wait.
 fn ended(text: String) -> Shown {
     Shown {
         text,
@@ -125,8 +125,12 @@ fn ended(text: String) -> Shown {
     }
 }
 
-/// An outcome as a text: `exports` and the names of a module, `tags` and the strings of the first target of a package,
-/// `needs` and the patterns without an answer, or `fault` with its code, path and line.
+/// Shows an outcome as a text:
+///
+/// - `exports` and the names of a module,
+/// - `tags` and the strings of the first target of a package,
+/// - `needs` and the patterns without an answer,
+/// - `fault` with its code, path and line.
 pub fn show(alloc: Global, outcome: Outcome) -> Result<Shown, AllocError> {
     match outcome {
         Outcome::Module(loaded) => Ok(ended(names_text(alloc, loaded.body().own())?)),
@@ -142,7 +146,7 @@ pub fn show(alloc: Global, outcome: Outcome) -> Result<Shown, AllocError> {
     }
 }
 
-/// The same, with all targets of a package.
+/// Shows an outcome, with all targets of a package.
 pub fn show_targets(alloc: Global, outcome: Outcome) -> Result<Shown, AllocError> {
     match outcome {
         Outcome::Package(targets) => Ok(ended(targets_text(alloc, targets.as_slice())?)),

@@ -9,6 +9,7 @@ use round::{NotTaken, Round};
 use std::alloc::Global;
 use texts::Text;
 
+// What must be so of the turns, in the order of the answers.
 const ORDER: [&str; 7] = [
     "a is ready first",
     "a is handed out once",
@@ -19,7 +20,7 @@ const ORDER: [&str; 7] = [
     "with open roots nothing is finished",
 ];
 
-// Takes the turns of two look-ups back, the later one first: whether all that `ORDER` says is so.
+// Takes the turns of two look-ups back, the later one first. Returns which facts of `ORDER` are so.
 fn take_back_in_another_order(alloc: Global) -> Result<[bool; 7]> {
     let mut graph = Graph::new(alloc);
     let tree = Tree::new(alloc);
@@ -48,7 +49,7 @@ fn take_back_in_another_order(alloc: Global) -> Result<[bool; 7]> {
     Ok([first, once, none, open, later, earlier, unfinished])
 }
 
-// Whether a turn of no job of a round comes back as a stranger.
+// Returns whether a turn of no job of a round comes back as a stranger.
 fn is_stranger(alloc: Global) -> Result<bool> {
     let mut graph = Graph::new(alloc);
     let tree = Tree::new(alloc);

@@ -1,6 +1,7 @@
 use Rattle.std.proofs.Common.{refl}
 use Rattle.evaluation.proofs.Unique.{same_value}
-use Rattle.functions.specs.Next.{next, read}
+use Rattle.functions.specs.Next.{next}
+use Rattle.leaves.specs.Leaves.{read}
 use Rattle.functions.proofs.GlobTexts.{name_no_space}
 use Rattle.functions.proofs.GlobFinds.{glob_grounded}
 use Rattle.functions.proofs.globs_hold_what_they_find.Goals as goal

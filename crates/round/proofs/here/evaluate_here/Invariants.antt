@@ -1,5 +1,5 @@
 use Rattle.std.proofs.Common.{◌≡◌, ◌+◌}
-use Rattle.functions.specs.Next as leaves
+use Rattle.leaves.specs.Leaves as leaves
 use Rattle.round.specs.Here.{IsResting}
 use Rattle.round.specs.Since.{IsTrueSince}
 use Rattle.round.proofs.here.evaluate_here.Given as goal

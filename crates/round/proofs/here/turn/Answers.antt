@@ -1,6 +1,6 @@
 use Rattle.std.proofs.Common.{◌∙◌, ap}
 use Rattle.keys.specs.Jobs.{Asked}
-use Rattle.functions.specs.Next as leaves
+use Rattle.leaves.specs.Leaves as leaves
 use Rattle.round.proofs.Wanting.{leads_err}
 use Rattle.round.proofs.Rounding.{none_again}
 use Rattle.round.proofs.here.turn.Goals as goal

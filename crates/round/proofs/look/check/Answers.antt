@@ -1,6 +1,6 @@
 use Rattle.round.proofs.Framing.{frame_phase, checks_no_turn}
 use Rattle.std.proofs.Common.{subst}
-use Rattle.functions.specs.Next as leaves
+use Rattle.leaves.specs.Leaves as leaves
 use Rattle.std.proofs.Common.{ℕ}
 use Rattle.open_nodes.specs.Steps.{HasPhase}
 use Rattle.open_nodes.specs.declared.table.Phase.TheVariants as phase

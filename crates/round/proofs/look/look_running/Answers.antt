@@ -1,5 +1,5 @@
 use Rattle.std.proofs.Common.{◌∙◌, sym, subst}
-use Rattle.functions.specs.Next as leaves
+use Rattle.leaves.specs.Leaves as leaves
 use Rattle.node.specs.Graphs.{record_at}
 use Rattle.open_nodes.specs.Nodes.{groups_of}
 use Rattle.round.specs.Looks.{IsLastGroup}

@@ -1,6 +1,6 @@
 use Rattle.round.proofs.Pausing.{none_paused}
 use Rattle.std.proofs.Common.{[], sym, subst}
-use Rattle.functions.specs.Next as leaves
+use Rattle.leaves.specs.Leaves as leaves
 use Rattle.evaluation.specs.Value.{In}
 use Rattle.node.proofs.Lists.{on_err}
 use Rattle.round.specs.Since.{IsFresh}

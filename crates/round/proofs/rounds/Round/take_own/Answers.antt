@@ -1,5 +1,5 @@
 use Rattle.std.proofs.Common.{◌∙◌, subst, sym, IfSome}
-use Rattle.functions.specs.Next as leaves
+use Rattle.leaves.specs.Leaves as leaves
 use Rattle.keys.specs.declared.key.Key.{Key}
 use Rattle.round.specs.Paused.{IsPaused}
 use Rattle.round.proofs.Framing.{frame_on}

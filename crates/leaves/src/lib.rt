@@ -1,0 +1,59 @@
+//! The leaves of the graph: which keys are leaves, and how the value of one is read from the files. Layer: engine. It
+//! stands on keys and files alone, so that the crates which walk the graph need not stand on the node functions.
+#![tactic(auto)]
+
+ghost use Rattle.std.specs.Prelude.{◌≡◌, IsTrue, IfOk, Some, option_map};
+ghost use Rattle.filetree.specs.Listings.{listing};
+ghost use Rattle.leaves.specs.Leaves as specs;
+
+use filetree::{Listing, Tree};
+use keys::{DirectoryNames, Key, Value};
+use std::alloc::Global;
+use texts::Memory;
+
+/// Whether the key is a leaf, whose value is read from the files.
+pub fn is_leaf(key: &Key) -> bool
+    ensures { result ≡ specs.is_leaf key.now }
+{
+    match key {
+        Key::File(_) => true,
+        Key::Listing(_) => true,
+        Key::Lookup(_) => false,
+        Key::Glob(_) => false,
+        Key::Module(_) => false,
+        Key::Package(_) => false,
+    }
+}
+
+// The names in a directory, or none where there is no such directory.
+fn read_listing(tree: &Tree, directory: &str) -> Result<Option<DirectoryNames>, Memory>
+    ensures { IfOk result (λ l. l ≡ option_map specs.listed_of (listing tree.now directory.now)) }
+{
+    match tree.listing(directory)? {
+        None => Ok(None),
+        Some(names) => {
+            let Listing { files, directories } = names;
+            Ok(Some(DirectoryNames::new(files, directories)))
+        }
+    }
+}
+
+/// The value of a leaf in the files: of a file its text, shared, or none where there is no such file, and of a listing
+/// the names in the directory, or none where there is no such directory. That the key is a leaf is the caller's
+/// condition. `Memory` where a growth was refused.
+pub fn read_leaf(_alloc: Global, tree: &Tree, key: &Key) -> Result<Value, Memory>
+    requires { IsTrue (specs.is_leaf key.now) }
+    ensures { IfOk result (λ v. specs.read tree.now key.now ≡ Some v) }
+{
+    match key {
+        Key::File(path) => match tree.file(path.as_str()) {
+            None => Ok(Value::File(None)),
+            Some(text) => Ok(Value::File(Some(text.share()?))),
+        },
+        Key::Listing(directory) => Ok(Value::Listing(read_listing(tree, directory.as_str())?)),
+        Key::Lookup(_) => unreachable!(),
+        Key::Glob(_) => unreachable!(),
+        Key::Module(_) => unreachable!(),
+        Key::Package(_) => unreachable!(),
+    }
+}

@@ -1,6 +1,0 @@
-use denote.Param.Send.{sendable}
-use Rattle.trials.proofs.graph_times.find.Goals as goal
-use Rattle.functions.proofs.Sends.{kept_send}
-
-pub evaluate_here-requires-send-R-State : goal.evaluate_here-requires-send-R-State
-evaluate_here-requires-send-R-State c κs = search (kept_send, sendable)

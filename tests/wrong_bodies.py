@@ -1,0 +1,467 @@
+#!/usr/bin/env python3
+"""Tries the wrong bodies of each crate: edits that turn what a function does, which the prover has to refuse.
+
+A crate's edits are the files *.edit of crates/NAME/wrong-bodies and, of a few cheap crates, of crates/NAME/must-fail,
+which the gate tries too. Callers know a function by its contract alone. So edits of different functions are tried in
+one check, over the work that `rt check` kept, and each has to be refused in its own function. What is not is tried alone.
+
+    wrong_bodies.py           tries the crates whose digest in wrong-bodies.txt is not the present one
+    wrong_bodies.py --all     tries all crates
+    wrong_bodies.py NAME..    tries these crates
+    wrong_bodies.py --digests tries nothing: compares the digests, as the gate does
+
+A digest covers what the outcome hangs on: the crate's sources, definitions, proofs and edits, the definitions and
+contracts of the crates below, and the kit's version. It is written where all edits of the crate were refused. The
+status is 1 where one is not refused, where an edit cannot be tried, or where a crate with contracts has none."""
+import argparse
+import collections
+import glob
+import hashlib
+import os
+import re
+import shutil
+import subprocess
+import sys
+import tempfile
+import threading
+import time
+
+ROOT = os.path.dirname(os.path.dirname(os.path.abspath(__file__)))
+TABLE = f"{ROOT}/wrong-bodies.txt"
+FOLDERS = ("wrong-bodies", "must-fail")
+PARTS = ("src", "specs", "proofs")
+HEAD = """# The crates whose wrong bodies were all refused: how many, and the digest of the texts at which that was seen.
+# Written by `make wrong-bodies`; `make test` compares the digests.
+"""
+FUNCTION = re.compile(r"( *)(?:pub(?:\([a-z ]+\))? )?(?:const )?(?:unsafe )?fn (\w+)")
+OWNER = re.compile(r"impl(?:<[^>]*>)? (?:(.+?) for )?(.+?) (?:where .*)?\{$")
+# What the prover says where a proof names something that the edit took away. That says nothing of the contract.
+GONE = re.compile(r"has no field|is not in scope|has no `|was not admitted")
+
+Function = collections.namedtuple("Function", "path owner name first last")
+Edit = collections.namedtuple("Edit", "file texts functions")
+
+
+def read(file):
+    with open(file, encoding="utf-8") as it:
+        return it.read()
+
+
+# The crates, their edits and their digests.
+
+
+def crates():
+    """The crates in the order of crates.txt, each with the repository's crates that its line names."""
+    lines = [line.partition("#")[0].partition(":") for line in read(f"{ROOT}/crates.txt").split("\n")]
+    named = {name.split()[0]: uses.split() for name, _, uses in lines if name.strip()}
+    return {name: [it for it in uses if it in named] for name, uses in named.items()}
+
+
+def below(name, uses):
+    """All crates that a crate stands on, lowest first."""
+    found = []
+    for it in uses[name]:
+        found += [crate for crate in [*below(it, uses), it] if crate not in found]
+    return found
+
+
+def edits_of(name):
+    return sorted(file for it in FOLDERS for file in glob.glob(f"{ROOT}/crates/{name}/{it}/*.edit"))
+
+
+def files_of(name, parts, ending):
+    return sorted(file for it in parts for file in glob.glob(f"{ROOT}/crates/{name}/{it}/**/*{ending}", recursive=True))
+
+
+def without_bodies(text):
+    """A source without comments and without the bodies of functions whose contract stands above them."""
+    text = re.sub(r"(?m)^ *//.*\n", "", text)
+    return re.sub(r"(?ms)^( *)\{\n.*?^\1\}$", "", text)
+
+
+def digest(name, uses, version):
+    """The digest of all texts on which it hangs whether the crate's wrong bodies are refused."""
+    made = hashlib.sha256(version.encode())
+    own = files_of(name, PARTS, ".rt") + files_of(name, PARTS, ".antt") + edits_of(name)
+    texts = [(file, read(file)) for file in own]
+    for it in below(name, uses):
+        texts += [(file, read(file)) for file in files_of(it, ["specs"], ".antt")]
+        texts += [(file, without_bodies(read(file))) for file in files_of(it, ["src"], ".rt")]
+    for file, text in texts:
+        for part in os.path.relpath(file, ROOT), text:
+            made.update(f"{len(part.encode())} ".encode() + part.encode())
+    return made.hexdigest()[:32]
+
+
+def kit_version():
+    return subprocess.run(["rt", "version"], capture_output=True, text=True, check=True).stdout.strip()
+
+
+def written():
+    """The lines of the table: each crate with the number of its edits and its digest."""
+    lines = read(TABLE).split("\n") if os.path.exists(TABLE) else []
+    return {line.split()[0]: tuple(line.split()[1:]) for line in lines if line and line[0] != "#"}
+
+
+def write(table, uses):
+    with open(f"{TABLE}.new", "w", encoding="utf-8") as out:
+        out.write(HEAD)
+        for name in uses:
+            if name in table:
+                out.write(f"{name} {' '.join(table[name])}\n")
+    os.replace(f"{TABLE}.new", TABLE)
+
+
+# The functions of a source, and the edits of them.
+
+
+def owner_of(lines, at, indent):
+    """The name that the prover gives to the impl around a line: the type's, and the trait's behind it."""
+    for line in reversed(lines[:at]):
+        if line.strip() and len(line) - len(line.lstrip()) < len(indent):
+            found = OWNER.match(line.strip())
+            names = re.findall(r"\w+", " ".join(reversed(found.groups(""))) if found else "")
+            return names[0] if names else ""
+    return ""
+
+
+def end_of(lines, at, indent):
+    """The last line of the function whose `fn` stands in a line: its closing brace, or the end of a mere declaration."""
+    is_body = lines[at].endswith("{")
+    while lines[at] not in (f"{indent}}}", f"{indent}{{}}") and (is_body or not lines[at].endswith((";", "{}"))):
+        at += 1
+        is_body = is_body or lines[at] == f"{indent}{{"
+    return at
+
+
+def functions(path, text):
+    """The functions of a source, in the layout of `rt fmt`, each from its attributes to its last line, counted from 1."""
+    lines, made = text.split("\n"), []
+    for at, line in enumerate(lines):
+        found = FUNCTION.match(line)
+        if found:
+            indent, first = found[1], at
+            while first and lines[first - 1].startswith((f"{indent}#[", f"{indent}//")):
+                first -= 1
+            made.append(Function(path, owner_of(lines, at, indent), found[2], first + 1, end_of(lines, at, indent) + 1))
+    return made
+
+
+def has_contracts(name):
+    """Whether a function of the crate has a contract and a body that could be a wrong one."""
+    texts = [read(file) for file in files_of(name, ["src"], ".rt")]
+    return any(re.search(r"(?ms)^ +ensures\b(?:(?!^ *(?:\{\}|\})$).)*?^ *\{$", text) for text in texts)
+
+
+def read_edit(file, folder, texts):
+    """The texts with an edit, and the functions that it changes; or why it can't be made. An edit of what is no function
+    names none."""
+    texts, path, old, hit = dict(texts), "", "", set()
+    for line in read(file).split("\n"):
+        if line.startswith("file: "):
+            path = line[len("file: "):].strip()
+        elif line.startswith("old: "):
+            old = line[len("old: "):]
+        elif line.startswith("new:"):
+            if not path.startswith("src/") or not old:
+                return "it names no text of src/"
+            text = texts.get(path) or read(f"{folder}/{path}")
+            if text.count(old) != 1:
+                return f"its old text stands {text.count(old)} times in {path}"
+            number = text[: text.index(old)].count("\n") + 1
+            around = [it for it in functions(path, text) if it.first <= number <= it.last]
+            hit |= {(path, it.owner, it.name) for it in around[-1:]} or {(path, "", "")}
+            texts[path] = text.replace(old, line[len("new:"):].removeprefix(" "))
+            old = ""
+    return Edit(file, texts, hit) if hit else "it has no old and new text"
+
+
+def is_of_no_function(edit):
+    """Whether an edit changes a constant or a type, on which more than one function may hang."""
+    return not isinstance(edit, str) and not all(function for _, _, function in edit.functions)
+
+
+# What the prover said of a function.
+
+
+def module_of(path):
+    """Where a source's functions stand, below the crate and below its folder of proofs."""
+    return [it for it in path[len("src/") : -len(".rt")].split("/") if it not in ("lib", "main")]
+
+
+def own_folders(name, path, owner, function):
+    """The folders of proofs that are the function's own. A `+` marks those of functions that call themselves."""
+    base = "/".join([f"{ROOT}/crates/{name}/proofs", *module_of(path), f"{owner}*" if owner else ""]).rstrip("/")
+    found = [f"{base}/{mark}{function}" for mark in ("", "+")]
+    return [os.path.relpath(it, f"{ROOT}/crates/{name}") for pattern in found for it in glob.glob(pattern)]
+
+
+def at_source(line, edit):
+    """Whether a line is of a goal that stands in a function of the edit and is refused."""
+    at = re.match(r"(?:note: )?(?:\./)?(src/\S+?):(\d+):\d+: (?:error|it is not proved)", line)
+    return bool(at) and any(
+        it.first <= int(at[2]) <= it.last
+        for it in functions(at[1], edit.texts.get(at[1], ""))
+        if (it.path, it.owner, it.name) in edit.functions
+    )
+
+
+def at_name(line, name, edit):
+    """Whether a line says of a function of the edit that a goal of its own is refused."""
+    found = re.match(r"fn (\S+?): .*`search` did not prove", re.sub(r"<[^>]*>", "", line))
+    parts = found[1].split("::") if found else [""]
+    return any(
+        parts[-1] == function and parts[:-1][: len(module_of(path)) + 1] == [name, *module_of(path)] and (not owner or parts[-2].startswith(owner))
+        for path, owner, function in edit.functions
+    )
+
+
+def at_proof(line, name, edit):
+    """Whether a line is an error in the proof of a function of the edit. A function without a folder of its own may be
+    proved in one with a `+`, together with those that it calls and that call it."""
+    found = re.match(r"\./(proofs/\S+)/\w+\.antt:\d+:\d+: error", line)
+    if not found or GONE.search(line):
+        return False
+    for path, owner, function in edit.functions:
+        own, shared = own_folders(name, path, owner, function), "/".join(["proofs", *module_of(path), ""])
+        if found[1] in own or not own and found[1].startswith(shared) and os.path.basename(found[1])[0] == "+":
+            return True
+    return False
+
+
+def refused_in(batch, said, name):
+    """The edits of a batch of which a goal is refused that can be no other's."""
+    found = []
+    for line in said:
+        hit = [it for it in batch if at_source(line, it) or at_name(line, name, it) or at_proof(line, name, it)]
+        found += hit if len(hit) == 1 and hit[0] not in found else []
+    return found
+
+
+def is_refused_alone(said, name, edit):
+    """Whether an edit is refused that was tried alone. One of no function, as of a constant, may be refused anywhere."""
+    if not is_of_no_function(edit):
+        return bool(refused_in([edit], said, name))
+    return any(re.match(r"note: src/.* it is not proved|\./proofs/.*: error", it) and not GONE.search(it) for it in said)
+
+
+def is_unread(line):
+    """Whether the prover could not read an edited text."""
+    found = re.match(r"(?:\./)?(?:src|specs)/\S+?:\d+:\d+: error(?:\[[^]]*\])?: (`[^`]*`: )?(.*)", line)
+    return bool(found) and (not found[1] or bool(GONE.search(found[2])))
+
+
+# Trials.
+
+
+def lay_out(room, name, uses):
+    """Makes a repository of the crate and those below it, with the libraries and the work that were kept."""
+    os.makedirs(f"{room}/.git")
+    shutil.copy(f"{ROOT}/HANDLES", room)
+    lines = {line.partition(":")[0].split(" ")[0]: line for line in read(f"{ROOT}/crates.txt").split("\n")}
+    listed = [*below(name, uses), name]
+    with open(f"{room}/crates.txt", "w", encoding="utf-8") as out:
+        out.write("\n".join(lines[it] for it in listed) + "\n")
+    for it in listed:
+        kept = "out/incremental" if it == name else "out/rlib"
+        for part in [*PARTS, kept]:
+            if os.path.isdir(f"{ROOT}/crates/{it}/{part}"):
+                os.makedirs(os.path.dirname(f"{room}/crates/{it}/{part}"), exist_ok=True)
+                subprocess.run(["cp", "-a", f"{ROOT}/crates/{it}/{part}", f"{room}/crates/{it}/{part}"], check=True)
+
+
+def check(room, name, texts):
+    """Checks the crate with these texts in place of its own: the status, what the prover said, and its user seconds."""
+    folder = f"{room}/crates/{name}"
+    shutil.rmtree(f"{folder}/src")
+    shutil.copytree(f"{ROOT}/crates/{name}/src", f"{folder}/src")
+    for path, text in texts.items():
+        with open(f"{folder}/{path}", "w", encoding="utf-8") as out:
+            out.write(text)
+    with tempfile.TemporaryFile("w+", errors="replace") as out:
+        ran = subprocess.Popen(["rt", "check", "--jobs", "1"], cwd=folder, stdin=subprocess.DEVNULL, stdout=out, stderr=out)
+        _, status, used = os.wait4(ran.pid, 0)
+        ran.returncode = os.waitstatus_to_exitcode(status)
+        out.seek(0)
+        return ran.returncode, out.read().split("\n"), used.ru_utime
+
+
+def next_batch(files, folder):
+    """Edits of different functions, made together in one set of texts; what is left; and what can't be made."""
+    texts, batch, left, bad, hit = {}, [], [], [], set()
+    for file in files:
+        edit = read_edit(file, folder, texts)
+        if isinstance(edit, str) and isinstance(read_edit(file, folder, {}), str):
+            bad.append((file, edit))
+        elif isinstance(edit, str) or hit & edit.functions:
+            left.append(file)
+        else:
+            texts, hit, batch = edit.texts, hit | edit.functions, [*batch, edit]
+    return [edit._replace(texts=texts) for edit in batch], left, bad
+
+
+def judge_alone(status, said, crate, edit):
+    """Why an edit that was tried alone counts as not refused, or nothing where it is refused."""
+    if status == 0:
+        return "the crate is still proved with it"
+    unread = [it for it in said if is_unread(it)]
+    if unread or not any(it.startswith("logic=not-proved") for it in said):
+        return f"the prover did not read it: {(unread or [it for it in said if it.strip()] or [''])[0][:200]}"
+    if not is_refused_alone(said, crate, edit):
+        return "no goal of its own function is refused for the contract"
+    return ""
+
+
+def keep_log(name, batch, said):
+    """Keeps what the prover said, where WRONG_BODIES_LOGS names a folder for it."""
+    folder = os.environ.get("WRONG_BODIES_LOGS")
+    if folder:
+        with open(f"{folder}/{name}.log", "a", encoding="utf-8") as out:
+            out.write("\n".join([f"=== {[os.path.basename(it.file) for it in batch]}", *said, ""]))
+
+
+def try_batch(name, room, batch, say):
+    """Tries edits in one check: those to be tried again together, those to be tried alone, and those that are not
+    refused, each with why."""
+    status, said, used = check(room, name, batch[0].texts)
+    say(f"{name}: {len(batch)} in one check, {used:.0f} s")
+    keep_log(name, batch, said)
+    if len(batch) == 1:
+        why = judge_alone(status, said, name, batch[0])
+        return [], [], [(batch[0].file, why)] if why else []
+    unread = [it for it in said if is_unread(it)]
+    if unread or not any(it.startswith("logic=") for it in said):
+        bad = [it for it in batch if any(at_source(line, it) for line in unread)] or batch
+        return [it.file for it in batch if it not in bad], [it.file for it in bad], []
+    refused = refused_in(batch, said, name) if status == 1 else []
+    return [], [it.file for it in batch if it not in refused], []
+
+
+def try_edits(name, uses, room, say):
+    """Tries all edits of a crate: those that are not refused, each with why."""
+    folder, wrong = f"{ROOT}/crates/{name}", []
+    alone = [it for it in edits_of(name) if is_of_no_function(read_edit(it, folder, {}))]
+    rest = [it for it in edits_of(name) if it not in alone]
+    lay_out(room, name, uses)
+    while rest:
+        batch, rest, bad = next_batch(rest, folder)
+        wrong += bad
+        if batch:
+            again, apart, why = try_batch(name, room, batch, say)
+            rest, alone, wrong = again + rest, alone + apart, wrong + why
+    for file in alone:
+        wrong += try_batch(name, room, [read_edit(file, folder, {})], say)[2]
+    return wrong
+
+
+class Trials:
+    """The trials of several crates side by side, and what came of them."""
+
+    def __init__(self, names, uses, version):
+        self.names, self.uses, self.version = list(names), uses, version
+        self.lock, self.refused, self.wrong, self.start = threading.Lock(), 0, [], time.time()
+
+    def say(self, text):
+        with self.lock:
+            print(f"{time.time() - self.start:6.0f} s  {text}", flush=True)
+
+    def one(self, name):
+        before, edits = digest(name, self.uses, self.version), edits_of(name)
+        with tempfile.TemporaryDirectory(prefix="wrong-bodies-") as room:
+            wrong = try_edits(name, self.uses, room, self.say)
+        with self.lock:
+            self.refused += len(edits) - len(wrong)
+            self.wrong += wrong
+            table = {it: line for it, line in written().items() if it in self.uses and it != name}
+            if not wrong and digest(name, self.uses, self.version) == before:
+                table[name] = (str(len(edits)), before)
+            write(table, self.uses)
+
+    def lane(self):
+        while True:
+            with self.lock:
+                if not self.names:
+                    return
+                name = self.names.pop(0)
+            try:
+                self.one(name)
+            except Exception as error:
+                with self.lock:
+                    self.wrong.append((f"crates/{name}", f"it could not be tried: {error}"))
+
+    def run(self, jobs):
+        lanes = [threading.Thread(target=self.lane) for _ in range(jobs)]
+        for it in lanes:
+            it.start()
+        for it in lanes:
+            it.join()
+
+
+def newest(files):
+    return max((os.path.getmtime(it) for it in files), default=0)
+
+
+def is_kept(name, uses):
+    """Whether the work that `rt check` kept of a crate, and the libraries below it, are newer than their sources."""
+    wanted = [(name, "out/incremental"), *((it, "out/rlib") for it in below(name, uses))]
+    return all(
+        newest(glob.glob(f"{ROOT}/crates/{it}/{part}/**", recursive=True)) > newest(files_of(it, PARTS, ""))
+        for it, part in wanted
+    )
+
+
+def keep_work(names, uses):
+    """Has each crate checked whose kept work is not there or is older than a source. Tells whether all are proved."""
+    for name in uses:
+        if name in names and not is_kept(name, uses):
+            print(f"crates/{name}: rt check", flush=True)
+            ran = subprocess.run(["rt", "check"], cwd=f"{ROOT}/crates/{name}", stdout=subprocess.PIPE, stderr=subprocess.STDOUT, text=True, errors="replace", stdin=subprocess.DEVNULL)
+            if ran.returncode:
+                print(f"{ran.stdout[-2000:]}\ncrates/{name} is not proved, so its wrong bodies show nothing")
+                return False
+    return True
+
+
+def stale(uses, version):
+    """The crates whose wrong bodies were not all refused at the present texts."""
+    table = written()
+    return [name for name in uses if edits_of(name) and table.get(name) != (str(len(edits_of(name))), digest(name, uses, version))]
+
+
+def weight(name):
+    return len(edits_of(name)) * sum(os.path.getsize(file) for file in files_of(name, PARTS, ""))
+
+
+def main():
+    words = argparse.ArgumentParser(description=__doc__, formatter_class=argparse.RawDescriptionHelpFormatter)
+    words.add_argument("--all", action="store_true")
+    words.add_argument("--digests", action="store_true")
+    words.add_argument("--jobs", type=int, default=len(os.sched_getaffinity(0)))
+    words.add_argument("names", nargs="*")
+    asked = words.parse_args()
+    uses, version = crates(), kit_version()
+    bare = [name for name in uses if has_contracts(name) and not edits_of(name)]
+    for name in bare:
+        print(f"crates/{name} has contracts and no wrong body")
+    names = stale(uses, version)
+    if asked.digests:
+        for name in names:
+            print(f"crates/{name} has changed since its wrong bodies were refused: run make wrong-bodies")
+        total = sum(len(edits_of(name)) for name in uses)
+        print(f"wrong bodies: {total} of {len(uses)} crates, {len(names)} crates to be tried again")
+        return 1 if names or bare else 0
+    names = asked.names or ([name for name in uses if edits_of(name)] if asked.all else names)
+    if not keep_work(names, uses):
+        return 1
+    trials = Trials(sorted(names, key=weight, reverse=True), uses, version)
+    trials.run(asked.jobs)
+    for file, why in trials.wrong:
+        print(f"NOT REFUSED: {os.path.relpath(file, ROOT)}: {why}")
+    used = os.times().children_user
+    print(f"{len(names)} crates in {time.time() - trials.start:.0f} s, {used:.0f} processor seconds in the prover")
+    print(f"{trials.refused} refused, {len(trials.wrong)} not refused")
+    return 1 if trials.wrong or bare else 0
+
+
+if __name__ == "__main__":
+    sys.exit(main())
