@@ -3,7 +3,7 @@
 
 PROGRAM := crates/cli/out/cli
 
-.PHONY: run build trials test limits allocations bench
+.PHONY: run build trials measures test digests wrong-bodies limits allocations bench
 
 # Proves what the program stands on, builds it, and shows each line of an example with its answer.
 run: build
@@ -16,9 +16,19 @@ build:
 trials:
 	@cd crates/trials && rt run < stdin > build.log 2>&1 || { tail -n 30 build.log; exit 1; }
 
-# Everything is proved from nothing, the wrong bodies are refused, the tests and the programs are run.
-test:
+# The gate: each crate's wrong bodies were refused at its present text, everything is proved from nothing, and the
+# programs are run. The digests come first, since they take a second.
+test: digests
 	rt ci
+
+# Compares each crate with the digest at which its wrong bodies were refused. Needs python3, as `rt` does.
+digests:
+	@python3 tests/wrong_bodies.py --digests
+
+# Tries the wrong bodies of the crates that have changed since they were refused, or with ALL=1 of all crates, over the
+# work that `rt check` kept. Writes wrong-bodies.txt.
+wrong-bodies:
+	@python3 tests/wrong_bodies.py $(if $(ALL),--all)
 
 # Lines, texts and paths at their limits. Needs python3.
 limits: build

@@ -15,6 +15,8 @@ contracts of the crates below, and the kit's version. It is written where all ed
 status is 1 where one is not refused, where an edit cannot be tried, or where a crate with contracts has none."""
 import argparse
 import collections
+import fcntl
+import functools
 import glob
 import hashlib
 import os
@@ -73,10 +75,17 @@ def files_of(name, parts, ending):
     return sorted(file for it in parts for file in glob.glob(f"{ROOT}/crates/{name}/{it}/**/*{ending}", recursive=True))
 
 
-def without_bodies(text):
-    """A source without comments and without the bodies of functions whose contract stands above them."""
-    text = re.sub(r"(?m)^ *//.*\n", "", text)
-    return re.sub(r"(?ms)^( *)\{\n.*?^\1\}$", "", text)
+@functools.lru_cache(maxsize=None)
+def contracts_in(file):
+    """What a source shows to the crates above: without comments, imports, bodies and private functions."""
+    lines = read(file).split("\n")
+    for it in reversed(functions("", "\n".join(lines))):
+        first = next(at for at in range(it.first - 1, it.last) if FUNCTION.match(lines[at]))
+        body = next((at for at in range(first, it.last) if re.match(r" *\{", lines[at]) or lines[at].endswith("{")), it.last)
+        around = item_around(lines, first)
+        is_shown = lines[first].lstrip().startswith("pub ") or re.match(r"(pub )?trait |impl.* for ", around)
+        lines[body if is_shown else it.first - 1 : it.last] = []
+    return "\n".join(line for line in lines if line.strip() and not re.match(r" *(//|use )", line))
 
 
 def digest(name, uses, version):
@@ -86,7 +95,7 @@ def digest(name, uses, version):
     texts = [(file, read(file)) for file in own]
     for it in below(name, uses):
         texts += [(file, read(file)) for file in files_of(it, ["specs"], ".antt")]
-        texts += [(file, without_bodies(read(file))) for file in files_of(it, ["src"], ".rt")]
+        texts += [(file, contracts_in(file)) for file in files_of(it, ["src"], ".rt")]
     for file, text in texts:
         for part in os.path.relpath(file, ROOT), text:
             made.update(f"{len(part.encode())} ".encode() + part.encode())
@@ -103,26 +112,31 @@ def written():
     return {line.split()[0]: tuple(line.split()[1:]) for line in lines if line and line[0] != "#"}
 
 
-def write(table, uses):
+def write_line(name, line, uses):
+    """Writes a crate's line into the table, or takes it out. Another run may do so at the same time."""
+    lock = os.open(ROOT, os.O_RDONLY)
+    fcntl.flock(lock, fcntl.LOCK_EX)
+    table = {**written(), name: line}
     with open(f"{TABLE}.new", "w", encoding="utf-8") as out:
-        out.write(HEAD)
-        for name in uses:
-            if name in table:
-                out.write(f"{name} {' '.join(table[name])}\n")
+        out.write(HEAD + "".join(f"{it} {' '.join(table[it])}\n" for it in uses if table.get(it)))
     os.replace(f"{TABLE}.new", TABLE)
+    os.close(lock)
 
 
 # The functions of a source, and the edits of them.
 
 
-def owner_of(lines, at, indent):
-    """The name that the prover gives to the impl around a line: the type's, and the trait's behind it."""
-    for line in reversed(lines[:at]):
-        if line.strip() and len(line) - len(line.lstrip()) < len(indent):
-            found = OWNER.match(line.strip())
-            names = re.findall(r"\w+", " ".join(reversed(found.groups(""))) if found else "")
-            return names[0] if names else ""
-    return ""
+def item_around(lines, at):
+    """The first line of the item around a line, or nothing."""
+    depth = lambda line: len(line) - len(line.lstrip())
+    return next((line for line in reversed(lines[:at]) if line.strip() and depth(line) < depth(lines[at])), "").strip()
+
+
+def owner_of(lines, at):
+    """The type whose impl stands around a line, as the prover begins the names of its functions, or nothing."""
+    found = OWNER.match(item_around(lines, at))
+    names = re.findall(r"\w+", found[2]) if found else []
+    return names[0] if names else ""
 
 
 def end_of(lines, at, indent):
@@ -143,7 +157,7 @@ def functions(path, text):
             indent, first = found[1], at
             while first and lines[first - 1].startswith((f"{indent}#[", f"{indent}//")):
                 first -= 1
-            made.append(Function(path, owner_of(lines, at, indent), found[2], first + 1, end_of(lines, at, indent) + 1))
+            made.append(Function(path, owner_of(lines, at), found[2], first + 1, end_of(lines, at, indent) + 1))
     return made
 
 
@@ -372,10 +386,8 @@ class Trials:
         with self.lock:
             self.refused += len(edits) - len(wrong)
             self.wrong += wrong
-            table = {it: line for it, line in written().items() if it in self.uses and it != name}
-            if not wrong and digest(name, self.uses, self.version) == before:
-                table[name] = (str(len(edits)), before)
-            write(table, self.uses)
+            is_same = digest(name, self.uses, self.version) == before
+            write_line(name, (str(len(edits)), before) if is_same and not wrong else None, self.uses)
 
     def lane(self):
         while True:

@@ -6,7 +6,7 @@ ghost use Rattle.loader.specs.Served.{Served, Stopped};
 use crate::serve::serve_here;
 use clap::error::ErrorKind;
 use clap::{Arg, ArgAction, ArgMatches, Command, Error, value_parser};
-use functions::is_leaf;
+use leaves::is_leaf;
 use lines::{Input, Output};
 use round::Run;
 use std::alloc::Global;
