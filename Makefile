@@ -12,9 +12,13 @@ run: build
 build:
 	@cd crates/cli && rt run -- run < /dev/null > build.log 2>&1 || { tail -n 30 build.log; exit 1; }
 
-# What is compared and measured beside the product, proved and built; it compares, and then it can be measured with.
+# The program that compares, proved, built and run.
 trials:
 	@cd crates/trials && rt run < stdin > build.log 2>&1 || { tail -n 30 build.log; exit 1; }
+
+# The program that measures, proved and built over the libraries of `build`. The gate does not build it. Needs python3.
+measures: build
+	@python3 bench/build_measures.py
 
 # The gate: each crate's wrong bodies were refused at its present text, everything is proved from nothing, and the
 # programs are run. The digests come first, since they take a second.
@@ -36,14 +40,14 @@ limits: build
 
 # Each allocation of the program refused in turn, over the example, each of the parser over two files, each of a
 # script of values and of one of edits and look-ups, and each of a program that waits for globs. Needs cc and python3.
-allocations: build trials
+allocations: build trials measures
 	python3 tests/allocations.py
 	python3 tests/parse_allocations.py
 	python3 tests/script_allocations.py
 	python3 tests/program_allocations.py
 
 # Times of the program; prints a table. Needs python3.
-bench: build trials
+bench: build measures
 	python3 bench/bench.py
 	python3 bench/values.py
 	python3 bench/programs.py
