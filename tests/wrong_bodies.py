@@ -435,9 +435,9 @@ def keep_work(names, uses):
 
 
 def stale(uses, version):
-    """The crates whose wrong bodies were not all refused at the present texts."""
-    table = written()
-    return [name for name in uses if edits_of(name) and table.get(name) != (str(len(edits_of(name))), digest(name, uses, version))]
+    """The crates whose wrong bodies were not all refused at the present texts. What the gate itself tries needs no line."""
+    table, tried = written(), {name: [it for it in edits_of(name) if f"/{FOLDERS[0]}/" in it] for name in uses}
+    return [name for name in uses if tried[name] and table.get(name) != (str(len(edits_of(name))), digest(name, uses, version))]
 
 
 def weight(name):
