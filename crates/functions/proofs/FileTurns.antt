@@ -1,10 +1,12 @@
--- What a file and a package come to behind the answers that they have taken.
-use Rattle.std.proofs.Common.{◌≡◌, ℕ, ◌-◌, ◌≤◌, List, ◌∷◌, ◌++◌, length, take, drop, cond, None, Ok, ◌∙◌, ap, sym, arith, length-append}
+-- What a file, a module and a package come to behind the answers that they have taken.
+use Rattle.std.proofs.Common.{◌≡◌, ℕ, ◌-◌, ◌≤◌, List, ◌∷◌, ◌++◌, length, take, drop, cond, None, Ok, Result, IfOk, ◌∙◌, ap, sym, subst, arith, length-append}
 use Rattle.std.specs.Arc.{arc_value}
 use Rattle.std.specs.declared.sync.Arc.{Arc}
 use Rattle.std.specs.declared.alloc.Global.{Global}
 use Rattle.std.proofs.lemmas.Bool.{le-ltb}
-use Rattle.std.proofs.lemmas.List.{drop-append-le, length-map}
+use Rattle.std.proofs.lemmas.List.{drop-append-le, length-map, take-append-le, take-map}
+use Rattle.texts.specs.declared.memory.Memory.{Memory}
+use Rattle.labels.specs.Labels.{Target}
 use Rattle.tree.specs.Tree.{Fi}
 use Rattle.module_values.specs.Values.{Loaded}
 use Rattle.evaluation.specs.Reply.{Reply, Ask, Done}
@@ -13,12 +15,16 @@ use Rattle.keys.specs.declared.key.Key.{Key}
 use Rattle.keys.specs.declared.value.Value.{Value}
 use Rattle.keys.specs.declared.value.Value.TheVariants as value
 use Rattle.functions.specs.declared.source.Source.{Source}
-use Rattle.functions.specs.Goes.{Follows}
+use Rattle.functions.specs.Goes.{Table, Follows, IsMade}
+use Rattle.functions.specs.Replies.{IsReply}
+use Rattle.functions.specs.Modules.{lookups, after_lookups, by_lookups}
 use Rattle.functions.specs.Once.{once}
 use Rattle.functions.specs.Packages as packages
-use Rattle.functions.specs.Sources.{fault_at, all_modules, after_modules, after_loads}
+use Rattle.functions.specs.Sources.{fault_at, faulty, all_modules, after_modules, after_loads}
+use Rattle.functions.specs.declared.reply.Reply as made
+use Rattle.functions.specs.declared.reply.Reply.TheVariants as reply
 use Rattle.functions.proofs.Further.{modules_more}
-use Rattle.functions.proofs.SourceSteps.{rest_values}
+use Rattle.functions.proofs.SourceSteps.{rest_values, weaken}
 
 abbrev asking : List Key → Reply Key Value
 asking group = Ask group
@@ -46,3 +52,37 @@ after_loads_on source file keys group answers loads n g e h found = λ more.
 pub no_package : (name : List ℕ) (answers rest : List (Arc Value Global)) (look : Arc Value Global) → answers ≡ look ∷ rest → packages.build_in (arc_value look) ≡ None
     → packages.next name (values answers) ≡ Done (value.Fault (fault_at 1 name 0))
 no_package name answers rest look e found = ap (λ l. packages.next name (values l)) e ∙ ap (λ b. packages.after_lookup name b (values rest)) found
+
+-- ---- modules
+
+-- behind the look-ups of a module comes its file
+taken_on : (t : Target) (answers more : List Value) → length (lookups t) ≤ length answers
+    → by_lookups t (answers ++ more) ≡ after_lookups t (take (length (lookups t)) answers) (drop (length (lookups t)) answers ++ more)
+taken_on t answers more h =
+    let all = answers ++ more in
+    let n = length (lookups t) in
+    let there : n ≤ length all = omega (arith, h, length-append answers more) in
+    ap (λ b. cond b (asking (lookups t)) (after_lookups t (take n all) (drop n all))) (le-ltb (length all) n there)
+    ∙ (λ i. after_lookups t (take-append-le n answers more h i) (drop-append-le n answers more h i))
+
+pub lookups_on : (t : Target) (group : List Key) (answers : List (Arc Value Global)) (n : ℕ) → group ≡ lookups t → n ≡ length group → n ≤ length answers
+    → Follows (by_lookups t) (values answers) (after_lookups t (values (take n answers))) (values (take (length answers - n) (drop n answers)))
+lookups_on t group answers n g e h = λ more.
+    let size : n ≡ length (lookups t) = e ∙ ap length g in
+    let many : length (values answers) ≡ length answers = length-map answers (λ (x : Arc Value Global). arc_value x) in
+    taken_on t (values answers) more (omega (arith, size, many, h))
+    ∙ ap (λ m. after_lookups t (take m (values answers)) (drop m (values answers) ++ more)) (sym size)
+    ∙ (λ i. after_lookups t (take-map (λ (x : Arc Value Global). arc_value x) n answers i) (rest_values answers n i ++ more))
+
+-- ---- faults
+
+made_of : (next : Table) (answers : List Value) (r : made.Reply) → IsReply (next answers) r → IsMade next answers r
+made_of next answers (reply.Ask group) h = h
+made_of next answers (reply.Wait group held) h = absurd h
+made_of next answers (reply.Done v) h = h
+
+-- where a table ends with a fault, the fault is made of it
+pub faulted : (next : Table) (answers : List Value) (code : ℕ) (path : List ℕ) (line : ℕ) (result : Result made.Reply Memory) → next answers ≡ faulty code path line
+    → IfOk result (IsReply (faulty code path line)) → IfOk result (IsMade next answers)
+faulted next answers code path line result e =
+    weaken (IsReply (faulty code path line)) (IsMade next answers) result (λ r h. made_of next answers r (subst (λ x. IsReply x r) (sym e) h))

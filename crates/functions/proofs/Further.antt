@@ -35,7 +35,7 @@ module _ (next : Table) (answers : List Value) (later : Table) (rest : List Valu
   pub carried : (r : made.Reply) → IsMade later rest r → IsMade next answers r
   carried (reply.Ask group) h = here ∙ h
   carried (reply.Done v) h = here ∙ h
-  carried (reply.Wait group paused) h = (here ∙ h.0, record { waits = h.1.waits; goes = λ more. goes more ∙ h.1.goes more })
+  carried (reply.Wait group held) h = (here ∙ h.0, record { may = h.1.may; goes = λ more. goes more ∙ h.1.goes more })
 
   pub carried_on : (result : Result made.Reply Memory) → IfOk result (IsMade later rest) → IfOk result (IsMade next answers)
   carried_on result = weaken (IsMade later rest) (IsMade next answers) result carried

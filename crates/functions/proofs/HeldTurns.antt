@@ -11,24 +11,24 @@ use Rattle.keys.specs.declared.rules.Turn.TheVariants as turn
 use Rattle.keys.specs.declared.value.Value.{Value}
 use Rattle.std.specs.declared.vec.Vec.{Vec}
 use Rattle.functions.specs.declared.loading.Held.{Held}
-use Rattle.functions.specs.declared.reply.Paused.{Paused}
+use Rattle.functions.specs.declared.reply.Continuation.{Continuation}
 use Rattle.functions.specs.declared.reply.Reply.TheVariants as reply
-use Rattle.functions.specs.Goes.{led, env_in, Follows, IsPaused, IsMade}
+use Rattle.functions.specs.Goes.{table_of, Follows, GoesOn, IsMade}
 use Rattle.functions.specs.Held.{IsHeld, fits}
 use Rattle.functions.specs.Next.{next}
 
--- a held evaluation is led on by the answers behind those that it has taken
-pub held_on : (held : Held) (k : Key) (answers : List Value) → IsHeld held k answers → Follows (next k) answers (led (env_in held.paused)) (drop held.taken answers)
+-- what is held is led on by the answers behind those that it has taken
+pub held_on : (held : Held) (k : Key) (answers : List Value) → IsHeld held k answers → Follows (next k) answers (table_of held.continuation) (drop held.taken answers)
 held_on held k answers h = λ more.
     ap (λ l. next k (l ++ more)) (sym (take-append-drop held.taken answers)) ∙ ap (next k) (append_assoc (take held.taken answers) (drop held.taken answers) more)
     ∙ h.is.goes (drop held.taken answers ++ more)
 
--- an evaluation that is paused behind all answers is held from there
-pub holds_from : (taken : ℕ) (paused : Paused) (k : Key) (answers more : List Value) → taken ≡ length answers → IsPaused (next k) answers paused
-    → IsHeld (record { taken = taken; paused = paused }) k (answers ++ more)
-holds_from taken paused k answers more size h = record {
+-- what waits behind all answers is held from there
+pub holds_from : (taken : ℕ) (continuation : Continuation) (k : Key) (answers more : List Value) → taken ≡ length answers → GoesOn (next k) answers continuation
+    → IsHeld (record { taken = taken; continuation = continuation }) k (answers ++ more)
+holds_from taken continuation k answers more size h = record {
   within = omega (arith, size, length-append answers more);
-  is = subst (λ l. IsPaused (next k) l paused) (sym (ap (λ n. take n (answers ++ more)) size ∙ take-append_seam answers more)) h;
+  is = subst (λ l. GoesOn (next k) l continuation) (sym (ap (λ n. take n (answers ++ more)) size ∙ take-append_seam answers more)) h;
 }
 
 module _ (k own : Key) (answers : List (Arc Value Global)) (same : own ≡ k) where
@@ -36,9 +36,9 @@ module _ (k own : Key) (answers : List (Arc Value Global)) (same : own ≡ k) wh
   pub asks_plainly : (group : Vec Key Global) → IsMade (next k) (values answers) (reply.Ask group) → IsTurn fits next k (values answers) (turn.Ask (record { key = own; held = None }) group)
   asks_plainly group h = (h, λ more. (same, tt))
 
-  -- a group that is asked with an evaluation held
-  pub asks_holding : (group : Vec Key Global) (paused : Paused) (taken : ℕ) → taken ≡ length answers → IsMade (next k) (values answers) (reply.Wait group paused)
-      → IsTurn fits next k (values answers) (turn.Ask (record { key = own; held = Some (record { taken = taken; paused = paused }) }) group)
-  asks_holding group paused taken size h =
+  -- a group that is asked with something held
+  pub asks_holding : (group : Vec Key Global) (continuation : Continuation) (taken : ℕ) → taken ≡ length answers → IsMade (next k) (values answers) (reply.Wait group continuation)
+      → IsTurn fits next k (values answers) (turn.Ask (record { key = own; held = Some (record { taken = taken; continuation = continuation }) }) group)
+  asks_holding group continuation taken size h =
       let many : length (values answers) ≡ length answers = length-map answers (λ (x : Arc Value Global). arc_value x) in
-      (h.0, λ more. (same, holds_from taken paused k (values answers) more (size ∙ sym many) h.1))
+      (h.0, λ more. (same, holds_from taken continuation k (values answers) more (size ∙ sym many) h.1))

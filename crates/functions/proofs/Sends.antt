@@ -1,8 +1,35 @@
 -- What is kept of a node between two turns may go to another thread.
-use denote.Param.Send.{IsSend, sendable}
+use denote.Param.Send.{IsSend, recorded_send, sendable}
 use Rattle.std.proofs.Crossing.{crosses}
 use Rattle.evaluator.proofs.Crossing.{suspended_send}
+use Rattle.evaluator.proofs.Trees.{trees_cross}
+use Rattle.grammar.proofs.kind.FileKind.TheSendSync as KindSends
+use Rattle.keys.proofs.key.Key.TheSendSync as KeySends
+use Rattle.texts.proofs.text.Text.TheSendSync as TextSends
+use Rattle.functions.specs.contracts.source.Source
+use Rattle.functions.specs.contracts.reply.Parsed
+use Rattle.functions.specs.contracts.reply.Paused
+use Rattle.functions.specs.contracts.reply.Continuation
+use Rattle.functions.specs.contracts.loading.Held
 use Rattle.functions.specs.contracts.loading.Kept
 
+source_field_send : IsSend (Source.the_field).row
+source_field_send = search (TextSends.the_send, KindSends.the_field_send, crosses, sendable) depth 60 fits 20000
+
+parsed_field_send : IsSend (Parsed.the_field).row
+parsed_field_send = search (source_field_send, KeySends.the_send, trees_cross) depth 60 fits 20000
+
+paused_field_send : IsSend (Paused.the_field).row
+paused_field_send = search (suspended_send, TextSends.the_send, crosses, sendable) depth 60 fits 20000
+
+continuation_field_send : IsSend (Continuation.the_field).row
+continuation_field_send = search (parsed_field_send, paused_field_send, crosses, sendable) depth 60 fits 20000
+
+held_field_send : IsSend (Held.the_field).row
+held_field_send = search (continuation_field_send, crosses, sendable) depth 60 fits 20000
+
+held_send : IsSend Held.the_row
+held_send = search (held_field_send, recorded_send)
+
 pub kept_send : IsSend Kept.the_row
-kept_send = search (suspended_send, crosses, sendable) depth 60 fits 20000
+kept_send = search (held_field_send, held_send, KeySends.the_send, KeySends.the_field_send, crosses, sendable) depth 60 fits 20000

@@ -8,8 +8,13 @@ use Rattle.evaluator.specs.Machines.{env_of}
 use Rattle.evaluator.specs.declared.outcome.Outcome.{Outcome}
 use Rattle.keys.specs.declared.key.Key.{Key}
 use Rattle.keys.specs.declared.value.Value.{Value}
-use Rattle.functions.specs.Sources.{rounds}
+use Rattle.std.specs.Arc.{arc_value}
+use Rattle.tree.specs.Statements.{file_of}
+use Rattle.functions.specs.Sources.{rounds, after_loads}
+use Rattle.functions.specs.declared.reply.Parsed.{Parsed}
 use Rattle.functions.specs.declared.reply.Paused.{Paused}
+use Rattle.functions.specs.declared.reply.Continuation.{Continuation}
+use Rattle.functions.specs.declared.reply.Continuation.TheVariants as continuation
 use Rattle.functions.specs.declared.reply.Reply as made
 use Rattle.functions.specs.declared.reply.Reply.TheVariants as reply
 use Rattle.functions.specs.declared.evaluating.Went.{Went}
@@ -34,19 +39,29 @@ pub record IsWaiting (paused : Paused) : Type 0 where
   pub named : (env_in paused).package_name ≡ paused.package_name
   pub asks : evaluate (env_in paused) ≡ a_need paused.suspended.patterns
 
+-- what the answers lead a file with its tree to, and an evaluation that waits
+abbrev pub table_of : Continuation → Table
+table_of (continuation.Loads parsed) = after_loads parsed.source (file_of (arc_value parsed.file)) (Ok parsed.keys.items)
+table_of (continuation.Globs paused) = led (env_in paused)
+
+-- a file with its tree may always go on; an evaluation waits for globs of its package
+abbrev pub MayGoOn : Continuation → Type 0
+MayGoOn (continuation.Loads parsed) = Unit {0}
+MayGoOn (continuation.Globs paused) = IsWaiting paused
+
 -- behind the answers, whatever comes further leads to the same by another table behind others
 abbrev pub Follows : Table → List Value → Table → List Value → Type 0
 Follows next answers later rest = (more : List Value) → next (answers ++ more) ≡ later (rest ++ more)
 
--- behind the answers all that comes further is led on from a paused evaluation
-pub record IsPaused (next : Table) (answers : List Value) (paused : Paused) : Type 0 where
-  pub waits : IsWaiting paused
-  pub goes : Follows next answers (led (env_in paused)) []
+-- behind the answers all that comes further is led on from what waits
+pub record GoesOn (next : Table) (answers : List Value) (held : Continuation) : Type 0 where
+  pub may : MayGoOn held
+  pub goes : Follows next answers (table_of held) []
 
--- what the table says of the answers, and an evaluation that is paused there
+-- what the table says of the answers, and what waits there
 abbrev pub IsMade : Table → List Value → made.Reply → Type 0
 IsMade next answers (reply.Ask group) = next answers ≡ Ask group.items
-IsMade next answers (reply.Wait group paused) = (next answers ≡ Ask group.items) × IsPaused next answers paused
+IsMade next answers (reply.Wait group held) = (next answers ≡ Ask group.items) × GoesOn next answers held
 IsMade next answers (reply.Done v) = next answers ≡ Done v
 
 -- ---- from one outcome to the next

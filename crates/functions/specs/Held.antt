@@ -2,7 +2,7 @@
 use Rattle.std.specs.Prelude.{◌≡◌, ◌≤◌, List, length, take, Option, Some, None}
 use Rattle.keys.specs.declared.key.Key.{Key}
 use Rattle.keys.specs.declared.value.Value.{Value}
-use Rattle.functions.specs.Goes.{IsPaused}
+use Rattle.functions.specs.Goes.{GoesOn}
 use Rattle.functions.specs.Next.{next}
 use Rattle.functions.specs.declared.loading.Held.{Held}
 use Rattle.functions.specs.declared.loading.Kept.{Kept}
@@ -10,7 +10,7 @@ use Rattle.functions.specs.declared.loading.Kept.{Kept}
 -- what is held goes on behind the first of the answers as the node does
 pub record IsHeld (held : Held) (k : Key) (answers : List Value) : Type 0 where
   pub within : held.taken ≤ length answers
-  pub is : IsPaused (next k) (take held.taken answers) held.paused
+  pub is : GoesOn (next k) (take held.taken answers) held.continuation
 
 abbrev pub HoldsFrom : Option Held → Key → List Value → Type 0
 HoldsFrom None k answers = Unit {0}

@@ -1,4 +1,4 @@
--- What a turn ends with, without its state, where it keeps no evaluation.
+-- What a turn ends with, without its state, where nothing waits.
 use Rattle.std.specs.Prelude.{◌≡◌}
 use Rattle.evaluation.specs.Reply.{Reply, Ask, Done}
 use Rattle.keys.specs.declared.key.Key.{Key}
@@ -8,5 +8,5 @@ use Rattle.functions.specs.declared.reply.Reply.TheVariants as reply
 
 abbrev pub IsReply : Reply Key Value → made.Reply → Type 0
 IsReply next (reply.Ask group) = next ≡ Ask group.items
-IsReply next (reply.Wait group paused) = ⊥
+IsReply next (reply.Wait group held) = ⊥
 IsReply next (reply.Done v) = next ≡ Done v

@@ -10,7 +10,7 @@ ghost use Rattle.functions.specs.Goes.{led, env_in, IsWaiting, IsMade, IsOutcome
 ghost use Rattle.functions.specs.Sources as specs;
 
 use crate::once::{answer_at, once};
-use crate::reply::{Paused, Reply};
+use crate::reply::{Continuation, Paused, Reply};
 use crate::source::Source;
 use evaluator::{Environment, Outcome, resume, run};
 use keys::{Fault, Key, Value};
@@ -80,7 +80,7 @@ fn wait(alloc: Global, paused: Paused, answers: &[Arc<Value>]) -> Result<Went, M
     let keys = glob_keys(alloc, &paused.package_name, patterns)?;
     let group = once(alloc, keys.as_slice())?;
     if answers.is_empty() {
-        return Ok(Went::Ends(Reply::Wait(group, paused)));
+        return Ok(Went::Ends(Reply::Wait(group, Continuation::Globs(paused))));
     }
     let count = group.as_slice().len();
     if answers.len() < count {
@@ -161,10 +161,10 @@ pub fn go_further(alloc: Global, paused: Paused, answers: &[Arc<Value>]) -> Resu
 fn environment(
     alloc: Global,
     source: &Source,
-    file: File,
+    file: Arc<File, Global>,
     loads: Vec<Loaded>,
 ) -> Result<Environment, Memory>
-    ensures { IfOk result (λ e. env_of e ≡ specs.env_of source.now (file_of file) loads.items) }
+    ensures { IfOk result (λ e. env_of e ≡ specs.env_of source.now (file_of (arc_value file)) loads.items) }
 {
     let package = Package {
         kind: source.kind,
@@ -174,7 +174,7 @@ fn environment(
     Ok(Environment {
         label: source.label.share()?,
         path: source.path.share()?,
-        file: Arc::new(alloc, file)?,
+        file,
         loads,
         package,
     })
@@ -184,11 +184,11 @@ fn environment(
 pub fn evaluated(
     alloc: Global,
     source: &Source,
-    file: File,
+    file: Arc<File, Global>,
     loads: Vec<Loaded>,
     answers: &[Arc<Value>],
 ) -> Result<Reply, Memory>
-    ensures { IfOk result (IsMade (specs.after_modules source.now (file_of file) (Ok loads.items)) (values answers.now)) }
+    ensures { IfOk result (IsMade (specs.after_modules source.now (file_of (arc_value file)) (Ok loads.items)) (values answers.now)) }
 {
     let environment = environment(alloc, source, file, loads)?;
     let first = run(alloc, environment)?;

@@ -1,21 +1,24 @@
 //! The node functions of .bzl files and of packages.
 ghost use Rattle.std.specs.Prelude.{◌≡◌, ◌++◌, IfOk, OnOk, Ok, Some, map, option_map};
 ghost use Rattle.keys.specs.declared.key.Key.TheVariants as key;
+ghost use Rattle.std.specs.Arc.{arc_value};
 ghost use Rattle.std.specs.List.{list_any};
 ghost use Rattle.functions.specs.Globs.{has_build as holds_build};
 ghost use Rattle.tree.specs.Statements.{file_of};
+ghost use Rattle.evaluation.specs.Reply.{Ask};
 ghost use Rattle.keys.specs.Turns.{values};
 ghost use Rattle.functions.specs.Modules as modules;
 ghost use Rattle.functions.specs.Packages as packages;
 ghost use Rattle.functions.specs.Sources as specs;
-ghost use Rattle.functions.specs.Goes.{IsMade};
+ghost use Rattle.functions.specs.Goes.{IsMade, table_of};
+ghost use Rattle.functions.specs.declared.reply.Continuation.TheVariants as continuation;
 ghost use Rattle.functions.specs.Replies.{IsReply};
 
 use crate::build_files::build_path;
 use crate::evaluating::evaluated;
 use crate::glob::has_build;
 use crate::once::once;
-use crate::reply::{Reply, not_kept};
+use crate::reply::{Continuation, Parsed, Reply};
 use crate::source::{Source, all_modules, fault_at, load_keys, read_tree};
 use keys::{BuildName, Key, Value};
 use labels::{BadLabel, Label};
@@ -31,23 +34,35 @@ fn faulty(code: u8, path: &Text, line: usize) -> Result<Reply, Memory>
     Ok(Reply::Done(Value::Fault(fault_at(code, path, line)?)))
 }
 
-// What comes after the keys of the loads are known.
-fn after_loads(
-    alloc: Global,
-    source: &Source,
-    file: File,
-    keys: &[Key],
-    answers: &[Arc<Value>],
-) -> Result<Reply, Memory>
-    ensures { IfOk result (IsMade (specs.after_loads source.now (file_of file) (Ok keys.now)) (values answers.now)) }
+// Asks the modules of a file's loads. With some of their answers alone the next turn begins anew.
+fn ask_modules(group: Vec<Key>, parsed: Parsed, answers: &[Arc<Value>]) -> Reply
+    requires { specs.after_loads parsed.source (file_of (arc_value parsed.file)) (Ok parsed.keys.items) (values answers.now) ≡ Ask group.items }
+    ensures { IsMade (table_of (continuation.Loads parsed)) (values answers.now) result }
 {
-    let group = once(alloc, keys)?;
+    if answers.is_empty() {
+        return Reply::Wait(group, Continuation::Loads(parsed));
+    }
+    Reply::Ask(group)
+}
+
+/// What comes after the keys of a file's loads are known. Where none of their modules is there, the file's tree is kept.
+pub fn after_loads(alloc: Global, parsed: Parsed, answers: &[Arc<Value>]) -> Result<Reply, Memory>
+    ensures { IfOk result (IsMade (table_of (continuation.Loads parsed)) (values answers.now)) }
+{
+    let group = once(alloc, parsed.keys.as_slice())?;
     let count = group.as_slice().len();
     if answers.len() < count {
-        return Ok(Reply::Ask(group));
+        return Ok(ask_modules(group, parsed, answers));
     }
-    match all_modules(alloc, &source.path, group.as_slice(), keys, answers)? {
-        Ok(loads) => evaluated(alloc, source, file, loads, &answers[count..]),
+    let Parsed { source, file, keys } = parsed;
+    match all_modules(
+        alloc,
+        &source.path,
+        group.as_slice(),
+        keys.as_slice(),
+        answers,
+    )? {
+        Ok(loads) => evaluated(alloc, &source, file, loads, &answers[count..]),
         Err(fault) => Ok(Reply::Done(Value::Fault(fault))),
     }
 }
@@ -55,18 +70,22 @@ fn after_loads(
 // What comes after the text of a file.
 fn after_text(
     alloc: Global,
-    source: &Source,
+    source: Source,
     text: &Text,
     answers: &[Arc<Value>],
 ) -> Result<Reply, Memory>
-    ensures { IfOk result (IsMade (specs.after_text source.now (Some text.now)) (values answers.now)) }
+    ensures { IfOk result (IsMade (specs.after_text source (Some text.now)) (values answers.now)) }
 {
-    let file = match read_tree(alloc, source, text)? {
+    let file = match read_tree(alloc, &source, text)? {
         Ok(file) => file,
         Err(fault) => return Ok(Reply::Done(Value::Fault(fault))),
     };
-    match load_keys(alloc, source, file.loads.as_slice())? {
-        Ok(keys) => after_loads(alloc, source, file, keys.as_slice(), answers),
+    match load_keys(alloc, &source, file.loads.as_slice())? {
+        Ok(keys) => {
+            let file = Arc::new(alloc, file)?;
+            let parsed = Parsed { source, file, keys };
+            after_loads(alloc, parsed, answers)
+        }
         Err(fault) => Ok(Reply::Done(Value::Fault(fault))),
     }
 }
@@ -82,8 +101,8 @@ fn text_in(answer: &Value) -> Option<&Text>
 }
 
 // What a file asks and ends with, from its text on.
-fn by_file(alloc: Global, source: &Source, answers: &[Arc<Value>]) -> Result<Reply, Memory>
-    ensures { IfOk result (IsMade (specs.by_file source.now) (values answers.now)) }
+fn by_file(alloc: Global, source: Source, answers: &[Arc<Value>]) -> Result<Reply, Memory>
+    ensures { IfOk result (IsMade (specs.by_file source) (values answers.now)) }
 {
     match answers.split_first() {
         None => {
@@ -162,14 +181,14 @@ fn source_of(label: &Label) -> Result<Source, Memory>
     })
 }
 
-// What a module asks and ends with after its look-ups. Its evaluation waits for no glob, so that none is kept.
+// What a module asks and ends with after its look-ups.
 fn after_lookups(
     alloc: Global,
     label: &Label,
     looks: &[Arc<Value>],
     answers: &[Arc<Value>],
 ) -> Result<Reply, Memory>
-    ensures { IfOk result (IsReply (modules.after_lookups label.now (values looks.now) (values answers.now))) }
+    ensures { IfOk result (IsMade (modules.after_lookups label.now (values looks.now)) (values answers.now)) }
 {
     if !is_in_package(looks) {
         return faulty(1, label.package_name(), 0);
@@ -177,12 +196,12 @@ fn after_lookups(
     if is_crossed(looks) {
         return faulty(17, label.file(), 0);
     }
-    Ok(not_kept(by_file(alloc, &source_of(label)?, answers)?))
+    by_file(alloc, source_of(label)?, answers)
 }
 
 // What the module of a label asks and ends with.
 fn by_lookups(alloc: Global, label: &Label, answers: &[Arc<Value>]) -> Result<Reply, Memory>
-    ensures { IfOk result (IsReply (modules.by_lookups label.now (values answers.now))) }
+    ensures { IfOk result (IsMade (modules.by_lookups label.now) (values answers.now)) }
 {
     let group = lookups(alloc, label)?;
     let count = group.as_slice().len();
@@ -194,7 +213,7 @@ fn by_lookups(alloc: Global, label: &Label, answers: &[Arc<Value>]) -> Result<Re
 
 /// What a module asks or ends with.
 pub fn of_module(alloc: Global, label: &Text, answers: &[Arc<Value>]) -> Result<Reply, Memory>
-    ensures { IfOk result (IsReply (modules.next label.now (values answers.now))) }
+    ensures { IfOk result (IsMade (modules.next label.now) (values answers.now)) }
 {
     match Label::read(alloc, label.as_str(), "") {
         Ok(label) => by_lookups(alloc, &label, answers),
@@ -237,7 +256,7 @@ pub fn of_package(alloc: Global, name: &Text, answers: &[Arc<Value>]) -> Result<
         }
         Some((look, answers)) => match build_in(look) {
             None => Ok(Reply::Done(Value::Fault(fault_at(1, name, 0)?))),
-            Some(build) => by_file(alloc, &build_source(alloc, name, build)?, answers),
+            Some(build) => by_file(alloc, build_source(alloc, name, build)?, answers),
         },
     }
 }

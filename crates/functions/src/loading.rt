@@ -3,15 +3,15 @@ ghost use Rattle.std.specs.Prelude.{◌≡◌, List, IfOk};
 ghost use Rattle.keys.specs.declared.key.Key.{Key};
 ghost use Rattle.keys.specs.declared.value.Value.{Value};
 ghost use Rattle.keys.specs.Turns.{values};
-ghost use Rattle.functions.specs.Goes.{IsMade};
+ghost use Rattle.functions.specs.Goes.{IsMade, MayGoOn, table_of};
 ghost use Rattle.functions.specs.Held.{HoldsFrom};
 ghost use Rattle.functions.specs.Next as table;
 
 use crate::evaluating::go_further;
-use crate::file_node::{of_module, of_package};
+use crate::file_node::{after_loads, of_module, of_package};
 use crate::glob::glob;
 use crate::lookup::lookup;
-use crate::reply::{Paused, Reply};
+use crate::reply::{Continuation, Reply};
 use count::Count;
 use keys::{Key, Rules, Turn, Value};
 use std::alloc::Global;
@@ -24,14 +24,15 @@ pub trait LoadRules: Rules {
     ghost is_table: { (key : Key) (answers : List Value) → Self.next key answers ≡ table.next key answers };
 }
 
-// An evaluation that waits, and how many answers stand before those of its globs.
+// A file with its tree, or an evaluation, that waits, and how many answers stand before those that it waits for.
 #[derive(Drop)]
 pub struct Held {
     taken: usize,
-    paused: Paused,
+    continuation: Continuation,
 }
 
-/// What is kept of a node between two turns: its key and, of a package that waits for globs, its evaluation.
+/// What is kept of a node between two turns: its key and, where a file waits for its loads or a package for globs, the
+/// file's tree or the evaluation.
 #[derive(Drop)]
 pub struct Kept {
     key: Key,
@@ -52,6 +53,17 @@ fn from_start(alloc: Global, key: &Key, answers: &[Arc<Value>]) -> Result<Reply,
     }
 }
 
+// A turn of a node, from what waits.
+fn go_on(alloc: Global, continuation: Continuation, answers: &[Arc<Value>]) -> Result<Reply, Memory>
+    requires { MayGoOn continuation }
+    ensures { IfOk result (IsMade (table_of continuation) (values answers.now)) }
+{
+    match continuation {
+        Continuation::Loads(parsed) => after_loads(alloc, parsed, answers),
+        Continuation::Globs(paused) => go_further(alloc, paused, answers),
+    }
+}
+
 // A turn of a node, from what is held of it.
 fn reply_of(
     alloc: Global,
@@ -64,7 +76,7 @@ fn reply_of(
 {
     match held {
         None => from_start(alloc, key, answers),
-        Some(held) => go_further(alloc, held.paused, &answers[held.taken..]),
+        Some(held) => go_on(alloc, held.continuation, &answers[held.taken..]),
     }
 }
 
@@ -116,9 +128,12 @@ impl Rules for Loading {
         let Kept { key, held } = state;
         match reply_of(self.alloc, &key, held, answers)? {
             Reply::Ask(group) => Ok(Turn::Ask(Kept { key, held: None }, group)),
-            Reply::Wait(group, paused) => {
+            Reply::Wait(group, continuation) => {
                 let taken = answers.len();
-                let held = Some(Held { taken, paused });
+                let held = Some(Held {
+                    taken,
+                    continuation,
+                });
                 Ok(Turn::Ask(Kept { key, held }, group))
             }
             Reply::Done(value) => Ok(Turn::Done(value)),

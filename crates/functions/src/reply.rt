@@ -1,10 +1,10 @@
 //! What a turn ends with, without a state.
-ghost use Rattle.std.specs.Prelude.{List};
-ghost use Rattle.functions.specs.Goes.{Table, IsMade};
-ghost use Rattle.functions.specs.Replies.{IsReply};
-
+use crate::source::Source;
 use evaluator::Suspended;
 use keys::{Key, Value};
+use std::alloc::Global;
+use std::sync::Arc;
+use syntax::File;
 use texts::Text;
 
 /// What a turn ends with, without a state.
@@ -12,10 +12,27 @@ use texts::Text;
 pub enum Reply {
     /// A group to be asked.
     Ask(Vec<Key>),
-    /// A group to be asked, and an evaluation that goes on from its answers.
-    Wait(Vec<Key>, Paused),
+    /// A group to be asked, and what goes on from its answers.
+    Wait(Vec<Key>, Continuation),
     /// The node's value.
     Done(Value),
+}
+
+/// What goes on once its group is answered.
+#[derive(Drop)]
+pub enum Continuation {
+    /// A file with its tree, which waits for the modules of its loads.
+    Loads(Parsed),
+    /// The evaluation of a package's file, which waits for globs.
+    Globs(Paused),
+}
+
+/// A file with its tree, and the keys of the modules that its loads name.
+#[derive(Drop)]
+pub struct Parsed {
+    pub source: Source,
+    pub file: Arc<File, Global>,
+    pub keys: Vec<Key>,
 }
 
 /// The evaluation of a file of a package, that waits for globs of which no answer is there.
@@ -23,14 +40,4 @@ pub enum Reply {
 pub struct Paused {
     pub package_name: Text,
     pub suspended: Suspended,
-}
-
-/// The same reply, with no evaluation kept.
-pub fn not_kept(reply: Reply) -> Reply
-    ensures { (next : Table) (answers : List Value) → IsMade next answers reply → IsReply (next answers) result }
-{
-    match reply {
-        Reply::Wait(group, _) => Reply::Ask(group),
-        reply => reply,
-    }
 }

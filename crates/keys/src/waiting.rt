@@ -84,17 +84,4 @@ impl<R: Rules> Waiting<R> {
         answers.append(&mut found)?;
         Ok(Job::from_state(key, state, answers))
     }
-
-    /// The group that it waited for, its state given up.
-    pub fn into_group(self) -> Vec<Key>
-        ensures { result.items ≡ self.group }
-    {
-        let Waiting {
-            key: _,
-            state: _,
-            answers: _,
-            group,
-        } = self;
-        group
-    }
 }

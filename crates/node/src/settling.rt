@@ -1,8 +1,9 @@
 //! Records written in place.
-ghost use Rattle.std.specs.Prelude.{◌≡◌, Some, None, false, OnOk, OnErr, IsSome};
+ghost use Rattle.std.specs.Prelude.{◌≡◌, Some, None, false, OnOk, OnErr, IsSome, if◌then◌else◌};
 ghost use Rattle.std.specs.Arc.{arc_value};
 ghost use Rattle.std.specs.BTreeMap.{Updates, IsOrdered};
 ghost use Rattle.keys.specs.Keys.{key_cmp};
+ghost use Rattle.keys.specs.Values.{value_eq};
 ghost use Rattle.node.specs.Kept.{kept_at, items_of};
 ghost use Rattle.node.specs.Writes.{written, stored, groups_at, HasPlaced, HasReadyMembers, SameSets, SameRecords};
 ghost use Rattle.node.specs.Edges.{HasUsers};
@@ -28,6 +29,18 @@ pub fn settle(records: &mut Records, key: &Key, version: u32)
     }
 }
 
+// Returns when a record's value last changed, once it holds this value. A value that changed at the version is not
+// compared.
+fn changed_at(kept: &Kept, value: &Value, version: u32) -> u32
+    ensures { result ≡ (if value_eq (arc_value kept.now.value) value.now then kept.now.changed_at else version) }
+{
+    if kept.changed_at == version || *kept.value == *value {
+        kept.changed_at
+    } else {
+        version
+    }
+}
+
 /// Writes a value and groups into a record that is settled at the version; the old groups.
 pub fn write(
     records: &mut Records,
@@ -43,9 +56,7 @@ pub fn write(
     match records.get_mut(key) {
         None => groups,
         Some(kept) => {
-            if *kept.value != *value {
-                kept.changed_at = version;
-            }
+            kept.changed_at = changed_at(kept, &value, version);
             kept.value = value;
             kept.settled_at = version;
             kept.dirty = false;

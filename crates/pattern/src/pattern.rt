@@ -1,5 +1,5 @@
 //! Patterns of paths.
-ghost use Rattle.std.specs.Prelude.{◌≡◌, ◌||◌, ◌∷◌, [], false, IfOk, IsErrOf, IsTrue};
+ghost use Rattle.std.specs.Prelude.{◌≡◌, ◌||◌, ◌∷◌, false, IfOk, IsErrOf, IsTrue};
 ghost use Rattle.labels.specs.Paths.{is_name_byte, segments};
 ghost use Rattle.pattern.specs.Patterns as patterns;
 ghost use Rattle.pattern.specs.Rest.{rest_segments};
@@ -122,13 +122,6 @@ impl Pattern {
         ensures { result ≡ patterns.path_matches (segments self.now) (segments path.now) }
     {
         segments_match(Some(self.text.as_str()), Some(path))
-    }
-
-    /// Whether the pattern matches no segments at all: each of its segments is `**`.
-    pub fn matches_nothing(&self) -> bool
-        ensures { result ≡ patterns.path_matches (segments self.now) [] }
-    {
-        segments_match(Some(self.text.as_str()), None)
     }
 
     /// The first segment and the pattern of the others, if there are others.

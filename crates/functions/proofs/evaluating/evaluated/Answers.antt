@@ -1,4 +1,5 @@
 use Rattle.std.proofs.Common.{Ok, refl, subst}
+use Rattle.std.specs.Arc.{arc_value}
 use Rattle.tree.specs.Statements.{file_of}
 use Rattle.evaluator.specs.Evaluated.{Evaluates}
 use Rattle.keys.specs.Turns.{values}
@@ -9,7 +10,7 @@ use Rattle.functions.proofs.evaluating.evaluated.Goals as goal
 
 pub rounds-requires : goal.rounds-requires
 rounds-requires c = (
-  env_of c.args.source.now (file_of c.args.file) c.args.loads.items,
+  env_of c.args.source.now (file_of (arc_value c.args.file)) c.args.loads.items,
   refl,
   subst (λ e. Evaluates e (Ok c.in_ok-first.first)) c.in_ok-environment.ensures (rw c.in_ok-first.was at c.run.ensures),
 )
@@ -17,7 +18,7 @@ rounds-requires c = (
 pub returns : goal.returns
 returns c =
     let source = c.args.source.now in
-    let file = file_of c.args.file in
+    let file = file_of (arc_value c.args.file) in
     let loads = c.args.loads.items in
     let answers = values c.args.answers.now in
     weaken (LeadsTo source.package_name c.in_ok-first.first answers) (IsMade (after_modules source file (Ok loads)) answers) c.rounds.result

@@ -1,6 +1,6 @@
 use Rattle.std.proofs.Common.{drop, sym, subst, IfOk}
 use Rattle.keys.specs.Turns.{values}
-use Rattle.functions.specs.Goes.{led, env_in, IsMade}
+use Rattle.functions.specs.Goes.{table_of, IsMade}
 use Rattle.functions.specs.Next.{next}
 use Rattle.functions.proofs.Further.{carried_on}
 use Rattle.functions.proofs.HeldTurns.{held_on}
@@ -12,7 +12,7 @@ returns-in-Some c =
     let held = c.in-Some.held in
     let key = c.args.key.now in
     let answers = c.args.answers.now in
-    let env = env_in held.paused in
+    let table = table_of held.continuation in
     let holds = rw c.in-Some.is at c.requires in
-    carried_on (next key) (values answers) (led env) (drop held.taken (values answers)) (held_on held key (values answers) holds) c.go_further.result
-    (subst (λ l. IfOk c.go_further.result (IsMade (led env) l)) (sym (rest_values answers held.taken)) c.go_further.ensures)
+    carried_on (next key) (values answers) table (drop held.taken (values answers)) (held_on held key (values answers) holds) c.go_on.result
+    (subst (λ l. IfOk c.go_on.result (IsMade table l)) (sym (rest_values answers held.taken)) c.go_on.ensures)

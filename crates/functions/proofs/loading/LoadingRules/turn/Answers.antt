@@ -20,8 +20,8 @@ pub returns-in-Wait-clause-is_next : goal.returns-in-Wait-clause-is_next
 returns-in-Wait-clause-is_next c = λ key f.
     let answers = c.args.answers.now in
     let group = c.in-Wait.group in
-    let paused = c.in-Wait.paused in
-    asks_holding key c.args.state.key answers f.0 group paused _ refl (subst (λ k. IsMade (next k) (values answers) (reply.Wait group paused)) f.0 (rw c.in-Wait.is at c.in_ok-group.ensures))
+    let continuation = c.in-Wait.continuation in
+    asks_holding key c.args.state.key answers f.0 group continuation _ refl (subst (λ k. IsMade (next k) (values answers) (reply.Wait group continuation)) f.0 (rw c.in-Wait.is at c.in_ok-group.ensures))
 
 pub returns-in-Done-clause-is_next : goal.returns-in-Done-clause-is_next
 returns-in-Done-clause-is_next c = λ key f.
