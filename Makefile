@@ -1,13 +1,20 @@
-# Two commands matter: 'make run' shows the program at work, 'make test' is the whole gate.
-# They need nothing but the kit's command `rt`, GNU make and a shell.
+# 'make quick' shows the program at work without any proof, 'make run' proves it first, 'make test' is the whole gate.
+# They need nothing but the kit's command `rt`, python3 (as `rt` does), GNU make and a shell.
 
 PROGRAM := crates/cli/out/cli
+EXAMPLE := examples/session.jsonl
 
-.PHONY: run build trials measures test digests wrong-bodies limits allocations bench
+.PHONY: quick run build trials measures test lint digests wrong-bodies limits allocations bench
 
-# Proves what the program stands on, builds it, and shows each line of an example with its answer.
+# Shows each line of an example with its answer. It proves nothing: the kit interprets the program.
+quick:
+	@echo 'A quick look: the program is interpreted, and nothing is proved.'
+	@cd crates/cli && rt try -- run < ../../$(EXAMPLE) > quick.log 2> quick.err || { tail -n 30 quick.err quick.log; exit 1; }
+	@paste -d '\n' $(EXAMPLE) crates/cli/quick.log
+
+# Proves what the program stands on, builds it, and shows each line of the example with its answer.
 run: build
-	@$(PROGRAM) run < examples/session.jsonl | paste -d '\n' examples/session.jsonl -
+	@$(PROGRAM) run < $(EXAMPLE) | paste -d '\n' $(EXAMPLE) -
 
 build:
 	@cd crates/cli && rt run -- run < /dev/null > build.log 2>&1 || { tail -n 30 build.log; exit 1; }
@@ -16,16 +23,20 @@ build:
 trials:
 	@cd crates/trials && rt run < stdin > build.log 2>&1 || { tail -n 30 build.log; exit 1; }
 
-# The program that measures, proved and built over the libraries of `build`. The gate does not build it. Needs python3.
+# The program that measures, proved and built over the libraries of `build`. The gate does not build it.
 measures: build
 	@python3 bench/build_measures.py
 
-# The gate: each crate's wrong bodies were refused at its present text, everything is proved from nothing, and the
-# programs are run. The digests come first, since they take a second.
-test: digests
+# The gate: the house's rules of style, each crate's wrong bodies refused at its present text, everything proved from
+# nothing, and the programs run. The first two come first, since they take a second.
+test: lint digests
 	rt ci
 
-# Compares each crate with the digest at which its wrong bodies were refused. Needs python3, as `rt` does.
+# Sentences, words and links of the documents, sizes of files and functions.
+lint:
+	@python3 tests/lint.py
+
+# Compares each crate with the digest at which its wrong bodies were refused.
 digests:
 	@python3 tests/wrong_bodies.py --digests
 
@@ -34,20 +45,21 @@ digests:
 wrong-bodies:
 	@python3 tests/wrong_bodies.py $(if $(ALL),--all)
 
-# Lines, texts and paths at their limits. Needs python3.
+# Lines, texts and paths at their limits.
 limits: build
 	python3 tests/limits.py
 
-# Each allocation of the program refused in turn, over the example, each of the parser over two files, each of a
-# script of values and of one of edits and look-ups, and each of a program that waits for globs. Needs cc and python3.
+# Each allocation of the program fails in turn, over the example, each of the parser over two files, each of a script
+# of values and of one of edits and look-ups, and each of a program that waits for globs. Needs cc.
 allocations: build trials measures
 	python3 tests/allocations.py
 	python3 tests/parse_allocations.py
 	python3 tests/script_allocations.py
 	python3 tests/program_allocations.py
 
-# Times of the program; prints a table. Needs python3.
+# Times of the program; prints a table.
 bench: build measures
 	python3 bench/bench.py
 	python3 bench/values.py
 	python3 bench/programs.py
+	python3 bench/lines.py 1000

@@ -15,6 +15,7 @@ HERE = os.path.dirname(os.path.abspath(__file__))
 LOADER = [os.path.join(HERE, "../crates/cli/out/cli"), "run", "--runs"]
 SCRIPTS = [
     "../examples/session.jsonl",
+    "../examples/tour.jsonl",
     "../examples/edits.jsonl",
     "scripts/packages.jsonl",
     "scripts/globs.jsonl",

@@ -1,0 +1,82 @@
+#!/usr/bin/env python3
+"""Keeps a loader running over a directory: sends its files, then what changed, and prints targets or faults.
+
+    client.py LOADER DIRECTORY [PACKAGE ..]     without packages, every directory with a BUILD file
+
+Each line of standard input asks again, for these packages or for those that it names. A target is printed as label and
+rule, a fault as `path:line: text`, as compilers print errors.
+"""
+import itertools
+import json
+import os
+import subprocess
+import sys
+
+# The faults by code, from 1 on (docs/LANGUAGE.md).
+FAULTS = """no such package|text that is not ASCII|syntax error|name is not bound|wrong type|change of a frozen value|changed
+ while iterated|index or key is absent|overflow|division by zero|too many steps|too deep|too large|recursive call|bad label
+ or target name|no such module|label crosses a package boundary|name is not exported|cycle of loads|target is named twice|bad
+ pattern|glob finds nothing|call is not allowed here|fail was called|wrong arguments|global is bound twice"""
+FAULTS = FAULTS.replace("\n", "").split("|")
+BUILD, CYCLE, MOST_NAMES = ("BUILD", "BUILD.bazel"), 19, 256
+
+
+class Client:
+    def __init__(self, loader, directory):
+        self.loader = subprocess.Popen([loader, "run"], stdin=subprocess.PIPE, stdout=subprocess.PIPE)
+        self.directory, self.sent = directory, {}
+
+    def ask(self, **command):
+        self.loader.stdin.write(json.dumps(command).encode() + b"\n")
+        self.loader.stdin.flush()
+        return json.loads(self.loader.stdout.readline())
+
+    def files(self):
+        """Returns the time and size of each source by its path, and None for each other file."""
+        found = {}
+        for folder, folders, names in os.walk(self.directory):
+            folders[:] = [name for name in folders if not name.startswith(".")]
+            for name in names:
+                path, is_source = os.path.join(folder, name), name in BUILD or name.endswith(".bzl")
+                stamp = (os.lstat(path).st_mtime_ns, os.lstat(path).st_size) if is_source else None
+                found[os.path.relpath(path, self.directory)] = stamp
+        return found
+
+    def send_changes(self):
+        present = self.files()
+        for path in self.sent.keys() - present.keys():
+            self.ask(op="del", path=path)
+        for path, stamp in present.items():
+            if path not in self.sent or self.sent[path] != stamp:
+                name = os.path.join(self.directory, path) if stamp else os.devnull
+                with open(name, encoding="latin-1") as file:
+                    text = file.read()
+                if "refused" in self.ask(op="put", path=path, text=text):
+                    print(f"{path}:0: left out, no path of a package or too large", file=sys.stderr)
+        self.sent = present
+
+    def packages(self):
+        return sorted({os.path.dirname(path) for path in self.sent if os.path.basename(path) in BUILD})
+
+    def show(self, names):
+        for at in range(0, len(names), MOST_NAMES):
+            for package in self.ask(op="load", names=names[at:at + MOST_NAMES])["packages"]:
+                fault = package.get("fault", {})
+                if "cycle" in fault:
+                    print(f"{package['name']}/BUILD:0: {FAULTS[CYCLE - 1]}: {' '.join(fault['cycle'])}")
+                elif fault:
+                    print(f"{fault['path']}:{fault['line']}: {FAULTS[fault['code'] - 1]}")
+                for target in package.get("targets", []):
+                    print(f"//{package['name']}:{target['name']} {target['kind']}")
+        sys.stdout.flush()
+
+
+def main():
+    client, packages = Client(sys.argv[1], sys.argv[2]), sys.argv[3:]
+    for line in itertools.chain([""], sys.stdin):
+        client.send_changes()
+        client.show(line.split() or packages or client.packages())
+
+
+if __name__ == "__main__":
+    main()

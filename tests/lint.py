@@ -1,0 +1,148 @@
+#!/usr/bin/env python3
+"""Checks the house's rules of style that a program can check. Run it by `make lint`.
+
+- README.md, CONTRIBUTING.md and docs/*.md: no sentence of over 25 words, no banned word, no dead link.
+- Sources, definitions, proofs and scripts: no file of over 800 lines.
+- Sources: no function of over 60 lines.
+
+It prints one line for each fault, as `path:line: what`, and fails where there is one.
+"""
+import glob
+import os
+import re
+import subprocess
+import sys
+
+ROOT = os.path.join(os.path.dirname(os.path.abspath(__file__)), "..")
+MOST_WORDS, MOST_LINES, MOST_FUNCTION = 25, 800, 60
+
+# Words and phrases that say less than plain ones.
+BANNED = [
+    "what is", "that of", "such that", "a refused growth", "want of memory", "in order to", "utilize", "leverage",
+    "simply", "obviously", "basically", "very", "robust", "seamless", "blazing", "state of the art", "best in class",
+    "cutting edge", "and/or", "etc.", "e.g.", "i.e.", "as well as", "a number of", "due to the fact",
+]
+
+
+def documents():
+    return ["README.md", "CONTRIBUTING.md"] + sorted(glob.glob("docs/*.md"))
+
+
+def prose(text):
+    """Yields (line, text) of each block of prose: a paragraph, a list item, a heading or a cell of a table."""
+    fenced, block, begun = False, [], 0
+    lines = text.split("\n") + [""]
+    for number, line in enumerate(lines, 1):
+        if line.lstrip().startswith("```"):
+            fenced = not fenced
+            line = ""
+        ends = fenced or not line.strip() or re.match(r"\s*([-*|#]|\d+\. )", line) or line.startswith("    ")
+        if ends and block:
+            yield begun, " ".join(block)
+            block = []
+        if fenced or not line.strip() or line.startswith("    ") or re.fullmatch(r"[|: -]+", line.strip()):
+            continue
+        if line.lstrip().startswith("|"):
+            cells = re.sub(r"`[^`]*`", lambda code: code[0].replace("|", " "), line).split("|")
+            for cell in cells:
+                if cell.strip():
+                    yield number, cell.strip()
+            continue
+        if not block:
+            begun = number
+        block.append(re.sub(r"^\s*([-*#]+|\d+\.)\s+", "", line.strip()))
+
+
+def sentences(text):
+    text = re.sub(r"`[^`]*`", "code", text)
+    text = re.sub(r"\[([^]]*)\]\([^)]*\)", r"\1", text)
+    return re.split(r"(?<=[.?!])[*)\"]*\s+", text)
+
+
+def words_of(sentence):
+    return [word for word in sentence.split() if re.search(r"\w", word)]
+
+
+def check_prose(path, text):
+    for line, block in prose(text):
+        for sentence in sentences(block):
+            count = len(words_of(sentence))
+            if count > MOST_WORDS:
+                yield f"{path}:{line}: a sentence of {count} words: {sentence[:60]}.."
+        if text.split("\n")[line - 1].startswith("#"):
+            continue
+        plain = re.sub(r"`[^`]*`", "", block).lower()
+        for word in BANNED:
+            if re.search(r"(?<!\w)" + re.escape(word) + r"(?!\w)", plain):
+                yield f"{path}:{line}: '{word}'"
+
+
+def anchors(path):
+    with open(path) as file:
+        heads = [line.lstrip("#").strip() for line in file if line.startswith("#")]
+    return {re.sub(r"[^\w -]", "", head.lower()).replace(" ", "-") for head in heads}
+
+
+def check_links(path, text):
+    folder = os.path.dirname(path)
+    for number, line in enumerate(text.split("\n"), 1):
+        for target in re.findall(r"\]\(([^)]+)\)", line):
+            if re.match(r"https?:", target):
+                continue
+            name, _, anchor = target.partition("#")
+            file = os.path.normpath(os.path.join(folder, name)) if name else path
+            if not os.path.exists(file):
+                yield f"{path}:{number}: a dead link to {target}"
+            elif anchor and anchor not in anchors(file):
+                yield f"{path}:{number}: no heading for {target}"
+        for name in re.findall(r"`((?:docs|crates|bench|tests|examples)/[\w./-]+)`", line):
+            if "/out/" not in name and not os.path.exists(name):
+                yield f"{path}:{number}: a dead path, {name}"
+
+
+def check_length(path, text):
+    count = text.count("\n")
+    if count > MOST_LINES:
+        yield f"{path}:1: {count} lines"
+
+
+def check_functions(path, text):
+    lines = text.split("\n")
+    for at, line in enumerate(lines):
+        head = re.match(r"(\s*)(?:pub(?:\([a-z]+\))? |const |unsafe )*fn (\w+)", line)
+        if not head:
+            continue
+        end = at
+        while end + 1 < len(lines) and not lines[end].startswith(head[1] + "}") and not lines[end].endswith(";"):
+            end += 1
+            if lines[end].startswith(head[1] + "}"):
+                break
+        if end - at + 1 > MOST_FUNCTION:
+            yield f"{path}:{at + 1}: {head[2]} has {end - at + 1} lines"
+
+
+def tracked():
+    listed = subprocess.run(["git", "ls-files"], capture_output=True, text=True, check=True).stdout.split("\n")
+    return [path for path in listed if os.path.exists(path)]
+
+
+def main():
+    os.chdir(ROOT)
+    faults = []
+    for path in documents():
+        with open(path) as file:
+            text = file.read()
+        faults += list(check_prose(path, text)) + list(check_links(path, text))
+    for path in tracked():
+        if path.endswith((".rt", ".antt", ".py", ".proof", ".rattle", ".md")):
+            with open(path) as file:
+                text = file.read()
+            faults += list(check_length(path, text))
+            if path.endswith((".rt", ".rattle")):
+                faults += list(check_functions(path, text))
+    print("\n".join(faults + [f"lint: {len(faults)} faults"]))
+    return 1 if faults else 0
+
+
+if __name__ == "__main__":
+    sys.exit(main())
