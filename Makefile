@@ -30,7 +30,7 @@ measures: build
 # The gate: the house's rules of style, each crate's wrong bodies refused at its present text, everything proved from
 # nothing, and the programs run. The first two come first, since they take a second.
 test: lint digests
-	rt ci
+	RT_JOBS=$$(nproc) rt ci
 
 # Sentences, words and links of the documents, sizes of files and functions.
 lint:
@@ -49,13 +49,12 @@ wrong-bodies:
 limits: build
 	python3 tests/limits.py
 
-# Each allocation of the program fails in turn, over the example, each of the parser over two files, each of a script
-# of values and of one of edits and look-ups, and each of a program that waits for globs. Needs cc.
-allocations: build trials measures
+# Each allocation of the program fails in turn, over examples and scripts, each of the parser over two files, and each
+# of a script of values and of one of edits and look-ups. Needs cc.
+allocations: build measures
 	python3 tests/allocations.py
 	python3 tests/parse_allocations.py
 	python3 tests/script_allocations.py
-	python3 tests/program_allocations.py
 
 # Times of the program; prints a table.
 bench: build measures

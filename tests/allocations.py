@@ -22,6 +22,7 @@ SCRIPTS = [
     "scripts/pruning.jsonl",
     "scripts/cycles.jsonl",
     "scripts/restarts.jsonl",
+    "scripts/waiting.jsonl",
 ]
 
 
