@@ -28,7 +28,8 @@ measures: build
 	@python3 bench/build_measures.py
 
 # The gate: the house's rules of style, each crate's wrong bodies refused at its present text, everything proved from
-# nothing, and the programs run. The first two come first, since they take a second.
+# nothing, and the programs run. The first two come first, since they take a second. A proof gets one job, since two
+# cost a quarter more in sum.
 test: lint digests
 	RT_JOBS=$$(nproc) rt ci
 
