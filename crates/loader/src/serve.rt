@@ -1,5 +1,5 @@
 //! Serving: lines of a reader in, their answers out to a writer.
-ghost use Rattle.std.specs.Prelude.{◌≡◌, ℕ, ◌<◌, ◌≤◌, ◌+◌, List, length, IfOk, OnOk, OnErr, IsErrOf, not, ◌&&◌, ◌==◌, if◌then◌else◌};
+ghost use Rattle.std.specs.Prelude.{◌≡◌, ℕ, ◌<◌, ◌≤◌, ◌+◌, List, length, IfOk, OnOk, OnErr, IsErrOf, not, ◌&&◌, ◌==◌, false, if◌then◌else◌};
 ghost use Rattle.lines.specs.Lines.{Keeps};
 ghost use Rattle.loader.specs.Served.{Served, Stopped, Between, After};
 
@@ -113,6 +113,8 @@ fn serve_line<R: Input, W: Output>(
     ensures writer_counts { W.failures writer.old ≤ W.failures writer.new }
     ensures read { IsErrOf result ServeStop.Read → R.failures reader.old < R.failures reader.new }
     ensures write { IsErrOf result ServeStop.Write → W.failures writer.old < W.failures writer.new }
+    ensures ended { IfOk result (λ more. more ≡ false → R.ends reader.old < R.ends reader.new) }
+    ensures ends { R.ends reader.old ≤ R.ends reader.new }
 {
     let ended = next_line(reader, pending, line)?;
     if is_end(ended, line) {
@@ -127,8 +129,9 @@ fn serve_line<R: Input, W: Output>(
 /// Answers all lines of the reader up to its first end, one at a time, beginning with no files. Each answer is written
 /// before more is read. A request has at most `budget` turns of node functions.
 ///
-/// On Ok the bytes written are exactly the answers to the bytes read, and the journal is that of the lines: each item is
-/// justified, and none is missing. After any stop what was written is a beginning of the answers.
+/// On Ok the reader has told its end, the bytes written are exactly the answers to the bytes read, and the journal is
+/// that of the lines: each item is justified, and none is missing. After any stop what was written is a beginning of
+/// the answers.
 pub fn serve_here<R: Input, W: Output>(
     alloc: Global,
     reader: &mut R,
@@ -139,6 +142,7 @@ pub fn serve_here<R: Input, W: Output>(
     ensures err { OnErr result (Stopped (R.told reader.old) (R.told reader.new) (W.held writer.old) (W.held writer.new)) }
     ensures read { IsErrOf result ServeStop.Read → R.failures reader.old < R.failures reader.new }
     ensures write { IsErrOf result ServeStop.Write → W.failures writer.old < W.failures writer.new }
+    ensures ended { OnOk result (R.ends reader.old < R.ends reader.new) }
 {
     let mut session = Session::new(alloc);
     let mut pending = Pending::new(alloc)?;
