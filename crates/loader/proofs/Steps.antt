@@ -1,9 +1,10 @@
 -- Serving, line after line.
-use Rattle.std.proofs.Common.{◌≡◌, ◌∙◌, ap, sym, subst, ℕ, zero, suc, ◌<◌, List, [], ◌∷◌, ◌++◌, length, take, drop, Bool, true, false, not, ◌&&◌, refl, arith, rules, tests, append_assoc}
+use Rattle.std.proofs.Common.{◌≡◌, ◌∙◌, ap, sym, subst, ℕ, zero, suc, ◌<◌, ◌≤◌, List, [], ◌∷◌, ◌++◌, length, take, drop, Bool, true, false, not, ◌&&◌, refl, arith, rules, tests, append_assoc}
 use Rattle.std.specs.Prelude.{Result, Ok, Err, OnErr, ◌==◌, Option, Some, None, option_and_then, if◌then◌else◌}
 use Rattle.std.proofs.lemmas.List.{append-nil, take-append-drop}
 use Rattle.lines.specs.Lines.{lines_of, Took}
 use Rattle.lines.proofs.Cuts.{lines_of_one, lines_of_break, whole_append, whole_break, empty_of}
+use Rattle.open_nodes.specs.Counted.{turns_of}
 use Rattle.open_nodes.specs.declared.run.Run.{Run}
 use Rattle.loader.specs.State.{State, start}
 use Rattle.loader.specs.Held.{Held, IsLawful, state_of}
@@ -37,7 +38,7 @@ positive (suc n) h = omega arith
 is_zero : (n : ℕ) → (n == 0) ≡ true → n ≡ 0
 is_zero n h = search (rules, tests)
 
-module _ {T told H held waiting : List ℕ} {h : Held} {runs : List Run} (b : Between T told H held waiting h runs) where
+module _ {budget : ℕ} {T told H held waiting : List ℕ} {h : Held} {runs : List Run} (b : Between budget T told H held waiting h runs) where
   abbrev s : State
   s = state_of h
 
@@ -87,27 +88,27 @@ module _ {T told H held waiting : List ℕ} {h : Held} {runs : List Run} (b : Be
       held_is = e ∙ ap (λ r. r ++ take n (answer_text d)) b.held_is ∙ append_assoc H (texts b.answers) (take n (answer_text d));
     }
 
-    pub served_end : (t : Took waiting rest told after kept long false) → (length t.line == 0) ≡ true → Served T after H held runs
+    pub served_end : (t : Took waiting rest told after kept long false) → (length t.line == 0) ≡ true → Served budget T after H held runs
     served_end t empty = record {
       input = b.taken ++ (waiting ++ t.fresh);
       answers = b.answers;
       told_is = input_is after t.fresh t.told;
       are = subst (λ (ls : List (List ℕ)). AreAnswers start ls b.answers) (sym all) b.are;
       held_is = b.held_is;
-      journal = subst (λ (ls : List (List ℕ)). IsJournalOf ls runs) (sym all) (kept_journal h (lines_of b.taken) runs b.kept);
+      journal = subst (λ (ls : List (List ℕ)). IsJournalOf budget ls runs) (sym all) (kept_journal budget h (lines_of b.taken) runs b.kept);
     }
       where
         all : lines_of (b.taken ++ (waiting ++ t.fresh)) ≡ lines_of b.taken
         all = ap (λ m. lines_of (b.taken ++ m)) (t.split ∙ append-nil t.line ∙ empty_of t.line (is_zero _ empty)) ∙ ap lines_of (append-nil b.taken)
 
-    pub served_at_end : (ended : Bool) (t : Took waiting rest told after kept long ended) → (not ended && (length t.line == 0)) ≡ true → Served T after H held runs
+    pub served_at_end : (ended : Bool) (t : Took waiting rest told after kept long ended) → (not ended && (length t.line == 0)) ≡ true → Served budget T after H held runs
     served_at_end true t e = absurd (cc)
     served_at_end false t e = served_end t e
 
     pub after_line : (ended : Bool) (t : Took waiting rest told after kept long ended) → (not ended && (length t.line == 0)) ≡ false
         → (now : List ℕ) (h' : Held) (own : List Run) (d : Data) → IsAnswer t.line s d → now ≡ held ++ answer_text d → state_of h' ≡ line_state t.line s
-        → (IsLawful h → IsLawful h') → Moves (line_effect t.line s) h h' own → After ended T after H now rest h' (runs ++ own)
-    after_line true t there now h' own d is e f law moves = record {
+        → (IsLawful h → IsLawful h') → Moves (line_effect t.line s) h h' own → turns_of own ≤ budget → After budget ended T after H now rest h' (runs ++ own)
+    after_line true t there now h' own d is e f law moves within = record {
       taken = b.taken ++ (t.line ++ 10 ∷ []);
       answers = b.answers ++ d ∷ [];
       whole = whole_break b.taken t.line;
@@ -116,27 +117,27 @@ module _ {T told H held waiting : List ℕ} {h : Held} {runs : List Run} (b : Be
       held_is = one_written now d e;
       state_is = f ∙ sym (ap (state_after start) (taken_line t)
           ∙ state_append start (lines_of b.taken) (t.line ∷ []) ∙ ap (λ r. line_state t.line r) (sym b.state_is));
-      kept = subst (λ (ls : List (List ℕ)). IsKept h' ls (runs ++ own)) (sym (taken_line t)) (kept_line h h' (lines_of b.taken) runs own t.line b.kept (law b.kept.lawful) b.state_is moves);
+      kept = subst (λ (ls : List (List ℕ)). IsKept budget h' ls (runs ++ own)) (sym (taken_line t)) (kept_line budget h h' (lines_of b.taken) runs own t.line b.kept (law b.kept.lawful) within b.state_is moves);
     }
       where
         taken_line : (t : Took waiting rest told after kept long true) → lines_of (b.taken ++ (t.line ++ 10 ∷ [])) ≡ lines_of b.taken ++ t.line ∷ []
         taken_line t = whole_append b.taken (t.line ++ 10 ∷ []) b.whole ∙ ap (λ ls. lines_of b.taken ++ ls) (lines_of_break t.line [] t.one)
-    after_line false t there now h' own d is e f law moves = record {
+    after_line false t there now h' own d is e f law moves within = record {
       input = b.taken ++ (waiting ++ t.fresh);
       answers = b.answers ++ d ∷ [];
       told_is = input_is after t.fresh t.told;
       are = subst (λ (ls : List (List ℕ)). AreAnswers start ls (b.answers ++ d ∷ [])) (sym last) (one_more t.line d is);
       held_is = one_written now d e;
-      journal = subst (λ (ls : List (List ℕ)). IsJournalOf ls (runs ++ own)) (sym last) (kept_journal h' (lines_of b.taken ++ t.line ∷ []) (runs ++ own)
-          (kept_line h h' (lines_of b.taken) runs own t.line b.kept (law b.kept.lawful) b.state_is moves));
+      journal = subst (λ (ls : List (List ℕ)). IsJournalOf budget ls (runs ++ own)) (sym last) (kept_journal budget h' (lines_of b.taken ++ t.line ∷ []) (runs ++ own)
+          (kept_line budget h h' (lines_of b.taken) runs own t.line b.kept (law b.kept.lawful) within b.state_is moves));
     }
       where
         last : lines_of (b.taken ++ (waiting ++ t.fresh)) ≡ lines_of b.taken ++ t.line ∷ []
         last = whole_append b.taken (waiting ++ t.fresh) b.whole ∙ ap (λ ls. lines_of b.taken ++ ls) (first_line false t there ∙ ap (λ r. t.line ∷ lines_of r) (t.end refl))
 
 -- no line yet
-pub between_at_start : (told held waiting : List ℕ) (h : Held) (runs : List Run) → waiting ≡ [] → runs ≡ [] → IsLawful h → h.began ≡ 0 → h.edits ≡ [] → h.graph.records ≡ [] → state_of h ≡ start → Between told told held held waiting h runs
-between_at_start told held waiting h runs w r law began edits records state = record {
+pub between_at_start : (budget : ℕ) (told held waiting : List ℕ) (h : Held) (runs : List Run) → waiting ≡ [] → runs ≡ [] → IsLawful h → h.began ≡ 0 → h.edits ≡ [] → h.graph.records ≡ [] → state_of h ≡ start → Between budget told told held held waiting h runs
+between_at_start budget told held waiting h runs w r law began edits records state = record {
   taken = [];
   whole = tt;
   answers = [];
@@ -144,7 +145,7 @@ between_at_start told held waiting h runs w r law began edits records state = re
   are = tt;
   held_is = sym (append-nil held);
   state_is = state;
-  kept = subst (λ (xs : List Run). IsKept h [] xs) (sym r) (kept_at_start h law began edits records);
+  kept = subst (λ (xs : List Run). IsKept budget h [] xs) (sym r) (kept_at_start budget h law began edits records);
 }
 
 pub on_err : {A E P : Type 0} (r : Result A E) → P → OnErr r P
@@ -166,7 +167,7 @@ stopped_at_start told held = record {
 }
 
 -- all answers are a beginning of the answers
-pub served_stopped : {T told H held : List ℕ} {runs : List Run} → Served T told H held runs → Stopped T told H held
+pub served_stopped : {budget : ℕ} {T told H held : List ℕ} {runs : List Run} → Served budget T told H held runs → Stopped T told H held
 served_stopped {H = H} s = record {
   input = s.input;
   answered = lines_of s.input;

@@ -69,7 +69,7 @@ fn serve_words<R: Input, W: Output, E: Write>(
     writer: &mut W,
     errors: &mut E,
 ) -> u8
-    ensures served { result ≡ 0 → (journal : List Run) × Served (R.told reader.old) (R.told reader.new) (W.held writer.old) (W.held writer.new) journal }
+    ensures served { result ≡ 0 → (journal : List Run) × Served BUDGET (R.told reader.old) (R.told reader.new) (W.held writer.old) (W.held writer.new) journal }
     ensures ended { result ≡ 0 → R.ends reader.old < R.ends reader.new }
     ensures stopped { result ≡ 3 → Stopped (R.told reader.old) (R.told reader.new) (W.held writer.old) (W.held writer.new) }
     ensures status { (result ≡ 0) ⊎ (result ≡ 3) }
@@ -101,7 +101,7 @@ pub fn command<S: AsStr, R: Input, W: Output, E: Write>(
     writer: &mut W,
     errors: &mut E,
 ) -> u8
-    ensures served { result ≡ 0 → (journal : List Run) × Served (R.told reader.old) (R.told reader.new) (W.held writer.old) (W.held writer.new) journal }
+    ensures served { result ≡ 0 → (journal : List Run) × Served BUDGET (R.told reader.old) (R.told reader.new) (W.held writer.old) (W.held writer.new) journal }
     ensures ended { result ≡ 0 → R.ends reader.old < R.ends reader.new }
     ensures stopped { result ≡ 3 → Stopped (R.told reader.old) (R.told reader.new) (W.held writer.old) (W.held writer.new) }
     ensures bad_words { result ≡ 2 → (R.told reader.new ≡ R.told reader.old) × (W.held writer.new ≡ W.held writer.old) }

@@ -102,12 +102,12 @@ fn serve_line<R: Input, W: Output>(
     budget: u64,
 ) -> Result<bool, ServeStop>
     ensures ok { IfOk result (λ more. (told held : List ℕ) →
-        Between told (R.told reader.old) held (W.held writer.old) pending.old session.old journal.old.items
-        → After more told (R.told reader.new) held (W.held writer.new) pending.new session.new journal.new.items) }
+        Between budget told (R.told reader.old) held (W.held writer.old) pending.old session.old journal.old.items
+        → After budget more told (R.told reader.new) held (W.held writer.new) pending.new session.new journal.new.items) }
     ensures left { IfOk result (λ more. R.left reader.new + length pending.new + (if more then 1 else 0)
         ≤ R.left reader.old + length pending.old) }
     ensures err { OnErr result ((told held : List ℕ) →
-        Between told (R.told reader.old) held (W.held writer.old) pending.old session.old journal.old.items
+        Between budget told (R.told reader.old) held (W.held writer.old) pending.old session.old journal.old.items
         → Stopped told (R.told reader.new) held (W.held writer.new)) }
     ensures reader_counts { R.failures reader.old ≤ R.failures reader.new }
     ensures writer_counts { W.failures writer.old ≤ W.failures writer.new }
@@ -130,15 +130,15 @@ fn serve_line<R: Input, W: Output>(
 /// before more is read. A request has at most `budget` turns of node functions.
 ///
 /// On Ok the reader has told its end, the bytes written are exactly the answers to the bytes read, and the journal is
-/// that of the lines: each item is justified, and none is missing. After any stop what was written is a beginning of
-/// the answers.
+/// that of the lines: each item is justified, none is missing, and no request has more turns than `budget`. After any
+/// stop what was written is a beginning of the answers.
 pub fn serve_here<R: Input, W: Output>(
     alloc: Global,
     reader: &mut R,
     writer: &mut W,
     budget: u64,
 ) -> Result<Journal, ServeStop>
-    ensures ok { IfOk result (λ journal. Served (R.told reader.old) (R.told reader.new) (W.held writer.old) (W.held writer.new) journal.items) }
+    ensures ok { IfOk result (λ journal. Served budget (R.told reader.old) (R.told reader.new) (W.held writer.old) (W.held writer.new) journal.items) }
     ensures err { OnErr result (Stopped (R.told reader.old) (R.told reader.new) (W.held writer.old) (W.held writer.new)) }
     ensures read { IsErrOf result ServeStop.Read → R.failures reader.old < R.failures reader.new }
     ensures write { IsErrOf result ServeStop.Write → W.failures writer.old < W.failures writer.new }

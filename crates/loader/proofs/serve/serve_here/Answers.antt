@@ -13,7 +13,7 @@ returns-clause-ok g c =
 
 pub loop-journal-init : goal.loop-journal-init
 loop-journal-init g c = record {
-  between = between_at_start (g.R.Input.told c.args.reader.now) (g.W.Output.held c.args.writer.now) c.in_ok-pending.pending c.new-session.result c.new-journal.result.items c.in_ok-pending.ensures c.new-journal.ensures.items
+  between = between_at_start c.args.budget (g.R.Input.told c.args.reader.now) (g.W.Output.held c.args.writer.now) c.in_ok-pending.pending c.new-session.result c.new-journal.result.items c.in_ok-pending.ensures c.new-journal.ensures.items
       c.new-session.ensures.lawful c.new-session.ensures.history.0 c.new-session.ensures.history.1 c.new-session.ensures.records c.new-session.ensures.state;
   ends = omega arith;
   reader_counts = omega arith;
