@@ -1,5 +1,5 @@
 -- What serving did.
-use Rattle.std.specs.Prelude.{◌≡◌, ℕ, List, [], ◌∷◌, ◌++◌, Bool, true, false}
+use Rattle.std.specs.Prelude.{◌≡◌, ◌⊎◌, ℕ, ◌<◌, List, [], ◌∷◌, ◌++◌, Bool, true, false}
 use Rattle.lines.specs.Lines.{lines_of, IsWhole}
 use Rattle.open_nodes.specs.declared.run.Run.{Run}
 use Rattle.serde_json.specs.Data.{Data}
@@ -25,14 +25,17 @@ pub data IsPart : List (List ℕ) → State → List ℕ → Type 0 where
   nothing : {lines : List (List ℕ)} {s : State} → IsPart lines s []
   of_next : {line : List ℕ} {lines : List (List ℕ)} {s : State} {part : List ℕ} (d : Data) → IsAnswer line s d → IsBeginning part (answer_text d) → IsPart (line ∷ lines) s part
 
--- the device told an input, and a beginning of its answers was written: those to its first lines, and a part of the next one
-pub record Stopped (told_before told held_before held : List ℕ) : Type 0 where
+-- The device told an input, and a beginning of its answers was written: those to its first lines, and a part of the next one. These
+-- lines had ended: with byte 10, or the device has told its end since.
+pub record Stopped (ends_before ends : ℕ) (told_before told held_before held : List ℕ) : Type 0 where
   pub input : List ℕ
+  pub beyond : List ℕ
   pub answered : List (List ℕ)
   pub left : List (List ℕ)
   pub answers : List Data
   pub part : List ℕ
-  pub told_is : told ≡ told_before ++ input
+  pub told_is : told ≡ told_before ++ (input ++ beyond)
+  pub ended : IsWhole input ⊎ ((ends_before < ends) × (beyond ≡ []))
   pub lines_are : lines_of input ≡ answered ++ left
   pub are : AreAnswers start answered answers
   pub begins : IsPart left (state_after start answered) part

@@ -71,7 +71,7 @@ fn serve_words<R: Input, W: Output, E: Write>(
 ) -> u8
     ensures served { result ≡ 0 → (journal : List Run) × Served BUDGET (R.told reader.old) (R.told reader.new) (W.held writer.old) (W.held writer.new) journal }
     ensures ended { result ≡ 0 → R.ends reader.old < R.ends reader.new }
-    ensures stopped { result ≡ 3 → Stopped (R.told reader.old) (R.told reader.new) (W.held writer.old) (W.held writer.new) }
+    ensures stopped { result ≡ 3 → Stopped (R.ends reader.old) (R.ends reader.new) (R.told reader.old) (R.told reader.new) (W.held writer.old) (W.held writer.new) }
     ensures status { (result ≡ 0) ⊎ (result ≡ 3) }
 {
     match serve_here(alloc, reader, writer, BUDGET) {
@@ -103,7 +103,7 @@ pub fn command<S: AsStr, R: Input, W: Output, E: Write>(
 ) -> u8
     ensures served { result ≡ 0 → (journal : List Run) × Served BUDGET (R.told reader.old) (R.told reader.new) (W.held writer.old) (W.held writer.new) journal }
     ensures ended { result ≡ 0 → R.ends reader.old < R.ends reader.new }
-    ensures stopped { result ≡ 3 → Stopped (R.told reader.old) (R.told reader.new) (W.held writer.old) (W.held writer.new) }
+    ensures stopped { result ≡ 3 → Stopped (R.ends reader.old) (R.ends reader.new) (R.told reader.old) (R.told reader.new) (W.held writer.old) (W.held writer.new) }
     ensures bad_words { result ≡ 2 → (R.told reader.new ≡ R.told reader.old) × (W.held writer.new ≡ W.held writer.old) }
     ensures status { (result ≡ 0) ⊎ (result ≡ 2) ⊎ (result ≡ 3) }
 {

@@ -108,7 +108,7 @@ fn serve_line<R: Input, W: Output>(
         ≤ R.left reader.old + length pending.old) }
     ensures err { OnErr result ((told held : List ℕ) →
         Between budget told (R.told reader.old) held (W.held writer.old) pending.old session.old journal.old.items
-        → Stopped told (R.told reader.new) held (W.held writer.new)) }
+        → Stopped (R.ends reader.old) (R.ends reader.new) told (R.told reader.new) held (W.held writer.new)) }
     ensures reader_counts { R.failures reader.old ≤ R.failures reader.new }
     ensures writer_counts { W.failures writer.old ≤ W.failures writer.new }
     ensures read { IsErrOf result ServeStop.Read → R.failures reader.old < R.failures reader.new }
@@ -139,7 +139,7 @@ pub fn serve_here<R: Input, W: Output>(
     budget: u64,
 ) -> Result<Journal, ServeStop>
     ensures ok { IfOk result (λ journal. Served budget (R.told reader.old) (R.told reader.new) (W.held writer.old) (W.held writer.new) journal.items) }
-    ensures err { OnErr result (Stopped (R.told reader.old) (R.told reader.new) (W.held writer.old) (W.held writer.new)) }
+    ensures err { OnErr result (Stopped (R.ends reader.old) (R.ends reader.new) (R.told reader.old) (R.told reader.new) (W.held writer.old) (W.held writer.new)) }
     ensures read { IsErrOf result ServeStop.Read → R.failures reader.old < R.failures reader.new }
     ensures write { IsErrOf result ServeStop.Write → W.failures writer.old < W.failures writer.new }
     ensures ended { OnOk result (R.ends reader.old < R.ends reader.new) }

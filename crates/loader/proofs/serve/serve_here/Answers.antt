@@ -1,9 +1,14 @@
 use Rattle.std.proofs.Common.{arith}
-use Rattle.loader.proofs.Steps.{stopped_at_start, between_at_start, on_err}
+use Rattle.loader.proofs.Steps.{stopped_at_start, stopped_since, between_at_start, on_err}
 use Rattle.loader.proofs.serve.serve_here.Goals as goal
 
 pub returns-in_err-pending-clause-err : goal.returns-in_err-pending-clause-err
-returns-in_err-pending-clause-err g c = on_err _ (stopped_at_start _ _)
+returns-in_err-pending-clause-err g c = on_err _ (stopped_at_start _ _ _ _)
+
+pub returns-in_err-serve_line-clause-err : goal.returns-in_err-serve_line-clause-err
+returns-in_err-serve_line-clause-err g c =
+    let k = c.in_err-serve_line.ensures.err (g.R.Input.told c.args.reader.now) (g.W.Output.held c.args.writer.now) c.loop-journal.invariant.between in
+    on_err _ (stopped_since c.loop-journal.invariant.ends k)
 
 pub returns-clause-ok : goal.returns-clause-ok
 returns-clause-ok g c =
