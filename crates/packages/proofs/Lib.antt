@@ -11,3 +11,12 @@ pub mod OneValue
 pub mod NoValue
 pub mod OneCycle
 pub mod OneHeld
+pub mod RightAnswers
+pub mod Closing
+pub mod GlobsAnswered
+pub mod ValuesAnswered
+pub mod FilesAnswered
+pub mod TargetsOfFiles
+pub mod Deciding
+pub mod Following
+pub mod SomeHeld

@@ -10,7 +10,7 @@ use Rattle.packages.specs.LoadedLaws.{CyclesHaveNoModule, CyclesHaveNoPackage}
 use Rattle.packages.proofs.CyclesShown.{nearer, no_member, acyclic, all_acyclic}
 
 module _ (files : Files) where
-  is_member : {ts : List Target} {u : Target} → FirstCyclic files ts u → In u ts
+  pub is_member : {ts : List Target} {u : Target} → FirstCyclic files ts u → In u ts
   is_member (at_head c) = first
   is_member (further none behind) = after (is_member behind)
 

@@ -67,12 +67,12 @@ left_package (ended x w) env h m e = absurd cc
 left_package (failed code site) env h m e = absurd cc
 left_package (waits patterns) env h m e = absurd cc
 
-no_package : (env : Env) (ts : List Made) → env.kind ≡ k.Bzl → evaluate env ≡ a_package ts → ⊥
+pub no_package : (env : Env) (ts : List Made) → env.kind ≡ k.Bzl → evaluate env ≡ a_package ts → ⊥
 unfolding evaluate
 no_package env ts kind e =
     left_module (statements env (file_level env) (start all_steps env)) env (file_level env) ts (ap (λ (f : FileKind). outcome_of (then_runs (statements env (file_level env) (start all_steps env)) (λ _. leaves f env (file_level env)))) (sym kind) ∙ e)
 
-no_module : (env : Env) (m : Loaded) → env.kind ≡ k.Build → evaluate env ≡ a_module m → ⊥
+pub no_module : (env : Env) (m : Loaded) → env.kind ≡ k.Build → evaluate env ≡ a_module m → ⊥
 unfolding evaluate
 no_module env m kind e =
     left_package (statements env (file_level env) (start all_steps env)) env (file_level env) m (ap (λ (f : FileKind). outcome_of (then_runs (statements env (file_level env) (start all_steps env)) (λ _. leaves f env (file_level env)))) (sym kind) ∙ e)

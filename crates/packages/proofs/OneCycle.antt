@@ -113,7 +113,7 @@ module _ (files : Files) where
     differ : AllDiffer (w ∷ rest)
     shown : labels ≡ rotated (map label_text (w ∷ rest))
 
-  one_more : {n : Node} {ts : List Target} {u v : Target} → Follows files n ts u → FirstCyclic files (loads files (of_module u)) v → Follows files n (ts ++ u ∷ []) v
+  pub one_more : {n : Node} {ts : List Target} {u v : Target} → Follows files n ts u → FirstCyclic files (loads files (of_module u)) v → Follows files n (ts ++ u ∷ []) v
   one_more (once c) d = more c (once d)
   one_more (more c follows) d = more c (one_more follows d)
 

@@ -31,3 +31,10 @@ OneModuleHeld = (files : Files) (t : Target) (v w : Value) → HoldsModule files
 
 abbrev pub OnePackageHeld : Type 0
 OnePackageHeld = (files : Files) (name : List ℕ) (v w : Value) → HoldsPackage files name v → HoldsPackage files name w → v ≡ w
+
+-- A label has a module, a fault or a cycle at least, and a name a package, a fault or a cycle.
+abbrev pub SomeModuleHeld : Type 0
+SomeModuleHeld = (files : Files) (t : Target) → (v : Value) × HoldsModule files t v
+
+abbrev pub SomePackageHeld : Type 0
+SomePackageHeld = (files : Files) (name : List ℕ) → (v : Value) × HoldsPackage files name v

@@ -7,7 +7,7 @@
 #![tactic(auto)]
 
 ghost use Rattle.packages.specs.Loaded.{ModulesHold, PackagesHold};
-ghost use Rattle.packages.specs.LoadedLaws.{CyclesHaveNoModule, CyclesHaveNoPackage, OneCycle, OneModule, OneModuleHeld, OnePackage, OnePackageHeld};
+ghost use Rattle.packages.specs.LoadedLaws.{CyclesHaveNoModule, CyclesHaveNoPackage, SomeModuleHeld, SomePackageHeld, OneCycle, OneModule, OneModuleHeld, OnePackage, OnePackageHeld};
 
 /// The law of the modules: at files whose names are paths the value of the node of a module's label is the module that
 /// the files mean, or its fault, or, where a walk along its loads meets a module twice, the cycle to which they lead.
@@ -44,4 +44,11 @@ pub fn one_cycle_is_shown()
 pub fn files_determine_what_nodes_hold()
     ensures module { OneModuleHeld }
     ensures package { OnePackageHeld }
+{}
+
+/// The law of existence: at any files each label has a module, a fault or a cycle, and each name has a package, a fault
+/// or a cycle. Right answers to its globs that let the evaluation of a BUILD file end are part of it.
+pub fn each_has_a_value()
+    ensures module { SomeModuleHeld }
+    ensures package { SomePackageHeld }
 {}
