@@ -5,14 +5,15 @@ use crate::device::{Failed, Input, Output};
 use count::{Count, History};
 use std::io::{ErrorKind, Read, Write};
 
-/// A reader, with what it has told and how often it has failed for contracts alone. A read that was
-/// interrupted is tried again. It tells at most 2^64 - 1 bytes; more is a failure.
+/// A reader. What it has told, and how often it has failed and told its end, stand here for contracts alone.
+/// A read that was interrupted is tried again. It tells at most 2^64 - 1 bytes; more is a failure.
 #[derive(Drop)]
 pub struct ReaderInput<R: Read> {
     reader: R,
     left: u64,
     told: History,
     failures: Count,
+    ends: Count,
 }
 
 impl<R: Read> ReaderInput<R> {
@@ -23,12 +24,14 @@ impl<R: Read> ReaderInput<R> {
             left: u64::MAX,
             told: History::new(),
             failures: Count::new(),
+            ends: Count::new(),
         }
     }
 
     fn fail(&mut self) -> Failed
         ensures told { self.new.told ≡ self.old.told }
         ensures left { self.new.left ≡ self.old.left }
+        ensures ends { self.new.ends ≡ self.old.ends }
         ensures failures { self.new.failures ≡ self.old.failures + 1 }
     {
         self.failures.add_one();
@@ -40,6 +43,7 @@ impl<R: Read> ReaderInput<R> {
         ensures count { IfOk result (λ n. n ≤ length buffer.new) }
         ensures told { self.new.told ≡ self.old.told }
         ensures left { self.new.left ≡ self.old.left }
+        ensures ends { self.new.ends ≡ self.old.ends }
         ensures ok { OnOk result (self.new.failures ≡ self.old.failures) }
         ensures err { OnErr result (self.new.failures ≡ self.old.failures + 1) }
     {
@@ -62,6 +66,8 @@ impl<R: Read> Input for ReaderInput<R> {
 
     ghost failures = { λ s. s.failures };
 
+    ghost ends = { λ s. s.ends };
+
     ghost left = { λ s. s.left };
 
     fn read(&mut self, buffer: &mut [u8]) -> Result<usize, Failed> {
@@ -69,6 +75,9 @@ impl<R: Read> Input for ReaderInput<R> {
         let count = n as u64;
         if count > self.left {
             return Err(self.fail());
+        }
+        if n == 0 && !buffer.is_empty() {
+            self.ends.add_one();
         }
         self.left -= count;
         self.told.add_all(&buffer[..n]);

@@ -1,5 +1,5 @@
 -- A session and the journal so far, over one more line.
-use Rattle.std.proofs.Common.{◌≡◌, ℕ, ◌+◌, List, [], ◌∷◌, ◌++◌, length, refl, sym, ◌∙◌, ap, subst, arith, length-append}
+use Rattle.std.proofs.Common.{◌≡◌, ℕ, ◌+◌, ◌≤◌, List, [], ◌∷◌, ◌++◌, length, refl, sym, ◌∙◌, ap, subst, arith, length-append}
 use Rattle.std.specs.Prelude.{Ok}
 use Rattle.std.proofs.lemmas.List.{append-nil}
 use Rattle.filetree.specs.Files.{Files}
@@ -14,6 +14,7 @@ use Rattle.keys.specs.declared.key.Key.{Key}
 use Rattle.keys.specs.declared.value.Value.{Value}
 use Rattle.node.proofs.Lists.{none_some}
 use Rattle.node.specs.Graphs.{Recorded, record_at}
+use Rattle.open_nodes.specs.Counted.{turns_of}
 use Rattle.open_nodes.specs.declared.run.Run.{Run}
 use Rattle.round.specs.Call.{Calls}
 use Rattle.loader.specs.State.{State, start, Edit}
@@ -43,23 +44,23 @@ requests_more (nothing ∷ es) e = requests_more es e
 requests_more (edited edit ∷ es) e = requests_more es e
 requests_more (asked request ∷ es) e = ap (λ r. request ∷ r) (requests_more es e)
 
-module _ (h h' : Held) (lines : List (List ℕ)) (runs own : List Run) (line : List ℕ) (kept : IsKept h lines runs) (law : IsLawful h') where
+module _ (budget : ℕ) (h h' : Held) (lines : List (List ℕ)) (runs own : List Run) (line : List ℕ) (kept : IsKept budget h lines runs) (law : IsLawful h') (within : turns_of own ≤ budget) where
   abbrev so_far : List Effect
   so_far = effects start lines
 
   abbrev all : List Effect
   all = effects start (lines ++ line ∷ [])
 
-  by_effect : (e : Effect) → line_effect line (state_after start lines) ≡ e → Moves e h h' own → IsKept h' (lines ++ line ∷ []) (runs ++ own)
+  by_effect : (e : Effect) → line_effect line (state_after start lines) ≡ e → Moves e h h' own → IsKept budget h' (lines ++ line ∷ []) (runs ++ own)
   by_effect nothing q m = record {
     lawful = law;
     began = ap (λ (x : Held). x.began) m.0 ∙ kept.began;
     edits = ap (λ (x : Held). x.edits) m.0 ∙ kept.edits ∙ sym es;
     told = λ files paths history.
         let t = kept.told files paths (subst (λ (x : Held). IsHistory files paths 0 x.edits) m.0 history) in
-        subst (λ (g : Recorded). IsToldBy files paths g (requests_in all) (runs ++ own)) (sym (ap (λ (x : Held). x.graph) m.0))
-        (subst (λ (rs : List Asked). IsToldBy files paths h.graph rs (runs ++ own)) (sym rs)
-        (subst (λ (xs : List Run). IsToldBy files paths h.graph (requests_in so_far) xs) (sym (ap (λ x. runs ++ x) m.1 ∙ append-nil runs)) t));
+        subst (λ (g : Recorded). IsToldBy files paths budget g (requests_in all) (runs ++ own)) (sym (ap (λ (x : Held). x.graph) m.0))
+        (subst (λ (rs : List Asked). IsToldBy files paths budget h.graph rs (runs ++ own)) (sym rs)
+        (subst (λ (xs : List Run). IsToldBy files paths budget h.graph (requests_in so_far) xs) (sym (ap (λ x. runs ++ x) m.1 ∙ append-nil runs)) t));
   }
     where
       split : all ≡ so_far ++ nothing ∷ []
@@ -79,9 +80,9 @@ module _ (h h' : Held) (lines : List (List ℕ)) (runs own : List Run) (line : L
         let t = kept.told files paths (history_before files paths 0 h.edits edit longer) in
         let v : h'.graph.version ≡ h.graph.version + 1 = omega (arith, law.version, kept.lawful.version, m.1, ap length m.2, length-append h.edits (edit ∷ [])) in
         let l = law.lawful files paths (subst (λ (b : ℕ). IsHistory files paths b h'.edits) (sym (m.1 ∙ kept.began)) history) in
-        subst (λ (rs : List Asked). IsToldBy files paths h'.graph rs (runs ++ own)) (sym rs)
-        (subst (λ (xs : List Run). IsToldBy files paths h'.graph (requests_in so_far) xs) (sym (ap (λ x. runs ++ x) m.0 ∙ append-nil runs))
-        (told_edit files paths h.graph h'.graph (path_of edit) v m.3 l (requests_in so_far) runs t));
+        subst (λ (rs : List Asked). IsToldBy files paths budget h'.graph rs (runs ++ own)) (sym rs)
+        (subst (λ (xs : List Run). IsToldBy files paths budget h'.graph (requests_in so_far) xs) (sym (ap (λ x. runs ++ x) m.0 ∙ append-nil runs))
+        (told_edit files paths budget h.graph h'.graph (path_of edit) v m.3 l (requests_in so_far) runs t));
   }
     where
       split : all ≡ so_far ++ edited edit ∷ []
@@ -103,8 +104,8 @@ module _ (h h' : Held) (lines : List (List ℕ)) (runs own : List Run) (line : L
         let present = last_files files paths h kept.lawful.version from_began in
         let calls = subst (λ (f : Files). Calls next (read f) request.roots h.graph h'.graph (Ok own)) (sym present) m.3 in
         let call = calls (past_of files paths h.graph request.roots) (record { at_entry = refl; of_roots = refl; lawful = kept.lawful.lawful files paths from_began }) in
-        subst (λ (rs : List Asked). IsToldBy files paths h'.graph rs (runs ++ own)) (sym rs)
-        (told_call files paths h.graph h'.graph request.roots (requests_in so_far) runs own t call);
+        subst (λ (rs : List Asked). IsToldBy files paths budget h'.graph rs (runs ++ own)) (sym rs)
+        (told_call files paths budget h.graph h'.graph request.roots (requests_in so_far) runs own t call within);
   }
     where
       split : all ≡ so_far ++ asked request ∷ []
@@ -120,18 +121,18 @@ module _ (h h' : Held) (lines : List (List ℕ)) (runs own : List Run) (line : L
       rs = ap requests_in split ∙ requests_more so_far (asked request) ∙ ap (λ x. requests_in so_far ++ x ∷ []) same
 
   -- one more line
-  pub kept_line : state_of h ≡ state_after start lines → Moves (line_effect line (state_of h)) h h' own → IsKept h' (lines ++ line ∷ []) (runs ++ own)
+  pub kept_line : state_of h ≡ state_after start lines → Moves (line_effect line (state_of h)) h h' own → IsKept budget h' (lines ++ line ∷ []) (runs ++ own)
   kept_line s m = by_effect (line_effect line (state_of h)) (ap (line_effect line) (sym s)) m
 
 -- the journal of all lines
-pub kept_journal : (h : Held) (lines : List (List ℕ)) (runs : List Run) → IsKept h lines runs → IsJournalOf lines runs
-kept_journal h lines runs kept =
+pub kept_journal : (budget : ℕ) (h : Held) (lines : List (List ℕ)) (runs : List Run) → IsKept budget h lines runs → IsJournalOf budget lines runs
+kept_journal budget h lines runs kept =
     (kept.told (files_at (edits_in (effects start lines))) (path_at (edits_in (effects start lines)))
     (subst (λ (x : List Edit). IsHistory (files_at (edits_in (effects start lines))) (path_at (edits_in (effects start lines))) 0 x) (sym kept.edits) (history_of (edits_in (effects start lines))))).journal
 
 -- no line yet
-pub kept_at_start : (h : Held) → IsLawful h → h.began ≡ 0 → h.edits ≡ [] → h.graph.records ≡ [] → IsKept h [] []
-kept_at_start h law began edits records = record {
+pub kept_at_start : (budget : ℕ) (h : Held) → IsLawful h → h.began ≡ 0 → h.edits ≡ [] → h.graph.records ≡ [] → IsKept budget h [] []
+kept_at_start budget h law began edits records = record {
   lawful = law;
   began = began;
   edits = edits;

@@ -10,6 +10,7 @@ use Rattle.keys.specs.declared.key.Key.{Key}
 use Rattle.keys.specs.declared.value.Value.{Value}
 use Rattle.node.specs.Graphs.{Recorded, record_at, IsTouched}
 use Rattle.node.specs.Laws.{IsLawfulFor}
+use Rattle.open_nodes.specs.Counted.{turns_of}
 use Rattle.open_nodes.specs.declared.run.Run.{Run}
 use Rattle.round.specs.Call.{IsCall}
 use Rattle.loader.specs.Journal.{Asked, keys_of, place_of, leaves, AreItemsOf, AreItems}
@@ -49,17 +50,17 @@ in_either [] ys i = inr i
 in_either (x ∷ xs) ys first = inl first
 in_either (x ∷ xs) ys (after i) = elim (in_either xs ys i) [ inl a ↦ inl (after a) | inr b ↦ inr b ]
 
-module _ (files : ℕ → Files) (paths : ℕ → List ℕ) where
+module _ (files : ℕ → Files) (paths : ℕ → List ℕ) (budget : ℕ) where
   -- the items of one more request
-  items_more : (earlier requests : List Asked) (runs : List Run) (request : Asked) (own : List Run) → AreItems files paths earlier requests runs → AreItemsOf files paths (turned_onto earlier requests) request own
-      → AreItems files paths earlier (requests ++ request ∷ []) (runs ++ own)
-  items_more earlier [] runs request own e of = (own, [], ap (λ r. r ++ own) e ∙ sym (append-nil own), of, refl)
-  items_more earlier (q ∷ requests) runs request own items of =
-      (items.0, items.1 ++ own, ap (λ r. r ++ own) items.2 ∙ append_assoc items.0 items.1 own, items.3, items_more (q ∷ earlier) requests items.1 request own items.4 of)
+  items_more : (earlier requests : List Asked) (runs : List Run) (request : Asked) (own : List Run) → AreItems files paths budget earlier requests runs → AreItemsOf files paths (turned_onto earlier requests) request own
+      → turns_of own ≤ budget → AreItems files paths budget earlier (requests ++ request ∷ []) (runs ++ own)
+  items_more earlier [] runs request own e of within = (own, [], ap (λ r. r ++ own) e ∙ sym (append-nil own), of, within, refl)
+  items_more earlier (q ∷ requests) runs request own items of within =
+      (items.0, items.1 ++ own, ap (λ r. r ++ own) items.2 ∙ append_assoc items.0 items.1 own, items.3, items.4, items_more (q ∷ earlier) requests items.1 request own items.5 of within)
 
   -- an edit
   pub told_edit : (old new : Recorded) (path : List ℕ) → new.version ≡ old.version + 1 → Marks (record_at old) (record_at new) (IsTouched path) → IsLawfulFor next (leaves files paths) paths new
-      → (requests : List Asked) (runs : List Run) → IsToldBy files paths old requests runs → IsToldBy files paths new requests runs
+      → (requests : List Asked) (runs : List Run) → IsToldBy files paths budget old requests runs → IsToldBy files paths budget new requests runs
   told_edit old new path version marks law requests runs told = record {
     journal = told.journal;
     linked = linked_edit files paths old new path version marks law (turned_onto [] requests) told.linked;
@@ -70,10 +71,10 @@ module _ (files : ℕ → Files) (paths : ℕ → List ℕ) where
   }
 
   -- one more request
-  pub told_call : (old new : Recorded) (roots : List Key) (requests : List Asked) (runs own : List Run) → IsToldBy files paths old requests runs → IsCall next (leaves files paths old.version) (past_of files paths old roots) new own
-      → IsToldBy files paths new (requests ++ (record { version = old.version; roots = roots }) ∷ []) (runs ++ own)
-  told_call old new roots requests runs own told call = record {
-    journal = record { items = items_more [] requests runs request own told.journal.items (items_call files paths old new roots earlier linked own call); once = once };
+  pub told_call : (old new : Recorded) (roots : List Key) (requests : List Asked) (runs own : List Run) → IsToldBy files paths budget old requests runs → IsCall next (leaves files paths old.version) (past_of files paths old roots) new own
+      → turns_of own ≤ budget → IsToldBy files paths budget new (requests ++ (record { version = old.version; roots = roots }) ∷ []) (runs ++ own)
+  told_call old new roots requests runs own told call within = record {
+    journal = record { items = items_more [] requests runs request own told.journal.items (items_call files paths old new roots earlier linked own call) within; once = once };
     linked = subst (λ (e : List Asked). IsLinked files paths new e) (sym (turned_more [] requests request)) (linked_call files paths old new roots earlier linked own call);
     dated = λ run i. dated run (in_either runs own i);
   }

@@ -11,6 +11,7 @@ use Rattle.keys.specs.Cycles.{cycle}
 use Rattle.keys.specs.declared.key.Key.{Key}
 use Rattle.keys.specs.declared.value.Value.{Value}
 use Rattle.node.specs.Graphs.{IsTouched}
+use Rattle.open_nodes.specs.Counted.{turns_of}
 use Rattle.open_nodes.specs.declared.run.Run.{Run}
 
 -- a request that is evaluated: the version at which it comes, and its root keys
@@ -78,12 +79,12 @@ module _ (files : ℕ → Files) (paths : ℕ → List ℕ) where
       pub each : (run : Run) → In run runs → IsItemOf request run
       pub all : MissesNone request runs
 
-  -- the items of the requests, in their order, after these earlier requests, the newest first
-  abbrev pub AreItems : List Asked → List Asked → List Run → Type 0
-  AreItems earlier [] runs = runs ≡ []
-  AreItems earlier (request ∷ requests) runs = (own rest : List Run) × (runs ≡ own ++ rest) × AreItemsOf earlier request own × AreItems (request ∷ earlier) requests rest
+  -- the items of the requests, in their order, after these earlier requests, the newest first; those of one request have at most `budget` turns
+  abbrev pub AreItems : ℕ → List Asked → List Asked → List Run → Type 0
+  AreItems budget earlier [] runs = runs ≡ []
+  AreItems budget earlier (request ∷ requests) runs = (own rest : List Run) × (runs ≡ own ++ rest) × AreItemsOf earlier request own × (turns_of own ≤ budget) × AreItems budget (request ∷ earlier) requests rest
 
-  -- the journal of the requests: the items of each in their order, and no key has two with one version
-  pub record IsJournal (requests : List Asked) (runs : List Run) : Type 0 where
-    pub items : AreItems [] requests runs
+  -- the journal of the requests: the items of each in their order, within its budget, and no key has two with one version
+  pub record IsJournal (budget : ℕ) (requests : List Asked) (runs : List Run) : Type 0 where
+    pub items : AreItems budget [] requests runs
     pub once : AllDiffer (map place_of runs)

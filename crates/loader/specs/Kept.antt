@@ -8,13 +8,13 @@ use Rattle.loader.specs.Effects.{effects, edits_in, requests_in}
 use Rattle.loader.specs.Journal.{IsJournal}
 use Rattle.loader.specs.Linked.{IsToldBy}
 
--- the journal of lines: that of their requests, in the history of their accepted edits
-abbrev pub IsJournalOf : List (List ℕ) → List Run → Type 0
-IsJournalOf lines runs = IsJournal (files_at (edits_in (effects start lines))) (path_at (edits_in (effects start lines))) (requests_in (effects start lines)) runs
+-- the journal of lines: that of their requests, in the history of their accepted edits, with at most `budget` turns for each request
+abbrev pub IsJournalOf : ℕ → List (List ℕ) → List Run → Type 0
+IsJournalOf budget lines runs = IsJournal (files_at (edits_in (effects start lines))) (path_at (edits_in (effects start lines))) budget (requests_in (effects start lines)) runs
 
 -- a session that began at version 0 has accepted the edits of the lines, and its graph and the journal tell their requests
-pub record IsKept (session : Held) (lines : List (List ℕ)) (runs : List Run) : Type 0 where
+pub record IsKept (budget : ℕ) (session : Held) (lines : List (List ℕ)) (runs : List Run) : Type 0 where
   pub lawful : IsLawful session
   pub began : session.began ≡ 0
   pub edits : session.edits ≡ edits_in (effects start lines)
-  pub told : (files : ℕ → Files) (paths : ℕ → List ℕ) → IsHistory files paths 0 session.edits → IsToldBy files paths session.graph (requests_in (effects start lines)) runs
+  pub told : (files : ℕ → Files) (paths : ℕ → List ℕ) → IsHistory files paths 0 session.edits → IsToldBy files paths budget session.graph (requests_in (effects start lines)) runs

@@ -7,3 +7,4 @@ pub mod Linked
 pub mod Kept
 pub mod Served
 pub mod Told
+pub mod Laws

@@ -43,7 +43,7 @@ module _ (files : ℕ → Files) (paths : ℕ → List ℕ) where
     pub members : (k j : Key) (r s : Record Key Value) → record_at graph k ≡ Some r → r.dirty ≡ false → IsMember j r.groups → record_at graph j ≡ Some s → s.settled_at ≤ r.settled_at
 
   -- the journal so far, of these requests, the oldest first; each item's key has a record that was not settled before it
-  pub record IsToldBy (graph : Recorded) (requests : List Asked) (runs : List Run) : Type 0 where
-    pub journal : IsJournal files paths requests runs
+  pub record IsToldBy (budget : ℕ) (graph : Recorded) (requests : List Asked) (runs : List Run) : Type 0 where
+    pub journal : IsJournal files paths budget requests runs
     pub linked : IsLinked graph (turned_onto [] requests)
     pub dated : (run : Run) → In run runs → (r : Record Key Value) × (record_at graph run.key ≡ Some r) × (run.version ≤ r.settled_at)

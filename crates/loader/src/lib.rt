@@ -3,6 +3,7 @@
 
 mod accepted;
 mod edit;
+mod laws;
 mod program;
 mod replies;
 mod reply;
@@ -14,6 +15,7 @@ mod written;
 
 pub use commands::{Edit, Request};
 pub use edit::EditError;
+pub use laws::{input_determines_output, lines_determine_answers};
 pub use lines::{Failed, Input, Output};
 pub use program::{BUDGET, command};
 pub use reply::Reply;

@@ -1,5 +1,5 @@
 //! The program, but for its `main`: its words, its exit status and what it says of a stop.
-ghost use Rattle.std.specs.Prelude.{◌≡◌, ◌⊎◌, List};
+ghost use Rattle.std.specs.Prelude.{◌≡◌, ◌<◌, ◌⊎◌, List};
 ghost use Rattle.open_nodes.specs.declared.run.Run.{Run};
 ghost use Rattle.loader.specs.Served.{Served, Stopped};
 
@@ -69,8 +69,9 @@ fn serve_words<R: Input, W: Output, E: Write>(
     writer: &mut W,
     errors: &mut E,
 ) -> u8
-    ensures served { result ≡ 0 → (journal : List Run) × Served (R.told reader.old) (R.told reader.new) (W.held writer.old) (W.held writer.new) journal }
-    ensures stopped { result ≡ 3 → Stopped (R.told reader.old) (R.told reader.new) (W.held writer.old) (W.held writer.new) }
+    ensures served { result ≡ 0 → (journal : List Run) × Served BUDGET (R.told reader.old) (R.told reader.new) (W.held writer.old) (W.held writer.new) journal }
+    ensures ended { result ≡ 0 → R.ends reader.old < R.ends reader.new }
+    ensures stopped { result ≡ 3 → Stopped (R.ends reader.old) (R.ends reader.new) (R.told reader.old) (R.told reader.new) (W.held writer.old) (W.held writer.new) }
     ensures status { (result ≡ 0) ⊎ (result ≡ 3) }
 {
     match serve_here(alloc, reader, writer, BUDGET) {
@@ -89,10 +90,10 @@ fn serve_words<R: Input, W: Output, E: Write>(
 }
 
 /// The program `loader`: `words` are its words, its own name first. It serves the lines of `reader` to `writer` and
-/// answers the exit status: 0 at the end of the input, where the flag `--runs` tells the journal on `errors`, one line an
-/// item, `run V KEY` or for a leaf `read V KEY`; 2 for bad words, found before any input is read, with the text
-/// of the fault on `errors`; 3 for a stop, with a line `stop: read`, `stop: write`, `stop: budget` or `stop: memory` on
-/// `errors`. A fault of `errors` is passed over.
+/// answers the exit status: 0 where the reader has told its end, and then the flag `--runs` tells the journal on
+/// `errors`, one line an item, `run V KEY` or for a leaf `read V KEY`; 2 for bad words, found before any input is read,
+/// with the text of the fault on `errors`; 3 for a stop, with a line `stop: read`, `stop: write`, `stop: budget` or
+/// `stop: memory` on `errors`. A fault of `errors` is passed over.
 pub fn command<S: AsStr, R: Input, W: Output, E: Write>(
     alloc: Global,
     words: &[S],
@@ -100,8 +101,9 @@ pub fn command<S: AsStr, R: Input, W: Output, E: Write>(
     writer: &mut W,
     errors: &mut E,
 ) -> u8
-    ensures served { result ≡ 0 → (journal : List Run) × Served (R.told reader.old) (R.told reader.new) (W.held writer.old) (W.held writer.new) journal }
-    ensures stopped { result ≡ 3 → Stopped (R.told reader.old) (R.told reader.new) (W.held writer.old) (W.held writer.new) }
+    ensures served { result ≡ 0 → (journal : List Run) × Served BUDGET (R.told reader.old) (R.told reader.new) (W.held writer.old) (W.held writer.new) journal }
+    ensures ended { result ≡ 0 → R.ends reader.old < R.ends reader.new }
+    ensures stopped { result ≡ 3 → Stopped (R.ends reader.old) (R.ends reader.new) (R.told reader.old) (R.told reader.new) (W.held writer.old) (W.held writer.new) }
     ensures bad_words { result ≡ 2 → (R.told reader.new ≡ R.told reader.old) × (W.held writer.new ≡ W.held writer.old) }
     ensures status { (result ≡ 0) ⊎ (result ≡ 2) ⊎ (result ≡ 3) }
 {

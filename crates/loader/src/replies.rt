@@ -1,6 +1,7 @@
 //! The answer to a line.
-ghost use Rattle.std.specs.Prelude.{◌≡◌, ◌++◌, ◌∷◌, [], List, ℕ, IfOk, string_bytes};
+ghost use Rattle.std.specs.Prelude.{◌≡◌, ◌≤◌, ◌++◌, ◌∷◌, [], List, ℕ, IfOk, string_bytes};
 ghost use Rattle.lines.specs.Lines.{Keeps};
+ghost use Rattle.open_nodes.specs.Counted.{turns_of};
 ghost use Rattle.serde_json.specs.View.{view};
 ghost use Rattle.serde_json.specs.Data.{Data};
 ghost use Rattle.loader.specs.Answers as answers;
@@ -53,6 +54,7 @@ fn command_answer(
     ensures answer { IfOk result (λ answer. answers.Tells (answers.IsAnswerIf (commands.command_of (view value.now)) (state_of session.old)) (string_bytes answer.text)
         × (state_of session.new ≡ answers.state_if (commands.command_of (view value.now)) (state_of session.old))) }
     ensures moves { IfOk result (λ answer. Moves (effect_if (commands.command_of (view value.now)) (state_of session.old)) session.old session.new answer.runs.items) }
+    ensures turns { IfOk result (λ answer. turns_of answer.runs.items ≤ budget) }
     ensures lawful { IsLawful session.old → IsLawful session.new }
 {
     match command_of(alloc, value)? {
@@ -73,6 +75,7 @@ fn line_answer(
         × (state_of session.new ≡ answers.line_state whole (state_of session.old))) }
     ensures moves { IfOk result (λ answer. (whole : List ℕ) → Keeps line.now.bytes.items line.now.too_long whole
         → Moves (line_effect whole (state_of session.old)) session.old session.new answer.runs.items) }
+    ensures turns { IfOk result (λ answer. turns_of answer.runs.items ≤ budget) }
     ensures lawful { IsLawful session.old → IsLawful session.new }
 {
     if line.too_long {
@@ -93,7 +96,7 @@ fn ended(text: String) -> Result<String, Memory>
     Ok(text)
 }
 
-/// The answer to a line, with its byte 10, and what its evaluation ran. A stop leaves the files as they were, or with the
+/// The answer to a line, with its byte 10, and what its evaluation ran, in at most `budget` turns. A stop leaves the files as they were, or with the
 /// line's edit made and its answer lost.
 pub fn answer(alloc: Global, session: &mut Session, line: &Line, budget: u64) -> Result<Reply, Stop>
     ensures answer { IfOk result (λ answer. (whole : List ℕ) → Keeps line.now.bytes.items line.now.too_long whole
@@ -101,6 +104,7 @@ pub fn answer(alloc: Global, session: &mut Session, line: &Line, budget: u64) ->
         × (state_of session.new ≡ answers.line_state whole (state_of session.old))) }
     ensures moves { IfOk result (λ answer. (whole : List ℕ) → Keeps line.now.bytes.items line.now.too_long whole
         → Moves (line_effect whole (state_of session.old)) session.old session.new answer.runs.items) }
+    ensures turns { IfOk result (λ answer. turns_of answer.runs.items ≤ budget) }
     ensures lawful { IsLawful session.old → IsLawful session.new }
 {
     let reply = line_answer(alloc, session, line, budget)?;

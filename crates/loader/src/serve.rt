@@ -1,5 +1,5 @@
 //! Serving: lines of a reader in, their answers out to a writer.
-ghost use Rattle.std.specs.Prelude.{◌≡◌, ℕ, ◌<◌, ◌≤◌, ◌+◌, List, length, IfOk, OnOk, OnErr, IsErrOf, not, ◌&&◌, ◌==◌, if◌then◌else◌};
+ghost use Rattle.std.specs.Prelude.{◌≡◌, ℕ, ◌<◌, ◌≤◌, ◌+◌, List, length, IfOk, OnOk, OnErr, IsErrOf, not, ◌&&◌, ◌==◌, false, if◌then◌else◌};
 ghost use Rattle.lines.specs.Lines.{Keeps};
 ghost use Rattle.loader.specs.Served.{Served, Stopped, Between, After};
 
@@ -102,17 +102,19 @@ fn serve_line<R: Input, W: Output>(
     budget: u64,
 ) -> Result<bool, ServeStop>
     ensures ok { IfOk result (λ more. (told held : List ℕ) →
-        Between told (R.told reader.old) held (W.held writer.old) pending.old session.old journal.old.items
-        → After more told (R.told reader.new) held (W.held writer.new) pending.new session.new journal.new.items) }
+        Between budget told (R.told reader.old) held (W.held writer.old) pending.old session.old journal.old.items
+        → After budget more told (R.told reader.new) held (W.held writer.new) pending.new session.new journal.new.items) }
     ensures left { IfOk result (λ more. R.left reader.new + length pending.new + (if more then 1 else 0)
         ≤ R.left reader.old + length pending.old) }
     ensures err { OnErr result ((told held : List ℕ) →
-        Between told (R.told reader.old) held (W.held writer.old) pending.old session.old journal.old.items
-        → Stopped told (R.told reader.new) held (W.held writer.new)) }
+        Between budget told (R.told reader.old) held (W.held writer.old) pending.old session.old journal.old.items
+        → Stopped (R.ends reader.old) (R.ends reader.new) told (R.told reader.new) held (W.held writer.new)) }
     ensures reader_counts { R.failures reader.old ≤ R.failures reader.new }
     ensures writer_counts { W.failures writer.old ≤ W.failures writer.new }
     ensures read { IsErrOf result ServeStop.Read → R.failures reader.old < R.failures reader.new }
     ensures write { IsErrOf result ServeStop.Write → W.failures writer.old < W.failures writer.new }
+    ensures ended { IfOk result (λ more. more ≡ false → R.ends reader.old < R.ends reader.new) }
+    ensures ends { R.ends reader.old ≤ R.ends reader.new }
 {
     let ended = next_line(reader, pending, line)?;
     if is_end(ended, line) {
@@ -127,18 +129,20 @@ fn serve_line<R: Input, W: Output>(
 /// Answers all lines of the reader up to its first end, one at a time, beginning with no files. Each answer is written
 /// before more is read. A request has at most `budget` turns of node functions.
 ///
-/// On Ok the bytes written are exactly the answers to the bytes read, and the journal is that of the lines: each item is
-/// justified, and none is missing. After any stop what was written is a beginning of the answers.
+/// On Ok the reader has told its end, the bytes written are exactly the answers to the bytes read, and the journal is
+/// that of the lines: each item is justified, none is missing, and no request has more turns than `budget`. After any
+/// stop what was written is a beginning of the answers.
 pub fn serve_here<R: Input, W: Output>(
     alloc: Global,
     reader: &mut R,
     writer: &mut W,
     budget: u64,
 ) -> Result<Journal, ServeStop>
-    ensures ok { IfOk result (λ journal. Served (R.told reader.old) (R.told reader.new) (W.held writer.old) (W.held writer.new) journal.items) }
-    ensures err { OnErr result (Stopped (R.told reader.old) (R.told reader.new) (W.held writer.old) (W.held writer.new)) }
+    ensures ok { IfOk result (λ journal. Served budget (R.told reader.old) (R.told reader.new) (W.held writer.old) (W.held writer.new) journal.items) }
+    ensures err { OnErr result (Stopped (R.ends reader.old) (R.ends reader.new) (R.told reader.old) (R.told reader.new) (W.held writer.old) (W.held writer.new)) }
     ensures read { IsErrOf result ServeStop.Read → R.failures reader.old < R.failures reader.new }
     ensures write { IsErrOf result ServeStop.Write → W.failures writer.old < W.failures writer.new }
+    ensures ended { OnOk result (R.ends reader.old < R.ends reader.new) }
 {
     let mut session = Session::new(alloc);
     let mut pending = Pending::new(alloc)?;

@@ -1,10 +1,11 @@
 //! The present files with the graph of what was found out about them, and their edits.
-ghost use Rattle.std.specs.Prelude.{◌≡◌, ◌<◌, ◌++◌, ◌∷◌, [], Option, Some, Ok, IfOk, IfErr, OnOk, OnErr, option_map, string_bytes};
+ghost use Rattle.std.specs.Prelude.{◌≡◌, ◌<◌, ◌≤◌, ◌++◌, ◌∷◌, [], Option, Some, Ok, IfOk, IfErr, OnOk, OnErr, option_map, string_bytes};
 ghost use Rattle.evaluation.specs.Graph.{Marks};
 ghost use Rattle.filetree.specs.Edits as edits;
 ghost use Rattle.node.specs.Graphs.{record_at, IsTouched};
 ghost use Rattle.functions.specs.Next.{next};
 ghost use Rattle.leaves.specs.Leaves.{read};
+ghost use Rattle.open_nodes.specs.Counted.{turns_of};
 ghost use Rattle.round.specs.Call.{Calls};
 ghost use Rattle.serde_json.specs.Written.{compact_text};
 ghost use Rattle.loader.specs.Answers as answers;
@@ -140,6 +141,7 @@ impl Session {
     pub fn request(&mut self, request: &Request<'_>, budget: u64) -> Result<Reply, Stop>
         ensures text { IfOk result (λ reply. answers.Tells (answers.IsRequestAnswer (request_seen request.now) (files_of self.old)) (string_bytes reply.text)) }
         ensures moves { IfOk result (λ reply. Moves (request_effect (request_seen request.now) self.old.graph.version) self.old self.new reply.runs.items) }
+        ensures turns { IfOk result (λ reply. turns_of reply.runs.items ≤ budget) }
         ensures stopped { OnErr result (StopsAfter (request_roots (request_seen request.now)) self.old self.new) }
         ensures history { (self.new.began ≡ self.old.began) × (self.new.edits ≡ self.old.edits) }
         ensures version { self.new.graph.version ≡ self.old.graph.version }
@@ -164,6 +166,7 @@ impl Session {
     // the present files is then held with it.
     fn settle(&mut self, roots: &[Key], budget: u64) -> Result<Vec<Run>, Stop>
         ensures law { IfOk result (λ runs. Calls next (read (files_of self.old)) roots.now self.old.graph self.new.graph (Ok runs.items)) }
+        ensures turns { IfOk result (λ runs. turns_of runs.items ≤ budget) }
         ensures held { OnOk result (AreHeld (files_of self.old) roots.now self.new.graph) }
         ensures stopped { OnErr result (StopsAfter roots.now self.old self.new) }
         ensures history { (self.new.began ≡ self.old.began) × (self.new.edits ≡ self.old.edits) }

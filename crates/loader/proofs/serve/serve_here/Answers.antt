@@ -1,9 +1,14 @@
 use Rattle.std.proofs.Common.{arith}
-use Rattle.loader.proofs.Steps.{stopped_at_start, between_at_start, on_err}
+use Rattle.loader.proofs.Steps.{stopped_at_start, stopped_since, between_at_start, on_err}
 use Rattle.loader.proofs.serve.serve_here.Goals as goal
 
 pub returns-in_err-pending-clause-err : goal.returns-in_err-pending-clause-err
-returns-in_err-pending-clause-err g c = on_err _ (stopped_at_start _ _)
+returns-in_err-pending-clause-err g c = on_err _ (stopped_at_start _ _ _ _)
+
+pub returns-in_err-serve_line-clause-err : goal.returns-in_err-serve_line-clause-err
+returns-in_err-serve_line-clause-err g c =
+    let k = c.in_err-serve_line.ensures.err (g.R.Input.told c.args.reader.now) (g.W.Output.held c.args.writer.now) c.loop-journal.invariant.between in
+    on_err _ (stopped_since c.loop-journal.invariant.ends k)
 
 pub returns-clause-ok : goal.returns-clause-ok
 returns-clause-ok g c =
@@ -13,8 +18,9 @@ returns-clause-ok g c =
 
 pub loop-journal-init : goal.loop-journal-init
 loop-journal-init g c = record {
-  between = between_at_start (g.R.Input.told c.args.reader.now) (g.W.Output.held c.args.writer.now) c.in_ok-pending.pending c.new-session.result c.new-journal.result.items c.in_ok-pending.ensures c.new-journal.ensures.items
+  between = between_at_start c.args.budget (g.R.Input.told c.args.reader.now) (g.W.Output.held c.args.writer.now) c.in_ok-pending.pending c.new-session.result c.new-journal.result.items c.in_ok-pending.ensures c.new-journal.ensures.items
       c.new-session.ensures.lawful c.new-session.ensures.history.0 c.new-session.ensures.history.1 c.new-session.ensures.records c.new-session.ensures.state;
+  ends = omega arith;
   reader_counts = omega arith;
   writer_counts = omega arith;
 }

@@ -4,7 +4,8 @@ use Rattle.loader.proofs.serve.serve_here.Given as goal
 
 abbrev pub invariant-loop-journal : goal.invariant-loop-journal
 invariant-loop-journal g l = record {
-  between : Between (g.R.Input.told l.fn.reader) (g.R.Input.told l.reader) (g.W.Output.held l.fn.writer) (g.W.Output.held l.writer) l.pending l.session l.journal.items;
+  between : Between l.budget (g.R.Input.told l.fn.reader) (g.R.Input.told l.reader) (g.W.Output.held l.fn.writer) (g.W.Output.held l.writer) l.pending l.session l.journal.items;
+  ends : g.R.Input.ends l.fn.reader ≤ g.R.Input.ends l.reader;
   reader_counts : g.R.Input.failures l.fn.reader ≤ g.R.Input.failures l.reader;
   writer_counts : g.W.Output.failures l.fn.writer ≤ g.W.Output.failures l.writer;
 }

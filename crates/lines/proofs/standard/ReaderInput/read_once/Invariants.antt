@@ -5,5 +5,6 @@ abbrev pub invariant-loop : goal.invariant-loop
 invariant-loop g l = record {
   told : l.self.told ≡ l.fn.self.told;
   left : l.self.left ≡ l.fn.self.left;
+  ends : l.self.ends ≡ l.fn.self.ends;
   failures : l.self.failures ≡ l.fn.self.failures;
 }

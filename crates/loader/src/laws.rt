@@ -1,0 +1,15 @@
+//! Laws of answers and of what serving writes.
+ghost use Rattle.loader.specs.Laws.{OneAnswer, OneAnswerEach, OneOutput, StopsInOutput};
+
+/// The law of one answer: a line has one answer at most from each state, and lines have one list of answers at most.
+pub fn lines_determine_answers()
+    ensures line { OneAnswer }
+    ensures lines { OneAnswerEach }
+{}
+
+/// The law of one output: two servings of one input write the same bytes. What a serving that stopped wrote is a
+/// beginning of what the serving of any input writes that begins with the bytes that it read.
+pub fn input_determines_output()
+    ensures served { OneOutput }
+    ensures stopped { StopsInOutput }
+{}
