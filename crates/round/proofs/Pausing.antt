@@ -1,6 +1,8 @@
 -- States kept between turns.
-use Rattle.std.proofs.Common.{◌≡◌, inl, inr, ℕ, ◌-◌, false, true, cond, List, [], ◌∷◌, ◌++◌, map, Option, Some, None, refl, sym, ◌∙◌, ap, subst, length, take, drop, arith, length-append, append_assoc}
+use Rattle.std.proofs.Common.{◌≡◌, inl, inr, ℕ, ◌-◌, Bool, false, true, cond, List, [], ◌∷◌, ◌++◌, map, Option, Some, None, refl, sym, ◌∙◌, ap, subst, length, take, drop, arith, length-append, append_assoc}
+use Rattle.std.specs.Bool.{Decides}
 use Rattle.std.specs.BTreeMap.{get, Updates}
+use Rattle.std.specs.Option.{is_some}
 use Rattle.std.proofs.Math.Seq.{drop-append_seam, take_all}
 use Rattle.std.proofs.lemmas.List.{map-append, drop-map, length-map, length-drop}
 use Rattle.std.specs.declared.alloc.Global.{Global}
@@ -22,7 +24,7 @@ use Rattle.open_nodes.specs.declared.table.Table.{Table}
 use Rattle.round.specs.Frames.{KeepsSettled, KeepsFrame}
 use Rattle.round.specs.Members.{no_cycle, plain_value, all_values, AreAnswers, Answers}
 use Rattle.round.specs.Moves.{IsWholeNow}
-use Rattle.round.specs.Paused.{IsPaused, Kept, ArePaused, FewerKept, Keeps}
+use Rattle.round.specs.Paused.{IsPaused, Kept, ArePaused, FewerKept, HasState, DropsState, Keeps}
 use Rattle.round.specs.Turning.{IsOutWith}
 use Rattle.round.proofs.Grouping.{never_none}
 
@@ -92,6 +94,16 @@ none_paused graph table kept q k w e = absurd (none_some (sym empty ∙ e))
 
 pub fewer_paused : (graph : Recorded) (table : Table) (old new : Kept) → FewerKept old new → ArePaused graph table old → ArePaused graph table new
 fewer_paused graph table old new f a k w e = a k w (f k w e)
+
+not_both : (n : Node) → n.phase ≡ phase.Running → n.phase ≡ phase.Out → ⊥
+not_both n p q = no (sym p ∙ q)
+  where
+    no : phase.Running ≡ phase.Out → ⊥
+    no e = cc
+
+-- a node whose state is kept has no job out
+pub kept_not_out : (graph : Recorded) (table : Table) (kept : Kept) (key : Key) → ArePaused graph table kept → HasState kept key → IsOutAt table key → ⊥
+kept_not_out graph table kept key a h o = let p = a key h.0 h.1 in not_both p.node p.running (ap (λ (n : Node). n.phase) (some_is (sym p.there ∙ o.1)) ∙ o.2)
 
 -- a job is handed out whose state is kept no more
 pub handed_paused : (graph : Recorded) (before later : Table) (kept : Kept) (key : Key) (n : Node) → node_at before.nodes key ≡ Some n → HasPhase before.nodes later.nodes key phase.Out → get key_cmp kept key ≡ None → ArePaused graph before kept → ArePaused graph later kept
@@ -180,6 +192,20 @@ pub one_fewer : (old new : Kept) (key : Key) → Updates key_cmp old new key Non
 one_fewer old new key u k w e = elim (same_or_key old new key _ u k) [
   | inl q ↦ absurd (none_some (sym u.1 ∙ ap (get key_cmp new) q ∙ e))
   | inr p ↦ sym p ∙ e
+]
+
+pub drops_fewer : (old new : Kept) (key : Key) (b : Bool) → DropsState old new key b → FewerKept old new
+drops_fewer old new key true u k w e = one_fewer old new key u k w e
+drops_fewer old new key false same k w e = sym (same k) ∙ e
+
+pub has_state : (kept : Kept) (key : Key) (b : Bool) → b ≡ is_some (get key_cmp kept key) → Decides b (HasState kept key)
+has_state kept key b e = (λ t. some_there (get key_cmp kept key) (sym e ∙ t), λ h. e ∙ ap is_some h.1)
+
+pub drops_state : (old new : Kept) (key : Key) → Updates key_cmp old new key None → (b : Bool) → b ≡ is_some (get key_cmp old key) → DropsState old new key b
+drops_state old new key u true e = u
+drops_state old new key u false e = λ k. elim (same_or_key old new key None u k) [
+  | inl q ↦ ap (get key_cmp new) (sym q) ∙ u.1 ∙ sym (ap (get key_cmp old) (sym q) ∙ none_there (get key_cmp old key) (sym e))
+  | inr p ↦ p
 ]
 
 -- what is kept with one more state

@@ -10,7 +10,7 @@ use Rattle.open_nodes.specs.Nodes.{IsOpen, node_at, pending, AreOut}
 use Rattle.open_nodes.specs.declared.run.Run.{Run}
 use Rattle.open_nodes.specs.declared.table.Table.{Table}
 use Rattle.round.specs.Moves.{IsWanted, IsWholeNow}
-use Rattle.round.specs.Paused.{ArePaused}
+use Rattle.round.specs.Paused.{Kept, ArePaused, HasState}
 use Rattle.round.specs.Turning.{IsOutWith}
 use Rattle.round.specs.declared.rounds.Round.{Round}
 use Rattle.round.specs.declared.rounds.NotTaken.{NotTaken}
@@ -39,6 +39,10 @@ StandsBeside graph round = IsBeside graph (standing round) × ArePaused graph ro
 -- no turn can be handed out, and no job is out
 abbrev pub IsStalled : Standing → Type 0
 IsStalled s = (s.table.ready.keys ≡ []) × (s.out ≡ [])
+
+-- the state of the key may be given up: one is kept, and the round is not at a stall
+abbrev pub CanDrop : Standing → Kept → Key → Type 0
+CanDrop s kept k = HasState kept k × (IsStalled s → ⊥)
 
 -- the job of a key that is ready is out, with all answers so far; a key that is not ready has none, and nothing changes
 abbrev pub HandsOut : Recorded → Key → Standing → Standing → Option Asked → Type 0

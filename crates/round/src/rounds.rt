@@ -6,7 +6,7 @@ ghost use Rattle.std.specs.BTreeMap.{get};
 ghost use Rattle.std.specs.Option.{is_some};
 ghost use Rattle.std.specs.BTreeMap.Range.{IsLeBy};
 ghost use Rattle.node.specs.Graphs.{Recorded};
-ghost use Rattle.round.specs.Paused.{Keeps, FewerKept};
+ghost use Rattle.round.specs.Paused.{Keeps, HasState, DropsState};
 ghost use Rattle.evaluation.specs.Reply.{Reply};
 ghost use Rattle.evaluation.specs.Value.{In};
 ghost use Rattle.leaves.specs.Leaves as leaves;
@@ -20,8 +20,8 @@ ghost use Rattle.open_nodes.specs.Nodes.{IsOpen};
 ghost use Rattle.open_nodes.specs.Truths.{Leads};
 ghost use Rattle.round.specs.Since.{IsTrueSince, IsAfterSince};
 ghost use Rattle.round.specs.Moves.{KeepsTrue, IsWanted};
-ghost use Rattle.round.specs.Rounds.{standing, StandsBeside, IsStalled, HandsOut, IsOfJobOut, NoneOpen, EndsWith, Refuses, TakesBack};
-ghost use Rattle.round.specs.Turning.{IsOutWith};
+ghost use Rattle.round.specs.Rounds.{standing, StandsBeside, IsStalled, CanDrop, HandsOut, IsOfJobOut, NoneOpen, EndsWith, Refuses, TakesBack};
+ghost use Rattle.round.specs.Turning.{IsOutWith, IsOutAt};
 
 use crate::close::close_cycles;
 use crate::look::look_at_all;
@@ -97,11 +97,10 @@ fn keep<R: Rules>(
     Ok(())
 }
 
-// The state that was kept of a key is given up.
+// The state that was kept of a key is given up; false where there is none.
 fn give_up<R: Rules>(kept: &mut BTreeMap<Key, Waiting<R>>, key: &Key) -> bool
-    ensures dropped { result ≡ is_some (get key_cmp kept.old key.now) }
-    ensures gone { get key_cmp kept.new key.now ≡ None }
-    ensures fewer { FewerKept kept.old kept.new }
+    ensures given { Decides result (HasState kept.old key.now) }
+    ensures drops { DropsState kept.old kept.new key.now result }
 {
     kept.remove(key).is_some()
 }
@@ -221,14 +220,18 @@ impl<R: Rules> Round<R> {
         Ok(())
     }
 
-    /// Gives up the state that was kept of a node, if there is one: its next turn begins anew then, with all answers. It
-    /// takes no memory.
+    /// Gives up the state that was kept of a node: its next turn begins anew then, with all answers. Answers whether it did:
+    /// exactly where a state is kept and the round is not at a stall. Else nothing changes. It takes no memory.
     pub fn drop_state(&mut self, key: &Key) -> bool
-        ensures dropped { result ≡ is_some (get key_cmp self.old.kept key.now) }
-        ensures gone { get key_cmp self.new.kept key.now ≡ None }
+        ensures dropped { Decides result (CanDrop (standing self.old) self.old.kept key.now) }
+        ensures not_out { (graph : Recorded) → StandsBeside graph self.old → IsTrue result → IsOutAt self.old.table key.now → ⊥ }
+        ensures kept { DropsState self.old.kept self.new.kept key.now result }
         ensures same { standing self.new ≡ standing self.old }
         ensures beside { (graph : Recorded) → StandsBeside graph self.old → StandsBeside graph self.new }
     {
+        if self.stalled() {
+            return false;
+        }
         give_up(&mut self.kept, key)
     }
 
