@@ -25,8 +25,9 @@ use Rattle.round.specs.Frames.{KeepsSettled, KeepsFrame}
 use Rattle.round.specs.Members.{no_cycle, plain_value, all_values, AreAnswers, Answers}
 use Rattle.round.specs.Moves.{IsWholeNow}
 use Rattle.round.specs.Paused.{IsPaused, Kept, ArePaused, FewerKept, HasState, DropsState, Keeps}
-use Rattle.round.specs.Turning.{IsOutWith}
+use Rattle.round.specs.Turning.{IsOutWith, IsOutAt}
 use Rattle.round.proofs.Grouping.{never_none}
+use Rattle.round.proofs.Wanting.{some_there, none_there}
 
 -- each of these is there
 data AllSome {X : Type 0} : List (Option X) → Type 0 where
