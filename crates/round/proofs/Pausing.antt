@@ -1,5 +1,5 @@
 -- States kept between turns.
-use Rattle.std.proofs.Common.{◌≡◌, inl, inr, ℕ, ◌-◌, Bool, false, true, cond, List, [], ◌∷◌, ◌++◌, map, Option, Some, None, refl, sym, ◌∙◌, ap, subst, length, take, drop, arith, length-append, append_assoc}
+use Rattle.std.proofs.Common.{◌≡◌, ◌≢◌, inl, inr, ℕ, ◌-◌, Bool, false, true, cond, List, [], ◌∷◌, ◌++◌, map, Option, Some, None, refl, sym, ◌∙◌, ap, subst, length, take, drop, arith, length-append, append_assoc}
 use Rattle.std.specs.Bool.{Decides}
 use Rattle.std.specs.BTreeMap.{get, Updates}
 use Rattle.std.specs.Option.{is_some}
@@ -21,7 +21,7 @@ use Rattle.open_nodes.specs.Steps.{HasPhase, HasAsked}
 use Rattle.open_nodes.specs.declared.table.Node.{Node}
 use Rattle.open_nodes.specs.declared.table.Phase.TheVariants as phase
 use Rattle.open_nodes.specs.declared.table.Table.{Table}
-use Rattle.round.specs.Frames.{KeepsSettled, KeepsFrame}
+use Rattle.round.specs.Frames.{KeepsSettled, KeepsRunning, KeepsFrameBut}
 use Rattle.round.specs.Members.{no_cycle, plain_value, all_values, AreAnswers, Answers}
 use Rattle.round.specs.Moves.{IsWholeNow}
 use Rattle.round.specs.Paused.{IsPaused, Kept, ArePaused, FewerKept, HasState, DropsState, Keeps}
@@ -72,7 +72,7 @@ module _ (old new : Recorded) (keeps : KeepsSettled old new) where
   answers_stay groups answers a = sym (all_stay groups (subst AllSome (sym a) (some_all answers))) ∙ a
 
 -- a move leaves states that are kept as they are
-pub paused_on : (old new : Recorded) (before later : Table) → KeepsFrame old new before later → (k : Key) (w : Waits) → IsPaused old before k w → IsPaused new later k w
+pub paused_on : (old new : Recorded) (before later : Table) → KeepsSettled old new × KeepsRunning before later → (k : Key) (w : Waits) → IsPaused old before k w → IsPaused new later k w
 paused_on old new before later f k w p = let n = f.1 k p.node p.there p.running in record {
   same_key = p.same_key;
   node = n.0;
@@ -84,7 +84,7 @@ paused_on old new before later f k w p = let n = f.1 k p.node p.there p.running 
   answered = answers_stay old new f.0 p.passed w.answers p.answered;
 }
 
-pub are_paused_on : (old new : Recorded) (before later : Table) (kept : Kept) → KeepsFrame old new before later → ArePaused old before kept → ArePaused new later kept
+pub are_paused_on : (old new : Recorded) (before later : Table) (kept : Kept) → KeepsSettled old new × KeepsRunning before later → ArePaused old before kept → ArePaused new later kept
 are_paused_on old new before later kept f a k w e = paused_on old new before later f k w (a k w e)
 
 pub none_paused : (graph : Recorded) (table : Table) (kept : Kept) → kept.entries ≡ [] → ArePaused graph table kept
@@ -214,4 +214,21 @@ pub kept_paused : (graph : Recorded) (table : Table) (old new : Kept) (key : Key
 kept_paused graph table old new key paused h a f k w e = elim (h k w e) [
   | inl o ↦ a k w o
   | inr p ↦ subst (λ x. IsPaused graph table x w) p.0 (f w p.1)
+]
+
+-- jobs that are out stay out, where another one comes back
+pub jobs_stay : (key : Key) (old new : Recorded) (before later : Table) → KeepsFrameBut key old new before later → (k : Key) (answers : List Value) → key ≢ k → IsOutWith old before k answers → IsOutWith new later k answers
+jobs_stay key old new before later f k answers other o = let m = f.2 k o.node other o.there o.out in record {
+  node = m.0;
+  there = m.1;
+  out = m.2;
+  answered = subst (λ (gs : List (List Key)). AreAnswers (record_at new) gs answers) (sym m.3) (answers_stay old new f.0 (groups_of o.node) answers o.answered);
+}
+
+-- jobs that are out stay out, where one is handed out
+pub jobs_beside : (graph : Recorded) (before later : Table) (key : Key) (n : Node) → node_at before.nodes key ≡ Some n → n.phase ≡ phase.Running → HasPhase before.nodes later.nodes key phase.Out
+    → (k : Key) (answers : List Value) → IsOutWith graph before k answers → IsOutWith graph later k answers
+jobs_beside graph before later key n there running h k answers o = elim (decide_key key k) [
+  | inl q ↦ absurd (not_both n running (ap (λ (x : Node). x.phase) (some_is (sym there ∙ ap (node_at before.nodes) q ∙ o.there)) ∙ o.out))
+  | inr d ↦ record { node = o.node; there = other_key before.nodes later.nodes key _ (h n there) k d ∙ o.there; out = o.out; answered = o.answered }
 ]

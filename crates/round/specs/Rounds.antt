@@ -1,5 +1,5 @@
 -- What a contract sees of a round, and how it stands beside the graph that it is lent.
-use Rattle.std.specs.Prelude.{◌≡◌, List, [], Option, Some, None, Result, Ok, Err, ⊤}
+use Rattle.std.specs.Prelude.{◌≡◌, ◌≢◌, List, [], Option, Some, None, Result, Ok, Err, ⊤}
 use Rattle.evaluation.specs.Value.{In}
 use Rattle.keys.specs.Jobs.{Asked, Outcome}
 use Rattle.keys.specs.declared.key.Key.{Key}
@@ -52,6 +52,13 @@ HandsOut graph k before later None = (In k before.table.ready.keys → ⊥) × (
 -- the job of an earlier turn of this round that is out
 abbrev pub IsOfJobOut : Recorded → Standing → Asked → Type 0
 IsOfJobOut graph s job = IsOutWith graph s.table job.key job.answers
+
+-- each other job that is out stays out, with its answers
+abbrev pub KeepsJobs : Key → Recorded → Recorded → Standing → Standing → Type 0
+KeepsJobs key old new before after = (job : Asked) → key ≢ job.key → IsOfJobOut old before job → IsOfJobOut new after job
+
+abbrev pub KeepsAllJobs : Recorded → Standing → Standing → Type 0
+KeepsAllJobs graph before after = (job : Asked) → IsOfJobOut graph before job → IsOfJobOut graph after job
 
 -- no node is open any more
 abbrev pub NoneOpen : Standing → Type 0

@@ -61,7 +61,7 @@ fn turn<R: Rules>(
         None => unreachable!(),
         Some(job) => {
             let turned = job.make(rules);
-            round.take_own(graph, tree, turned)?;
+            round.take_known(graph, tree, turned)?;
             Ok(())
         }
     }

@@ -20,7 +20,7 @@ ghost use Rattle.open_nodes.specs.Nodes.{IsOpen};
 ghost use Rattle.open_nodes.specs.Truths.{Leads};
 ghost use Rattle.round.specs.Since.{IsTrueSince, IsAfterSince};
 ghost use Rattle.round.specs.Moves.{KeepsTrue, IsWanted};
-ghost use Rattle.round.specs.Rounds.{standing, StandsBeside, IsStalled, CanDrop, HandsOut, IsOfJobOut, NoneOpen, EndsWith, Refuses, TakesBack};
+ghost use Rattle.round.specs.Rounds.{standing, StandsBeside, IsStalled, CanDrop, HandsOut, IsOfJobOut, NoneOpen, EndsWith, Refuses, TakesBack, KeepsJobs, KeepsAllJobs};
 ghost use Rattle.round.specs.Turning.{IsOutWith, IsOutAt};
 
 use crate::close::close_cycles;
@@ -166,6 +166,7 @@ impl<R: Rules> Round<R> {
         ensures hands { IfOk result (HandsOut graph.now key.now (standing self.old) (standing self.new)) }
         ensures truth { (read : Key → Option Value) → KeepsTrue read graph.now graph.now self.old.table self.new.table result }
         ensures refused { OnErr result (standing self.new ≡ standing self.old) }
+        ensures others { OnOk result (KeepsAllJobs graph.now (standing self.old) (standing self.new)) }
     {
         let name = key.share()?;
         let Some(job) = next_job(self.alloc, graph, &self.table, &mut self.kept, key)? else {
@@ -189,17 +190,19 @@ impl<R: Rules> Round<R> {
         ensures beside { OnOk result (StandsBeside graph.new self.new) }
         ensures back { OnOk result (IsOfJobOut graph.old (standing self.old) turned.asked × TakesBack (standing self.old) (standing self.new) turned.asked.key × (turned.ending ≡ Made)) }
         ensures truth { Leads R.next (leaves.read tree.now) graph.old graph.new self.old.table self.new.table result }
+        ensures others { OnOk result (KeepsJobs turned.asked.key graph.old graph.new (standing self.old) (standing self.new)) }
         ensures refused { IfErr result (Refuses graph.old graph.new (standing self.old) (standing self.new) turned) }
     {
         if !is_out_with(self.alloc, graph, &self.table, &turned)? {
             return Err(NotTaken::Stranger(turned));
         }
-        self.take_own(graph, tree, turned)?;
+        self.take_known(graph, tree, turned)?;
         Ok(())
     }
 
-    /// The same for a turn that is known to be of a job that is out.
-    pub(crate) fn take_own(
+    /// Takes a turn back that the caller knows to be of a job that is out, without comparing its answers. `Memory` where a
+    /// growth was refused, in the turn or now: the round can only be given up then, and the graph is as after a stop.
+    pub fn take_known(
         &mut self,
         graph: &mut Graph,
         tree: &Tree,
@@ -210,6 +213,7 @@ impl<R: Rules> Round<R> {
         ensures beside { OnOk result (StandsBeside graph.new self.new) }
         ensures back { OnOk result (TakesBack (standing self.old) (standing self.new) turned.asked.key) }
         ensures made { OnOk result (turned.ending ≡ Made) }
+        ensures others { OnOk result (KeepsJobs turned.asked.key graph.old graph.new (standing self.old) (standing self.new)) }
         ensures truth { Leads R.next (leaves.read tree.now) graph.old graph.new self.old.table self.new.table result }
     {
         let key = turned.key().share()?;
