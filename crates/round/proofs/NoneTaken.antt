@@ -25,6 +25,8 @@ taken_same records version start old new stall same runs h = record {
   added_each = h.added_each;
   added_all = h.added_all;
   added_differ = h.added_differ;
+  ascending = h.ascending;
+  below = λ x i k o. h.below x i k (o.0, sym (same k) ∙ o.1);
   made = λ made was. let is : HasMade old made = h.made made was in record {
     keys = is.keys;
     differ = is.differ;

@@ -11,7 +11,7 @@ use Rattle.keys.specs.declared.value.Value.{Value}
 use Rattle.node.specs.Graphs.{Recorded, record_at, IsTouched}
 use Rattle.node.specs.Laws.{IsLawfulFor}
 use Rattle.open_nodes.specs.Nodes.{IsUnsettled, IsClean}
-use Rattle.open_nodes.specs.Truths.{Past, IsReached, IsAfter, IsRunOf, IsTold, run_keys}
+use Rattle.open_nodes.specs.Truths.{Past, IsReached, IsAfter, IsRunOf, IsTold, AreBehind, AreClosedLast, run_keys}
 use Rattle.open_nodes.specs.declared.run.Run.{Run}
 use Rattle.round.specs.declared.stop.Stop.{Stop}
 
@@ -32,6 +32,10 @@ module _ (next : Key → List Value → Reply Key Value) (read : Key → Option 
     pub differ : AllDiffer (run_keys next read past runs)
     -- a key whose record is new, or has another grounded value than at the entry, has a run
     pub told : (k : Key) (r : Record Key Value) → record_at graph k ≡ Some r → IsTold next read past runs k r
+    -- a run stands behind those of its node's recorded members; only two nodes that a stall closed may stand otherwise
+    pub behind : AreBehind next read past graph runs
+    -- the nodes that a stall closed stand last, in the order of their keys
+    pub closed : AreClosedLast next read past runs
 
   -- a history for which the graph is lawful, and these roots
   pub record IsHistory (past : Past read) (roots : List Key) (graph : Recorded) : Type 0 where

@@ -19,7 +19,7 @@ ghost use Rattle.open_nodes.specs.Counted.{HasMade, MakesNone, MakesMore};
 ghost use Rattle.open_nodes.specs.Nodes.{IsOpen};
 ghost use Rattle.open_nodes.specs.Truths.{Leads};
 ghost use Rattle.round.specs.Since.{IsTrueSince, IsAfterSince};
-ghost use Rattle.round.specs.Moves.{KeepsTrue, IsWanted};
+ghost use Rattle.round.specs.Moves.{KeepsTrue, Ends, IsWanted};
 ghost use Rattle.round.specs.Rounds.{standing, StandsBeside, IsStalled, CanDrop, HandsOut, IsOfJobOut, NoneOpen, EndsWith, Refuses, TakesBack, KeepsJobs, KeepsAllJobs};
 ghost use Rattle.round.specs.Turning.{IsOutWith, IsOutAt};
 
@@ -256,7 +256,7 @@ impl<R: Rules> Round<R> {
         ensures wanted { OnOk result ((k : Key) → In k (standing self.new).roots → IsWanted graph.new self.new.table k) }
         ensures same { ((standing self.new).roots ≡ (standing self.old).roots) × ((standing self.new).out ≡ (standing self.old).out) }
         ensures turns { OnOk result (MakesNone self.old.table self.new.table) }
-        ensures truth { (read : Key → Option Value) → KeepsTrue read graph.old graph.new self.old.table self.new.table result }
+        ensures truth { (read : Key → Option Value) → Ends read graph.old graph.new self.old.table self.new.table result }
     {
         close_cycles(self.alloc, graph, &mut self.table)?;
         self.kept = BTreeMap::new(self.alloc);
