@@ -5,13 +5,12 @@ use Rattle.std.specs.BTreeMap.{Updates}
 use Rattle.evaluation.specs.Value.{AllDiffer, In, first, after}
 use Rattle.keys.specs.Keys.{key_cmp}
 use Rattle.keys.specs.declared.key.Key.{Key}
-use Rattle.node.proofs.Lists.{decide_key, none_some, other_key}
+use Rattle.node.proofs.Lists.{decide_key, other_key}
 use Rattle.open_nodes.specs.Nodes.{Nodes, node_at, IsOpen}
 use Rattle.open_nodes.specs.Counted.{turns_of, asked_by, asked_at, HasMade, MakesMore, MakesNone}
-use Rattle.open_nodes.specs.Steps.{HasEntered, HasPhase, HasWatcher, HasAsked, HasLeft, HasNoted, SameRuns}
+use Rattle.open_nodes.specs.Steps.{SameRuns}
 use Rattle.open_nodes.specs.declared.run.Run.{Run}
 use Rattle.open_nodes.specs.declared.table.Node.{Node}
-use Rattle.open_nodes.specs.declared.table.Phase.{Phase}
 use Rattle.open_nodes.specs.declared.table.Table.{Table}
 
 pub turns_snoc : (runs : List Run) (x : Run) → turns_of (runs ++ x ∷ []) ≡ turns_of runs + x.turns

@@ -1,11 +1,10 @@
 -- What is true of a round stays true, where one node changes and where one key is settled.
-use Rattle.std.proofs.Common.{◌≡◌, ◌≢◌, ◌⊎◌, inl, inr, ℕ, ◌+◌, ◌<◌, ◌≤◌, suc, true, false, List, [], ◌∷◌, ◌++◌, length, map, Option, Some, None, refl, sym, ◌∙◌, ap, subst}
+use Rattle.std.proofs.Common.{◌≡◌, ◌≢◌, ◌⊎◌, inl, inr, ℕ, true, false, List, [], ◌∷◌, ◌++◌, map, Option, Some, None, refl, sym, ◌∙◌, ap, subst}
 use Rattle.std.specs.List.{AllByRecursion}
-use Rattle.std.specs.BTreeMap.{Updates, get}
-use Rattle.evaluation.specs.Reply.{Reply, Ask, Done}
-use Rattle.evaluation.specs.Value.{Grounded, is_leaf, has_run, Turns, ends, asks, AllGrounded, none, one, IsUngrounded, AllDiffer, Settles, leaf, run, closed, In, first, after, IsMember}
-use Rattle.evaluation.specs.Graph.{Record, Lawful}
-use Rattle.evaluation.specs.Journal.{RunIsJustified, never_settled, dependency_differs, ReadIsJustified, never_read, edited}
+use Rattle.std.specs.BTreeMap.{Updates}
+use Rattle.evaluation.specs.Reply.{Reply}
+use Rattle.evaluation.specs.Value.{Grounded, is_leaf, has_run, IsUngrounded, AllDiffer, Settles, leaf, run, closed, In, first, after, IsMember}
+use Rattle.evaluation.specs.Graph.{Record}
 use Rattle.evaluation.proofs.Closed.{ungrounded}
 use Rattle.evaluation.proofs.Plain.{of_grounded}
 use Rattle.keys.specs.Cycles.{cycle}
@@ -13,13 +12,14 @@ use Rattle.keys.specs.Keys.{key_cmp}
 use Rattle.keys.specs.Turns.{NoCycle}
 use Rattle.keys.specs.declared.key.Key.{Key}
 use Rattle.keys.specs.declared.value.Value.{Value}
-use Rattle.node.specs.Graphs.{Recorded, record_at, present, Sets, IsTouched}
+use Rattle.node.specs.Graphs.{Recorded, record_at, present, Sets}
 use Rattle.node.specs.Laws.{IsLawfulFor}
-use Rattle.node.proofs.Lists.{some_is, none_some, true_false, decide_key, other_key, in_split, in_left, in_one}
-use Rattle.open_nodes.specs.Nodes.{Nodes, node_at, groups_of, IsUnsettled}
-use Rattle.open_nodes.specs.Truths.{IsNext, Past, IsReached, IsSince, IsAfter, IsDoing, IsRun, IsOpenTruly, IsItem, IsRunOf, run_keys, IsTold, IsTrueOf}
+use Rattle.node.proofs.Lists.{some_is, none_some, true_false, decide_key, other_key, in_split, in_left, in_right, in_one}
+use Rattle.open_nodes.specs.Nodes.{Nodes, node_at, groups_of, IsUnsettled, IsClean}
+use Rattle.open_nodes.specs.Truths.{IsNext, Past, IsReached, IsSince, IsAfter, IsDoing, IsOpenTruly, IsItem, IsRunOf, run_keys, IsTold, AreBehind, IsTrueOf}
 use Rattle.open_nodes.specs.declared.run.Run.{Run}
 use Rattle.open_nodes.specs.declared.table.Node.{Node}
+use Rattle.open_nodes.proofs.Orders.{split_snoc}
 use Rattle.open_nodes.proofs.Wholes.{unsettled_not_clean}
 
 -- a key that is none of the list may be put behind it
@@ -89,6 +89,14 @@ module _ (next : Key → List Value → Reply Key Value) (read : Key → Option 
         go (run h t) p = absurd (p (of_now (has_run h t)))
         go (closed h s c) p = ungrounded next read h s
 
+    -- the members of a settled node are settled
+    pub member_clean : (k : Key) (r : Record Key Value) → record_at graph k ≡ Some r → r.dirty ≡ false → (j : Key) → IsMember j r.groups → IsClean (record_at graph) j
+    member_clean k r e d j m = let o = (a.lawful.each k r e).depends j m in (o.of_j, o.recorded, go o.of_j.dirty refl o.dirty_above)
+      where
+        go : {x : _} → (b : _) → x ≡ b → (x ≡ true → r.dirty ≡ true) → x ≡ false
+        go false q f = q
+        go true q f = absurd (true_false (f q) d)
+
   -- one node is set
   pub truth_changes : (graph : Recorded) (nodes later : Nodes) (runs : List Run) (k : Key) (n : Node) → Updates key_cmp nodes later k (Some n)
       → IsTrueOf next read past graph nodes runs → read k ≡ None → IsReached next read past k → record_at graph k ≡ record_at past.entry k → IsDoing next read past k (groups_of n) n.phase
@@ -103,6 +111,8 @@ module _ (next : Key → List Value → Reply Key Value) (read : Key → Option 
     ran = t.ran;
     differ = t.differ;
     told = t.told;
+    behind = t.behind;
+    grounded = t.grounded;
   }
 
   -- one key is settled, and leaves the open nodes
@@ -139,6 +149,16 @@ module _ (next : Key → List Value → Reply Key Value) (read : Key → Option 
     run_stays : (x : Run) → IsRunOf next read past graph x → IsRunOf next read past new x
     run_stays x o = record { of_key = o.of_key; recorded = keeps x.key o.of_key o.recorded o.clean; clean = o.clean; version = o.version; item = o.item }
 
+    -- a run's node has the record that it had
+    same_record : (x : Run) → In x runs → (w : Record Key Value) → record_at new x.key ≡ Some w → record_at graph x.key ≡ Some w
+    same_record x i w e = let o = t.ran x i in o.recorded ∙ (sym (keeps x.key o.of_key o.recorded o.clean) ∙ e)
+
+    at_place : (before rest : List Run) (x : Run) → runs ≡ before ++ x ∷ rest → In x runs
+    at_place before rest x e = subst (In x) (sym e) (in_right before first)
+
+    behind_still : AreBehind next read past new runs
+    behind_still before rest x e w f j m i apart = t.behind before rest x e w (same_record x (at_place before rest x e) w f) j m i apart
+
     -- without a run: its value is that of the entry, or that of a cycle
     pub settles_quietly : (s : Record Key Value) → record_at past.entry k ≡ Some s → (r.value ≡ s.value) ⊎ IsUngrounded next read k → IsTrueOf next read past new left runs
     settles_quietly s e same = record {
@@ -150,10 +170,13 @@ module _ (next : Key → List Value → Reply Key Value) (read : Key → Option 
         | inl q ↦ subst (λ (y : Key). IsTold next read past runs y w) q (inr (s, e, subst (λ (z : Record Key Value). (z.value ≡ s.value) ⊎ IsUngrounded next read k) (some_is (sym sets.there ∙ ap (record_at new) q ∙ f)) same))
         | inr n ↦ t.told j w (sym (sets.others j n) ∙ f)
       ];
+      behind = behind_still;
+      grounded = t.grounded;
     }
 
-    -- with a run
-    module _ (x : Run) (of_k : x.key ≡ k) (now : x.version ≡ graph.version) (item : IsItem next read past x r) where
+    -- with a run, where its members were settled before
+    module _ (x : Run) (of_k : x.key ≡ k) (now : x.version ≡ graph.version) (item : IsItem next read past x r)
+        (members : (j : Key) → IsMember j r.groups → IsClean (record_at graph) j) (is_grounded : Grounded next read k r.value) where
       apart : (y : Key) → In y (run_keys next read past runs) → y ≢ k
       apart y i q = let w = in_map (λ (z : Run). z.key) runs i in let o = t.ran w.0 w.1 in
           unsettled_not_clean (record_at graph k) o.of_key was (ap (record_at graph) (sym (w.2 ∙ q)) ∙ o.recorded) o.clean
@@ -165,6 +188,26 @@ module _ (next : Key → List Value → Reply Key Value) (read : Key → Option 
       in_last : (ys : List Key) → In k (ys ++ x.key ∷ [])
       in_last [] = subst (λ y. In k (y ∷ [])) (sym of_k) first
       in_last (y ∷ ys) = after (in_last ys)
+
+      -- a settled key is none of those that are settled now
+      among_old : (j : Key) → IsClean (record_at graph) j → In j (run_keys next read past (runs ++ x ∷ [])) → In j (run_keys next read past runs)
+      among_old j c i = elim (in_split (subst (In j) (map_snoc (λ (z : Run). z.key) runs x) i) (run_keys next read past runs) (x.key ∷ []) refl) [
+        | inl o ↦ o
+        | inr o ↦ absurd (unsettled_not_clean (record_at graph k) c.0 was (ap (record_at graph) (sym (in_one o ∙ of_k)) ∙ c.1) c.2)
+      ]
+
+      behind_more : AreBehind next read past new (runs ++ x ∷ [])
+      behind_more before rest y e w f j m i lost = elim (split_snoc runs x before rest y e) [
+        | inl l ↦
+            let at = at_place before l.0 y l.2 in
+            let was_so = same_record y at w f in
+            let o = t.ran y at in
+            let clean : w.dirty ≡ false = ap (λ (z : Record Key Value). z.dirty) (some_is (sym was_so ∙ o.recorded)) ∙ o.clean in
+            t.behind before l.0 y l.2 w was_so j m (among_old j (member_clean graph t.after y.key w was_so clean j m) i) lost
+        | inr l ↦
+            let is : r ≡ w = some_is (sym sets.there ∙ ap (record_at new) (sym of_k ∙ ap (λ (z : Run). z.key) l.1) ∙ f) in
+            subst (λ (zs : List Run). In j (run_keys next read past zs)) (sym l.0) (among_old j (members j (subst (λ (z : Record Key Value). IsMember j z.groups) (sym is) m)) i)
+      ]
 
       pub settles_by_run : IsTrueOf next read past new left (runs ++ x ∷ [])
       settles_by_run = record {
@@ -179,5 +222,10 @@ module _ (next : Key → List Value → Reply Key Value) (read : Key → Option 
         told = λ j w f. elim (decide_key k j) [
           | inl q ↦ inl (subst (λ y. In y (run_keys next read past (runs ++ x ∷ []))) q (subst (In k) (sym (map_snoc (λ (z : Run). z.key) runs x)) (in_last (run_keys next read past runs))))
           | inr n ↦ more j w (t.told j w (sym (sets.others j n) ∙ f))
+        ];
+        behind = behind_more;
+        grounded = λ y i. elim (in_split i runs (x ∷ []) refl) [
+          | inl o ↦ t.grounded y o
+          | inr o ↦ (r.value, subst (λ z. Grounded next read z r.value) (sym of_k ∙ ap (λ (z : Run). z.key) (sym (in_one o))) is_grounded)
         ];
       }

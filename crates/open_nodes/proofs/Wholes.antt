@@ -1,6 +1,6 @@
 -- The open nodes stay as they have to stand, where one node changes, where one is settled, and where one is found to be blocked.
-use Rattle.std.proofs.Common.{◌≡◌, ◌≢◌, ◌⊎◌, inl, inr, ℕ, ◌≤◌, true, false, List, [], ◌∷◌, ◌++◌, take, Option, Some, None, refl, sym, ◌∙◌, ap, subst}
-use Rattle.std.specs.BTreeMap.{Updates, get}
+use Rattle.std.proofs.Common.{◌≡◌, ◌≢◌, ◌⊎◌, inl, inr, ℕ, true, false, List, [], ◌∷◌, ◌++◌, Option, Some, None, refl, sym, ◌∙◌, ap, subst}
+use Rattle.std.specs.BTreeMap.{Updates}
 use Rattle.std.specs.declared.alloc.Global.{Global}
 use Rattle.std.specs.declared.vec.Vec.{Vec}
 use Rattle.node.specs.Kept.{items_of}
@@ -8,12 +8,11 @@ use Rattle.node.specs.Edges.{IsAdded}
 use Rattle.evaluation.specs.Graph.{Record}
 use Rattle.evaluation.specs.Value.{In, IsMember, first, after}
 use Rattle.keys.specs.Keys.{key_cmp}
-use Rattle.keys.specs.Turns.{NoCycle}
 use Rattle.keys.specs.declared.key.Key.{Key}
 use Rattle.keys.specs.declared.value.Value.{Value}
 use Rattle.node.specs.Graphs.{present}
 use Rattle.node.proofs.Lists.{some_is, none_some, true_false, decide_key, other_key}
-use Rattle.open_nodes.specs.Nodes.{Nodes, Records, node_at, groups_of, IsOpen, IsUnsettled, IsClean, IsPlain, IsStill, AreButLast, Stands, Holds, AreReady, IsCurrent, KeepsBack, IsBlocked, AreBlocked, IsWhole, Widens}
+use Rattle.open_nodes.specs.Nodes.{Nodes, Records, node_at, groups_of, IsOpen, IsUnsettled, IsClean, IsPlain, IsStill, Stands, IsCurrent, KeepsBack, IsBlocked, IsWhole, Widens}
 use Rattle.open_nodes.specs.declared.table.Node.{Node}
 use Rattle.open_nodes.specs.declared.table.Phase.{Phase}
 use Rattle.open_nodes.specs.declared.table.Phase.TheVariants as phase

@@ -1,5 +1,5 @@
 -- The open nodes of a round beside the graph, as they stand. `records` gives the graph's record of a key.
-use Rattle.std.specs.Prelude.{◌≡◌, ◌≢◌, ◌⊎◌, ℕ, ◌≤◌, List, [], ◌∷◌, ◌++◌, take, drop, true, false, Option, Some, None}
+use Rattle.std.specs.Prelude.{◌≡◌, ◌≢◌, ◌⊎◌, ℕ, ◌≤◌, List, [], ◌∷◌, ◌++◌, take, drop, false, Option, Some, None}
 use Rattle.std.specs.BTreeMap.{BTreeMap, get}
 use Rattle.evaluation.specs.Graph.{Record}
 use Rattle.evaluation.specs.Value.{In, IsMember}

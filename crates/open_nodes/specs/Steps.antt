@@ -1,10 +1,9 @@
 -- What one step does to the table.
-use Rattle.std.specs.Prelude.{◌≡◌, ◌⊎◌, ℕ, List, [], ◌∷◌, ◌++◌, Option, Some, None}
+use Rattle.std.specs.Prelude.{◌≡◌, List, [], ◌∷◌, ◌++◌, Some, None}
 use Rattle.std.specs.BTreeMap.{Updates}
-use Rattle.std.specs.BTreeSet.{BTreeSet}
 use Rattle.keys.specs.Keys.{key_cmp}
 use Rattle.keys.specs.declared.key.Key.{Key}
-use Rattle.node.specs.Edges.{IsAdded, IsRemoved}
+use Rattle.node.specs.Edges.{IsAdded}
 use Rattle.open_nodes.specs.Nodes.{Nodes, node_at, groups_of, pending}
 use Rattle.open_nodes.specs.declared.run.Run.{Run}
 use Rattle.open_nodes.specs.declared.table.Node.{Node}

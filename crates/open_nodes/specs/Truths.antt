@@ -1,12 +1,14 @@
 -- What is true of a round: of the graph since the entry, of the open nodes, and of the runs so far.
-use Rattle.std.specs.Prelude.{◌≡◌, ◌≢◌, ◌⊎◌, ℕ, ◌+◌, suc, List, [], ◌∷◌, ◌++◌, length, map, true, false, Option, Some, None, Result, Ok, Err, ⊤}
+use Rattle.std.specs.Prelude.{◌≡◌, ◌⊎◌, ℕ, suc, List, [], ◌∷◌, ◌++◌, length, map, false, Option, Some, None, Result, Ok, Err, ⊤}
 use Rattle.std.specs.List.{AllByRecursion}
+use Rattle.std.specs.declared.cmp.Ordering.TheVariants.{Less}
 use Rattle.evaluation.specs.Reply.{Reply, Ask, Done}
-use Rattle.evaluation.specs.Value.{Grounded, AllGrounded, IsUngrounded, AllDiffer, In}
+use Rattle.evaluation.specs.Value.{Grounded, AllGrounded, IsUngrounded, AllDiffer, In, IsMember}
 use Rattle.evaluation.specs.Graph.{Record}
 use Rattle.evaluation.specs.Reached.{Reached}
 use Rattle.evaluation.specs.Journal.{RunIsJustified, ReadIsJustified}
 use Rattle.keys.specs.Cycles.{cycle}
+use Rattle.keys.specs.Keys.{key_cmp}
 use Rattle.keys.specs.Turns.{NoCycle}
 use Rattle.keys.specs.declared.key.Key.{Key}
 use Rattle.keys.specs.declared.value.Value.{Value}
@@ -99,12 +101,34 @@ module _ (next : Key → List Value → Reply Key Value) (read : Key → Option 
   abbrev pub IsTold : List Run → Key → Record Key Value → Type 0
   IsTold runs k r = In k (run_keys runs) ⊎ ((s : Record Key Value) × (record_at past.entry k ≡ Some s) × ((r.value ≡ s.value) ⊎ IsUngrounded next read k))
 
+  -- each run stands behind the runs of those members that its node's record has, unless neither of the two nodes is grounded
+  abbrev pub AreBehind : Recorded → List Run → Type 0
+  AreBehind graph runs = (before rest : List Run) (run : Run) → runs ≡ before ++ run ∷ rest → (r : Record Key Value) → record_at graph run.key ≡ Some r
+      → (j : Key) → IsMember j r.groups → In j (run_keys runs) → (IsUngrounded next read run.key → IsUngrounded next read j → ⊥) → In j (run_keys before)
+
+  -- behind a node that is not grounded, which a stall closed, stand only such nodes, in the order of their keys
+  abbrev pub AreClosedLast : List Run → Type 0
+  AreClosedLast runs = (before rest : List Run) (run : Run) → runs ≡ before ++ run ∷ rest → IsUngrounded next read run.key
+      → (later : Run) → In later rest → IsUngrounded next read later.key × (key_cmp run.key later.key ≡ Less)
+
   pub record IsTrueOf (graph : Recorded) (nodes : Nodes) (runs : List Run) : Type 0 where
     pub after : IsAfter graph
     pub opened : (k : Key) (n : Node) → node_at nodes k ≡ Some n → IsOpenTruly graph k n
     pub ran : (run : Run) → In run runs → IsRunOf graph run
     pub differ : AllDiffer (run_keys runs)
     pub told : (k : Key) (r : Record Key Value) → record_at graph k ≡ Some r → IsTold runs k r
+    pub behind : AreBehind graph runs
+    -- no stall was closed yet
+    pub grounded : (run : Run) → In run runs → (v : Value) × Grounded next read run.key v
+
+  -- what is true once a stall was closed: no node is open any more
+  pub record IsTrueAtEnd (graph : Recorded) (runs : List Run) : Type 0 where
+    pub after : IsAfter graph
+    pub ran : (run : Run) → In run runs → IsRunOf graph run
+    pub differ : AllDiffer (run_keys runs)
+    pub told : (k : Key) (r : Record Key Value) → record_at graph k ≡ Some r → IsTold runs k r
+    pub behind : AreBehind graph runs
+    pub closed : AreClosedLast runs
 
 -- where the state was true before, it is after; and after want of memory the graph is as after a stop
 abbrev pub Leads : {X E : Type 0} → (Key → List Value → Reply Key Value) → (Key → Option Value) → Recorded → Recorded → Table → Table → Result X E → Type 0
@@ -115,3 +139,8 @@ Leads next read old new before after (Err e) = (laws : IsNext next) (past : Past
 abbrev pub LeadsOf : {X E : Type 0} → (Key → List Value → Reply Key Value) → (Key → Option Value) → List Key → Recorded → Recorded → Table → Table → Result X E → Type 0
 LeadsOf next read keys old new before after (Ok x) = (laws : IsNext next) (past : Past read) → AreReached next read past keys → IsTrueOf next read past old before.nodes before.runs.items → IsTrueOf next read past new after.nodes after.runs.items
 LeadsOf next read keys old new before after (Err e) = (laws : IsNext next) (past : Past read) → AreReached next read past keys → IsTrueOf next read past old before.nodes before.runs.items → IsAfter next read past new
+
+-- where the state was true before, what is true at the end is; and after want of memory the graph is as after a stop
+abbrev pub LeadsToEnd : {X E : Type 0} → (Key → List Value → Reply Key Value) → (Key → Option Value) → Recorded → Recorded → Table → Table → Result X E → Type 0
+LeadsToEnd next read old new before after (Ok x) = (laws : IsNext next) (past : Past read) → IsTrueOf next read past old before.nodes before.runs.items → IsTrueAtEnd next read past new after.runs.items
+LeadsToEnd next read old new before after (Err e) = (laws : IsNext next) (past : Past read) → IsTrueOf next read past old before.nodes before.runs.items → IsAfter next read past new

@@ -19,16 +19,17 @@ use Rattle.node.specs.Kept.{items_of}
 use Rattle.node.specs.Laws.{IsLawfulFor, BatchKeepsLawful}
 use Rattle.node.specs.Writes.{stored}
 use Rattle.node.specs.declared.entry.Entry.{Entry}
-use Rattle.node.proofs.Lists.{some_is, none_some, true_false, in_split, in_left, in_right}
+use Rattle.node.proofs.Lists.{some_is, true_false, in_split, in_left, in_right}
 use Rattle.open_nodes.specs.Nodes.{Records, node_at, groups_of, IsOpen, IsUnsettled, IsPlain, Stands}
-use Rattle.open_nodes.specs.Truths.{IsNext, Past, IsSince, IsAfter, IsDoing, IsOpenTruly, IsRunOf, run_keys, IsTold, IsTrueOf}
+use Rattle.open_nodes.specs.Truths.{IsNext, Past, IsSince, IsAfter, IsDoing, IsOpenTruly, IsRunOf, run_keys, IsTold, AreBehind, AreClosedLast, IsTrueOf, IsTrueAtEnd}
 use Rattle.open_nodes.specs.declared.run.Run.{Run}
 use Rattle.open_nodes.specs.declared.table.Node.{Node}
 use Rattle.open_nodes.specs.declared.table.Phase.{Phase}
 use Rattle.open_nodes.specs.declared.table.Phase.TheVariants as phase
 use Rattle.open_nodes.specs.declared.table.Table.{Table}
 use Rattle.open_nodes.proofs.Counting.{decide_in}
-use Rattle.open_nodes.proofs.Settlings.{now_is, clean_settles, plain_grounded, cycle_ungrounded, in_map}
+use Rattle.open_nodes.proofs.Orders.{split_join}
+use Rattle.open_nodes.proofs.Settlings.{now_is, clean_settles, member_clean, plain_grounded, cycle_ungrounded, in_map}
 use Rattle.open_nodes.proofs.Wholes.{unsettled_not_clean}
 use Rattle.round.specs.Closing.{HasTurnedBy, HasTurned, stop_at, HasTaken, IsIdle}
 use Rattle.round.specs.Members.{plain_value}
@@ -321,14 +322,59 @@ module _ (old : Recorded) (start later : Table) (stall : Stall) (w : IsWholeNow 
         go phase.Running q s = has_run (subst (λ p. HasTurnedBy p true) (sym q) refl)
         go phase.Out q s = has_run (subst (λ p. HasTurnedBy p true) (sym q) refl)
 
-    pub closed_true : IsTrueOf next read past new later.nodes later.runs.items
-    closed_true = subst (λ (x : List Run). IsTrueOf next read past new later.nodes x) (sym t.runs) (record {
+    start_place : (before rest : List Run) (x : Run) → start.runs.items ≡ before ++ x ∷ rest → In x start.runs.items
+    start_place before rest x e = subst (In x) (sym e) (in_right before first)
+
+    added_place : (before rest : List Run) (x : Run) → t.added ≡ before ++ x ∷ rest → In x t.added
+    added_place before rest x e = subst (In x) (sym e) (in_right before first)
+
+    -- a closed node that made turns is not grounded
+    added_lost : (x : Run) → In x t.added → IsUngrounded next read x.key
+    added_lost x i = let r = t.added_each x i in subst (IsUngrounded next read) (sym r.same_key) (closed_ungrounded r.closed r.among)
+
+    key_lost : (j : Key) → In j (run_keys next read past t.added) → IsUngrounded next read j
+    key_lost j i = let x = in_map (λ (z : Run). z.key) t.added i in subst (IsUngrounded next read) x.2 (added_lost x.0 x.1)
+
+    -- a key that was settled is none of those that are closed
+    not_added : (j : Key) (s : Record Key Value) → records j ≡ Some s → s.dirty ≡ false → In j (run_keys next read past t.added) → ⊥
+    not_added j s e d i =
+        let y = in_map (λ (z : Run). z.key) t.added i in
+        let r = t.added_each y.0 y.1 in
+        not_entry j s e d (subst (λ z. In z (keys_of entries)) (sym r.same_key ∙ y.2) (a.has r.closed r.among))
+
+    closed_behind : AreBehind next read past new all_runs
+    closed_behind before rest x e r f j m i lost = elim (split_join start.runs.items t.added before rest x e) [
+      | inl l ↦
+          let at = start_place before l.0 x l.2 in
+          let o = h.ran x at in
+          let same : o.of_key ≡ r = some_is (sym (clean_stays x.key o.of_key o.recorded o.clean) ∙ f) in
+          let was : records x.key ≡ Some r = o.recorded ∙ ap (λ (z : Record Key Value). Some z) same in
+          let c = member_clean next read laws past old h.after x.key r was (ap (λ (z : Record Key Value). z.dirty) (sym same) ∙ o.clean) j m in
+          h.behind before l.0 x l.2 r was j m (elim (in_split (subst (In j) keys_joined i) (run_keys next read past start.runs.items) (run_keys next read past t.added) refl) [
+            | inl b ↦ b
+            | inr b ↦ absurd (not_added j c.0 c.1 c.2 b)
+          ]) lost
+      | inr l ↦ elim (in_split (subst (In j) keys_joined i) (run_keys next read past start.runs.items) (run_keys next read past t.added) refl) [
+        | inl b ↦ subst (λ (zs : List Run). In j (run_keys next read past zs)) (sym l.1) (subst (In j) (sym (map_join (λ (z : Run). z.key) start.runs.items l.0)) (in_left (run_keys next read past l.0) b))
+        | inr b ↦ absurd (lost (added_lost x (added_place l.0 rest x l.2)) (key_lost j b))
+      ]
+    ]
+
+    closed_last : AreClosedLast next read past all_runs
+    closed_last before rest x e u y i = elim (split_join start.runs.items t.added before rest x e) [
+      | inl l ↦ let g = h.grounded x (start_place before l.0 x l.2) in absurd (u g.0 g.1)
+      | inr l ↦ (added_lost y (subst (In y) (sym l.2) (in_right l.0 (after i))), t.ascending l.0 rest x l.2 y i)
+    ]
+
+    pub closed_end : IsTrueAtEnd next read past new later.runs.items
+    closed_end = subst (λ (x : List Run). IsTrueAtEnd next read past new x) (sym t.runs) (record {
       after = closed_after;
-      opened = λ k n e. absurd (none_some (sym (none k) ∙ e));
       ran = λ x i. elim (in_split i start.runs.items t.added refl) [ inl j ↦ run_stays x (h.ran x j) | inr j ↦ added_run x j ];
       differ = subst AllDiffer (sym keys_joined) (differ_join (run_keys next read past start.runs.items) (run_keys next read past t.added) h.differ t.added_differ runs_apart);
       told = λ j r e. elim (decide_in j (keys_of entries)) [
         | inl i ↦ let x = entry_of j i in subst (λ k. IsTold next read past all_runs k r) x.2 (told_entry x.0 x.1 r)
         | inr n ↦ told_more j r (h.told j r (sym (sets.others j n) ∙ e))
       ];
+      behind = closed_behind;
+      closed = closed_last;
     })

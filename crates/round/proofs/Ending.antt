@@ -13,7 +13,7 @@ use Rattle.node.specs.Kept.{items_of}
 use Rattle.node.specs.Writes.{stored, HasReadyMembers}
 use Rattle.node.specs.Laws.{SettlingKeepsLawful}
 use Rattle.node.proofs.Lists.{some_is, none_some, decide_key, other_key, in_left, in_right}
-use Rattle.open_nodes.specs.Nodes.{Nodes, Records, node_at, groups_of, pending, IsUnsettled, Stands, IsWhole, AreOut}
+use Rattle.open_nodes.specs.Nodes.{Nodes, Records, node_at, groups_of, pending, IsUnsettled, IsPlain, Stands, IsWhole, AreOut}
 use Rattle.open_nodes.specs.Steps.{HasLeft, HasNoted}
 use Rattle.open_nodes.specs.Truths.{IsNext, Past, IsAfter, IsTrueOf, IsOpenTruly, IsDoing, IsRun, Asks, nothing, last, more}
 use Rattle.open_nodes.specs.declared.run.Run.{Run}
@@ -142,8 +142,12 @@ module _ (old new : Recorded) (before mid later : Table) (k : Key) (v : Value) (
       subst (λ (x : Nodes). IsTrueOf next read past new x later.runs.items) (sym noted.nodes) (subst (λ (x : List Run). IsTrueOf next read past new mid.nodes x) (sym (noted.runs ∙ ap (λ (xs : List Run). xs ++ record { key = k; version = at; turns = turns } ∷ []) left.runs))
       (settles_by_run next read laws past old new before.nodes mid.nodes before.runs.items k (stored (record_at old k) v (groups_of o.node) old.version) t version sets was refl h.reached refl
       (keeps next past.reads past.edits t.after.lawful (subst (λ f. Settles next f cycle k (groups_of o.node) v) (sym present_now) (run h.no_leaf its_turns)))
-      left.gone others_stay (record { key = k; version = at; turns = turns }) refl now (inr (h.no_leaf, does.justified, inl (has_run h.no_leaf its_turns, count)))))
+      left.gone others_stay (record { key = k; version = at; turns = turns }) refl now (inr (h.no_leaf, does.justified, inl (has_run h.no_leaf its_turns, count)))
+      (λ j m. let p = its_members j m in (p.0, p.1, p.2)) (has_run h.no_leaf its_turns)))
     where
+      its_members : (j : Key) → IsMember j (groups_of o.node) → IsPlain (record_at old) j
+      its_members = subst (λ (p : Phase). Stands (record_at old) k (groups_of o.node) p) o.out (w.holds k o.node o.there).1
+
       h : IsOpenTruly next read past old k o.node
       h = t.opened k o.node o.there
 

@@ -16,3 +16,4 @@ pub mod Rotations
 pub mod Framing
 pub mod Pausing
 pub mod NoneTaken
+pub mod NextTurns

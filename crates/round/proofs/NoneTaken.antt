@@ -1,9 +1,8 @@
 -- Where no node is open, none is taken.
-use Rattle.std.proofs.Common.{◌≡◌, ℕ, ◌+◌, List, [], ◌∷◌, refl, sym, ◌∙◌, ap}
+use Rattle.std.proofs.Common.{◌≡◌, ℕ, ◌+◌, List, [], ◌∷◌, refl, sym, ◌∙◌}
 use Rattle.keys.specs.declared.key.Key.{Key}
 use Rattle.open_nodes.specs.Counted.{asked_by, asked_at, turns_of, HasMade}
 use Rattle.open_nodes.specs.Nodes.{Nodes, Records, node_at}
-use Rattle.open_nodes.specs.declared.run.Run.{Run}
 use Rattle.open_nodes.specs.declared.table.Table.{Table}
 use Rattle.round.specs.Closing.{HasTaken}
 use Rattle.round.specs.declared.closing.Stall.{Stall}
@@ -26,6 +25,8 @@ taken_same records version start old new stall same runs h = record {
   added_each = h.added_each;
   added_all = h.added_all;
   added_differ = h.added_differ;
+  ascending = h.ascending;
+  below = λ x i k o. h.below x i k (o.0, sym (same k) ∙ o.1);
   made = λ made was. let is : HasMade old made = h.made made was in record {
     keys = is.keys;
     differ = is.differ;

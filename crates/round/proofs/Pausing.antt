@@ -1,6 +1,8 @@
 -- States kept between turns.
-use Rattle.std.proofs.Common.{◌≡◌, inl, inr, ℕ, ◌-◌, false, true, cond, List, [], ◌∷◌, ◌++◌, map, Option, Some, None, refl, sym, ◌∙◌, ap, subst, length, take, drop, arith, length-append, append_assoc}
+use Rattle.std.proofs.Common.{◌≡◌, ◌≢◌, inl, inr, ℕ, ◌-◌, Bool, false, true, cond, List, [], ◌∷◌, ◌++◌, map, Option, Some, None, refl, sym, ◌∙◌, ap, subst, length, take, drop, arith, length-append, append_assoc}
+use Rattle.std.specs.Bool.{Decides}
 use Rattle.std.specs.BTreeMap.{get, Updates}
+use Rattle.std.specs.Option.{is_some}
 use Rattle.std.proofs.Math.Seq.{drop-append_seam, take_all}
 use Rattle.std.proofs.lemmas.List.{map-append, drop-map, length-map, length-drop}
 use Rattle.std.specs.declared.alloc.Global.{Global}
@@ -19,12 +21,13 @@ use Rattle.open_nodes.specs.Steps.{HasPhase, HasAsked}
 use Rattle.open_nodes.specs.declared.table.Node.{Node}
 use Rattle.open_nodes.specs.declared.table.Phase.TheVariants as phase
 use Rattle.open_nodes.specs.declared.table.Table.{Table}
-use Rattle.round.specs.Frames.{KeepsSettled, KeepsFrame}
+use Rattle.round.specs.Frames.{KeepsSettled, KeepsRunning, KeepsFrameBut}
 use Rattle.round.specs.Members.{no_cycle, plain_value, all_values, AreAnswers, Answers}
 use Rattle.round.specs.Moves.{IsWholeNow}
-use Rattle.round.specs.Paused.{IsPaused, Kept, ArePaused, FewerKept, Keeps}
-use Rattle.round.specs.Turning.{IsOutWith}
+use Rattle.round.specs.Paused.{IsPaused, Kept, ArePaused, FewerKept, HasState, DropsState, Keeps}
+use Rattle.round.specs.Turning.{IsOutWith, IsOutAt}
 use Rattle.round.proofs.Grouping.{never_none}
+use Rattle.round.proofs.Wanting.{some_there, none_there}
 
 -- each of these is there
 data AllSome {X : Type 0} : List (Option X) → Type 0 where
@@ -69,7 +72,7 @@ module _ (old new : Recorded) (keeps : KeepsSettled old new) where
   answers_stay groups answers a = sym (all_stay groups (subst AllSome (sym a) (some_all answers))) ∙ a
 
 -- a move leaves states that are kept as they are
-pub paused_on : (old new : Recorded) (before later : Table) → KeepsFrame old new before later → (k : Key) (w : Waits) → IsPaused old before k w → IsPaused new later k w
+pub paused_on : (old new : Recorded) (before later : Table) → KeepsSettled old new × KeepsRunning before later → (k : Key) (w : Waits) → IsPaused old before k w → IsPaused new later k w
 paused_on old new before later f k w p = let n = f.1 k p.node p.there p.running in record {
   same_key = p.same_key;
   node = n.0;
@@ -81,7 +84,7 @@ paused_on old new before later f k w p = let n = f.1 k p.node p.there p.running 
   answered = answers_stay old new f.0 p.passed w.answers p.answered;
 }
 
-pub are_paused_on : (old new : Recorded) (before later : Table) (kept : Kept) → KeepsFrame old new before later → ArePaused old before kept → ArePaused new later kept
+pub are_paused_on : (old new : Recorded) (before later : Table) (kept : Kept) → KeepsSettled old new × KeepsRunning before later → ArePaused old before kept → ArePaused new later kept
 are_paused_on old new before later kept f a k w e = paused_on old new before later f k w (a k w e)
 
 pub none_paused : (graph : Recorded) (table : Table) (kept : Kept) → kept.entries ≡ [] → ArePaused graph table kept
@@ -92,6 +95,16 @@ none_paused graph table kept q k w e = absurd (none_some (sym empty ∙ e))
 
 pub fewer_paused : (graph : Recorded) (table : Table) (old new : Kept) → FewerKept old new → ArePaused graph table old → ArePaused graph table new
 fewer_paused graph table old new f a k w e = a k w (f k w e)
+
+not_both : (n : Node) → n.phase ≡ phase.Running → n.phase ≡ phase.Out → ⊥
+not_both n p q = no (sym p ∙ q)
+  where
+    no : phase.Running ≡ phase.Out → ⊥
+    no e = cc
+
+-- a node whose state is kept has no job out
+pub kept_not_out : (graph : Recorded) (table : Table) (kept : Kept) (key : Key) → ArePaused graph table kept → HasState kept key → IsOutAt table key → ⊥
+kept_not_out graph table kept key a h o = let p = a key h.0 h.1 in not_both p.node p.running (ap (λ (n : Node). n.phase) (some_is (sym p.there ∙ o.1)) ∙ o.2)
 
 -- a job is handed out whose state is kept no more
 pub handed_paused : (graph : Recorded) (before later : Table) (kept : Kept) (key : Key) (n : Node) → node_at before.nodes key ≡ Some n → HasPhase before.nodes later.nodes key phase.Out → get key_cmp kept key ≡ None → ArePaused graph before kept → ArePaused graph later kept
@@ -182,9 +195,40 @@ one_fewer old new key u k w e = elim (same_or_key old new key _ u k) [
   | inr p ↦ sym p ∙ e
 ]
 
+pub drops_fewer : (old new : Kept) (key : Key) (b : Bool) → DropsState old new key b → FewerKept old new
+drops_fewer old new key true u k w e = one_fewer old new key u k w e
+drops_fewer old new key false same k w e = sym (same k) ∙ e
+
+pub has_state : (kept : Kept) (key : Key) (b : Bool) → b ≡ is_some (get key_cmp kept key) → Decides b (HasState kept key)
+has_state kept key b e = (λ t. some_there (get key_cmp kept key) (sym e ∙ t), λ h. e ∙ ap is_some h.1)
+
+pub drops_state : (old new : Kept) (key : Key) → Updates key_cmp old new key None → (b : Bool) → b ≡ is_some (get key_cmp old key) → DropsState old new key b
+drops_state old new key u true e = u
+drops_state old new key u false e = λ k. elim (same_or_key old new key None u k) [
+  | inl q ↦ ap (get key_cmp new) (sym q) ∙ u.1 ∙ sym (ap (get key_cmp old) (sym q) ∙ none_there (get key_cmp old key) (sym e))
+  | inr p ↦ p
+]
+
 -- what is kept with one more state
 pub kept_paused : (graph : Recorded) (table : Table) (old new : Kept) (key : Key) (paused : Option Waits) → Keeps old new key paused → ArePaused graph table old → ((w : Waits) → paused ≡ Some w → IsPaused graph table key w) → ArePaused graph table new
 kept_paused graph table old new key paused h a f k w e = elim (h k w e) [
   | inl o ↦ a k w o
   | inr p ↦ subst (λ x. IsPaused graph table x w) p.0 (f w p.1)
+]
+
+-- jobs that are out stay out, where another one comes back
+pub jobs_stay : (key : Key) (old new : Recorded) (before later : Table) → KeepsFrameBut key old new before later → (k : Key) (answers : List Value) → key ≢ k → IsOutWith old before k answers → IsOutWith new later k answers
+jobs_stay key old new before later f k answers other o = let m = f.2 k o.node other o.there o.out in record {
+  node = m.0;
+  there = m.1;
+  out = m.2;
+  answered = subst (λ (gs : List (List Key)). AreAnswers (record_at new) gs answers) (sym m.3) (answers_stay old new f.0 (groups_of o.node) answers o.answered);
+}
+
+-- jobs that are out stay out, where one is handed out
+pub jobs_beside : (graph : Recorded) (before later : Table) (key : Key) (n : Node) → node_at before.nodes key ≡ Some n → n.phase ≡ phase.Running → HasPhase before.nodes later.nodes key phase.Out
+    → (k : Key) (answers : List Value) → IsOutWith graph before k answers → IsOutWith graph later k answers
+jobs_beside graph before later key n there running h k answers o = elim (decide_key key k) [
+  | inl q ↦ absurd (not_both n running (ap (λ (x : Node). x.phase) (some_is (sym there ∙ ap (node_at before.nodes) q ∙ o.there)) ∙ o.out))
+  | inr d ↦ record { node = o.node; there = other_key before.nodes later.nodes key _ (h n there) k d ∙ o.there; out = o.out; answered = o.answered }
 ]

@@ -12,9 +12,10 @@ use Rattle.node.specs.Graphs.{Recorded, record_at, present}
 use Rattle.node.proofs.Lists.{none_some, true_false}
 use Rattle.open_nodes.specs.Nodes.{Records, node_at, IsOpen, IsUnsettled, IsClean, AreOut}
 use Rattle.open_nodes.specs.Counted.{turns_of, HasMade}
-use Rattle.open_nodes.specs.Truths.{IsNext, Past, IsReached, AreReached, IsAfter, IsTrueOf, run_keys}
+use Rattle.open_nodes.specs.Truths.{IsNext, Past, IsReached, AreReached, IsAfter, IsTrueOf, IsTrueAtEnd, run_keys}
 use Rattle.open_nodes.specs.declared.table.Table.{Table}
 use Rattle.open_nodes.proofs.Counting.{none_made, all_made}
+use Rattle.open_nodes.proofs.Orders.{none_stands}
 use Rattle.open_nodes.proofs.Settlings.{clean_settles}
 use Rattle.open_nodes.proofs.Wholes.{unsettled_not_clean}
 use Rattle.round.specs.Call.{IsCall, IsHistory}
@@ -49,6 +50,8 @@ module _ (graph : Recorded) (table : Table) (f : IsFresh table) where
     ran = λ x i. elim (subst (In x) f.no_runs i) [ ];
     differ = subst (λ xs. AllDiffer (run_keys next read past xs)) (sym f.no_runs) tt;
     told = λ k r e. inr (r, ap (λ g. record_at g k) h.at_entry ∙ e, inl refl);
+    behind = λ before rest x e. absurd (none_stands table.runs.items f.no_runs before rest x e);
+    grounded = λ x i. elim (subst (In x) f.no_runs i) [ ];
   }
 
 -- the roots are reached
@@ -105,7 +108,7 @@ root_open next read laws past graph table w t k o = elim (decide_settled (record
 -- at the end: no node is open
 module _ (next : Key → List Value → Reply Key Value) (read : Key → Option Value) (laws : IsNext next) (past : Past read) (graph : Recorded) (table : Table)
     (none : (k : Key) → node_at table.nodes k ≡ None) where
-  pub call_ends : (roots : List Key) → past.roots ≡ roots → ((k : Key) → In k roots → IsWanted graph table k) → IsTrueOf next read past graph table.nodes table.runs.items → IsCall next read past graph table.runs.items
+  pub call_ends : (roots : List Key) → past.roots ≡ roots → ((k : Key) → In k roots → IsWanted graph table k) → IsTrueAtEnd next read past graph table.runs.items → IsCall next read past graph table.runs.items
   call_ends roots e wanted t = record {
     after = t.after;
     answered = λ k i. elim (wanted k (subst (In k) e i)) [
@@ -115,6 +118,8 @@ module _ (next : Key → List Value → Reply Key Value) (read : Key → Option 
     ran = t.ran;
     differ = t.differ;
     told = t.told;
+    behind = t.behind;
+    closed = t.closed;
   }
 
 pub ends_made : (table : Table) (made : ℕ) → ((k : Key) → node_at table.nodes k ≡ None) → HasMade table made → made ≡ turns_of table.runs.items

@@ -2,14 +2,19 @@
 use Rattle.std.proofs.Common.{◌≡◌, ◌≢◌, inl, inr, ℕ, ◌+◌, ◌<◌, ◌≤◌, Bool, true, false, List, [], ◌∷◌, ◌++◌, length, map, take, Option, Some, None, refl, sym, ◌∙◌, ap, subst, arith, slice_index_or, length-append}
 use Rattle.std.specs.declared.alloc.Global.{Global}
 use Rattle.std.specs.declared.vec.Vec.{Vec}
-use Rattle.std.specs.BTreeMap.{BTreeMap, get, is_at, Updates}
+use Rattle.std.specs.BTreeMap.{BTreeMap, get, is_at, Updates, IsLowerBound}
+use Rattle.std.specs.Option.{is_some}
+use Rattle.std.specs.Ordering.{is_gt}
+use Rattle.std.specs.declared.cmp.Ordering.{Ordering}
+use Rattle.std.specs.declared.cmp.Ordering.TheVariants.{Less, Equal, Greater}
 use Rattle.std.specs.Map.{lookup}
 use Rattle.evaluation.specs.Value.{In, first, AllDiffer}
 use Rattle.keys.specs.Keys.{key_cmp}
 use Rattle.keys.specs.declared.key.Key.{Key}
 use Rattle.node.specs.Kept.{items_of}
-use Rattle.node.proofs.Lists.{some_is, none_some, true_false, other_key, in_left, in_right}
-use Rattle.open_nodes.specs.Nodes.{Nodes, Records, node_at, groups_of, Stands, Holds}
+use Rattle.keys.proofs.KeyLaws.{exact_keys}
+use Rattle.node.proofs.Lists.{some_is, none_some, true_false, decide_key, other_key, in_split, in_left, in_right, in_one}
+use Rattle.open_nodes.specs.Nodes.{Nodes, Records, node_at, groups_of, IsOpen, Stands, Holds}
 use Rattle.open_nodes.specs.Counted.{turns_of, asked_by, MakesNone}
 use Rattle.open_nodes.specs.Steps.{HasNoted}
 use Rattle.open_nodes.specs.declared.run.Run.{Run}
@@ -18,8 +23,9 @@ use Rattle.open_nodes.specs.declared.table.Phase.{Phase}
 use Rattle.open_nodes.specs.declared.table.Phase.TheVariants as phase
 use Rattle.open_nodes.specs.declared.table.Table.{Table}
 use Rattle.open_nodes.proofs.Counting.{turns_snoc, counts_none, makes_on}
+use Rattle.open_nodes.proofs.Orders.{split_snoc, none_stands}
 use Rattle.open_nodes.proofs.Settlings.{differ_snoc, map_snoc, in_map, map_in}
-use Rattle.round.specs.Closing.{ClosesBy, ClosesWith, HasTurnedBy, HasTurned, StopsIn, stop_at, PutsStop, closing_keys, IsClosed, IsRunOfClosed, HasTaken}
+use Rattle.round.specs.Closing.{ClosesBy, ClosesWith, HasTurnedBy, HasTurned, StopsIn, stop_at, PutsStop, closing_keys, IsClosed, IsRunOfClosed, AreAscending, HasTaken}
 use Rattle.round.specs.declared.closing.Closing.{Closing}
 use Rattle.round.specs.declared.closing.Stall.{Stall}
 use Rattle.round.proofs.Grouping.{taken_next, items_length, snoc_in, items_taken}
@@ -62,7 +68,7 @@ append_assoc (x ∷ xs) ys zs = ap (λ w. x ∷ w) (append_assoc xs ys zs)
 
 -- one more node is taken out
 module _ (records : Records) (version : ℕ) (start old new : Table) (stall later : Stall) (h : HasTaken records version start old stall) (holds : Holds records start.nodes)
-    (k : Key) (node : Node) (was : node_at old.nodes k ≡ Some node) (u : Updates key_cmp old.nodes new.nodes k None)
+    (k : Key) (node : Node) (was : node_at old.nodes k ≡ Some node) (u : Updates key_cmp old.nodes new.nodes k None) (least : (j : Key) → IsOpen new.nodes j → key_cmp k j ≡ Less)
     (groups : Vec (Vec Key Global) Global) (turned : Bool) (turns : HasTurned node turned) (by : ClosesWith records k node (items_of groups.items))
     (yes : turned ≡ true → new.runs.items ≡ old.runs.items ++ record { key = k; version = version; turns = length groups.items } ∷ [])
     (no : turned ≡ false → new.runs.items ≡ old.runs.items)
@@ -149,6 +155,8 @@ module _ (records : Records) (version : ℕ) (start old new : Table) (stall late
   Parts added = (new.runs.items ≡ start.runs.items ++ added) × ((x : Run) → In x added → IsRunOfClosed version start.nodes later.closing.items x)
       × ((c : Closing) → In c later.closing.items → (n : Node) → node_at start.nodes c.key ≡ Some n → HasTurned n true → In c.key (map (λ (x : Run). x.key) added))
       × AllDiffer (map (λ (x : Run). x.key) added)
+      × AreAscending added
+      × ((x : Run) → In x added → (j : Key) → IsOpen new.nodes j → key_cmp x.key j ≡ Less)
 
   taken : (added : List Run) → Parts added → HasTaken records version start new later
   taken added p = record {
@@ -166,6 +174,8 @@ module _ (records : Records) (version : ℕ) (start old new : Table) (stall late
     added_each = p.1;
     added_all = p.2;
     added_differ = p.3;
+    ascending = p.4;
+    below = p.5;
     made = makes_on start old new h.made none_more;
   }
 
@@ -181,6 +191,25 @@ module _ (records : Records) (version : ℕ) (start old new : Table) (stall late
 
   all_before : (c : Closing) → In c stall.closing.items → (n : Node) → node_at start.nodes c.key ≡ Some n → HasTurned n true → In c.key (map (λ (x : Run). x.key) h.added)
   all_before = h.added_all
+
+  -- what is open still was open before
+  open_before : (j : Key) → IsOpen new.nodes j → IsOpen old.nodes j
+  open_before j o = elim (decide_key k j) [
+    | inl q ↦ absurd (none_some (sym u.1 ∙ ap (node_at new.nodes) q ∙ o.1))
+    | inr d ↦ (o.0, sym (other_key old.nodes new.nodes k None u j d) ∙ o.1)
+  ]
+
+  below_before : (x : Run) → In x h.added → (j : Key) → IsOpen new.nodes j → key_cmp x.key j ≡ Less
+  below_before x i j o = h.below x i j (open_before j o)
+
+  ascending_more : AreAscending (h.added ++ new_run ∷ [])
+  ascending_more before rest x e y i = elim (split_snoc h.added new_run before rest x e) [
+    | inl l ↦ elim (in_split (subst (In y) l.1 i) l.0 (new_run ∷ []) refl) [
+      | inl a ↦ h.ascending before l.0 x l.2 y a
+      | inr b ↦ ap (λ (z : Run). key_cmp x.key z.key) (in_one b) ∙ h.below x (subst (In x) (sym l.2) (in_right before first)) k (node, was)
+    ]
+    | inr r ↦ elim (subst (In y) r.2 i) [ ]
+  ]
 
   not_both : (p : Phase) → HasTurnedBy p false → HasTurnedBy p true → ⊥
   not_both (phase.Checking at) f t = true_false refl t
@@ -209,6 +238,11 @@ module _ (records : Records) (version : ℕ) (start old new : Table) (stall late
           | inr q ↦ in_right (map (λ (x : Run). x.key) h.added) (subst (λ y. In y (k ∷ [])) (ap (λ (x : Closing). x.key) (sym q)) first)
         ])),
         subst AllDiffer (sym (map_snoc (λ (x : Run). x.key) h.added new_run)) (differ_snoc (map (λ (x : Run). x.key) h.added) k h.added_differ run_apart),
+        ascending_more,
+        (λ x i j o. elim (snoc_in h.added i) [
+          | inl a ↦ below_before x a j o
+          | inr q ↦ ap (λ (z : Run). key_cmp z.key j) q ∙ least j o
+        ]),
       )
       go false e = taken h.added (
         no e ∙ h.runs,
@@ -218,6 +252,8 @@ module _ (records : Records) (version : ℕ) (start old new : Table) (stall late
           | inr q ↦ absurd (not_both node.phase (subst (HasTurned node) e turns) (subst (λ (y : Node). HasTurned y true) (some_is (sym f ∙ ap (λ (x : Closing). node_at start.nodes x.key) q ∙ at_start)) t))
         ]),
         h.added_differ,
+        h.ascending,
+        below_before,
       )
 
 pub empty_has : {X : Type 0} (m : BTreeMap Key X) → m.entries ≡ [] → (k : Key) → get key_cmp m k ≡ None
@@ -235,6 +271,8 @@ none_taken records version table stall none stops = record {
   added_each = λ x i. elim i [ ];
   added_all = λ c i n f t. absurd (no_item (subst (In c) none i));
   added_differ = tt;
+  ascending = λ before rest x e. absurd (none_stands [] refl before rest x e);
+  below = λ x i k o. elim i [ ];
   made = λ made h. h;
 }
   where
@@ -248,16 +286,29 @@ none_taken records version table stall none stops = record {
     no_key : {k : Key} → In k [] → ⊥
     no_key i = elim i [ ]
 
+-- the least key that is open is before the others
+pub least_first : (old new : Nodes) (k : Key) → IsLowerBound key_cmp old k → Updates key_cmp old new k None → (j : Key) → IsOpen new j → key_cmp k j ≡ Less
+least_first old new k low u j o = elim (decide_key k j) [
+  | inl q ↦ absurd (none_some (sym u.1 ∙ ap (node_at new) q ∙ o.1))
+  | inr d ↦ go (key_cmp k j) refl (low j (ap is_some (sym (other_key old new k None u j d) ∙ o.1))) d
+]
+  where
+    go : (c : Ordering) → key_cmp k j ≡ c → is_gt (key_cmp k j) ≡ false → k ≢ j → key_cmp k j ≡ Less
+    go Less e g d = e
+    go Equal e g d = absurd (d (exact_keys k j e))
+    go Greater e g d = absurd (true_false (ap is_gt e) g)
+
 -- the same, as the calls leave the table
 pub taken_step : (records : Records) (version : ℕ) (start old popped new : Table) (stall later : Stall) → HasTaken records version start old stall → Holds records start.nodes
-    → (k : Key) (node : Node) → node_at old.nodes k ≡ Some node → Updates key_cmp old.nodes popped.nodes k None → popped.runs.items ≡ old.runs.items
+    → (k : Key) (node : Node) → node_at old.nodes k ≡ Some node → Updates key_cmp old.nodes popped.nodes k None → IsLowerBound key_cmp old.nodes k → popped.runs.items ≡ old.runs.items
     → (groups : Vec (Vec Key Global) Global) (turned : Bool) → HasTurned node turned → ClosesWith records k node (items_of groups.items)
     → (v n : ℕ) → v ≡ version → n ≡ length groups.items
     → (turned ≡ true → HasNoted popped new (record { key = k; version = v; turns = n })) → (turned ≡ false → new ≡ popped)
     → (stop : Option Key) → StopsIn records (items_of groups.items) stop → PutsStop stall.stops later.stops k stop
     → later.closing.items ≡ stall.closing.items ++ record { key = k; groups = groups } ∷ [] → HasTaken records version start new later
-taken_step records version start old popped new stall later h holds k node was u runs groups turned turns by v n now count ran idle stop stops puts more =
-    taken_more records version start old new stall later h holds k node was (subst (λ (x : Nodes). Updates key_cmp old.nodes x k None) (same turned refl) u) groups turned turns by
+taken_step records version start old popped new stall later h holds k node was u low runs groups turned turns by v n now count ran idle stop stops puts more =
+    taken_more records version start old new stall later h holds k node was (subst (λ (x : Nodes). Updates key_cmp old.nodes x k None) (same turned refl) u)
+    (λ j o. least_first old.nodes popped.nodes k low u j (subst (λ (x : Nodes). IsOpen x j) (sym (same turned refl)) o)) groups turned turns by
     (λ e. (ran e).runs ∙ ap (λ (xs : List Run). xs ++ record { key = k; version = v; turns = n } ∷ []) runs ∙ ap (λ m. old.runs.items ++ record { key = k; version = m; turns = n } ∷ []) now ∙ ap (λ m. old.runs.items ++ record { key = k; version = version; turns = m } ∷ []) count)
     (λ e. ap (λ (x : Table). x.runs.items) (idle e) ∙ runs) stop stops puts more
   where

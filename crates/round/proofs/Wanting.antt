@@ -10,6 +10,7 @@ use Rattle.keys.specs.declared.key.Key.TheVariants as key
 use Rattle.node.specs.Kept.{items_of}
 use Rattle.evaluation.specs.Reply.{Reply}
 use Rattle.evaluation.specs.Value.{leaf, In, first, IsMember}
+use Rattle.evaluation.specs.Value as value
 use Rattle.evaluation.specs.Graph.{Record}
 use Rattle.evaluation.specs.Journal.{RunIsJustified, never_settled, ReadIsJustified, never_read, edited}
 use Rattle.keys.specs.Cycles.{cycle}
@@ -23,7 +24,7 @@ use Rattle.node.proofs.Lists.{some_is, none_some, true_false, decide_key, other_
 use Rattle.open_nodes.specs.Nodes.{Nodes, Records, node_at, groups_of, pending, IsOpen, IsUnsettled, Stands, IsWhole}
 use Rattle.open_nodes.specs.Steps.{HasEntered, Pends, Readies, HasNoted, SameRuns}
 use Rattle.open_nodes.specs.Counted.{turns_of, asked_by}
-use Rattle.open_nodes.specs.Truths.{Leads, LeadsOf, AreReached, IsNext, Past, IsAfter, IsTrueOf, IsRun, nothing, IsDoing, Leads}
+use Rattle.open_nodes.specs.Truths.{Leads, LeadsOf, LeadsToEnd, AreReached, IsNext, Past, IsAfter, IsTrueOf, IsRun, nothing, IsDoing, Leads}
 use Rattle.open_nodes.specs.declared.run.Run.{Run}
 use Rattle.open_nodes.specs.declared.table.Node.{Node}
 use Rattle.open_nodes.specs.declared.table.Phase.{Phase}
@@ -102,7 +103,7 @@ module _ (old new : Recorded) (before after : Table) (k : Key) (v : Value) (turn
         subst (λ (x : Nodes). IsTrueOf next read past new x after.runs.items) (sym noted.nodes) (subst (λ (x : List Run). IsTrueOf next read past new before.nodes x) (sym noted.runs)
         (settles_by_run next read laws past old new before.nodes before.nodes before.runs.items k (stored (record_at old k) v [] old.version) t version sets was refl (reached k first) refl
         (lawful next past.reads past.edits t.after.lawful (leaf (at_now old.version t.after.version))) closed other_nodes turns of_k now
-        (inl (ap read of_k ∙ is_leaf, no_turns, justified))))
+        (inl (ap read of_k ∙ is_leaf, no_turns, justified)) (λ j m. elim m.1 [ ]) (value.is_leaf is_leaf)))
 
 -- a node begins
 module _ (graph : Recorded) (before after : Table) (k : Key) (p : Phase) (no_out : p ≢ phase.Out)
@@ -252,6 +253,11 @@ pub leads_of_err : {X E : Type 0} (next : Key → List Value → Reply Key Value
     → ((laws : IsNext next) (past : Past read) → AreReached next read past keys → IsTrueOf next read past old before.nodes before.runs.items → IsAfter next read past new) → LeadsOf next read keys old new before later r
 leads_of_err next read keys old new before later (Ok x) e h = absurd (true_false e refl)
 leads_of_err next read keys old new before later (Err x) e h = h
+
+pub leads_to_end_err : {X E : Type 0} (next : Key → List Value → Reply Key Value) (read : Key → Option Value) (old new : Recorded) (before later : Table) (r : Result X E) → IsErr r
+    → ((laws : IsNext next) (past : Past read) → IsTrueOf next read past old before.nodes before.runs.items → IsAfter next read past new) → LeadsToEnd next read old new before later r
+leads_to_end_err next read old new before later (Ok x) e h = absurd (true_false e refl)
+leads_to_end_err next read old new before later (Err x) e h = h
 
 -- one node is set: what was wanted is
 pub wanted_set : (graph : Recorded) (before later : Table) (k : Key) (n : Node) → Updates key_cmp before.nodes later.nodes k (Some n) → KeepsWanted graph graph before later

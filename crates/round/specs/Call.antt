@@ -1,15 +1,17 @@
 -- What a call of an evaluation promises, for every history of the files for which the graph was lawful at its entry.
-use Rattle.std.specs.Prelude.{◌≡◌, List, Option, Some, false, Result, Ok, Err}
+use Rattle.std.specs.Prelude.{◌≡◌, List, [], Option, Some, None, false, Result, Ok, Err}
 use Rattle.evaluation.specs.Reply.{Reply}
-use Rattle.evaluation.specs.Value.{In, AllDiffer, HasValue}
+use Rattle.evaluation.specs.Value.{In, IsMember, AllDiffer, HasValue}
 use Rattle.evaluation.specs.Graph.{Record}
+use Rattle.evaluation.specs.Choices.{Comes}
+use Rattle.evaluation.specs.Journal.{RunIsJustified}
 use Rattle.keys.specs.Cycles.{cycle}
 use Rattle.keys.specs.declared.key.Key.{Key}
 use Rattle.keys.specs.declared.value.Value.{Value}
-use Rattle.node.specs.Graphs.{Recorded, record_at}
+use Rattle.node.specs.Graphs.{Recorded, record_at, IsTouched}
 use Rattle.node.specs.Laws.{IsLawfulFor}
-use Rattle.open_nodes.specs.Nodes.{IsUnsettled}
-use Rattle.open_nodes.specs.Truths.{Past, IsAfter, IsRunOf, IsTold, run_keys}
+use Rattle.open_nodes.specs.Nodes.{IsUnsettled, IsClean}
+use Rattle.open_nodes.specs.Truths.{Past, IsReached, IsAfter, IsRunOf, IsTold, AreBehind, AreClosedLast, run_keys}
 use Rattle.open_nodes.specs.declared.run.Run.{Run}
 use Rattle.round.specs.declared.stop.Stop.{Stop}
 
@@ -30,6 +32,10 @@ module _ (next : Key → List Value → Reply Key Value) (read : Key → Option 
     pub differ : AllDiffer (run_keys next read past runs)
     -- a key whose record is new, or has another grounded value than at the entry, has a run
     pub told : (k : Key) (r : Record Key Value) → record_at graph k ≡ Some r → IsTold next read past runs k r
+    -- a run stands behind those of its node's recorded members; only two nodes that a stall closed may stand otherwise
+    pub behind : AreBehind next read past graph runs
+    -- the nodes that a stall closed stand last, in the order of their keys
+    pub closed : AreClosedLast next read past runs
 
   -- a history for which the graph is lawful, and these roots
   pub record IsHistory (past : Past read) (roots : List Key) (graph : Recorded) : Type 0 where
@@ -44,3 +50,19 @@ module _ (next : Key → List Value → Reply Key Value) (read : Key → Option 
   -- a root is not settled, whatever the history is
   abbrev pub HasOpenRoot : List Key → Recorded → Recorded → Type 0
   HasOpenRoot roots old new = (past : Past read) → IsHistory past roots old → (k : Key) × In k roots × IsUnsettled (record_at new) k
+
+  -- the next turn of a key is to be made: the roots reach it, it is not settled, and it may make turns; these asked the groups, whose members
+  -- are settled, each with a grounded value
+  pub record WantsTurn (past : Past read) (graph : Recorded) (k : Key) : Type 0 where
+    pub no_leaf : read k ≡ None
+    pub reached : IsReached next read past k
+    pub unsettled : IsUnsettled (record_at graph) k
+    pub justified : RunIsJustified next cycle past.reads (λ u j. IsTouched (past.edits u) j) past.entry.version (record_at past.entry k)
+    pub groups : List (List Key)
+    pub answers : List Value
+    pub comes : Comes next cycle read k [] groups answers
+    pub settled : (j : Key) → IsMember j groups → IsClean (record_at graph) j
+
+  -- some key's next turn is to be made, whatever the history is
+  abbrev pub HasTurnToMake : List Key → Recorded → Recorded → Type 0
+  HasTurnToMake roots old new = (k : Key) × ((past : Past read) → IsHistory past roots old → WantsTurn past new k)

@@ -1,6 +1,7 @@
 -- The nodes that a stall closes, as they were open beside the graph.
-use Rattle.std.specs.Prelude.{◌≡◌, ℕ, ◌+◌, List, [], ◌++◌, length, map, take, Bool, true, false, Option, Some, None}
+use Rattle.std.specs.Prelude.{◌≡◌, ℕ, ◌+◌, List, [], ◌∷◌, ◌++◌, length, map, take, Bool, true, false, Option, Some, None}
 use Rattle.std.specs.BTreeMap.{BTreeMap, get, Updates}
+use Rattle.std.specs.declared.cmp.Ordering.TheVariants.{Less}
 use Rattle.evaluation.specs.Graph.{Record}
 use Rattle.evaluation.specs.Value.{In, AllDiffer}
 use Rattle.keys.specs.Keys.{key_cmp}
@@ -8,7 +9,7 @@ use Rattle.keys.specs.declared.key.Key.{Key}
 use Rattle.keys.specs.declared.value.Value.{Value}
 use Rattle.node.specs.Kept.{items_of}
 use Rattle.open_nodes.specs.Counted.{MakesNone}
-use Rattle.open_nodes.specs.Nodes.{Nodes, Records, node_at, groups_of, pending, AreOut}
+use Rattle.open_nodes.specs.Nodes.{Nodes, Records, node_at, groups_of, IsOpen, pending, AreOut}
 use Rattle.open_nodes.specs.declared.run.Run.{Run}
 use Rattle.open_nodes.specs.declared.table.Node.{Node}
 use Rattle.open_nodes.specs.declared.table.Phase.{Phase}
@@ -71,7 +72,11 @@ pub record IsRunOfClosed (version : ℕ) (nodes : Nodes) (closing : List Closing
   pub turns : x.turns ≡ length closed.groups.items
   pub turned : (n : Node) → node_at nodes closed.key ≡ Some n → HasTurned n true
 
--- nodes were taken out of those that are open, each with its run where it made turns
+-- each run's key is before the keys of those behind it
+abbrev pub AreAscending : List Run → Type 0
+AreAscending runs = (before rest : List Run) (run : Run) → runs ≡ before ++ run ∷ rest → (later : Run) → In later rest → key_cmp run.key later.key ≡ Less
+
+-- nodes were taken out of those that are open, the least ones, each with its run where it made turns
 pub record HasTaken (records : Records) (version : ℕ) (before after : Table) (stall : Stall) : Type 0 where
   pub closed : (c : Closing) → In c stall.closing.items → IsClosed records before.nodes stall.stops c
   pub gone : (k : Key) → In k (closing_keys stall.closing.items) → node_at after.nodes k ≡ None
@@ -82,6 +87,8 @@ pub record HasTaken (records : Records) (version : ℕ) (before after : Table) (
   pub added_each : (x : Run) → In x added → IsRunOfClosed version before.nodes stall.closing.items x
   pub added_all : (c : Closing) → In c stall.closing.items → (n : Node) → node_at before.nodes c.key ≡ Some n → HasTurned n true → In c.key (map (λ (x : Run). x.key) added)
   pub added_differ : AllDiffer (map (λ (x : Run). x.key) added)
+  pub ascending : AreAscending added
+  pub below : (x : Run) → In x added → (k : Key) → IsOpen after.nodes k → key_cmp x.key k ≡ Less
   pub made : MakesNone before after
 
 -- no job is out, none is ready, and nothing is to be looked at

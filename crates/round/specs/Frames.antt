@@ -1,5 +1,5 @@
 -- What a move leaves as it is.
-use Rattle.std.specs.Prelude.{◌≡◌, false, Some}
+use Rattle.std.specs.Prelude.{◌≡◌, ◌≢◌, false, Some}
 use Rattle.evaluation.specs.Graph.{Record}
 use Rattle.keys.specs.declared.key.Key.{Key}
 use Rattle.keys.specs.declared.value.Value.{Value}
@@ -17,5 +17,16 @@ KeepsSettled old new = (j : Key) (s : Record Key Value) → record_at old j ≡ 
 abbrev pub KeepsRunning : Table → Table → Type 0
 KeepsRunning before after = (k : Key) (n : Node) → node_at before.nodes k ≡ Some n → n.phase ≡ phase.Running → (m : Node) × (node_at after.nodes k ≡ Some m) × (m.phase ≡ phase.Running) × (groups_of m ≡ groups_of n)
 
+-- what has its job out still has, and keeps the groups that it asked
+abbrev pub KeepsHanded : Table → Table → Type 0
+KeepsHanded before after = (k : Key) (n : Node) → node_at before.nodes k ≡ Some n → n.phase ≡ phase.Out → (m : Node) × (node_at after.nodes k ≡ Some m) × (m.phase ≡ phase.Out) × (groups_of m ≡ groups_of n)
+
+-- the same for each but this one
+abbrev pub KeepsHandedBut : Key → Table → Table → Type 0
+KeepsHandedBut key before after = (k : Key) (n : Node) → key ≢ k → node_at before.nodes k ≡ Some n → n.phase ≡ phase.Out → (m : Node) × (node_at after.nodes k ≡ Some m) × (m.phase ≡ phase.Out) × (groups_of m ≡ groups_of n)
+
 abbrev pub KeepsFrame : Recorded → Recorded → Table → Table → Type 0
-KeepsFrame old new before after = KeepsSettled old new × KeepsRunning before after
+KeepsFrame old new before after = KeepsSettled old new × KeepsRunning before after × KeepsHanded before after
+
+abbrev pub KeepsFrameBut : Key → Recorded → Recorded → Table → Table → Type 0
+KeepsFrameBut key old new before after = KeepsSettled old new × KeepsRunning before after × KeepsHandedBut key before after

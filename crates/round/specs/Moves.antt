@@ -6,7 +6,7 @@ use Rattle.keys.specs.declared.value.Value.{Value}
 use Rattle.node.specs.Graphs.{Recorded, record_at}
 use Rattle.open_nodes.specs.Nodes.{IsOpen, IsClean, IsWhole, Widens, pending, AreOut}
 use Rattle.open_nodes.specs.Counted.{MakesNone}
-use Rattle.open_nodes.specs.Truths.{Leads, LeadsOf}
+use Rattle.open_nodes.specs.Truths.{Leads, LeadsOf, LeadsToEnd}
 use Rattle.open_nodes.specs.declared.table.Table.{Table}
 
 -- whichever the node functions are, what was true of the round stays true
@@ -16,6 +16,10 @@ KeepsTrue read old new before after result = (next : Key → List Value → Repl
 -- the same where an evaluation of the roots reaches these keys
 abbrev pub KeepsTrueOf : {X E : Type 0} → List Key → (Key → Option Value) → Recorded → Recorded → Table → Table → Result X E → Type 0
 KeepsTrueOf keys read old new before after result = (next : Key → List Value → Reply Key Value) → LeadsOf next read keys old new before after result
+
+-- whichever the node functions are, what was true of the round leads to what is true at its end
+abbrev pub Ends : {X E : Type 0} → (Key → Option Value) → Recorded → Recorded → Table → Table → Result X E → Type 0
+Ends read old new before after result = (next : Key → List Value → Reply Key Value) → LeadsToEnd next read old new before after result
 
 -- keys are wanted: more are settled or open, whatever else there is to be looked at
 pub record Wants (old new : Recorded) (before after : Table) : Type 0 where

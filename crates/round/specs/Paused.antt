@@ -1,6 +1,6 @@
 -- The states of node functions that a round keeps between turns.
-use Rattle.std.specs.Prelude.{◌≡◌, ◌⊎◌, List, [], ◌∷◌, ◌++◌, Option, Some, None}
-use Rattle.std.specs.BTreeMap.{BTreeMap, get}
+use Rattle.std.specs.Prelude.{◌≡◌, ◌⊎◌, List, [], ◌∷◌, ◌++◌, Bool, true, false, Option, Some, None}
+use Rattle.std.specs.BTreeMap.{BTreeMap, get, Updates}
 use Rattle.keys.specs.Jobs.{Waits}
 use Rattle.keys.specs.Keys.{key_cmp}
 use Rattle.keys.specs.declared.key.Key.{Key}
@@ -28,12 +28,18 @@ Kept = BTreeMap Key Waits
 abbrev pub ArePaused : Recorded → Table → Kept → Type 0
 ArePaused graph table kept = (k : Key) (w : Waits) → get key_cmp kept k ≡ Some w → IsPaused graph table k w
 
--- states were given up, that of the key among them, and none came in
-abbrev pub GivesUp : Kept → Kept → Key → Type 0
-GivesUp old new key = (get key_cmp new key ≡ None) × ((k : Key) (w : Waits) → get key_cmp new k ≡ Some w → get key_cmp old k ≡ Some w)
-
+-- no state came in
 abbrev pub FewerKept : Kept → Kept → Type 0
 FewerKept old new = (k : Key) (w : Waits) → get key_cmp new k ≡ Some w → get key_cmp old k ≡ Some w
+
+-- a state of the key is kept
+abbrev pub HasState : Kept → Key → Type 0
+HasState kept key = (w : Waits) × (get key_cmp kept key ≡ Some w)
+
+-- the state of the key was given up and the others stay; or all stay
+abbrev pub DropsState : Kept → Kept → Key → Bool → Type 0
+DropsState old new key true = Updates key_cmp old new key None
+DropsState old new key false = (k : Key) → get key_cmp new k ≡ get key_cmp old k
 
 -- the state came in, if there is one, and the others stay
 abbrev pub Keeps : Kept → Kept → Key → Option Waits → Type 0

@@ -1,5 +1,5 @@
 -- What a contract sees of a round, and how it stands beside the graph that it is lent.
-use Rattle.std.specs.Prelude.{◌≡◌, List, [], Option, Some, None, Result, Ok, Err, ⊤}
+use Rattle.std.specs.Prelude.{◌≡◌, ◌≢◌, List, [], Option, Some, None, Result, Ok, Err, ⊤}
 use Rattle.evaluation.specs.Value.{In}
 use Rattle.keys.specs.Jobs.{Asked, Outcome}
 use Rattle.keys.specs.declared.key.Key.{Key}
@@ -10,7 +10,7 @@ use Rattle.open_nodes.specs.Nodes.{IsOpen, node_at, pending, AreOut}
 use Rattle.open_nodes.specs.declared.run.Run.{Run}
 use Rattle.open_nodes.specs.declared.table.Table.{Table}
 use Rattle.round.specs.Moves.{IsWanted, IsWholeNow}
-use Rattle.round.specs.Paused.{ArePaused}
+use Rattle.round.specs.Paused.{Kept, ArePaused, HasState}
 use Rattle.round.specs.Turning.{IsOutWith}
 use Rattle.round.specs.declared.rounds.Round.{Round}
 use Rattle.round.specs.declared.rounds.NotTaken.{NotTaken}
@@ -40,6 +40,10 @@ StandsBeside graph round = IsBeside graph (standing round) × ArePaused graph ro
 abbrev pub IsStalled : Standing → Type 0
 IsStalled s = (s.table.ready.keys ≡ []) × (s.out ≡ [])
 
+-- the state of the key may be given up: one is kept, and the round is not at a stall
+abbrev pub CanDrop : Standing → Kept → Key → Type 0
+CanDrop s kept k = HasState kept k × (IsStalled s → ⊥)
+
 -- the job of a key that is ready is out, with all answers so far; a key that is not ready has none, and nothing changes
 abbrev pub HandsOut : Recorded → Key → Standing → Standing → Option Asked → Type 0
 HandsOut graph k before later (Some job) = In k before.table.ready.keys × (job.key ≡ k) × IsOutWith graph later.table k job.answers × IsAdded before.out later.out k × (later.roots ≡ before.roots) × MakesNone before.table later.table
@@ -48,6 +52,13 @@ HandsOut graph k before later None = (In k before.table.ready.keys → ⊥) × (
 -- the job of an earlier turn of this round that is out
 abbrev pub IsOfJobOut : Recorded → Standing → Asked → Type 0
 IsOfJobOut graph s job = IsOutWith graph s.table job.key job.answers
+
+-- each other job that is out stays out, with its answers
+abbrev pub KeepsJobs : Key → Recorded → Recorded → Standing → Standing → Type 0
+KeepsJobs key old new before after = (job : Asked) → key ≢ job.key → IsOfJobOut old before job → IsOfJobOut new after job
+
+abbrev pub KeepsAllJobs : Recorded → Standing → Standing → Type 0
+KeepsAllJobs graph before after = (job : Asked) → IsOfJobOut graph before job → IsOfJobOut graph after job
 
 -- no node is open any more
 abbrev pub NoneOpen : Standing → Type 0

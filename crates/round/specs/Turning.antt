@@ -12,6 +12,10 @@ use Rattle.open_nodes.specs.declared.table.Phase.TheVariants as phase
 use Rattle.open_nodes.specs.declared.table.Table.{Table}
 use Rattle.round.specs.Members.{AreAnswers}
 
+-- the job of the key is out
+abbrev pub IsOutAt : Table → Key → Type 0
+IsOutAt table k = (n : Node) × (node_at table.nodes k ≡ Some n) × (n.phase ≡ phase.Out)
+
 -- the job of the key is out, with these answers to the groups that its turns asked
 pub record IsOutWith (graph : Recorded) (table : Table) (k : Key) (answers : List Value) : Type 0 where
   pub node : Node

@@ -5,7 +5,7 @@ ghost use Rattle.keys.specs.declared.value.Value.{Value};
 ghost use Rattle.open_nodes.specs.Counted.{MakesNone};
 ghost use Rattle.open_nodes.specs.Nodes.{node_at};
 ghost use Rattle.round.specs.Closing.{IsIdle};
-ghost use Rattle.round.specs.Moves.{KeepsTrue, KeepsWanted, IsWholeNow};
+ghost use Rattle.round.specs.Moves.{Ends, KeepsWanted, IsWholeNow};
 
 use crate::closing::close_all;
 use crate::loops::entries_of;
@@ -22,7 +22,7 @@ pub fn close_cycles(alloc: Global, graph: &mut Graph, table: &mut Table) -> Resu
     ensures none { OnOk result ((k : Key) → node_at table.new.nodes k ≡ None) }
     ensures keeps { OnOk result (KeepsWanted graph.old graph.new table.old table.new) }
     ensures turns { OnOk result (MakesNone table.old table.new) }
-    ensures truth { (read : Key → Option Value) → KeepsTrue read graph.old graph.new table.old table.new result }
+    ensures truth { (read : Key → Option Value) → Ends read graph.old graph.new table.old table.new result }
 {
     let stall = close_all(alloc, graph, table)?;
     let entries = entries_of(alloc, graph, stall)?;

@@ -1,6 +1,8 @@
 //! The nodes that a stall closes.
-ghost use Rattle.std.specs.Prelude.{◌≡◌, ◌+◌, ◌∷◌, ◌++◌, [], ℕ, true, false, IfOk, OnOk, Some, None, take, IsTrue};
-ghost use Rattle.std.specs.BTreeMap.{btree_map_len};
+ghost use Rattle.std.specs.Prelude.{◌≡◌, ◌+◌, ◌∷◌, ◌++◌, [], ℕ, true, false, IfOk, OnOk, Some, None, take, IsTrue, IsSome, IfSome, IfNone, if◌then◌else◌, ◌↔◌, ◌<◌};
+ghost use Rattle.std.specs.BTreeMap.{btree_map_len, Updates, IsLowerBound};
+ghost use Rattle.std.specs.Option.{is_some};
+ghost use Rattle.keys.specs.Keys.{key_cmp};
 ghost use Rattle.evaluation.specs.Graph.{Record};
 ghost use Rattle.keys.specs.declared.key.Key.{Key};
 ghost use Rattle.keys.specs.declared.value.Value.{Value};
@@ -16,7 +18,7 @@ use crate::look::recorded_groups;
 use crate::members::{first_stop, share_all};
 use keys::Key;
 use node::Graph;
-use open_nodes::{Node, Phase, Table, note};
+use open_nodes::{Node, Nodes, Phase, Table, note};
 use std::alloc::Global;
 use std::collections::BTreeMap;
 use texts::Memory;
@@ -137,6 +139,18 @@ fn put_closing(
     Ok(())
 }
 
+// The least of the open nodes is taken out, if there is one.
+fn take_least(nodes: &mut Nodes) -> Option<(Key, Node)>
+    ensures variant { IsSome result ↔ (0 < btree_map_len nodes.old) }
+    ensures value { IfSome result (λ p. node_at nodes.old p.0 ≡ Some p.1) }
+    ensures updates { IfSome result (λ p. Updates key_cmp nodes.old nodes.new p.0 None) }
+    ensures least { IfSome result (λ p. IsLowerBound key_cmp nodes.old p.0) }
+    ensures unchanged { IfNone result (nodes.new.entries ≡ nodes.old.entries) }
+    ensures len { btree_map_len nodes.new + (if is_some result then 1 else 0) ≡ btree_map_len nodes.old }
+{
+    nodes.pop_first()
+}
+
 // Takes the least of the open nodes out; false where there is none.
 fn close_next(
     alloc: Global,
@@ -148,7 +162,7 @@ fn close_next(
     ensures none { IfOk result (λ more. more ≡ false → (k : Key) → node_at table.new.nodes k ≡ None) }
     ensures fewer { IfOk result (λ more. more ≡ true → btree_map_len table.new.nodes + 1 ≡ btree_map_len table.old.nodes) }
 {
-    let Some((key, node)) = table.nodes.pop_first() else {
+    let Some((key, node)) = take_least(&mut table.nodes) else {
         return Ok(false);
     };
     let (groups, turned) = groups_to_close(alloc, graph, &key, node)?;

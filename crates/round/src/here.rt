@@ -1,5 +1,5 @@
 //! An evaluation on one thread.
-ghost use Rattle.std.specs.Prelude.{◌≡◌, ◌+◌, ◌≤◌, ℕ, List, [], Option, IfOk, IfErr, IfSome, IfNone, OnOk, IsErrOf, Ok, Err};
+ghost use Rattle.std.specs.Prelude.{◌≡◌, ◌+◌, ◌≤◌, ℕ, List, [], false, Option, IfOk, IfErr, IfSome, IfNone, OnOk, IsErrOf, IsTrue, Ok, Err};
 ghost use Rattle.evaluation.specs.Reply.{Reply};
 ghost use Rattle.evaluation.specs.Value.{In};
 ghost use Rattle.leaves.specs.Leaves as leaves;
@@ -8,7 +8,7 @@ ghost use Rattle.keys.specs.declared.value.Value.{Value};
 ghost use Rattle.texts.specs.declared.memory.Memory.{Memory};
 ghost use Rattle.open_nodes.specs.Counted.{HasMade, turns_of};
 ghost use Rattle.open_nodes.specs.Truths.{Leads};
-ghost use Rattle.round.specs.Call.{Calls, HasOpenRoot};
+ghost use Rattle.round.specs.Call.{Calls, HasOpenRoot, HasTurnToMake};
 ghost use Rattle.round.specs.Here.{TurnsOnce, Finishes};
 ghost use Rattle.round.specs.Rounds.{standing, StandsBeside, IsStalled};
 ghost use Rattle.round.specs.declared.stop.Stop.{Stop};
@@ -34,6 +34,14 @@ fn next_key<R: Rules>(round: &Round<R>) -> Result<Option<Key>, Memory>
     }
 }
 
+// Whether the next turn of a key can be handed out.
+fn has_ready<R: Rules>(round: &Round<R>) -> bool
+    ensures yes { IsTrue result → (k : Key) × In k (standing round.now).table.ready.keys }
+    ensures no { result ≡ false → (standing round.now).table.ready.keys ≡ [] }
+{
+    round.ready().is_some()
+}
+
 // Makes the next turn of the node with this key.
 fn turn<R: Rules>(
     round: &mut Round<R>,
@@ -53,7 +61,7 @@ fn turn<R: Rules>(
         None => unreachable!(),
         Some(job) => {
             let turned = job.make(rules);
-            round.take_own(graph, tree, turned)?;
+            round.take_known(graph, tree, turned)?;
             Ok(())
         }
     }
@@ -81,8 +89,8 @@ fn close<R: Rules>(mut round: Round<R>, graph: &mut Graph) -> Result<Vec<Run>, M
 /// it is settled without a turn, and at the first group with a changed member it runs. Where no turn can be made any
 /// more, the open nodes lead into loops, and are settled with these.
 ///
-/// `Stop::Budget` where the budget is spent and a root is still open; `Stop::Memory` where a growth was refused. After
-/// a stop the graph is lawful for the same history, no record is lost, and only nodes that were settled have new ones.
+/// `Stop::Budget` where the budget is spent and a further turn is to be made: what is left is no stall, and a root is
+/// still open. `Stop::Memory` where a growth was refused. After a stop the graph is lawful for the same history, no record is lost, and only nodes that were settled have new ones.
 /// That the tree is the last of the history for which the graph is lawful is the caller's condition.
 pub fn evaluate_here<R: Rules>(
     alloc: Global,
@@ -96,6 +104,7 @@ pub fn evaluate_here<R: Rules>(
     ensures stopped { IfErr result (λ e. Calls R.next (leaves.read tree.now) roots.now graph.old graph.new (Err e)) }
     ensures turns { IfOk result (λ runs. R.turns rules.new ≡ R.turns rules.old + turns_of runs.items) }
     ensures budget { IsErrOf result Stop.Budget → (R.turns rules.new ≡ R.turns rules.old + budget) × HasOpenRoot R.next (leaves.read tree.now) roots.now graph.old graph.new }
+    ensures spent { IsErrOf result Stop.Budget → HasTurnToMake R.next (leaves.read tree.now) roots.now graph.old graph.new }
     ensures at_most { (R.turns rules.old ≤ R.turns rules.new) × (R.turns rules.new ≤ R.turns rules.old + budget) }
 {
     let roots = share_all(alloc, roots)?;
@@ -106,8 +115,8 @@ pub fn evaluate_here<R: Rules>(
             Some(key) => turn(&mut round, graph, tree, rules, &key)?,
         }
     }
-    match next_key(&round)? {
-        None => Ok(close(round, graph)?),
-        Some(_) => Err(Stop::Budget),
+    if has_ready(&round) {
+        return Err(Stop::Budget);
     }
+    Ok(close(round, graph)?)
 }

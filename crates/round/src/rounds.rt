@@ -6,7 +6,7 @@ ghost use Rattle.std.specs.BTreeMap.{get};
 ghost use Rattle.std.specs.Option.{is_some};
 ghost use Rattle.std.specs.BTreeMap.Range.{IsLeBy};
 ghost use Rattle.node.specs.Graphs.{Recorded};
-ghost use Rattle.round.specs.Paused.{Keeps, FewerKept};
+ghost use Rattle.round.specs.Paused.{Keeps, HasState, DropsState};
 ghost use Rattle.evaluation.specs.Reply.{Reply};
 ghost use Rattle.evaluation.specs.Value.{In};
 ghost use Rattle.leaves.specs.Leaves as leaves;
@@ -19,9 +19,9 @@ ghost use Rattle.open_nodes.specs.Counted.{HasMade, MakesNone, MakesMore};
 ghost use Rattle.open_nodes.specs.Nodes.{IsOpen};
 ghost use Rattle.open_nodes.specs.Truths.{Leads};
 ghost use Rattle.round.specs.Since.{IsTrueSince, IsAfterSince};
-ghost use Rattle.round.specs.Moves.{KeepsTrue, IsWanted};
-ghost use Rattle.round.specs.Rounds.{standing, StandsBeside, IsStalled, HandsOut, IsOfJobOut, NoneOpen, EndsWith, Refuses, TakesBack};
-ghost use Rattle.round.specs.Turning.{IsOutWith};
+ghost use Rattle.round.specs.Moves.{KeepsTrue, Ends, IsWanted};
+ghost use Rattle.round.specs.Rounds.{standing, StandsBeside, IsStalled, CanDrop, HandsOut, IsOfJobOut, NoneOpen, EndsWith, Refuses, TakesBack, KeepsJobs, KeepsAllJobs};
+ghost use Rattle.round.specs.Turning.{IsOutWith, IsOutAt};
 
 use crate::close::close_cycles;
 use crate::look::look_at_all;
@@ -97,11 +97,10 @@ fn keep<R: Rules>(
     Ok(())
 }
 
-// The state that was kept of a key is given up.
+// The state that was kept of a key is given up; false where there is none.
 fn give_up<R: Rules>(kept: &mut BTreeMap<Key, Waiting<R>>, key: &Key) -> bool
-    ensures dropped { result ≡ is_some (get key_cmp kept.old key.now) }
-    ensures gone { get key_cmp kept.new key.now ≡ None }
-    ensures fewer { FewerKept kept.old kept.new }
+    ensures given { Decides result (HasState kept.old key.now) }
+    ensures drops { DropsState kept.old kept.new key.now result }
 {
     kept.remove(key).is_some()
 }
@@ -167,6 +166,7 @@ impl<R: Rules> Round<R> {
         ensures hands { IfOk result (HandsOut graph.now key.now (standing self.old) (standing self.new)) }
         ensures truth { (read : Key → Option Value) → KeepsTrue read graph.now graph.now self.old.table self.new.table result }
         ensures refused { OnErr result (standing self.new ≡ standing self.old) }
+        ensures others { OnOk result (KeepsAllJobs graph.now (standing self.old) (standing self.new)) }
     {
         let name = key.share()?;
         let Some(job) = next_job(self.alloc, graph, &self.table, &mut self.kept, key)? else {
@@ -190,17 +190,19 @@ impl<R: Rules> Round<R> {
         ensures beside { OnOk result (StandsBeside graph.new self.new) }
         ensures back { OnOk result (IsOfJobOut graph.old (standing self.old) turned.asked × TakesBack (standing self.old) (standing self.new) turned.asked.key × (turned.ending ≡ Made)) }
         ensures truth { Leads R.next (leaves.read tree.now) graph.old graph.new self.old.table self.new.table result }
+        ensures others { OnOk result (KeepsJobs turned.asked.key graph.old graph.new (standing self.old) (standing self.new)) }
         ensures refused { IfErr result (Refuses graph.old graph.new (standing self.old) (standing self.new) turned) }
     {
         if !is_out_with(self.alloc, graph, &self.table, &turned)? {
             return Err(NotTaken::Stranger(turned));
         }
-        self.take_own(graph, tree, turned)?;
+        self.take_known(graph, tree, turned)?;
         Ok(())
     }
 
-    /// The same for a turn that is known to be of a job that is out.
-    pub(crate) fn take_own(
+    /// Takes a turn back that the caller knows to be of a job that is out, without comparing its answers. `Memory` where a
+    /// growth was refused, in the turn or now: the round can only be given up then, and the graph is as after a stop.
+    pub fn take_known(
         &mut self,
         graph: &mut Graph,
         tree: &Tree,
@@ -211,6 +213,7 @@ impl<R: Rules> Round<R> {
         ensures beside { OnOk result (StandsBeside graph.new self.new) }
         ensures back { OnOk result (TakesBack (standing self.old) (standing self.new) turned.asked.key) }
         ensures made { OnOk result (turned.ending ≡ Made) }
+        ensures others { OnOk result (KeepsJobs turned.asked.key graph.old graph.new (standing self.old) (standing self.new)) }
         ensures truth { Leads R.next (leaves.read tree.now) graph.old graph.new self.old.table self.new.table result }
     {
         let key = turned.key().share()?;
@@ -221,14 +224,18 @@ impl<R: Rules> Round<R> {
         Ok(())
     }
 
-    /// Gives up the state that was kept of a node, if there is one: its next turn begins anew then, with all answers. It
-    /// takes no memory.
+    /// Gives up the state that was kept of a node: its next turn begins anew then, with all answers. Answers whether it did:
+    /// exactly where a state is kept and the round is not at a stall. Else nothing changes. It takes no memory.
     pub fn drop_state(&mut self, key: &Key) -> bool
-        ensures dropped { result ≡ is_some (get key_cmp self.old.kept key.now) }
-        ensures gone { get key_cmp self.new.kept key.now ≡ None }
+        ensures dropped { Decides result (CanDrop (standing self.old) self.old.kept key.now) }
+        ensures not_out { (graph : Recorded) → StandsBeside graph self.old → IsTrue result → IsOutAt self.old.table key.now → ⊥ }
+        ensures kept { DropsState self.old.kept self.new.kept key.now result }
         ensures same { standing self.new ≡ standing self.old }
         ensures beside { (graph : Recorded) → StandsBeside graph self.old → StandsBeside graph self.new }
     {
+        if self.stalled() {
+            return false;
+        }
         give_up(&mut self.kept, key)
     }
 
@@ -249,7 +256,7 @@ impl<R: Rules> Round<R> {
         ensures wanted { OnOk result ((k : Key) → In k (standing self.new).roots → IsWanted graph.new self.new.table k) }
         ensures same { ((standing self.new).roots ≡ (standing self.old).roots) × ((standing self.new).out ≡ (standing self.old).out) }
         ensures turns { OnOk result (MakesNone self.old.table self.new.table) }
-        ensures truth { (read : Key → Option Value) → KeepsTrue read graph.old graph.new self.old.table self.new.table result }
+        ensures truth { (read : Key → Option Value) → Ends read graph.old graph.new self.old.table self.new.table result }
     {
         close_cycles(self.alloc, graph, &mut self.table)?;
         self.kept = BTreeMap::new(self.alloc);

@@ -12,7 +12,7 @@ ghost use Rattle.keys.specs.declared.value.Value.{Value};
 ghost use Rattle.std.specs.Prelude.{List};
 ghost use Rattle.evaluation.specs.Reply.{Reply, Done};
 ghost use Rattle.open_nodes.specs.Truths.{Leads};
-ghost use Rattle.round.specs.Frames.{KeepsFrame};
+ghost use Rattle.round.specs.Frames.{KeepsFrame, KeepsFrameBut};
 ghost use Rattle.round.specs.Looks.{HasPassed};
 ghost use Rattle.round.specs.Turning.{IsOutWith, ComesBack};
 ghost use Rattle.open_nodes.specs.Counted.{MakesNone};
@@ -157,7 +157,7 @@ pub fn end(
     ensures whole { OnOk result (IsWholeNow graph.new table.new) }
     ensures back { OnOk result (ComesBack table.old table.new key) }
     ensures keeps { OnOk result (KeepsWanted graph.old graph.new table.old table.new) }
-    ensures frame { OnOk result (KeepsFrame graph.old graph.new table.old table.new) }
+    ensures frame { OnOk result (KeepsFrameBut key graph.old graph.new table.old table.new) }
     ensures truth { (read : Key → Option Value) (next : Key → List Value → Reply Key Value) (answers : List Value) → IsOutWith graph.old table.old key answers → next key answers ≡ Done value → Leads next read graph.old graph.new table.old table.new result }
 {
     let shared = Arc::new(alloc, value)?;

@@ -19,7 +19,7 @@ ghost use Rattle.open_nodes.specs.Nodes.{node_at, groups_of};
 ghost use Rattle.open_nodes.specs.Truths.{Leads};
 ghost use Rattle.open_nodes.specs.declared.table.Node.{Node};
 ghost use Rattle.open_nodes.specs.declared.table.Phase.TheVariants as phase;
-ghost use Rattle.round.specs.Frames.{KeepsFrame};
+ghost use Rattle.round.specs.Frames.{KeepsFrameBut};
 ghost use Rattle.round.specs.Moves.{KeepsTrue, KeepsWanted, IsWholeNow};
 ghost use Rattle.round.specs.Turning.{IsOutWith, ComesBack, NextJob};
 
@@ -178,7 +178,7 @@ pub fn take<R: Rules>(
     ensures whole { OnOk result (IsWholeNow graph.new table.new) }
     ensures back { OnOk result (ComesBack table.old table.new turned.asked.key) }
     ensures keeps { OnOk result (KeepsWanted graph.old graph.new table.old table.new) }
-    ensures frame { OnOk result (KeepsFrame graph.old graph.new table.old table.new) }
+    ensures frame { OnOk result (KeepsFrameBut turned.asked.key graph.old graph.new table.old table.new) }
     ensures truth { (read : Key → Option Value) → Leads R.next read graph.old graph.new table.old table.new result }
     ensures made { OnOk result (turned.ending ≡ Made) }
     ensures paused { IfOk result (λ paused. IfSome paused (λ w. IsPaused graph.new table.new turned.asked.key w)) }

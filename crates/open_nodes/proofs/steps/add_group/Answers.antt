@@ -1,6 +1,5 @@
 use Rattle.std.proofs.Common.{◌≡◌, ◌++◌, ◌∷◌, [], ◌∙◌, sym, ap, refl, subst}
 use Rattle.std.specs.Prelude.{IsSome}
-use Rattle.node.specs.Kept.{items_of}
 use Rattle.open_nodes.specs.Nodes.{groups_of}
 use Rattle.open_nodes.specs.declared.table.Node.{Node}
 use Rattle.open_nodes.specs.declared.table.Phase.TheVariants as phase

@@ -1,5 +1,4 @@
 use Rattle.std.proofs.Common.{subst}
-use Rattle.keys.specs.declared.key.Key.{Key}
 use Rattle.open_nodes.specs.Nodes.{Nodes}
 use Rattle.open_nodes.specs.Steps.{HasAsked}
 use Rattle.open_nodes.proofs.steps.ask.Goals as goal

@@ -1,5 +1,5 @@
 use Rattle.round.proofs.Stalled.{closed_keeps, is_stall, its_stop, entries_ready}
-use Rattle.round.proofs.Closings.{closed_true}
+use Rattle.round.proofs.Closings.{closed_end}
 use Rattle.round.proofs.close.close_cycles.Goals as goal
 
 pub record_all-requires-clause-differ : goal.record_all-requires-clause-differ
@@ -20,7 +20,7 @@ returns-clause-truth c = λ read next laws past h.
     let t = c.in_ok-stall.ensures.taken c.requires.whole.holds in
     let s = is_stall c.args.graph.now c.args.table.now c.close_all.new.table c.in_ok-stall.stall c.args.graph.now.version c.requires.whole c.requires.idle t c.in_ok-stall.ensures.none in
     let a = c.in_ok-entries.ensures s (its_stop c.args.graph.now c.args.table.now c.close_all.new.table c.in_ok-stall.stall c.args.graph.now.version c.requires.whole c.requires.idle t c.in_ok-stall.ensures.none) t.differ in
-    closed_true c.args.graph.now c.args.table.now c.close_all.new.table c.in_ok-stall.stall c.requires.whole c.requires.idle t c.in_ok-stall.ensures.none next read laws past h
+    closed_end c.args.graph.now c.args.table.now c.close_all.new.table c.in_ok-stall.stall c.requires.whole c.requires.idle t c.in_ok-stall.ensures.none next read laws past h
     c.record_all.new.self c.in_ok-entries.entries.items a c.record_all.ensures.version c.in_ok-record_all.ensures.recorded c.in_ok-record_all.ensures.lawful
 
 pub returns-clause-keeps : goal.returns-clause-keeps

@@ -13,7 +13,7 @@ use Rattle.round.proofs.closing.close_next.Goals as goal
 
 pub returns-clause-taken : goal.returns-clause-taken
 returns-clause-taken c = λ start holds h. taken_step (record_at c.args.graph.now) c.args.graph.now.version start c.args.table.now _ c.note_turned.new.table c.args.stall.now c.put_closing.new.stall
-    h holds c.in-Some.key c.in-Some.node c.in-Some.ensures.value c.in-Some.ensures.updates refl c.in_ok-groups.groups c.in_ok-groups.turned c.in_ok-groups.ensures.turned c.in_ok-groups.ensures.groups
+    h holds c.in-Some.key c.in-Some.node c.in-Some.ensures.value c.in-Some.ensures.updates c.in-Some.ensures.least refl c.in_ok-groups.groups c.in_ok-groups.turned c.in_ok-groups.ensures.turned c.in_ok-groups.ensures.groups
     c.version.result c.len.result c.version.ensures (c.len.ensures ∙ c.in_ok-groups.groups.ok.0) c.in_ok-note_turned.ensures.yes c.in_ok-note_turned.ensures.no
     c.in_ok-stop.stop (subst (λ gs. StopsIn (record_at c.args.graph.now) (items_of gs) c.in_ok-stop.stop) c.as_slice.ensures.value c.in_ok-stop.ensures) c.in_ok-put_closing.ensures.stops c.in_ok-put_closing.ensures.closing
 

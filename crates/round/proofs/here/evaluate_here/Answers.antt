@@ -5,6 +5,7 @@ use Rattle.keys.specs.declared.key.Key.{Key}
 use Rattle.node.proofs.Lists.{on_err}
 use Rattle.open_nodes.specs.Truths.{IsNext}
 use Rattle.round.specs.Since.{IsTrueSince}
+use Rattle.round.proofs.NextTurns.{wants_turn}
 use Rattle.round.proofs.Resting.{root_open}
 use Rattle.round.proofs.here.evaluate_here.Goals as goal
 
@@ -33,8 +34,8 @@ loop-made-preserved g c = record {
 pub close-requires-clause-stalled : goal.close-requires-clause-stalled
 close-requires-clause-stalled g c κs within = (rw c.in-None.is at c.in_ok-next_key.ensures.none, c.loop-made.invariant.resting.none_out)
 
-pub close-requires-in-None-2-clause-stalled : goal.close-requires-in-None-2-clause-stalled
-close-requires-in-None-2-clause-stalled g c κs within = (rw c.in-None-2.is at c.in_ok-next_key-2.ensures.none, c.loop-made.invariant.resting.none_out)
+pub close-requires-2-clause-stalled : goal.close-requires-2-clause-stalled
+close-requires-2-clause-stalled g c κs within = (c.has_ready.ensures.no c.if-has_ready.false, c.loop-made.invariant.resting.none_out)
 
 pub returns-in_err-close-in-None-clause-stopped : goal.returns-in_err-close-in-None-clause-stopped
 returns-in_err-close-in-None-clause-stopped g c =
@@ -49,48 +50,52 @@ returns-in-None-clause-law g c = λ past h.
 pub returns-in-None-clause-turns : goal.returns-in-None-clause-turns
 returns-in-None-clause-turns g c = c.loop-made.invariant.counted ∙ ap (λ n. g.R.Rules.turns c.args.rules.now + n) (c.in_ok-close-in-None.ensures.made c.loop-made._made c.loop-made.invariant.resting.made)
 
-pub returns-in_err-close-in-None-2-clause-stopped : goal.returns-in_err-close-in-None-2-clause-stopped
-returns-in_err-close-in-None-2-clause-stopped g c =
+pub returns-in_err-close-clause-stopped : goal.returns-in_err-close-clause-stopped
+returns-in_err-close-clause-stopped g c =
     let laws : IsNext g.R.Rules.next = record { groups_differ = g.met.R.Rules.groups_differ; ends_plain = g.met.R.Rules.ends_plain } in
-    on_err c.from_residual-in_err-close-in-None-2.result (λ past h. c.in_err-close-in-None-2.ensures.stopped (leaves.read c.args.tree.now) g.R.Rules.next laws past (c.loop-made.invariant.truth laws past h))
+    on_err c.from_residual-in_err-close.result (λ past h. c.in_err-close.ensures.stopped (leaves.read c.args.tree.now) g.R.Rules.next laws past (c.loop-made.invariant.truth laws past h))
 
-pub returns-in_ok-close-in-None-2-clause-law : goal.returns-in_ok-close-in-None-2-clause-law
-returns-in_ok-close-in-None-2-clause-law g c = λ past h.
+pub returns-clause-law : goal.returns-clause-law
+returns-clause-law g c = λ past h.
     let laws : IsNext g.R.Rules.next = record { groups_differ = g.met.R.Rules.groups_differ; ends_plain = g.met.R.Rules.ends_plain } in
-    c.in_ok-close-in-None-2.ensures.law (leaves.read c.args.tree.now) g.R.Rules.next laws past (h.of_roots ∙ sym c.loop-made.invariant.resting.same_roots) (c.loop-made.invariant.truth laws past h)
+    c.in_ok-close.ensures.law (leaves.read c.args.tree.now) g.R.Rules.next laws past (h.of_roots ∙ sym c.loop-made.invariant.resting.same_roots) (c.loop-made.invariant.truth laws past h)
 
-pub returns-in_ok-close-in-None-2-clause-turns : goal.returns-in_ok-close-in-None-2-clause-turns
-returns-in_ok-close-in-None-2-clause-turns g c =
-    c.loop-made.invariant.counted ∙ ap (λ n. g.R.Rules.turns c.args.rules.now + n) (c.in_ok-close-in-None-2.ensures.made c.loop-made._made c.loop-made.invariant.resting.made)
+pub returns-clause-turns : goal.returns-clause-turns
+returns-clause-turns g c =
+    c.loop-made.invariant.counted ∙ ap (λ n. g.R.Rules.turns c.args.rules.now + n) (c.in_ok-close.ensures.made c.loop-made._made c.loop-made.invariant.resting.made)
 
-pub returns-in-Some-2-clause-budget : goal.returns-in-Some-2-clause-budget
-returns-in-Some-2-clause-budget g c = λ e. (
+pub returns-then-has_ready-clause-budget : goal.returns-then-has_ready-clause-budget
+returns-then-has_ready-clause-budget g c = λ e. (
   same_count c.loop-made._made c.args.budget (g.R.Rules.turns c.args.rules.now) (g.R.Rules.turns c.loop-made.rules) c.loop-made.invariant.counted c.loop-made.auto._made-end c.loop-made-test.false,
   λ past h.
       let laws : IsNext g.R.Rules.next = record { groups_differ = g.met.R.Rules.groups_differ; ends_plain = g.met.R.Rules.ends_plain } in
       let whole = c.loop-made.invariant.resting.beside.0.whole in
-      let i : In c.in-Some-2.field-0 c.loop-made.round.table.ready.keys = rw c.in-Some-2.is at c.in_ok-next_key-2.ensures.some in
-      let o = whole.ready_now c.in-Some-2.field-0 i in
-      let f = root_open g.R.Rules.next (leaves.read c.args.tree.now) laws past c.loop-made.graph c.loop-made.round.table whole (c.loop-made.invariant.truth laws past h) c.in-Some-2.field-0 (o.0, o.1) in
+      let k = c.has_ready.ensures.yes c.if-has_ready.true in
+      let o = whole.ready_now k.0 k.1 in
+      let f = root_open g.R.Rules.next (leaves.read c.args.tree.now) laws past c.loop-made.graph c.loop-made.round.table whole (c.loop-made.invariant.truth laws past h) k.0 (o.0, o.1) in
       (f.0, subst (In f.0) h.of_roots f.1, f.2),
 )
+
+pub returns-then-has_ready-clause-spent : goal.returns-then-has_ready-clause-spent
+returns-then-has_ready-clause-spent g c = λ e.
+    let k = c.has_ready.ensures.yes c.if-has_ready.true in (
+      k.0,
+      λ past h.
+          let laws : IsNext g.R.Rules.next = record { groups_differ = g.met.R.Rules.groups_differ; ends_plain = g.met.R.Rules.ends_plain } in
+          wants_turn g.R.Rules.next (leaves.read c.args.tree.now) laws past c.loop-made.graph c.loop-made.round.table c.loop-made.invariant.resting.beside.0.whole (c.loop-made.invariant.truth laws past h) k.0 k.1,
+    )
 
 pub returns-in_err-next_key-clause-stopped : goal.returns-in_err-next_key-clause-stopped
 returns-in_err-next_key-clause-stopped g c =
     let laws : IsNext g.R.Rules.next = record { groups_differ = g.met.R.Rules.groups_differ; ends_plain = g.met.R.Rules.ends_plain } in
     on_err c.from_residual-in_err-next_key.result (λ past h. (c.loop-made.invariant.truth laws past h).after)
 
-pub returns-in_err-next_key-2-clause-stopped : goal.returns-in_err-next_key-2-clause-stopped
-returns-in_err-next_key-2-clause-stopped g c =
-    let laws : IsNext g.R.Rules.next = record { groups_differ = g.met.R.Rules.groups_differ; ends_plain = g.met.R.Rules.ends_plain } in
-    on_err c.from_residual-in_err-next_key-2.result (λ past h. (c.loop-made.invariant.truth laws past h).after)
-
 pub returns-in_err-turn-in-Some-clause-stopped : goal.returns-in_err-turn-in-Some-clause-stopped
 returns-in_err-turn-in-Some-clause-stopped g c =
     let laws : IsNext g.R.Rules.next = record { groups_differ = g.met.R.Rules.groups_differ; ends_plain = g.met.R.Rules.ends_plain } in
     on_err c.from_residual-in_err-turn-in-Some.result (λ past h. c.in_err-turn-in-Some.ensures.truth laws past (c.loop-made.invariant.truth laws past h))
 
-pub returns-in-Some-2-clause-stopped : goal.returns-in-Some-2-clause-stopped
-returns-in-Some-2-clause-stopped g c = λ past h.
+pub returns-then-has_ready-clause-stopped : goal.returns-then-has_ready-clause-stopped
+returns-then-has_ready-clause-stopped g c = λ past h.
     let laws : IsNext g.R.Rules.next = record { groups_differ = g.met.R.Rules.groups_differ; ends_plain = g.met.R.Rules.ends_plain } in
     (c.loop-made.invariant.truth laws past h).after

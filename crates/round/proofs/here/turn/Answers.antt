@@ -5,22 +5,22 @@ use Rattle.round.proofs.Wanting.{leads_err}
 use Rattle.round.proofs.Rounding.{none_again}
 use Rattle.round.proofs.here.turn.Goals as goal
 
-pub returns-in_err-take_own-in-Some-clause-truth : goal.returns-in_err-take_own-in-Some-clause-truth
-returns-in_err-take_own-in-Some-clause-truth g c =
-    leads_err g.R.Rules.next (leaves.read c.args.tree.now) c.args.graph.now c.take_own.new.graph c.args.round.now.table c.take_own.new.self.table c.from_residual-in_err-take_own-in-Some.result c.from_residual-in_err-take_own-in-Some.ensures.0
-    (λ laws past t. c.in_err-take_own-in-Some.ensures.truth laws past (c.in_ok-hand_out.ensures.truth (leaves.read c.args.tree.now) g.R.Rules.next laws past t))
+pub returns-in_err-take_known-in-Some-clause-truth : goal.returns-in_err-take_known-in-Some-clause-truth
+returns-in_err-take_known-in-Some-clause-truth g c =
+    leads_err g.R.Rules.next (leaves.read c.args.tree.now) c.args.graph.now c.take_known.new.graph c.args.round.now.table c.take_known.new.self.table c.from_residual-in_err-take_known-in-Some.result c.from_residual-in_err-take_known-in-Some.ensures.0
+    (λ laws past t. c.in_err-take_known-in-Some.ensures.truth laws past (c.in_ok-hand_out.ensures.truth (leaves.read c.args.tree.now) g.R.Rules.next laws past t))
 
 pub returns-clause-turns : goal.returns-clause-turns
 returns-clause-turns g c = λ roots turns r.
     let h = rw c.in-Some.is at c.in_ok-hand_out.ensures.hands in
-    let t = c.in_ok-take_own-in-Some.ensures in
+    let t = c.in_ok-take_known-in-Some.ensures in
     record {
       beside = t.beside;
-      none_out = none_again c.args.round.now.out.keys c.hand_out.new.self.out.keys c.take_own.new.self.out.keys c.args.key.now c.make-turned.result.asked.key r.none_out h.3 t.back.1 (ap (λ (a : Asked). a.key) c.make-turned.ensures.same ∙ h.1);
+      none_out = none_again c.args.round.now.out.keys c.hand_out.new.self.out.keys c.take_known.new.self.out.keys c.args.key.now c.make-turned.result.asked.key r.none_out h.3 t.back.1 (ap (λ (a : Asked). a.key) c.make-turned.ensures.same ∙ h.1);
       same_roots = t.back.0 ∙ h.4 ∙ r.same_roots;
       made = t.back.2 turns (h.5 turns r.made);
     }
 
 pub returns-clause-truth : goal.returns-clause-truth
 returns-clause-truth g c = λ laws past t.
-    c.in_ok-take_own-in-Some.ensures.truth laws past (c.in_ok-hand_out.ensures.truth (leaves.read c.args.tree.now) g.R.Rules.next laws past t)
+    c.in_ok-take_known-in-Some.ensures.truth laws past (c.in_ok-hand_out.ensures.truth (leaves.read c.args.tree.now) g.R.Rules.next laws past t)

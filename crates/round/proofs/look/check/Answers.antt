@@ -1,4 +1,4 @@
-use Rattle.round.proofs.Framing.{frame_phase, checks_no_turn}
+use Rattle.round.proofs.Framing.{frame_phase, checks_no_turn, checks_not_out}
 use Rattle.std.proofs.Common.{subst}
 use Rattle.leaves.specs.Leaves as leaves
 use Rattle.std.proofs.Common.{ℕ}
@@ -58,8 +58,8 @@ returns-in_ok-pass-in-Passes-clause-keeps c =
 
 pub returns-in_ok-run_anew-in-Differs-clause-frame : goal.returns-in_ok-run_anew-in-Differs-clause-frame
 returns-in_ok-run_anew-in-Differs-clause-frame c = let k = c.requires.checking in
-    frame_phase c.args.graph.now c.args.table.now c.run_anew.new.table c.args.key.now k.0 k.1 (checks_no_turn k.0 c.args.passed k.2) _ c.in_ok-run_anew-in-Differs.ensures.phase
+    frame_phase c.args.graph.now c.args.table.now c.run_anew.new.table c.args.key.now k.0 k.1 (checks_no_turn k.0 c.args.passed k.2) (checks_not_out k.0 c.args.passed k.2) _ c.in_ok-run_anew-in-Differs.ensures.phase
 
 pub returns-in_ok-pass-in-Passes-clause-frame : goal.returns-in_ok-pass-in-Passes-clause-frame
 returns-in_ok-pass-in-Passes-clause-frame c = let k = c.requires.checking in
-    frame_phase c.args.graph.now c.args.table.now c.pass.new.table c.args.key.now k.0 k.1 (checks_no_turn k.0 c.args.passed k.2) _ c.in_ok-pass-in-Passes.ensures.phase
+    frame_phase c.args.graph.now c.args.table.now c.pass.new.table c.args.key.now k.0 k.1 (checks_no_turn k.0 c.args.passed k.2) (checks_not_out k.0 c.args.passed k.2) _ c.in_ok-pass-in-Passes.ensures.phase

@@ -1,5 +1,5 @@
 use Rattle.std.proofs.Common.{refl}
-use Rattle.round.proofs.Framing.{frame_left, checks_no_turn}
+use Rattle.round.proofs.Framing.{frame_left, frame_whole, checks_no_turn, checks_not_out}
 use Rattle.round.proofs.Confirming.{clean_members, confirmed_whole, confirmed_out, confirmed_keeps, confirmed_turns, confirmed_true, is_recorded, recorded}
 use Rattle.round.proofs.settle.confirm.Goals as goal
 
@@ -33,5 +33,6 @@ pub returns-clause-frame : goal.returns-clause-frame
 returns-clause-frame c =
     let p = c.requires.passed in
     let r = recorded c.args.graph.now c.args.table.now c.args.key.now p c.requires.whole in
-    frame_left c.args.graph.now c.confirm.new.self c.args.table.now c.leave.new.table c.leave.new.table c.args.key.now p.node _ p.there (checks_no_turn p.node p.at p.checking) (c.requires.whole.holds c.args.key.now p.node p.there).0
-    (c.in_ok-_groups.ensures.left p.node p.there) refl (c.confirm.ensures.confirmed r.0 r.1)
+    frame_whole c.args.graph.now c.confirm.new.self c.args.table.now c.leave.new.table c.args.key.now p.node p.there (checks_not_out p.node p.at p.checking)
+    (frame_left c.args.graph.now c.confirm.new.self c.args.table.now c.leave.new.table c.leave.new.table c.args.key.now p.node _ p.there (checks_no_turn p.node p.at p.checking) (c.requires.whole.holds c.args.key.now p.node p.there).0
+    (c.in_ok-_groups.ensures.left p.node p.there) refl (c.confirm.ensures.confirmed r.0 r.1))

@@ -1,3 +1,4 @@
+use Rattle.round.specs.Frames.{KeepsFrameBut}
 use Rattle.round.specs.Paused.{IsPaused}
 use Rattle.round.proofs.Pausing.{asked_paused}
 use Rattle.round.proofs.Wanting.{leads_err}
@@ -61,7 +62,8 @@ returns-in_ok-ask-in-Wait-clause-frame g c =
     let step = rw c.in-Wait.is at c.in_ok-key.ensures.step in
     let same = c.key.ensures ∙ step.0 in
     let o = subst (λ (k : Key). IsOutWith c.args.graph.now c.args.table.now k c.args.turned.asked.answers) (sym same) c.requires.out in
-    frame_asked c.args.graph.now c.args.table.now c.ask.new.table c.key.result.now o.node c.in_ok-group-in-Wait.group.items o.there (out_no_turn o.node o.out) c.in_ok-ask-in-Wait.ensures.asked
+    subst (λ (k : Key). KeepsFrameBut k c.args.graph.now c.args.graph.now c.args.table.now c.ask.new.table) same
+    (frame_asked c.args.graph.now c.args.table.now c.ask.new.table c.key.result.now o.node c.in_ok-group-in-Wait.group.items o.there (out_no_turn o.node o.out) c.in_ok-ask-in-Wait.ensures.asked)
 
 pub returns-in_ok-ask-in-Wait-clause-paused : goal.returns-in_ok-ask-in-Wait-clause-paused
 returns-in_ok-ask-in-Wait-clause-paused g c =
@@ -70,3 +72,8 @@ returns-in_ok-ask-in-Wait-clause-paused g c =
     let o = subst (λ (k : Key). IsOutWith c.args.graph.now c.args.table.now k c.args.turned.asked.answers) (sym same) c.requires.out in
     subst (λ (k : Key). IsPaused c.args.graph.now c.ask.new.table k c.in-Wait.waiting) same
     (asked_paused c.args.graph.now c.args.table.now c.ask.new.table c.key.result.now c.args.turned.asked.answers o c.in_ok-group-in-Wait.group.items c.in_ok-ask-in-Wait.ensures.asked c.in-Wait.waiting (sym c.key.ensures) step.1)
+
+pub returns-in_ok-end-in-End-clause-frame : goal.returns-in_ok-end-in-End-clause-frame
+returns-in_ok-end-in-End-clause-frame g c =
+    let step = rw c.in-End.is at c.in_ok-key.ensures.step in
+    subst (λ (k : Key). KeepsFrameBut k c.args.graph.now c.end.new.graph c.args.table.now c.end.new.table) step.0 c.in_ok-end-in-End.ensures.frame

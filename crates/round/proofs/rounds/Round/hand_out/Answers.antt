@@ -3,7 +3,7 @@ use Rattle.keys.specs.declared.key.Key.{Key}
 use Rattle.round.specs.Rounds.{IsBeside}
 use Rattle.node.specs.Edges.{IsAdded}
 use Rattle.round.proofs.Handing.{handed_whole, handed_keeps, handed_with, handed_more, handed_turns, handed_true}
-use Rattle.round.proofs.Pausing.{fewer_paused, handed_paused}
+use Rattle.round.proofs.Pausing.{fewer_paused, handed_paused, jobs_beside}
 use Rattle.round.proofs.Rounding.{out_added}
 use Rattle.round.proofs.rounds.Round.hand_out.Goals as goal
 
@@ -55,3 +55,9 @@ returns-in_err-put_out-clause-beside g c = (
   subst (λ (ks : List Key). IsBeside c.args.graph.now (record { roots = c.args.self.now.roots.items; table = c.args.self.now.table; out = ks })) (sym c.in_err-put_out.ensures.refused) c.requires.0,
   fewer_paused c.args.graph.now c.args.self.now.table c.args.self.now.kept c.next_job.new.kept c.next_job.ensures.fewer c.requires.1,
 )
+
+pub returns-clause-others : goal.returns-clause-others
+returns-clause-others g c = λ job o.
+    let j = rw c.in-Some.is at c.in_ok-job.ensures.job in
+    let ready = c.requires.0.whole.ready_now c.args.key.now j.0 in
+    jobs_beside c.args.graph.now c.args.self.now.table c.set_out.new.table c.args.key.now ready.0 ready.1 ready.2 c.set_out.ensures.phase job.key job.answers o
