@@ -1,5 +1,5 @@
 -- The graph and the requests so far: what one more request does.
-use Rattle.std.proofs.Common.{◌≡◌, ◌⊎◌, inl, inr, ℕ, ◌<◌, ◌≤◌, false, cond, List, [], ◌∷◌, Option, Some, None, refl, suc, length, sym, ◌∙◌, ap, subst, arith}
+use Rattle.std.proofs.Common.{◌≡◌, ◌⊎◌, inl, inr, ℕ, ◌<◌, ◌≤◌, false, cond, List, [], ◌∷◌, ◌++◌, Option, Some, None, refl, suc, length, sym, ◌∙◌, ap, subst, arith}
 use Rattle.evaluation.specs.Value.{IsUngrounded, leaf as leaf_settles, run as run_settles, is_leaf, has_run, Grounded, HasValue, In, first, after, IsMember, Settles}
 use Rattle.evaluation.specs.Graph.{Record, Differs}
 use Rattle.evaluation.specs.Journal.{RunIsJustified, never_settled, dependency_differs, ReadIsJustified, never_read, edited}
@@ -17,7 +17,7 @@ use Rattle.node.proofs.Lists.{some_is, none_some, true_false}
 use Rattle.open_nodes.specs.Truths.{Past, IsRunOf}
 use Rattle.open_nodes.specs.declared.run.Run.{Run}
 use Rattle.round.specs.Call.{IsCall}
-use Rattle.loader.specs.Journal.{Asked, leaves, IsSettledBy, IsLastSettled, by_newest, by_earlier, MayRun, first_run, run_again, MayBeRead, first_read, read_again, IsItemOf, MissesNone, AreItemsOf}
+use Rattle.loader.specs.Journal.{Asked, leaves, IsSettledBy, IsLastSettled, by_newest, by_earlier, MayRun, first_run, run_again, MayBeRead, first_read, read_again, IsItemOf, MissesNone, AreInOrder, AreItemsOf}
 use Rattle.loader.specs.Linked.{Stays, IsLinked}
 use Rattle.loader.proofs.Asked.{asked_recorded, recorded_asked, asks_some}
 use Rattle.loader.proofs.Linking.{same_at, stays_now, read_plain}
@@ -29,6 +29,10 @@ settled_apart {s = s} e d n = none_some (sym n ∙ (ap present e ∙ ap (λ b. c
 either : {X : Type 0} {x y : X} {ys : List X} → In x (y ∷ ys) → (x ≡ y) ⊎ In x ys
 either first = inl refl
 either (after i) = inr i
+
+in_middle : (before : List Run) {run : Run} {rest : List Run} → In run (before ++ run ∷ rest)
+in_middle [] = first
+in_middle (x ∷ before) = after (in_middle before)
 
 split : (a b : ℕ) → (a ≤ b) ⊎ (b < a)
 split a b = grind arith
@@ -267,9 +271,18 @@ module _ (files : ℕ → Files) (paths : ℕ → List ℕ) where
             grounded_value (is_leaf e) = ([], leaf_settles e)
             grounded_value (has_run {groups = hs} e t) = (hs, run_settles e t)
 
+    in_order : AreInOrder files paths request runs
+    in_order = record {
+      behind = λ before rest run e j records there apart.
+          let p = call.ran run (subst (λ (rs : List Run). In run rs) (sym e) (in_middle before)) in
+          let s = subst (λ (m : ℕ). Settles next (at m) cycle run.key p.of_key.groups p.of_key.value) version ((law.each run.key p.of_key p.recorded).clean p.clean) in
+          call.behind before rest run e p.of_key p.recorded j (records.0, asked_recorded next cycle (at old.version) s records.1, records.2) there apart;
+      closed = call.closed;
+    }
+
     -- the items of the request
     pub items_call : AreItemsOf files paths earlier request runs
-    items_call = record { each = item_of; all = misses_none }
+    items_call = record { each = item_of; all = misses_none; order = in_order }
 
     -- a key with a record that has an item was settled earlier
     pub item_late : (run : Run) → In run runs → (r : Record Key Value) → record_at old run.key ≡ Some r → r.settled_at < old.version

@@ -1,13 +1,15 @@
 -- What a journal tells, by the requests and the history of the files alone: `files u` are the files at version u, and `paths u` is the path of
 -- the edit to version u.
+use Rattle.std.specs.declared.cmp.Ordering.TheVariants.{Less}
 use Rattle.std.specs.Prelude.{◌≡◌, ◌≢◌, ◌⊎◌, ℕ, ◌<◌, ◌≤◌, List, [], ◌∷◌, ◌++◌, map, Option, Some, None}
 use Rattle.evaluation.specs.Graph.{Differs}
 use Rattle.evaluation.specs.Reached.{AsksGroup, Reached}
-use Rattle.evaluation.specs.Value.{AllDiffer, Grounded, HasValue, In}
+use Rattle.evaluation.specs.Value.{AllDiffer, Grounded, IsUngrounded, HasValue, In}
 use Rattle.filetree.specs.Files.{Files}
 use Rattle.functions.specs.Next.{next}
 use Rattle.leaves.specs.Leaves.{read}
 use Rattle.keys.specs.Cycles.{cycle}
+use Rattle.keys.specs.Keys.{key_cmp}
 use Rattle.keys.specs.declared.key.Key.{Key}
 use Rattle.keys.specs.declared.value.Value.{Value}
 use Rattle.node.specs.Graphs.{IsTouched}
@@ -52,6 +54,14 @@ module _ (files : ℕ → Files) (paths : ℕ → List ℕ) where
   abbrev pub Records : ℕ → Key → Key → Type 0
   Records u k j = (group : List Key) × AsksGroup next cycle (leaves u) k group × In j group
 
+  -- The items of a request stand in the order in which their keys were settled. An item stands behind those of the keys that its
+  -- key records, unless neither of the two is grounded. The keys that are not stand last, in the order of keys.
+  pub record AreInOrder (request : Asked) (runs : List Run) : Type 0 where
+    pub behind : (before rest : List Run) (run : Run) → runs ≡ before ++ run ∷ rest → (j : Key) → Records request.version run.key j → In j (keys_of runs)
+        → (IsUngrounded next (leaves request.version) run.key → IsUngrounded next (leaves request.version) j → ⊥) → In j (keys_of before)
+    pub closed : (before rest : List Run) (run : Run) → runs ≡ before ++ run ∷ rest → IsUngrounded next (leaves request.version) run.key
+        → (later : Run) → In later rest → IsUngrounded next (leaves request.version) later.key × (key_cmp run.key later.key ≡ Less)
+
   module _ (earlier : List Asked) where
     -- k may run at version v: it was never settled before, or it was, and a key that it recorded when it was last settled has had two values since
     pub data MayRun (k : Key) (v : ℕ) : Type 0 where
@@ -78,6 +88,7 @@ module _ (files : ℕ → Files) (paths : ℕ → List ℕ) where
     pub record AreItemsOf (request : Asked) (runs : List Run) : Type 0 where
       pub each : (run : Run) → In run runs → IsItemOf request run
       pub all : MissesNone request runs
+      pub order : AreInOrder request runs
 
   -- the items of the requests, in their order, after these earlier requests, the newest first; those of one request have at most `budget` turns
   abbrev pub AreItems : ℕ → List Asked → List Asked → List Run → Type 0
