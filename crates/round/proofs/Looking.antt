@@ -1,6 +1,7 @@
 -- A node is looked at.
-use Rattle.std.proofs.Common.{◌≡◌, ◌≢◌, ◌⊎◌, inl, inr, ℕ, Bool, false, List, [], ◌∷◌, ◌++◌, Option, Some, None, refl, sym, ◌∙◌, ap, subst}
+use Rattle.std.proofs.Common.{◌≡◌, ◌≢◌, ◌⊎◌, inl, inr, ℕ, Bool, true, false, List, [], ◌∷◌, ◌++◌, Option, Some, None, refl, sym, ◌∙◌, ap, subst}
 use Rattle.std.specs.BTreeMap.{Updates}
+use Rattle.std.specs.Cmp.{unsigned_Decides}
 use Rattle.std.specs.Prelude.{vec_len, length, ◌==◌}
 use Rattle.std.specs.declared.alloc.Global.{Global}
 use Rattle.std.specs.declared.vec.Vec.{Vec}
@@ -10,8 +11,8 @@ use Rattle.keys.specs.declared.key.Key.{Key}
 use Rattle.keys.specs.declared.value.Value.{Value}
 use Rattle.node.specs.Graphs.{Recorded, record_at}
 use Rattle.node.specs.Kept.{items_of}
-use Rattle.node.proofs.Lists.{some_is, true_false, decide_key, other_key, in_split, in_left, in_right, in_one}
-use Rattle.open_nodes.specs.Nodes.{Nodes, node_at, groups_of, pending, IsOpen, IsUnsettled, IsClean, IsPlain, Stands, IsCurrent, IsBlocked, IsWhole, AreOut}
+use Rattle.node.proofs.Lists.{some_is, true_false, none_of, not_in, decide_key, other_key, in_split, in_left, in_right, in_one}
+use Rattle.open_nodes.specs.Nodes.{Nodes, node_at, Records, groups_of, pending, IsOpen, IsUnsettled, IsClean, IsPlain, Stands, IsCurrent, IsBlocked, IsWhole, AreOut}
 use Rattle.open_nodes.specs.Steps.{Pends, Readies, HasWatcher, SameRuns}
 use Rattle.open_nodes.specs.Truths.{IsTrueOf, IsDoing}
 use Rattle.open_nodes.specs.declared.run.Run.{Run}
@@ -241,6 +242,13 @@ stop_in group before rest k e = subst (In k) (sym e) (in_right before first)
 -- a list with an element is not empty
 pub some_missing : (missing : Vec Key Global) (slice : List Key) → slice ≡ missing.items → {b : Bool} → b ≡ (vec_len missing == 0) → b ≡ false → slice ≡ [] → ⊥
 some_missing missing slice q {b = b} h f e = let n : vec_len missing ≡ 0 = missing.ok.0 ∙ ap length (sym q ∙ e) in true_false (h ∙ ap (λ x. x == 0) n) f
+
+-- where none is missing, all members are settled
+pub none_missing : (records : Records) (group : List Key) (missing : Vec Key Global) → IsMissing records group missing.items → (b : Bool) → b ≡ (vec_len missing == 0) → b ≡ true → (j : Key) → In j group → IsClean records j
+none_missing records group missing m b h t j i = elim (m.rest j i) [ inl x ↦ absurd (not_in x empty) | inr c ↦ c ]
+  where
+    empty : missing.items ≡ []
+    empty = none_of missing.items (sym missing.ok.0 ∙ (unsigned_Decides (vec_len missing) 0).0 (sym h ∙ t))
 
 -- the first of those that are to be looked at is taken off
 module _ (graph : Recorded) (before later : Table) (k : Key) (next_key : IsNextKey before later (Some k)) where

@@ -4,9 +4,6 @@ ghost use Rattle.round.specs.declared.look.Compared.TheVariants as compared;
 ghost use Rattle.evaluation.specs.Graph.{Record};
 ghost use Rattle.evaluation.specs.Value.{In};
 ghost use Rattle.open_nodes.specs.Nodes.{IsClean};
-ghost use Rattle.evaluation.specs.Graph.{Record};
-ghost use Rattle.evaluation.specs.Value.{In};
-ghost use Rattle.open_nodes.specs.Nodes.{IsClean};
 ghost use Rattle.leaves.specs.Leaves as leaves;
 ghost use Rattle.keys.specs.declared.key.Key.{Key};
 ghost use Rattle.keys.specs.declared.value.Value.{Value};
@@ -16,20 +13,14 @@ ghost use Rattle.open_nodes.specs.Counted.{MakesNone};
 ghost use Rattle.open_nodes.specs.Nodes.{node_at, groups_of, AreOut};
 ghost use Rattle.open_nodes.specs.declared.table.Node.{Node};
 ghost use Rattle.open_nodes.specs.declared.table.Phase.TheVariants as phase;
-ghost use Rattle.keys.specs.declared.key.Key.{Key};
-ghost use Rattle.open_nodes.specs.declared.table.Phase.TheVariants as phase;
 ghost use Rattle.round.specs.Compared.{ComparesGroup, Compares};
 ghost use Rattle.round.specs.Frames.{KeepsFrame};
 ghost use Rattle.std.specs.Prelude.{Option};
-ghost use Rattle.keys.specs.declared.value.Value.{Value};
 ghost use Rattle.open_nodes.specs.Nodes.{node_at, groups_of, pending};
-ghost use Rattle.open_nodes.specs.declared.table.Node.{Node};
-ghost use Rattle.open_nodes.specs.declared.table.Phase.TheVariants as phase;
-ghost use Rattle.keys.specs.declared.key.Key.{Key};
 ghost use Rattle.round.specs.Looks.{IsAwaiting, IsChecking, IsLastGroup, IsRunning, IsRunningAt, IsNextKey};
 ghost use Rattle.round.specs.Moves.{KeepsTrue, IsWholeBut, IsWholeNow, KeepsOut, KeepsWanted};
 
-use crate::members::{any_changed, first_stop, first_unsettled, share_all, unsettled};
+use crate::members::{any_changed, first_stop, first_unsettled, unsettled};
 use crate::settle::{confirm, want_all};
 use filetree::Tree;
 use keys::Key;
@@ -192,28 +183,6 @@ fn last_group<'a>(nodes: &'a Nodes, key: &Key) -> &'a [Key]
     }
 }
 
-// Looks at a node that makes turns, whose last group is settled.
-fn look_settled(graph: &Graph, table: &mut Table, key: &Key, group: &[Key]) -> Result<(), Memory>
-    requires whole { IsWholeBut key.now graph.now table.old }
-    requires running { IsRunningAt table.old key.now group.now }
-    requires settled { (j : Key) → In j group.now → IsClean (record_at graph.now) j }
-    ensures whole { OnOk result (IsWholeNow graph.now table.new) }
-    ensures out { OnOk result (KeepsOut table.old table.new) }
-    ensures keeps { OnOk result (KeepsWanted graph.now graph.now table.old table.new) }
-    ensures turns { OnOk result (MakesNone table.old table.new) }
-    ensures frame { OnOk result (KeepsFrame graph.now graph.now table.old table.new) }
-    ensures truth { (read : Key → Option Value) → KeepsTrue read graph.now graph.now table.old table.new result }
-    ensures looked { OnOk result (table.new.looked ≡ table.old.looked) }
-{
-    match first_stop(graph, group) {
-        Some(_) => Ok(()),
-        None => {
-            put_ready(table, key)?;
-            Ok(())
-        }
-    }
-}
-
 // Looks at a node that makes turns.
 fn look_running(
     alloc: Global,
@@ -232,12 +201,18 @@ fn look_running(
     ensures truth { KeepsTrue (leaves.read tree.now) graph.old graph.new table.old table.new result }
     ensures looked { OnOk result (table.new.looked ≡ table.old.looked) }
 {
-    let group = share_all(alloc, last_group(&table.nodes, key))?;
-    let missing = unsettled(alloc, graph, group.as_slice())?;
-    if missing.is_empty() {
-        return look_settled(graph, table, key, group.as_slice());
+    let group = last_group(&table.nodes, key);
+    let missing = unsettled(alloc, graph, group)?;
+    if !missing.is_empty() {
+        return wait_for(alloc, graph, tree, table, key, missing.as_slice());
     }
-    wait_for(alloc, graph, tree, table, key, missing.as_slice())
+    match first_stop(graph, group) {
+        Some(_) => Ok(()),
+        None => {
+            put_ready(table, key)?;
+            Ok(())
+        }
+    }
 }
 
 // How many groups a check passed, of a node whose record is checked.
