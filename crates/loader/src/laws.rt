@@ -14,8 +14,8 @@ pub fn lines_have_answers()
     ensures lines { SomeAnswerEach }
 {}
 
-/// The law of one output: two servings of one input write the same bytes. What a serving that stopped wrote is a
-/// beginning of what the serving of any input writes that begins with the bytes that it read.
+/// The law of one output: two servings of one input write the same bytes. A serving that stopped wrote a beginning of
+/// what the serving of any longer input writes, or of its own input where the reader had told its end.
 pub fn input_determines_output()
     ensures served { OneOutput }
     ensures stopped { StopsInOutput }
