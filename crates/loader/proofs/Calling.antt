@@ -30,9 +30,9 @@ either : {X : Type 0} {x y : X} {ys : List X} → In x (y ∷ ys) → (x ≡ y) 
 either first = inl refl
 either (after i) = inr i
 
-in_middle : (before : List Run) {run : Run} {rest : List Run} → In run (before ++ run ∷ rest)
-in_middle [] = first
-in_middle (x ∷ before) = after (in_middle before)
+in_middle : (before : List Run) (run : Run) (rest : List Run) → In run (before ++ run ∷ rest)
+in_middle [] run rest = first
+in_middle (x ∷ before) run rest = after (in_middle before run rest)
 
 split : (a b : ℕ) → (a ≤ b) ⊎ (b < a)
 split a b = grind arith
@@ -274,7 +274,7 @@ module _ (files : ℕ → Files) (paths : ℕ → List ℕ) where
     in_order : AreInOrder files paths request runs
     in_order = record {
       behind = λ before rest run e j records there apart.
-          let p = call.ran run (subst (λ (rs : List Run). In run rs) (sym e) (in_middle before)) in
+          let p = call.ran run (subst (λ (rs : List Run). In run rs) (sym e) (in_middle before run rest)) in
           let s = subst (λ (m : ℕ). Settles next (at m) cycle run.key p.of_key.groups p.of_key.value) version ((law.each run.key p.of_key p.recorded).clean p.clean) in
           call.behind before rest run e p.of_key p.recorded j (records.0, asked_recorded next cycle (at old.version) s records.1, records.2) there apart;
       closed = call.closed;
