@@ -1,5 +1,5 @@
 -- The answers are a function of the lines.
-use Rattle.std.proofs.Common.{◌≡◌, ◌∙◌, ap, sym, subst, refl, ◌⊎◌, inl, inr, ℕ, ◌<◌, List, [], ◌∷◌, ◌++◌, Bool, true, false, append_assoc}
+use Rattle.std.proofs.Common.{◌≡◌, ◌∙◌, ap, sym, subst, refl, ◌⊎◌, inl, inr, ℕ, List, [], ◌∷◌, ◌++◌, Bool, true, false, append_assoc}
 use Rattle.std.specs.Prelude.{Option, Some, None, option_and_then}
 use Rattle.std.proofs.lemmas.List.{append-nil, append_cancel_left}
 use Rattle.lines.specs.Lines.{lines_of, IsWhole, is_too_long}
@@ -8,13 +8,12 @@ use Rattle.filetree.specs.Files.{Files}
 use Rattle.labels.specs.Labels.{Target}
 use Rattle.packages.proofs.OneHeld.{one_module_held, one_package_held}
 use Rattle.answers.specs.Answers.{packages_data}
-use Rattle.open_nodes.specs.declared.run.Run.{Run}
 use Rattle.serde_json.specs.Data.{Data}
 use Rattle.commands.specs.Commands.{Command, change, ask, Request, find, load, module_of, data_of, command_of}
 use Rattle.commands.specs.Refusals.{request_refusal, module_label}
 use Rattle.loader.specs.State.{State, start}
-use Rattle.loader.specs.Answers.{package_shown, module_shown, IsPackageShown, ArePackagesShown, IsModuleShown, IsValueOf, IsUnlessRefused, IsRequestAnswer, IsAnswerTo, IsAnswerIf, IsAnswerOf, IsAnswer, AreAnswers, line_state, state_after, answer_text, texts}
-use Rattle.loader.specs.Served.{IsBeginning, Served, Stopped, IsPart, nothing, of_next}
+use Rattle.loader.specs.Answers.{package_shown, module_shown, IsPackageShown, ArePackagesShown, IsModuleShown, IsValueOf, IsUnlessRefused, IsAnswerTo, IsAnswerIf, IsAnswerOf, AreAnswers, line_state, state_after, answer_text, texts}
+use Rattle.loader.specs.Served.{IsBeginning, IsPart, nothing, of_next}
 use Rattle.loader.specs.Laws.{OneAnswer, OneAnswerEach, OneOutput, StopsInOutput}
 
 module _ (files : Files) where
@@ -102,6 +101,9 @@ lines_begin : (input beyond more : List ℕ) → IsWhole input ⊎ (beyond ++ mo
 lines_begin input beyond more (inl w) = (lines_of (beyond ++ more), whole_append input (beyond ++ more) w)
 lines_begin input beyond more (inr e) = ([], ap (λ r. lines_of (input ++ r)) e ∙ ap lines_of (append-nil input) ∙ sym (append-nil (lines_of input)))
 
+begin_by : {front all front' all' : List ℕ} → front ≡ front' → all ≡ all' → IsBeginning front' all' → IsBeginning front all
+begin_by e f begins = (begins.0, f ∙ begins.1 ∙ ap (λ r. r ++ begins.0) (sym e))
+
 pub stops_in_output : StopsInOutput
 stops_in_output budget ends ends' input more told told' written written' held held' runs only a b =
     let read : input ≡ a.input ++ a.beyond = append_cancel_left told input (a.input ++ a.beyond) a.told_is in
@@ -110,4 +112,4 @@ stops_in_output budget ends ends' input more told told' written written' held he
     let later = lines_begin a.input a.beyond more over in
     let cut : lines_of b.input ≡ a.answered ++ (a.left ++ later.0) = ap lines_of all ∙ later.1 ∙ ap (λ r. r ++ later.0) a.lines_are ∙ append_assoc a.answered a.left later.0 in
     let begins = begin_answers start a.answered a.left later.0 a.answers b.answers a.part a.are a.begins (subst (λ (ls : List (List ℕ)). AreAnswers start ls b.answers) cut b.are) in
-    (begins.0, append_cancel_left held' written' (texts b.answers) b.held_is ∙ begins.1 ∙ ap (λ r. r ++ begins.0) (sym (append_cancel_left held written (texts a.answers ++ a.part) a.held_is)))
+    begin_by (append_cancel_left held written (texts a.answers ++ a.part) a.held_is) (append_cancel_left held' written' (texts b.answers) b.held_is) begins

@@ -14,6 +14,14 @@ OneAnswer = (line : List ℕ) (s : State) (d e : Data) → IsAnswer line s d →
 abbrev pub OneAnswerEach : Type 0
 OneAnswerEach = (s : State) (lines : List (List ℕ)) (ds es : List Data) → AreAnswers s lines ds → AreAnswers s lines es → ds ≡ es
 
+-- a line has an answer at least from each state
+abbrev pub SomeAnswer : Type 0
+SomeAnswer = (line : List ℕ) (s : State) → (d : Data) × IsAnswer line s d
+
+-- lines have a list of answers at least
+abbrev pub SomeAnswerEach : Type 0
+SomeAnswerEach = (s : State) (lines : List (List ℕ)) → (ds : List Data) × AreAnswers s lines ds
+
 -- two servings of one input wrote the same, whatever their budgets are, and whatever was told and written before
 abbrev pub OneOutput : Type 0
 OneOutput = (budget budget' : ℕ) (input told told' written written' held held' : List ℕ) (runs runs' : List Run)

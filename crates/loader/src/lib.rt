@@ -15,7 +15,7 @@ mod written;
 
 pub use commands::{Edit, Request};
 pub use edit::EditError;
-pub use laws::{input_determines_output, lines_determine_answers};
+pub use laws::{input_determines_output, lines_determine_answers, lines_have_answers};
 pub use lines::{Failed, Input, Output};
 pub use program::{BUDGET, command};
 pub use reply::Reply;
