@@ -1,5 +1,5 @@
 -- Sets of users.
-use Rattle.std.proofs.Common.{◌≡◌, ◌≢◌, ◌⊎◌, inl, inr, ℕ, ◌+◌, ◌<◌, length, take, map, add-one, slice_index_or, Bool, true, false, cond, ◌||◌, List, [], ◌∷◌, ◌++◌, Some, None, refl, sym, ◌∙◌, ap, subst}
+use Rattle.std.proofs.Common.{◌≡◌, ◌≢◌, ◌⊎◌, inl, inr, ℕ, ◌+◌, ◌<◌, ◌≤◌, length, take, map, add-one, slice_index_or, Bool, true, false, cond, ◌||◌, List, [], ◌∷◌, ◌++◌, Some, None, refl, sym, ◌∙◌, ap, subst}
 use Rattle.std.specs.List.{list_any}
 use Rattle.std.specs.BTreeMap as map_of
 use Rattle.std.specs.BTreeMap.{is_at}
@@ -16,9 +16,10 @@ use Rattle.std.specs.BTreeMap.{get}
 use Rattle.std.specs.declared.alloc.Global.{Global}
 use Rattle.std.specs.declared.vec.Vec.{Vec}
 use Rattle.std.proofs.lemmas.List.{map-append}
-use Rattle.std.proofs.Math.Seq.{take-suc}
+use Rattle.std.proofs.Math.Seq.{take-suc, take_all}
+use Rattle.std.specs.Prelude.{Option, IfSome, IfNone}
 use Rattle.node.specs.Kept.{Users, users_at, listed, items_of}
-use Rattle.node.specs.Edges.{IsAdded, IsRemoved, SameUsers, HasLinked, HasUnlinked, HasLinkedSome, HasLinkedAll, HasCut, among}
+use Rattle.node.specs.Edges.{IsAdded, IsRemoved, SameUsers, HasLinked, HasUnlinked, HasLinkedSome, HasLinkedAll, HasCut, AreMembers, among}
 use Rattle.node.proofs.Lists.{true_false, decide_key, other_key, not_in, in_split, in_one}
 use Rattle.node.proofs.Reaching.{in_at_is}
 
@@ -263,3 +264,22 @@ pub group_cut : (start old new : Users) (key : Key) (groups : List (Vec Key Glob
 group_cut start old new key groups n g e h K s items q l =
     cut_both start old new key (λ j. IsMember j (items_of (take n groups))) (λ j. IsMember j (items_of (take (n + 1) groups))) K (λ j. In j items) s l
     (λ j i. elim (member_taken groups n g j e h i) [ inl x ↦ inl x | inr x ↦ inr (subst (In j) (sym q) x) ])
+
+-- after the last element
+pub in_all : {X : Type 0} (xs : List X) (n : ℕ) (x : X) → length xs ≤ n → In x xs → In x (take n xs)
+in_all xs n x h i = subst (In x) (sym (take_all n xs h)) i
+
+pub member_all : (groups : List (Vec Key Global)) (n : ℕ) (j : Key) → length groups ≤ n → IsMember j (items_of groups) → IsMember j (items_of (take n groups))
+member_all groups n j h m = subst (λ (gs : List (Vec Key Global)). IsMember j (items_of gs)) (sym (take_all n groups h)) m
+
+-- members of old groups were cut, but those of the new ones; or there are no old ones
+pub cut_by_members : (old new : Users) (key : Key) (cut_groups olds news : List (List Key)) (found : Option (BTreeSet Key)) → cut_groups ≡ olds → IfSome found (λ set. AreMembers set.keys news) → IfNone found (olds ≡ [])
+    → IfSome found (λ set. HasCut old new key (λ j. IsMember j cut_groups) (λ j. In j set.keys)) → IfNone found (new ≡ old) → HasCut old new key (λ j. IsMember j cut_groups) (λ j. IsMember j news)
+cut_by_members old new key cut_groups olds news None q m e c n = subst (λ (x : Users). HasCut old x key (λ j. IsMember j cut_groups) (λ j. IsMember j news)) (sym n)
+    (cut_none old key (λ j. IsMember j cut_groups) (λ j. IsMember j news) (λ j i. not_in (subst (In i.0) (q ∙ e) i.1) refl))
+cut_by_members old new key cut_groups olds news (Some set) q m e c n = record {
+  from = c.from;
+  gone = λ j i g x. c.gone j i (λ k. g ((m j).0 k)) x;
+  others = c.others;
+  kept = λ j k x. c.kept j ((m j).1 k) x;
+}

@@ -1,5 +1,5 @@
 -- Changes of reverse edges.
-use Rattle.std.specs.Prelude.{◌≡◌, ◌≢◌, ◌⊎◌, List, Bool}
+use Rattle.std.specs.Prelude.{◌≡◌, ◌≢◌, ◌⊎◌, ◌↔◌, List, Bool}
 use Rattle.std.specs.List.{list_any}
 use Rattle.keys.specs.Keys.{key_eq}
 use Rattle.evaluation.specs.Value.{In, IsMember}
@@ -60,3 +60,13 @@ pub record HasUsers (old new : Users) (key : Key) (groups : List (List Key)) : T
   pub has : (j : Key) → IsMember j groups → In key (users_at new j)
   pub others : (j k : Key) → key ≢ k → In k (users_at new j) → In k (users_at old j)
   pub kept : (j k : Key) → key ≢ k → In k (users_at old j) → In k (users_at new j)
+
+-- the members of the group came in
+pub record AddsMembers (old new group : List Key) : Type 0 where
+  pub from : (k : Key) → In k new → In k old ⊎ In k group
+  pub keeps : (k : Key) → In k old → In k new
+  pub has : (k : Key) → In k group → In k new
+
+-- these are the members of the groups
+abbrev pub AreMembers : List Key → List (List Key) → Type 0
+AreMembers keys groups = (j : Key) → In j keys ↔ IsMember j groups

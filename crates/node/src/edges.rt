@@ -1,9 +1,9 @@
 //! Reverse edges, from a key to those whose records have it in a group.
-ghost use Rattle.std.specs.Prelude.{◌≡◌, List, map, OnOk, OnErr, IsTrue, ◌↔◌};
+ghost use Rattle.std.specs.Prelude.{◌≡◌, List, [], map, OnOk, OnErr, IfOk, IfSome, IfNone, IsTrue, ◌↔◌};
 ghost use Rattle.evaluation.specs.Value.{In, IsMember};
 ghost use Rattle.keys.specs.declared.key.Key.{Key};
 ghost use Rattle.node.specs.Kept.{items_of};
-ghost use Rattle.node.specs.Edges.{IsAdded, IsRemoved, HasLinked, HasUnlinked, SameUsers, HasLinkedSome, HasLinkedAll, HasCut, among};
+ghost use Rattle.node.specs.Edges.{IsAdded, IsRemoved, HasLinked, HasUnlinked, SameUsers, HasLinkedSome, HasLinkedAll, HasCut, AddsMembers, AreMembers, among};
 
 use crate::kept::Users;
 use keys::Key;
@@ -25,6 +25,13 @@ fn remove(set: &mut BTreeSet<Key>, key: &Key)
     ensures { IsRemoved set.old.keys set.new.keys key.now }
 {
     let _was_there = set.remove(key);
+}
+
+// Whether a key is in a set.
+fn has(set: &BTreeSet<Key>, key: &Key) -> bool
+    ensures { IsTrue result ↔ In key.now set.now.keys }
+{
+    set.contains(key)
 }
 
 // Makes the key a user of the member.
@@ -108,5 +115,72 @@ pub fn cut(users: &mut Users, groups: &[Vec<Key>], keep: &[Vec<Key>], key: &Key)
 {
     for group in groups {
         cut_group(users, group.as_slice(), keep, key);
+    }
+}
+
+// Adds the members of a group to a set.
+fn add_members(set: &mut BTreeSet<Key>, group: &[Key]) -> Result<(), Memory>
+    ensures { OnOk result (AddsMembers set.old.keys set.new.keys group.now) }
+{
+    for member in group {
+        add(set, member.share()?)?;
+    }
+    Ok(())
+}
+
+// The members of the groups.
+fn members_of(alloc: Global, groups: &[Vec<Key>]) -> Result<BTreeSet<Key>, Memory>
+    ensures { IfOk result (λ set. AreMembers set.keys (items_of groups.now)) }
+{
+    let mut set = BTreeSet::new(alloc);
+    for group in groups {
+        add_members(&mut set, group.as_slice())?;
+    }
+    Ok(set)
+}
+
+/// The members of the new groups, where there are old ones.
+pub fn members_beside(
+    alloc: Global,
+    old: &[Vec<Key>],
+    new: &[Vec<Key>],
+) -> Result<Option<BTreeSet<Key>>, Memory>
+    ensures some { IfOk result (λ found. IfSome found (λ set. AreMembers set.keys (items_of new.now))) }
+    ensures none { IfOk result (λ found. IfNone found (items_of old.now ≡ [])) }
+{
+    if old.is_empty() {
+        return Ok(None);
+    }
+    Ok(Some(members_of(alloc, new)?))
+}
+
+// Makes the key no user of the members of a group, but of those in the set.
+fn cut_group_beside(users: &mut Users, group: &[Key], keep: &BTreeSet<Key>, key: &Key)
+    ensures { HasCut users.old users.new key.now (λ j. In j group.now) (λ j. In j keep.now.keys) }
+{
+    for member in group {
+        if !has(keep, member) {
+            unlink(users, member, key);
+        }
+    }
+}
+
+// Makes the key no user of the members of the groups, but of those in the set.
+fn cut_groups_beside(users: &mut Users, groups: &[Vec<Key>], keep: &BTreeSet<Key>, key: &Key)
+    ensures { HasCut users.old users.new key.now (λ j. IsMember j (items_of groups.now)) (λ j. In j keep.now.keys) }
+{
+    for group in groups {
+        cut_group_beside(users, group.as_slice(), keep, key);
+    }
+}
+
+/// Makes the key no user of the members of the groups, but of those in the set. Without a set nothing is cut.
+pub fn cut_beside(users: &mut Users, groups: &[Vec<Key>], keep: Option<BTreeSet<Key>>, key: &Key)
+    ensures some { IfSome keep (λ set. HasCut users.old users.new key.now (λ j. IsMember j (items_of groups.now)) (λ j. In j set.keys)) }
+    ensures none { IfNone keep (users.new ≡ users.old) }
+{
+    match keep {
+        None => {}
+        Some(set) => cut_groups_beside(users, groups, &set, key),
     }
 }

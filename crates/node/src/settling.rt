@@ -10,7 +10,7 @@ ghost use Rattle.node.specs.Edges.{HasUsers};
 ghost use Rattle.node.specs.Graphs.{IsLinked, HasStored, seen};
 ghost use Rattle.node.specs.declared.kept.Kept.{Kept};
 
-use crate::edges::{cut, link_groups};
+use crate::edges::{cut, cut_beside, link_groups, members_beside};
 use crate::kept::{Kept, Records, Users};
 use keys::{Key, Value};
 use std::alloc::Global;
@@ -116,12 +116,13 @@ pub fn rewrite(
     ensures users { OnOk result (HasUsers users.old users.new key.now (items_of groups.items)) }
     ensures err { OnErr result ((records.new ≡ records.old) × SameSets users.old users.new) }
 {
+    let keep = members_beside(alloc, kept_groups(records, key), groups.as_slice())?;
     if let Err(error) = link_groups(alloc, users, groups.as_slice(), key) {
         cut(users, groups.as_slice(), kept_groups(records, key), key);
         return Err(error);
     }
     let old = write(records, key, value, groups, version);
-    cut(users, old.as_slice(), kept_groups(records, key), key);
+    cut_beside(users, old.as_slice(), keep, key);
     Ok(())
 }
 
