@@ -16,8 +16,7 @@ import sys
 FAULTS = """no such package|text that is not ASCII|syntax error|name is not bound|wrong type|change of a frozen value|changed
  while iterated|index or key is absent|overflow|division by zero|too many steps|too deep|too large|recursive call|bad label
  or target name|no such module|label crosses a package boundary|name is not exported|cycle of loads|target is named twice|bad
- pattern|glob finds nothing|call is not allowed here|fail was called|wrong arguments|global is bound twice"""
-FAULTS = FAULTS.replace("\n", "").split("|")
+ pattern|glob finds nothing|call is not allowed here|fail was called|wrong arguments|global is bound twice""".replace("\n", "").split("|")
 BUILD, CYCLE, MOST_NAMES = ("BUILD", "BUILD.bazel"), 19, 256
 
 
@@ -48,8 +47,7 @@ class Client:
             self.ask(op="del", path=path)
         for path, stamp in present.items():
             if path not in self.sent or self.sent[path] != stamp:
-                name = os.path.join(self.directory, path) if stamp else os.devnull
-                with open(name, encoding="latin-1") as file:
+                with open(os.path.join(self.directory, path) if stamp else os.devnull, encoding="latin-1") as file:
                     text = file.read()
                 if "refused" in self.ask(op="put", path=path, text=text):
                     print(f"{path}:0: left out, no path of a package or too large", file=sys.stderr)

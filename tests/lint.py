@@ -2,6 +2,7 @@
 """Checks the house's rules of style that a program can check. Run it by `make lint`.
 
 - README.md, CONTRIBUTING.md and docs/*.md: no sentence of over 25 words, no banned word, no dead link.
+- README.md: its session is the example that `make quick` runs.
 - Sources, definitions, proofs and scripts: no file of over 800 lines.
 - Sources: no function of over 60 lines.
 
@@ -121,6 +122,14 @@ def check_functions(path, text):
             yield f"{path}:{at + 1}: {head[2]} has {end - at + 1} lines"
 
 
+def check_example():
+    """The session that the README shows is the one that `make quick` and `make run` run."""
+    with open("README.md") as readme, open("examples/session.jsonl") as example:
+        shown = [line for line in readme.read().split("\n") if line.startswith('{"op":')]
+        if shown != example.read().splitlines():
+            yield "README.md:1: its session is not that of examples/session.jsonl"
+
+
 def tracked():
     listed = subprocess.run(["git", "ls-files"], capture_output=True, text=True, check=True).stdout.split("\n")
     return [path for path in listed if os.path.exists(path)]
@@ -128,7 +137,7 @@ def tracked():
 
 def main():
     os.chdir(ROOT)
-    faults = []
+    faults = list(check_example())
     for path in documents():
         with open(path) as file:
             text = file.read()

@@ -410,7 +410,7 @@ class Trials:
 
 
 def newest(files):
-    return max((os.path.getmtime(it) for it in files), default=0)
+    return max((os.path.getmtime(it) for it in files if os.path.exists(it)), default=0)
 
 
 def is_kept(name, uses):
