@@ -13,3 +13,4 @@ pub mod Waits
 pub mod FileTurns
 pub mod HeldTurns
 pub mod Sends
+pub mod OnceSteps
