@@ -1,3 +1,4 @@
 pub mod Finds
 pub mod Accepts
 pub mod Runs
+pub mod Given
