@@ -143,10 +143,9 @@ impl Ord for Key {
     ghost matches_eq = { Prim.search (comparing, rules) };
 
     fn cmp(&self, other: &Key) -> Ordering {
-        match self.kind().cmp(&other.kind()) {
-            Ordering::Equal => self.name().cmp(other.name()),
-            apart => apart,
-        }
+        self.kind()
+            .cmp(&other.kind())
+            .then(self.name().cmp(other.name()))
     }
 }
 
