@@ -85,7 +85,19 @@ def contracts_in(file):
         around = item_around(lines, first)
         is_shown = lines[first].lstrip().startswith("pub ") or re.match(r"(pub )?trait |impl.* for ", around)
         lines[body if is_shown else it.first - 1 : it.last] = []
-    return "\n".join(line for line in lines if line.strip() and not re.match(r" *(//|use )", line))
+    shown = "\n".join(line for line in lines if line.strip() and not re.match(r" *(//|use |ghost use )", line))
+    return "\n".join([*imports_of(lines, shown), shown])
+
+
+def imports_of(lines, shown):
+    """The ghost imports of a source that a shown text names, one name each."""
+    found = set()
+    for line in lines:
+        it = re.match(r" *ghost use ([^;{]+?)(?:\.\{(.*)\}| as (\S+))?;", line)
+        for name in (it[2] or it[3] or it[1].rpartition(".")[2]).split(", ") if it else []:
+            if all(part in shown for part in name.rpartition(" as ")[2].split("◌")):
+                found.add(f"{it[1]} {name}")
+    return sorted(found)
 
 
 def digest(name, uses, version):

@@ -14,3 +14,4 @@ pub mod FileTurns
 pub mod HeldTurns
 pub mod Sends
 pub mod OnceSteps
+pub mod PlaceSteps

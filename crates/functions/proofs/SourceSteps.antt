@@ -1,19 +1,17 @@
 -- One item more of a list of which each may be faulty, and what comes after a group.
-use Rattle.std.proofs.Common.{◌≡◌, ℕ, ◌+◌, ◌-◌, ◌<◌, ◌≤◌, List, [], ◌∷◌, ◌++◌, length, take, drop, get_or, Bool, true, false, cond, not, Some, Result, Ok, Err, IfOk, subst, refl, sym, ◌∙◌, ap, arith}
+use Rattle.std.proofs.Common.{◌≡◌, ℕ, ◌+◌, ◌-◌, ◌<◌, ◌≤◌, List, [], ◌∷◌, ◌++◌, length, take, drop, get_or, true, false, cond, not, Result, Ok, Err, IfOk, subst, refl, sym, ◌∙◌, ap, arith}
 use Rattle.std.specs.Prelude.{nat_lt}
 use Rattle.std.specs.Arc.{arc_value}
 use Rattle.std.specs.declared.sync.Arc.{Arc}
 use Rattle.std.specs.declared.alloc.Global.{Global}
 use Rattle.std.proofs.lemmas.Bool.{le-ltb}
-use Rattle.std.proofs.lemmas.List.{append_assoc, append-nil, get_or-map, length-map, length-drop, drop-map, take-map, take_all}
+use Rattle.std.proofs.lemmas.List.{append_assoc, append-nil, length-map, length-drop, drop-map, take-map, take_all}
 use Rattle.keys.specs.Turns.{values}
 use Rattle.keys.specs.declared.value.Fault.{Fault}
 use Rattle.keys.specs.declared.value.Value.{Value}
-use Rattle.keys.specs.Keys.{key_eq}
 use Rattle.keys.specs.declared.key.Key.{Key}
 use Rattle.evaluation.specs.Reply.{Reply, Ask}
 use Rattle.labels.specs.Labels.{Target, label_file}
-use Rattle.functions.specs.Once.{answer_at}
 use Rattle.functions.specs.Gathered.{behind}
 use Rattle.functions.specs.Modules.{lookups, is_in_package, is_crossed, source_of, after_lookups, by_lookups}
 use Rattle.functions.specs.Sources.{before, each_or_fault, faulty, by_file}
@@ -78,23 +76,3 @@ after_lookups_is t looks answers inside crossed =
 pub weaken : {A E : Type 0} (P Q : A → Type 0) (r : Result A E) → ((x : A) → P x → Q x) → IfOk r P → IfOk r Q
 weaken P Q (Ok x) h p = h x p
 weaken P Q (Err e) h p = tt
-
--- ---- answers
-
-module _ (k : Key) (group : List Key) (answers : List (Arc Value Global)) (i : ℕ) (j : Key) (answer : Arc Value Global)
-    (h : i < length group) (many_answers : i < length answers) (is_key : j ≡ get_or group i j) (is_answer : answer ≡ get_or answers i answer) where
-  next_answer : drop i (values answers) ≡ arc_value answer ∷ drop (i + 1) (values answers)
-  next_answer =
-      drop_item (values answers) i (arc_value answer) (omega (arith, length-map answers (λ (x : Arc Value Global). arc_value x)))
-      (sym (get_or-map (λ (x : Arc Value Global). arc_value x) answers i answer (arc_value answer) many_answers ∙ ap (λ (x : Arc Value Global). arc_value x) (sym is_answer)))
-
-  at_item : (t : Bool) → key_eq k j ≡ t → answer_at k (drop i group) (drop i (values answers)) ≡ cond t (Some (arc_value answer)) (answer_at k (drop (i + 1) group) (drop (i + 1) (values answers)))
-  at_item t e =
-      (λ n. answer_at k (drop_item group i j h is_key n) (next_answer n))
-      ∙ ap (λ b. cond b (Some (arc_value answer)) (answer_at k (drop (i + 1) group) (drop (i + 1) (values answers)))) e
-
-  pub answer_here : key_eq k j ≡ true → answer_at k (drop i group) (drop i (values answers)) ≡ Some (arc_value answer)
-  answer_here e = at_item true e
-
-  pub answer_later : key_eq k j ≡ false → answer_at k (drop i group) (drop i (values answers)) ≡ answer_at k (drop (i + 1) group) (drop (i + 1) (values answers))
-  answer_later e = at_item false e

@@ -1,5 +1,5 @@
 -- A paused evaluation, and what the answers to its globs lead it to.
-use Rattle.std.proofs.Common.{◌≡◌, ℕ, ◌<◌, ◌≤◌, List, ◌++◌, length, drop, refl, sym, ◌∙◌, ap, subst, Ok}
+use Rattle.std.proofs.Common.{◌≡◌, ℕ, ◌<◌, ◌≤◌, List, [], ◌++◌, length, drop, refl, sym, ◌∙◌, ap, subst, Ok}
 use Rattle.std.specs.Prelude.{zip}
 use Rattle.evaluation.specs.Reply.{Ask}
 use Rattle.language.specs.Environment.{Env}
@@ -10,8 +10,9 @@ use Rattle.evaluator.specs.declared.outcome.Outcome.{Outcome}
 use Rattle.keys.specs.declared.key.Key.{Key}
 use Rattle.keys.specs.declared.value.Value.{Value}
 use Rattle.functions.specs.declared.reply.Paused.{Paused}
-use Rattle.functions.specs.Goes.{led, env_in, IsWaiting, IsNext}
-use Rattle.functions.specs.Once.{once}
+use Rattle.functions.specs.declared.reply.Continuation.TheVariants.{Globs}
+use Rattle.functions.specs.Goes.{led, env_in, GoesOn, IsWaiting, IsNext}
+use Rattle.functions.specs.Heard.{Gives}
 use Rattle.functions.specs.Sources.{glob_keys, glob_group, paths_by, with_paths}
 use Rattle.functions.proofs.EvaluationSteps.{some_group, led_to_group, led_further}
 
@@ -22,32 +23,37 @@ module _ (paused : Paused) (w : IsWaiting paused) where
   abbrev patterns : List (List ℕ)
   patterns = paused.suspended.patterns
 
-  keys_are : (keys : List Key) → keys ≡ glob_keys paused.package_name patterns → keys ≡ glob_keys env.package_name patterns
-  keys_are keys e = e ∙ ap (λ n. glob_keys n patterns) (sym w.named)
+  -- the group of the package's name is that of the environment
+  group_is : (group : List Key) → group ≡ glob_group paused.package_name patterns → group ≡ glob_group env.package_name patterns
+  group_is group g = g ∙ ap (λ n. glob_group n patterns) (sym w.named)
 
-  group_is : (keys group : List Key) → keys ≡ glob_keys paused.package_name patterns → group ≡ once keys → group ≡ glob_group env.package_name patterns
-  group_is keys group k g = g ∙ ap once (keys_are keys k)
-
-  module _ (keys group : List Key) (k : keys ≡ glob_keys paused.package_name patterns) (g : group ≡ once keys) (answers : List Value) where
+  module _ (group : List Key) (g : group ≡ glob_group paused.package_name patterns) (answers : List Value) where
     -- with too few its group is asked again
     pub asks_again : length answers < length group → led env answers ≡ Ask group
     asks_again h =
-        let all = group_is keys group k g in
+        let all = group_is group g in
         led_to_group env patterns answers w.asks (subst (λ (l : List Key). length answers < length l) all h) ∙ ap (λ (l : List Key). Ask l) (sym all)
 
-    -- with those of its group it goes on to the outcome of the file with their paths
-    pub goes_on_by : (n : ℕ) (paths : List (List (List ℕ))) (outcome : Outcome) → n ≡ length group → n ≤ length answers → paths ≡ paths_by group keys answers
-        → Evaluates (answered env patterns paths) (Ok outcome) → IsNext env answers outcome n
-    goes_on_by n paths outcome size h p evaluated =
-        let all = glob_group env.package_name patterns in
-        let count : n ≡ length all = size ∙ ap length (group_is keys group k g) in
-        let given : answered env patterns paths ≡ with_paths env patterns answers =
-        ap (λ ps. with_answers (env.globs ++ zip patterns ps) env) (p ∙ (λ i. paths_by (group_is keys group k g i) (keys_are keys k i) answers)) in
-        record {
-          given = with_paths env patterns answers;
-          named = refl;
-          is = subst (λ e. Evaluates e (Ok outcome)) given evaluated;
-          some = subst (λ m. 0 < m) (sym count) (some_group env patterns w.asks);
-          goes = λ more. led_further env patterns answers more w.asks (subst (λ m. m ≤ length answers) count h)
-              ∙ ap (λ m. led (with_paths env patterns answers) (drop m answers ++ more)) (sym count);
-        }
+    -- with none its group is asked, and what comes further leads on from there
+    pub asks_first : answers ≡ [] → (led env answers ≡ Ask group) × GoesOn (led env) answers (Globs paused)
+    asks_first none =
+        let all = group_is group g in
+        let some : length answers < length group = subst (λ (l : List Key). length answers < length l) (sym all) (subst (λ (l : List Value). length l < length (glob_group env.package_name patterns)) (sym none) (some_group env patterns w.asks)) in
+        (asks_again some, record { may = w; goes = λ more. ap (λ l. led env (l ++ more)) none; })
+
+  -- with those of its group it goes on to the outcome of the file with their paths
+  pub goes_on_by : (answers : List Value) (n : ℕ) (paths : List (List (List ℕ))) (outcome : Outcome) → Gives paused.package_name patterns answers paths n
+      → Evaluates (answered env patterns paths) (Ok outcome) → IsNext env answers outcome n
+  goes_on_by answers n paths outcome gives evaluated =
+      let all = glob_group env.package_name patterns in
+      let count : n ≡ length all = gives.count ∙ ap length (group_is (glob_group paused.package_name patterns) refl) in
+      let given : answered env patterns paths ≡ with_paths env patterns answers =
+      ap (λ ps. with_answers (env.globs ++ zip patterns ps) env) (gives.paths ∙ ap (λ name. paths_by (glob_group name patterns) (glob_keys name patterns) answers) (sym w.named)) in
+      record {
+        given = with_paths env patterns answers;
+        named = refl;
+        is = subst (λ e. Evaluates e (Ok outcome)) given evaluated;
+        some = subst (λ m. 0 < m) (sym count) (some_group env patterns w.asks);
+        goes = λ more. led_further env patterns answers more w.asks (subst (λ m. m ≤ length answers) count gives.there)
+            ∙ ap (λ m. led (with_paths env patterns answers) (drop m answers ++ more)) (sym count);
+      }

@@ -6,6 +6,7 @@ pub mod Sources
 pub mod SourceLaws
 pub mod Gathered
 pub mod Goes
+pub mod Heard
 pub mod Modules
 pub mod Packages
 pub mod Next

@@ -1,5 +1,6 @@
 -- The node of a .bzl file or a BUILD file, from its text on: what it loads, and what its evaluation leaves.
 use Rattle.std.specs.Prelude.{ℕ, zero, suc, List, [], ◌∷◌, ◌++◌, drop, length, map, zip, nat_lt, if◌then◌else◌, Option, Some, None, Result, Ok, Err}
+use Rattle.std.specs.BTreeMap.{BTreeMap}
 use Rattle.evaluation.specs.Reply.{Reply, Ask, Done}
 use Rattle.labels.specs.Labels.{Target, label_of, label_text, is_module}
 use Rattle.tree.specs.Tree.{Fi, Ld}
@@ -17,7 +18,7 @@ use Rattle.keys.specs.declared.value.Value.{Value}
 use Rattle.keys.specs.declared.value.Value.TheVariants as value
 use Rattle.functions.specs.declared.source.Source.{Source}
 use Rattle.functions.specs.Globs.{paths_of}
-use Rattle.functions.specs.Once.{once, answer_at}
+use Rattle.functions.specs.Once.{once, answer_at, answer_in}
 
 -- ---- faults
 
@@ -63,6 +64,10 @@ module_in path (Some (value.Cycle labels)) = Err (fault_at 16 path 0)
 abbrev pub all_modules : List ℕ → List Key → List Key → List Value → Result (List Loaded) Fault
 all_modules path group keys answers = each_or_fault (λ k. module_in path (answer_at k group answers)) keys
 
+-- the same by the keys' places
+abbrev pub modules_in : List ℕ → BTreeMap Key ℕ → List Key → List Value → Result (List Loaded) Fault
+modules_in path places keys answers = each_or_fault (λ k. module_in path (answer_in places k answers)) keys
+
 -- ---- the evaluation, which stops at each call of `glob` whose patterns have no answer
 
 abbrev pub env_of : Source → Fi → List Loaded → Env
@@ -90,6 +95,10 @@ paths_or_none (Some v) = paths_of v
 -- the paths that each key finds by the answers of a group
 abbrev pub paths_by : List Key → List Key → List Value → List (List (List ℕ))
 paths_by group keys answers = map (λ k. paths_or_none (answer_at k group answers)) keys
+
+-- the same by the keys' places
+abbrev pub paths_in : BTreeMap Key ℕ → List Key → List Value → List (List (List ℕ))
+paths_in places keys answers = map (λ k. paths_or_none (answer_in places k answers)) keys
 
 abbrev pub with_paths : Env → List (List ℕ) → List Value → Env
 with_paths env patterns answers = with_answers (env.globs ++ zip patterns (paths_by (glob_group env.package_name patterns) (glob_keys env.package_name patterns) answers)) env

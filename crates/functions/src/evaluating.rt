@@ -6,10 +6,11 @@ ghost use Rattle.language.specs.Environment.{Env};
 ghost use Rattle.evaluator.specs.Machines.{env_of};
 ghost use Rattle.evaluator.specs.Files.{shared_texts};
 ghost use Rattle.keys.specs.Turns.{values};
+ghost use Rattle.functions.specs.Heard.{IsHeard};
 ghost use Rattle.functions.specs.Goes.{led, env_in, IsWaiting, IsMade, IsOutcome, IsOf, IsWent, IsWithin, LeadsTo};
 ghost use Rattle.functions.specs.Sources as specs;
 
-use crate::once::{answer_at, once};
+use crate::once::{answer_of, first_places, once};
 use crate::reply::{Continuation, Paused, Reply};
 use crate::source::Source;
 use evaluator::{Environment, Outcome, resume, run};
@@ -17,6 +18,7 @@ use keys::{Fault, Key, Value};
 use module_values::Loaded;
 use package_calls::Package;
 use std::alloc::Global;
+use std::collections::BTreeMap;
 use std::sync::Arc;
 use syntax::File;
 use texts::{Memory, Text};
@@ -55,6 +57,22 @@ fn paths_at(alloc: Global, answer: Option<&Value>) -> Result<Arc<Vec<Text>, Glob
     }
 }
 
+// The paths that each key finds, by the keys' places.
+fn paths_in(
+    alloc: Global,
+    places: &BTreeMap<Key, usize>,
+    keys: &[Key],
+    answers: &[Arc<Value>],
+) -> Result<Vec<Arc<Vec<Text>, Global>>, Memory>
+    ensures { IfOk result (λ v. map shared_texts v.items ≡ specs.paths_in places.now keys.now (values answers.now)) }
+{
+    let mut all = Vec::new(alloc);
+    for key in keys {
+        all.push(paths_at(alloc, answer_of(key, places, answers))?)?;
+    }
+    Ok(all)
+}
+
 // The paths that each key finds by the answers of a group.
 fn paths_by(
     alloc: Global,
@@ -64,11 +82,41 @@ fn paths_by(
 ) -> Result<Vec<Arc<Vec<Text>, Global>>, Memory>
     ensures { IfOk result (λ v. map shared_texts v.items ≡ specs.paths_by group.now keys.now (values answers.now)) }
 {
-    let mut all = Vec::new(alloc);
-    for key in keys {
-        all.push(paths_at(alloc, answer_at(key, group, answers))?)?;
+    let places = first_places(alloc, group)?;
+    paths_in(alloc, &places, keys, answers)
+}
+
+// What the answers are good for, where an evaluation waits.
+#[derive(Drop)]
+enum Heard {
+    // None is there: this group is asked.
+    Nothing(Vec<Key>),
+    // Too few are there: this group is asked again.
+    TooFew(Vec<Key>),
+    // So many answers give these paths.
+    Paths(Vec<Arc<Vec<Text>, Global>>, usize),
+}
+
+// What the answers are good for, where an evaluation waits for globs of a package.
+fn hear(
+    alloc: Global,
+    package_name: &Text,
+    patterns: &[Text],
+    answers: &[Arc<Value>],
+) -> Result<Heard, Memory>
+    ensures { IfOk result (IsHeard package_name.now patterns.now (values answers.now)) }
+{
+    let keys = glob_keys(alloc, package_name, patterns)?;
+    let group = once(alloc, keys.as_slice())?;
+    if answers.is_empty() {
+        return Ok(Heard::Nothing(group));
     }
-    Ok(all)
+    let count = group.as_slice().len();
+    if answers.len() < count {
+        return Ok(Heard::TooFew(group));
+    }
+    let paths = paths_by(alloc, group.as_slice(), keys.as_slice(), answers)?;
+    Ok(Heard::Paths(paths, count))
 }
 
 // Goes on with an evaluation that waits, if the answers of its group are there.
@@ -77,17 +125,22 @@ fn wait(alloc: Global, paused: Paused, answers: &[Arc<Value>]) -> Result<Went, M
     ensures went { IfOk result (λ went. IsWaiting paused → IsWent (env_in paused) (values answers.now) went) }
 {
     let patterns = paused.suspended.patterns();
-    let keys = glob_keys(alloc, &paused.package_name, patterns)?;
-    let group = once(alloc, keys.as_slice())?;
-    if answers.is_empty() {
-        return Ok(Went::Ends(Reply::Wait(group, Continuation::Globs(paused))));
+    match hear(alloc, &paused.package_name, patterns, answers) {
+        Ok(Heard::Nothing(group)) => {
+            Ok(Went::Ends(Reply::Wait(group, Continuation::Globs(paused))))
+        }
+        Ok(Heard::TooFew(group)) => {
+            drop(paused);
+            Ok(Went::Ends(Reply::Ask(group)))
+        }
+        Ok(Heard::Paths(paths, count)) => {
+            Ok(Went::Goes(resume(paused.suspended, paths)?, count))
+        }
+        Err(memory) => {
+            drop(paused);
+            Err(memory)
+        }
     }
-    let count = group.as_slice().len();
-    if answers.len() < count {
-        return Ok(Went::Ends(Reply::Ask(group)));
-    }
-    let paths = paths_by(alloc, group.as_slice(), keys.as_slice(), answers)?;
-    Ok(Went::Goes(resume(paused.suspended, paths)?, count))
 }
 
 // Goes on with an outcome, if it waits and the answers of its group are there.

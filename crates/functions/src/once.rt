@@ -1,14 +1,16 @@
 //! Members of a group that may repeat, and their answers.
-ghost use Rattle.std.specs.Prelude.{◌≡◌, true, IfOk, OnOk, option_map};
+ghost use Rattle.std.specs.Prelude.{◌≡◌, true, Some, is_some, IfOk, OnOk, option_map};
+ghost use Rattle.std.specs.BTreeMap.{get, Updates as MapUpdates};
 ghost use Rattle.std.specs.BTreeSet.{contains, Updates};
 ghost use Rattle.keys.specs.Keys.{key_cmp};
 ghost use Rattle.std.specs.Arc.{arc_value};
 ghost use Rattle.keys.specs.Turns.{values};
 ghost use Rattle.functions.specs.Once as specs;
+ghost use Rattle.functions.specs.Once.{ArePlaces};
 
 use keys::{Key, Value};
 use std::alloc::Global;
-use std::collections::BTreeSet;
+use std::collections::{BTreeMap, BTreeSet};
 use std::sync::Arc;
 use texts::Memory;
 
@@ -43,18 +45,50 @@ pub fn once(alloc: Global, keys: &[Key]) -> Result<Vec<Key>, Memory>
     Ok(all)
 }
 
-/// The answer of a key, by the group that was asked.
-pub fn answer_at<'a>(key: &Key, group: &[Key], answers: &'a [Arc<Value>]) -> Option<&'a Value>
-    ensures { option_map (λ v. v.now) result ≡ specs.answer_at key.now group.now (values answers.now) }
+// Whether a key has a place.
+fn has_place(places: &BTreeMap<Key, usize>, key: &Key) -> bool
+    ensures { result ≡ is_some (get key_cmp places.now key.now) }
 {
-    for (i, other) in group.iter().enumerate() {
-        if i >= answers.len() {
-            return None;
+    places.contains_key(key)
+}
+
+// Gives a key its place.
+fn set_place(places: &mut BTreeMap<Key, usize>, key: Key, place: usize) -> Result<(), Memory>
+    ensures { OnOk result (MapUpdates key_cmp places.old places.new key (Some place)) }
+{
+    places.insert(key, place)?;
+    Ok(())
+}
+
+/// Each key's first place in a group.
+pub fn first_places(alloc: Global, group: &[Key]) -> Result<BTreeMap<Key, usize>, Memory>
+    ensures { IfOk result (λ places. ArePlaces places group.now) }
+{
+    let mut places = BTreeMap::new(alloc);
+    for (i, key) in group.iter().enumerate() {
+        if has_place(&places, key) {
+            continue;
         }
-        let answer = &answers[i];
-        if *key == *other {
-            return Some(answer);
-        }
+        set_place(&mut places, key.share()?, i)?;
     }
-    None
+    Ok(places)
+}
+
+/// The answer of a key, by the keys' places.
+pub fn answer_of<'a>(
+    key: &Key,
+    places: &BTreeMap<Key, usize>,
+    answers: &'a [Arc<Value>],
+) -> Option<&'a Value>
+    ensures { option_map (λ v. v.now) result ≡ specs.answer_in places.now key.now (values answers.now) }
+{
+    match places.get(key) {
+        Some(place) => {
+            if *place >= answers.len() {
+                return None;
+            }
+            Some(&answers[*place])
+        }
+        None => None,
+    }
 }

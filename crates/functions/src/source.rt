@@ -6,11 +6,12 @@ ghost use Rattle.keys.specs.Turns.{values};
 ghost use Rattle.functions.specs.Gathered.{IsAll, IsParsed};
 ghost use Rattle.functions.specs.Sources as specs;
 
-use crate::once::answer_at;
+use crate::once::{answer_of, first_places};
 use keys::{Fault, Key, Value};
 use labels::{BadLabel, Label};
 use module_values::Loaded;
 use std::alloc::Global;
+use std::collections::BTreeMap;
 use std::sync::Arc;
 use syntax::{File, FileKind, Refused, parse};
 use texts::{Memory, Text};
@@ -108,6 +109,26 @@ fn module_in(
     }
 }
 
+// The modules of loads, in order, by the keys' places, or the fault of the first faulty one.
+fn modules_in(
+    alloc: Global,
+    path: &Text,
+    places: &BTreeMap<Key, usize>,
+    keys: &[Key],
+    answers: &[Arc<Value>],
+) -> Result<Result<Vec<Loaded>, Fault>, Memory>
+    ensures { IfOk result (IsAll (specs.modules_in path.now places.now keys.now (values answers.now))) }
+{
+    let mut all = Vec::new(alloc);
+    for key in keys {
+        match module_in(alloc, path, answer_of(key, places, answers))? {
+            Ok(loaded) => all.push(loaded)?,
+            Err(fault) => return Ok(Err(fault)),
+        }
+    }
+    Ok(Ok(all))
+}
+
 /// The modules of loads, in order, or the fault of the first faulty one.
 pub fn all_modules(
     alloc: Global,
@@ -118,12 +139,6 @@ pub fn all_modules(
 ) -> Result<Result<Vec<Loaded>, Fault>, Memory>
     ensures { IfOk result (IsAll (specs.all_modules path.now group.now keys.now (values answers.now))) }
 {
-    let mut all = Vec::new(alloc);
-    for key in keys {
-        match module_in(alloc, path, answer_at(key, group, answers))? {
-            Ok(loaded) => all.push(loaded)?,
-            Err(fault) => return Ok(Err(fault)),
-        }
-    }
-    Ok(Ok(all))
+    let places = first_places(alloc, group)?;
+    modules_in(alloc, path, &places, keys, answers)
 }
