@@ -1,11 +1,12 @@
 -- Turns are counted where one node changes or leaves.
 use Rattle.std.proofs.Common.{◌≡◌, ◌≢◌, ◌⊎◌, inl, inr, ℕ, ◌+◌, List, [], ◌∷◌, ◌++◌, length, Option, Some, None, refl, sym, ◌∙◌, ap, subst, arith}
 use Rattle.std.specs.List.{AllByRecursion}
-use Rattle.std.specs.BTreeMap.{Updates}
+use Rattle.indexmap.specs.IndexMap.{Updates}
 use Rattle.evaluation.specs.Value.{AllDiffer, In, first, after}
-use Rattle.keys.specs.Keys.{key_cmp}
+use Rattle.keys.specs.Keys.{key_eq}
 use Rattle.keys.specs.declared.key.Key.{Key}
-use Rattle.node.proofs.Lists.{decide_key, other_key}
+use Rattle.node.proofs.Lists.{decide_key}
+use Rattle.open_nodes.proofs.Lookups.{other_key}
 use Rattle.open_nodes.specs.Nodes.{Nodes, node_at, IsOpen}
 use Rattle.open_nodes.specs.Counted.{turns_of, asked_by, asked_at, HasMade, MakesMore, MakesNone}
 use Rattle.open_nodes.specs.Steps.{SameRuns}
@@ -116,6 +117,6 @@ all_made table made none h = let z = nothing_asked h.keys in let m = h.sum in om
     nothing_asked (k ∷ keys) = let a = none_at k in let b = nothing_asked keys in omega (arith, a, b)
 
 -- the node of a key is set, with the groups that it had
-pub same_asked : (before later : Table) (k : Key) (m n : Node) → node_at before.nodes k ≡ Some m → Updates key_cmp before.nodes later.nodes k (Some n) → length n.groups.items ≡ length m.groups.items → SameRuns before later → MakesNone before later
+pub same_asked : (before later : Table) (k : Key) (m n : Node) → node_at before.nodes k ≡ Some m → Updates key_eq before.nodes later.nodes k (Some n) → length n.groups.items ≡ length m.groups.items → SameRuns before later → MakesNone before later
 same_asked before later k m n was u groups runs = counts_none before later k (λ j d. other_key before.nodes later.nodes k (Some n) u j d)
     (let a = ap asked_by was in let b = ap asked_by u.1 in let r = ap turns_of runs in omega (arith, a, b, r, groups))

@@ -1,20 +1,21 @@
 -- What is true of a round stays true, where one node changes and where one key is settled.
 use Rattle.std.proofs.Common.{◌≡◌, ◌≢◌, ◌⊎◌, inl, inr, ℕ, true, false, List, [], ◌∷◌, ◌++◌, map, Option, Some, None, refl, sym, ◌∙◌, ap, subst}
 use Rattle.std.specs.List.{AllByRecursion}
-use Rattle.std.specs.BTreeMap.{Updates}
+use Rattle.indexmap.specs.IndexMap.{Updates}
 use Rattle.evaluation.specs.Reply.{Reply}
 use Rattle.evaluation.specs.Value.{Grounded, is_leaf, has_run, IsUngrounded, AllDiffer, Settles, leaf, run, closed, In, first, after, IsMember}
 use Rattle.evaluation.specs.Graph.{Record}
 use Rattle.evaluation.proofs.Closed.{ungrounded}
 use Rattle.evaluation.proofs.Plain.{of_grounded}
 use Rattle.keys.specs.Cycles.{cycle}
-use Rattle.keys.specs.Keys.{key_cmp}
+use Rattle.keys.specs.Keys.{key_eq}
 use Rattle.keys.specs.Turns.{NoCycle}
 use Rattle.keys.specs.declared.key.Key.{Key}
 use Rattle.keys.specs.declared.value.Value.{Value}
 use Rattle.node.specs.Graphs.{Recorded, record_at, present, Sets}
 use Rattle.node.specs.Laws.{IsLawfulFor}
-use Rattle.node.proofs.Lists.{some_is, none_some, true_false, decide_key, other_key, in_split, in_left, in_right, in_one}
+use Rattle.node.proofs.Lists.{some_is, none_some, true_false, decide_key, in_split, in_left, in_right, in_one}
+use Rattle.open_nodes.proofs.Lookups.{other_key}
 use Rattle.open_nodes.specs.Nodes.{Nodes, node_at, groups_of, IsUnsettled, IsClean}
 use Rattle.open_nodes.specs.Truths.{IsNext, Past, IsReached, IsSince, IsAfter, IsDoing, IsOpenTruly, IsItem, IsRunOf, run_keys, IsTold, AreBehind, IsTrueOf}
 use Rattle.open_nodes.specs.declared.run.Run.{Run}
@@ -98,7 +99,7 @@ module _ (next : Key → List Value → Reply Key Value) (read : Key → Option 
         go true q f = absurd (true_false (f q) d)
 
   -- one node is set
-  pub truth_changes : (graph : Recorded) (nodes later : Nodes) (runs : List Run) (k : Key) (n : Node) → Updates key_cmp nodes later k (Some n)
+  pub truth_changes : (graph : Recorded) (nodes later : Nodes) (runs : List Run) (k : Key) (n : Node) → Updates key_eq nodes later k (Some n)
       → IsTrueOf next read past graph nodes runs → read k ≡ None → IsReached next read past k → record_at graph k ≡ record_at past.entry k → IsDoing next read past k (groups_of n) n.phase
       → IsTrueOf next read past graph later runs
   truth_changes graph nodes later runs k n u t no_leaf reached same doing = record {

@@ -1,17 +1,18 @@
 -- The open nodes stay as they have to stand, where one node changes, where one is settled, and where one is found to be blocked.
 use Rattle.std.proofs.Common.{◌≡◌, ◌≢◌, ◌⊎◌, inl, inr, ℕ, true, false, List, [], ◌∷◌, ◌++◌, Option, Some, None, refl, sym, ◌∙◌, ap, subst}
-use Rattle.std.specs.BTreeMap.{Updates}
+use Rattle.indexmap.specs.IndexMap.{Updates}
 use Rattle.std.specs.declared.alloc.Global.{Global}
 use Rattle.std.specs.declared.vec.Vec.{Vec}
 use Rattle.node.specs.Kept.{items_of}
 use Rattle.node.specs.Edges.{IsAdded}
 use Rattle.evaluation.specs.Graph.{Record}
 use Rattle.evaluation.specs.Value.{In, IsMember, first, after}
-use Rattle.keys.specs.Keys.{key_cmp}
+use Rattle.keys.specs.Keys.{key_eq}
 use Rattle.keys.specs.declared.key.Key.{Key}
 use Rattle.keys.specs.declared.value.Value.{Value}
 use Rattle.node.specs.Graphs.{present}
-use Rattle.node.proofs.Lists.{some_is, none_some, true_false, decide_key, other_key}
+use Rattle.node.proofs.Lists.{some_is, none_some, true_false, decide_key}
+use Rattle.open_nodes.proofs.Lookups.{other_key}
 use Rattle.open_nodes.specs.Nodes.{Nodes, Records, node_at, groups_of, IsOpen, IsUnsettled, IsClean, IsPlain, IsStill, Stands, IsCurrent, KeepsBack, IsBlocked, IsWhole, Widens}
 use Rattle.open_nodes.specs.declared.table.Node.{Node}
 use Rattle.open_nodes.specs.declared.table.Phase.{Phase}
@@ -27,7 +28,7 @@ unsettled_not_clean (Some r) s u e d = go r.dirty refl
     go false t = none_some (sym u ∙ ap (λ b. present (Some (record r { dirty = b }))) t)
 
 -- one node is set
-module _ (records : Records) (nodes later : Nodes) (k : Key) (n : Node) (u : Updates key_cmp nodes later k (Some n)) where
+module _ (records : Records) (nodes later : Nodes) (k : Key) (n : Node) (u : Updates key_eq nodes later k (Some n)) where
   pub open_on : (watchers : (m : Node) (x : Key) → node_at nodes k ≡ Some m → In x m.watchers.items → In x n.watchers.items) (j : Key) → IsOpen nodes j → IsOpen later j
   open_on watchers j o = elim (decide_key k j) [
     | inl q ↦ (n, ap (node_at later) (sym q) ∙ u.1)
@@ -210,7 +211,7 @@ asked_groups old new group e = ap items_of e ∙ behind old.items
     behind (g ∷ gs) = ap (λ x. g.items ∷ x) (behind gs)
 
 -- a node that is blocked is so still, where another one is set, or itself with the same groups and phase
-pub blocked_on : (records : Records) (nodes later : Nodes) (k : Key) (n : Node) (u : Updates key_cmp nodes later k (Some n))
+pub blocked_on : (records : Records) (nodes later : Nodes) (k : Key) (n : Node) (u : Updates key_eq nodes later k (Some n))
     → ((m : Node) (x : Key) → node_at nodes k ≡ Some m → In x m.watchers.items → In x n.watchers.items)
     → (j : Key) (m o : Node) → groups_of m ≡ groups_of o → m.phase ≡ o.phase → IsBlocked records nodes j m → IsBlocked records later j o
 blocked_on records nodes later k n u watchers j m o same phases b = record {

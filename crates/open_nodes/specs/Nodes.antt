@@ -1,9 +1,11 @@
 -- The open nodes of a round beside the graph, as they stand. `records` gives the graph's record of a key.
 use Rattle.std.specs.Prelude.{◌≡◌, ◌≢◌, ◌⊎◌, ℕ, ◌≤◌, List, [], ◌∷◌, ◌++◌, take, drop, false, Option, Some, None}
-use Rattle.std.specs.BTreeMap.{BTreeMap, get}
+use Rattle.std.specs.declared.hash.BuildHasherDefault.{BuildHasherDefault}
+use Rattle.std.specs.declared.hash.FoldHasher.{FoldHasher}
+use Rattle.indexmap.specs.IndexMap.{IndexMap, get}
 use Rattle.evaluation.specs.Graph.{Record}
 use Rattle.evaluation.specs.Value.{In, IsMember}
-use Rattle.keys.specs.Keys.{key_cmp}
+use Rattle.keys.specs.Keys.{key_eq}
 use Rattle.keys.specs.Turns.{NoCycle}
 use Rattle.keys.specs.declared.key.Key.{Key}
 use Rattle.keys.specs.declared.value.Value.{Value}
@@ -14,15 +16,19 @@ use Rattle.open_nodes.specs.declared.table.Phase.{Phase}
 use Rattle.open_nodes.specs.declared.table.Phase.TheVariants as phase
 use Rattle.open_nodes.specs.declared.table.Table.{Table}
 
+-- a hash table by keys
+abbrev pub ByKey : Type 0 → Type 0
+ByKey X = IndexMap Key X (BuildHasherDefault FoldHasher)
+
 abbrev pub Nodes : Type 0
-Nodes = BTreeMap Key Node
+Nodes = ByKey Node
 
 abbrev pub Records : Type 0
 Records = Key → Option (Record Key Value)
 
 -- the open node of a key
 abbrev pub node_at : Nodes → Key → Option Node
-node_at nodes k = get key_cmp nodes k
+node_at nodes k = get key_eq nodes k
 
 -- the groups that its turns asked
 abbrev pub groups_of : Node → List (List Key)

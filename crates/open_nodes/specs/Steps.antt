@@ -1,7 +1,7 @@
 -- What one step does to the table.
 use Rattle.std.specs.Prelude.{◌≡◌, List, [], ◌∷◌, ◌++◌, Some, None}
-use Rattle.std.specs.BTreeMap.{Updates}
-use Rattle.keys.specs.Keys.{key_cmp}
+use Rattle.indexmap.specs.IndexMap.{Updates}
+use Rattle.keys.specs.Keys.{key_eq}
 use Rattle.keys.specs.declared.key.Key.{Key}
 use Rattle.node.specs.Edges.{IsAdded}
 use Rattle.open_nodes.specs.Nodes.{Nodes, node_at, groups_of, pending}
@@ -13,11 +13,11 @@ use Rattle.open_nodes.specs.declared.table.Table.{Table}
 
 -- a node came in that has asked nothing, and for which nothing waits
 abbrev pub HasEntered : Nodes → Nodes → Key → Phase → Type 0
-HasEntered old new key p = (n : Node) × Updates key_cmp old new key (Some n) × (n.groups.items ≡ []) × (n.watchers.items ≡ []) × (n.phase ≡ p)
+HasEntered old new key p = (n : Node) × Updates key_eq old new key (Some n) × (n.groups.items ≡ []) × (n.watchers.items ≡ []) × (n.phase ≡ p)
 
 -- the node does something else
 abbrev pub HasPhase : Nodes → Nodes → Key → Phase → Type 0
-HasPhase old new key p = (n : Node) → node_at old key ≡ Some n → Updates key_cmp old new key (Some (record n { phase = p }))
+HasPhase old new key p = (n : Node) → node_at old key ≡ Some n → Updates key_eq old new key (Some (record n { phase = p }))
 
 -- the runs are as they were
 abbrev pub SameRuns : Table → Table → Type 0
@@ -38,12 +38,12 @@ pub record Readies (old new : Table) (key : Key) : Type 0 where
 -- the node waits for the member
 abbrev pub HasWatcher : Nodes → Nodes → Key → Key → Type 0
 HasWatcher old new member key = (m : Node) → node_at old member ≡ Some m
-    → (n : Node) × Updates key_cmp old new member (Some n) × (n.groups.items ≡ m.groups.items) × (n.phase ≡ m.phase) × (n.watchers.items ≡ m.watchers.items ++ key ∷ [])
+    → (n : Node) × Updates key_eq old new member (Some n) × (n.groups.items ≡ m.groups.items) × (n.phase ≡ m.phase) × (n.watchers.items ≡ m.watchers.items ++ key ∷ [])
 
 -- the node left, and those that waited for it are to be looked at
 pub record HasLeft (old new : Table) (key : Key) (n : Node) : Type 0 where
   pub gone : node_at new.nodes key ≡ None
-  pub updates : Updates key_cmp old.nodes new.nodes key None
+  pub updates : Updates key_eq old.nodes new.nodes key None
   pub pends : pending new ≡ pending old ++ n.watchers.items
   pub ready : new.ready.keys ≡ old.ready.keys
   pub runs : SameRuns old new
@@ -59,4 +59,4 @@ pub record HasNoted (old new : Table) (run : Run) : Type 0 where
 -- the node's turn asked the group
 abbrev pub HasAsked : Nodes → Nodes → Key → List Key → Type 0
 HasAsked old new key group = (m : Node) → node_at old key ≡ Some m
-    → (n : Node) × Updates key_cmp old new key (Some n) × (groups_of n ≡ groups_of m ++ group ∷ []) × (n.phase ≡ phase.Running) × (n.watchers.items ≡ m.watchers.items)
+    → (n : Node) × Updates key_eq old new key (Some n) × (groups_of n ≡ groups_of m ++ group ∷ []) × (n.phase ≡ phase.Running) × (n.watchers.items ≡ m.watchers.items)

@@ -10,9 +10,10 @@ ghost use Rattle.open_nodes.specs.declared.table.Phase.TheVariants as phase;
 
 use crate::run::Run;
 use crate::table::{Node, Nodes, Phase, Table};
+use indexmap::IndexMap;
 use keys::Key;
 use std::alloc::Global;
-use std::collections::{BTreeMap, BTreeSet};
+use std::collections::BTreeSet;
 use texts::Memory;
 
 impl Table {
@@ -24,7 +25,7 @@ impl Table {
         ensures runs { result.runs.items ≡ [] }
     {
         Table {
-            nodes: BTreeMap::new(alloc),
+            nodes: IndexMap::new(alloc),
             ready: BTreeSet::new(alloc),
             work: Vec::new(alloc),
             looked: 0,
@@ -154,7 +155,7 @@ pub fn leave(alloc: Global, table: &mut Table, key: &Key) -> Result<Vec<Vec<Key>
     ensures groups { IfOk result (λ groups. (n : Node) → node_at table.old.nodes key.now ≡ Some n → items_of groups.items ≡ groups_of n) }
     ensures looked { OnOk result (table.new.looked ≡ table.old.looked) }
 {
-    match table.nodes.remove(key) {
+    match table.nodes.swap_remove(key) {
         None => Ok(Vec::new(alloc)),
         Some(node) => {
             let Node {

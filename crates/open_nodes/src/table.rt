@@ -2,8 +2,9 @@
 ghost use Rattle.std.specs.Prelude.{◌≤◌, length};
 
 use crate::run::Run;
+use indexmap::IndexMap;
 use keys::Key;
-use std::collections::{BTreeMap, BTreeSet};
+use std::collections::BTreeSet;
 
 /// What an open node does.
 #[derive(Drop)]
@@ -27,8 +28,8 @@ pub struct Node {
     pub phase: Phase,
 }
 
-/// Open nodes by key.
-pub type Nodes = BTreeMap<Key, Node>;
+/// Open nodes by key. Their order means nothing.
+pub type Nodes = IndexMap<Key, Node>;
 
 /// The open nodes, and what there is to do.
 #[derive(Drop)]

@@ -1,18 +1,19 @@
 -- A check goes on to the next group, or gives up.
 use Rattle.std.proofs.Common.{◌≡◌, ◌≢◌, ◌⊎◌, inl, inr, ℕ, ◌+◌, ◌<◌, ◌≤◌, zero, suc, true, false, nat_lt, List, [], ◌∷◌, ◌++◌, length, take, drop, Option, Some, refl, sym, ◌∙◌, ap, subst, arith, slice_index_or, add-one}
-use Rattle.std.specs.BTreeMap.{Updates}
+use Rattle.indexmap.specs.IndexMap.{Updates}
 use Rattle.std.specs.declared.alloc.Global.{Global}
 use Rattle.std.specs.declared.vec.Vec.{Vec}
 use Rattle.evaluation.specs.Value.{In, first, after, IsMember}
 use Rattle.evaluation.specs.Graph.{Record, Differs}
 use Rattle.evaluation.specs.Journal.{RunIsJustified, dependency_differs}
 use Rattle.keys.specs.Cycles.{cycle}
-use Rattle.keys.specs.Keys.{key_cmp}
+use Rattle.keys.specs.Keys.{key_eq}
 use Rattle.keys.specs.declared.key.Key.{Key}
 use Rattle.keys.specs.declared.value.Value.{Value}
 use Rattle.node.specs.Graphs.{Recorded, record_at, IsTouched}
 use Rattle.node.specs.Kept.{items_of}
-use Rattle.node.proofs.Lists.{some_is, decide_key, other_key, in_left, in_right}
+use Rattle.node.proofs.Lists.{some_is, decide_key, in_left, in_right}
+use Rattle.open_nodes.proofs.Lookups.{other_key}
 use Rattle.open_nodes.specs.Nodes.{node_at, groups_of, pending, IsStill, IsCurrent, Stands, IsWhole, AreOut}
 use Rattle.open_nodes.specs.Steps.{Pends, Readies, HasPhase, SameRuns}
 use Rattle.open_nodes.specs.Truths.{IsTrueOf, Asks, nothing}
@@ -109,7 +110,7 @@ module _ (graph : Recorded) (before later : Table) (k : Key) (at : ℕ) (c : IsC
       no : compared.Passes ≡ compared.Over → ⊥
       no o = cc
 
-  abbrev u : (p : _) → HasPhase before.nodes later.nodes k p → Updates key_cmp before.nodes later.nodes k (Some (record n { phase = p }))
+  abbrev u : (p : _) → HasPhase before.nodes later.nodes k p → Updates key_eq before.nodes later.nodes k (Some (record n { phase = p }))
   u p h = h n c.1
 
   apart : (j : Key) → In j before.ready.keys → k ≢ j

@@ -11,7 +11,8 @@ use Rattle.keys.specs.declared.value.Value.{Value}
 use Rattle.keys.proofs.CycleLaws.{turned}
 use Rattle.node.specs.Graphs.{Recorded, record_at, Sets, IsTouched, HasCleanMembers}
 use Rattle.node.specs.Laws.{SettlingKeepsLawful}
-use Rattle.node.proofs.Lists.{some_is, none_some, decide_key, other_key, in_left, in_right}
+use Rattle.node.proofs.Lists.{some_is, none_some, decide_key, in_left, in_right}
+use Rattle.open_nodes.proofs.Lookups.{other_key}
 use Rattle.open_nodes.specs.Nodes.{Nodes, Records, node_at, groups_of, pending, IsStill, Stands, Holds, IsWhole, AreOut}
 use Rattle.open_nodes.specs.Steps.{HasLeft}
 use Rattle.open_nodes.specs.Truths.{Past, IsTrueOf}

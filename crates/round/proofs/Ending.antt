@@ -12,7 +12,8 @@ use Rattle.node.specs.Graphs.{Recorded, record_at, Sets}
 use Rattle.node.specs.Kept.{items_of}
 use Rattle.node.specs.Writes.{stored, HasReadyMembers}
 use Rattle.node.specs.Laws.{SettlingKeepsLawful}
-use Rattle.node.proofs.Lists.{some_is, none_some, decide_key, other_key, in_left, in_right}
+use Rattle.node.proofs.Lists.{some_is, none_some, decide_key, in_left, in_right}
+use Rattle.open_nodes.proofs.Lookups.{other_key}
 use Rattle.open_nodes.specs.Nodes.{Nodes, Records, node_at, groups_of, pending, IsUnsettled, IsPlain, Stands, IsWhole, AreOut}
 use Rattle.open_nodes.specs.Steps.{HasLeft, HasNoted}
 use Rattle.open_nodes.specs.Truths.{IsNext, Past, IsAfter, IsTrueOf, IsOpenTruly, IsDoing, IsRun, Asks, nothing, last, more}

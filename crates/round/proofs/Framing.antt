@@ -5,7 +5,8 @@ use Rattle.keys.specs.declared.key.Key.{Key}
 use Rattle.keys.specs.declared.value.Value.{Value}
 use Rattle.node.specs.Graphs.{Recorded, record_at, Sets}
 use Rattle.node.specs.Kept.{items_of}
-use Rattle.node.proofs.Lists.{some_is, decide_key, other_key}
+use Rattle.node.proofs.Lists.{some_is, decide_key}
+use Rattle.open_nodes.proofs.Lookups.{other_key}
 use Rattle.open_nodes.specs.Nodes.{node_at, IsUnsettled, IsOpen}
 use Rattle.open_nodes.specs.Steps.{HasPhase, HasWatcher, HasLeft, HasAsked}
 use Rattle.open_nodes.specs.declared.table.Node.{Node}

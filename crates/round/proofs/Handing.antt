@@ -1,15 +1,16 @@
 -- A turn is handed out, and a turn that asks comes back.
 use Rattle.std.proofs.Common.{◌≡◌, ◌≢◌, inl, inr, List, [], ◌∷◌, ◌++◌, Option, Some, None, refl, sym, ◌∙◌, ap, subst, ◌+◌, length, arith, length-append}
-use Rattle.std.specs.BTreeMap.{Updates}
+use Rattle.indexmap.specs.IndexMap.{Updates}
 use Rattle.std.specs.declared.alloc.Global.{Global}
 use Rattle.evaluation.specs.Reply.{Reply, Ask}
 use Rattle.evaluation.specs.Value.{In, first, after, IsMember}
-use Rattle.keys.specs.Keys.{key_cmp}
+use Rattle.keys.specs.Keys.{key_eq}
 use Rattle.keys.specs.declared.key.Key.{Key}
 use Rattle.keys.specs.declared.value.Value.{Value}
 use Rattle.node.specs.Graphs.{Recorded, record_at}
 use Rattle.node.specs.Edges.{IsRemoved}
-use Rattle.node.proofs.Lists.{some_is, decide_key, other_key, in_left, in_right}
+use Rattle.node.proofs.Lists.{some_is, decide_key, in_left, in_right}
+use Rattle.open_nodes.proofs.Lookups.{other_key}
 use Rattle.open_nodes.specs.Nodes.{node_at, groups_of, pending, IsPlain, Stands, IsWhole, AreOut}
 use Rattle.open_nodes.specs.Steps.{HasPhase, HasAsked, Pends, SameRuns}
 use Rattle.open_nodes.specs.Truths.{IsNext, Past, IsTrueOf, IsOpenTruly, IsDoing, IsRun}
@@ -86,7 +87,7 @@ module _ (graph : Recorded) (before later : Table) (k : Key) (answers : List Val
   abbrev new_node : Node
   new_node = (asked o.node o.there).0
 
-  abbrev u : Updates key_cmp before.nodes later.nodes k (Some new_node)
+  abbrev u : Updates key_eq before.nodes later.nodes k (Some new_node)
   u = (asked o.node o.there).1
 
   its_members : (j : Key) → IsMember j (groups_of o.node) → IsPlain (record_at graph) j

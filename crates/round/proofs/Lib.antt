@@ -6,6 +6,7 @@ pub mod Checking
 pub mod Ending
 pub mod Handing
 pub mod Reaching
+pub mod Descents
 pub mod Stalling
 pub mod Walking
 pub mod Stalled

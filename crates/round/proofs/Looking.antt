@@ -1,17 +1,18 @@
 -- A node is looked at.
 use Rattle.std.proofs.Common.{◌≡◌, ◌≢◌, ◌⊎◌, inl, inr, ℕ, Bool, true, false, List, [], ◌∷◌, ◌++◌, Option, Some, None, refl, sym, ◌∙◌, ap, subst}
-use Rattle.std.specs.BTreeMap.{Updates}
+use Rattle.indexmap.specs.IndexMap.{Updates}
 use Rattle.std.specs.Cmp.{unsigned_Decides}
 use Rattle.std.specs.Prelude.{vec_len, length, ◌==◌}
 use Rattle.std.specs.declared.alloc.Global.{Global}
 use Rattle.std.specs.declared.vec.Vec.{Vec}
 use Rattle.evaluation.specs.Value.{In, first, after, IsMember}
-use Rattle.keys.specs.Keys.{key_cmp}
+use Rattle.keys.specs.Keys.{key_eq}
 use Rattle.keys.specs.declared.key.Key.{Key}
 use Rattle.keys.specs.declared.value.Value.{Value}
 use Rattle.node.specs.Graphs.{Recorded, record_at}
 use Rattle.node.specs.Kept.{items_of}
-use Rattle.node.proofs.Lists.{some_is, true_false, none_of, not_in, decide_key, other_key, in_split, in_left, in_right, in_one}
+use Rattle.node.proofs.Lists.{some_is, true_false, none_of, not_in, decide_key, in_split, in_left, in_right, in_one}
+use Rattle.open_nodes.proofs.Lookups.{other_key}
 use Rattle.open_nodes.specs.Nodes.{Nodes, node_at, Records, groups_of, pending, IsOpen, IsUnsettled, IsClean, IsPlain, Stands, IsCurrent, IsBlocked, IsWhole, AreOut}
 use Rattle.open_nodes.specs.Steps.{Pends, Readies, HasWatcher, SameRuns}
 use Rattle.open_nodes.specs.Truths.{IsTrueOf, IsDoing}
@@ -64,7 +65,7 @@ module _ (graph : Recorded) (before later : Table) (k member : Key) (n : Node) (
   abbrev o : Node
   o = (watches m open_member.1).0
 
-  abbrev u : Updates key_cmp before.nodes later.nodes member (Some o)
+  abbrev u : Updates key_eq before.nodes later.nodes member (Some o)
   u = (watches m open_member.1).1
 
   same_groups : groups_of m ≡ groups_of o

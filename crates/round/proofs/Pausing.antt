@@ -1,7 +1,7 @@
 -- States kept between turns.
 use Rattle.std.proofs.Common.{◌≡◌, ◌≢◌, inl, inr, ℕ, ◌-◌, Bool, false, true, cond, List, [], ◌∷◌, ◌++◌, map, Option, Some, None, refl, sym, ◌∙◌, ap, subst, length, take, drop, arith, length-append, append_assoc}
 use Rattle.std.specs.Bool.{Decides}
-use Rattle.std.specs.BTreeMap.{get, Updates}
+use Rattle.indexmap.specs.IndexMap.{get, Updates}
 use Rattle.std.specs.Option.{is_some}
 use Rattle.std.proofs.Math.Seq.{drop-append_seam, take_all}
 use Rattle.std.proofs.lemmas.List.{map-append, drop-map, length-map, length-drop}
@@ -10,12 +10,13 @@ use Rattle.std.specs.declared.vec.Vec.{Vec}
 use Rattle.evaluation.specs.Graph.{Record}
 use Rattle.evaluation.specs.Value.{In, after, IsMember}
 use Rattle.keys.specs.Jobs.{Waits}
-use Rattle.keys.specs.Keys.{key_cmp}
+use Rattle.keys.specs.Keys.{key_eq}
 use Rattle.keys.specs.declared.key.Key.{Key}
 use Rattle.keys.specs.declared.value.Value.{Value}
 use Rattle.node.specs.Graphs.{Recorded, record_at}
 use Rattle.node.specs.Kept.{items_of}
-use Rattle.node.proofs.Lists.{some_is, none_some, decide_key, other_key, same_or_key}
+use Rattle.node.proofs.Lists.{some_is, none_some, decide_key}
+use Rattle.open_nodes.proofs.Lookups.{other_key, same_or_key}
 use Rattle.open_nodes.specs.Nodes.{Records, node_at, groups_of, IsPlain}
 use Rattle.open_nodes.specs.Steps.{HasPhase, HasAsked}
 use Rattle.open_nodes.specs.declared.table.Node.{Node}
@@ -90,7 +91,7 @@ are_paused_on old new before later kept f a k w e = paused_on old new before lat
 pub none_paused : (graph : Recorded) (table : Table) (kept : Kept) → kept.entries ≡ [] → ArePaused graph table kept
 none_paused graph table kept q k w e = absurd (none_some (sym empty ∙ e))
   where
-    empty : get key_cmp kept k ≡ None
+    empty : get key_eq kept k ≡ None
     empty = rw q refl
 
 pub fewer_paused : (graph : Recorded) (table : Table) (old new : Kept) → FewerKept old new → ArePaused graph table old → ArePaused graph table new
@@ -107,9 +108,9 @@ pub kept_not_out : (graph : Recorded) (table : Table) (kept : Kept) (key : Key) 
 kept_not_out graph table kept key a h o = let p = a key h.0 h.1 in not_both p.node p.running (ap (λ (n : Node). n.phase) (some_is (sym p.there ∙ o.1)) ∙ o.2)
 
 -- a job is handed out whose state is kept no more
-pub handed_paused : (graph : Recorded) (before later : Table) (kept : Kept) (key : Key) (n : Node) → node_at before.nodes key ≡ Some n → HasPhase before.nodes later.nodes key phase.Out → get key_cmp kept key ≡ None → ArePaused graph before kept → ArePaused graph later kept
+pub handed_paused : (graph : Recorded) (before later : Table) (kept : Kept) (key : Key) (n : Node) → node_at before.nodes key ≡ Some n → HasPhase before.nodes later.nodes key phase.Out → get key_eq kept key ≡ None → ArePaused graph before kept → ArePaused graph later kept
 handed_paused graph before later kept key n there h gone a k w e = let p = a k w e in elim (decide_key key k) [
-  | inl q ↦ absurd (none_some (sym gone ∙ ap (get key_cmp kept) q ∙ e))
+  | inl q ↦ absurd (none_some (sym gone ∙ ap (get key_eq kept) q ∙ e))
   | inr d ↦ record {
     same_key = p.same_key;
     node = p.node;
@@ -179,19 +180,19 @@ last_one gs passed group n e q =
     place = let l = ap length e ∙ length-append passed (group ∷ []) in let m = length-map gs (λ (g : Vec Key Global). g.items) in omega (arith, l, m, q)
 
 -- one state more
-pub one_kept : (old new : Kept) (key : Key) (w : Waits) → Updates key_cmp old new key (Some w) → Keeps old new key (Some w)
+pub one_kept : (old new : Kept) (key : Key) (w : Waits) → Updates key_eq old new key (Some w) → Keeps old new key (Some w)
 one_kept old new key w u k x e = elim (same_or_key old new key _ u k) [
-  | inl q ↦ inr (q, sym u.1 ∙ ap (get key_cmp new) q ∙ e)
+  | inl q ↦ inr (q, sym u.1 ∙ ap (get key_eq new) q ∙ e)
   | inr p ↦ inl (sym p ∙ e)
 ]
 
 pub none_kept : (old new : Kept) (key : Key) → new ≡ old → Keeps old new key None
-none_kept old new key q k x e = inl (ap (λ m. get key_cmp m k) (sym q) ∙ e)
+none_kept old new key q k x e = inl (ap (λ m. get key_eq m k) (sym q) ∙ e)
 
 -- and one less
-pub one_fewer : (old new : Kept) (key : Key) → Updates key_cmp old new key None → FewerKept old new
+pub one_fewer : (old new : Kept) (key : Key) → Updates key_eq old new key None → FewerKept old new
 one_fewer old new key u k w e = elim (same_or_key old new key _ u k) [
-  | inl q ↦ absurd (none_some (sym u.1 ∙ ap (get key_cmp new) q ∙ e))
+  | inl q ↦ absurd (none_some (sym u.1 ∙ ap (get key_eq new) q ∙ e))
   | inr p ↦ sym p ∙ e
 ]
 
@@ -199,13 +200,13 @@ pub drops_fewer : (old new : Kept) (key : Key) (b : Bool) → DropsState old new
 drops_fewer old new key true u k w e = one_fewer old new key u k w e
 drops_fewer old new key false same k w e = sym (same k) ∙ e
 
-pub has_state : (kept : Kept) (key : Key) (b : Bool) → b ≡ is_some (get key_cmp kept key) → Decides b (HasState kept key)
-has_state kept key b e = (λ t. some_there (get key_cmp kept key) (sym e ∙ t), λ h. e ∙ ap is_some h.1)
+pub has_state : (kept : Kept) (key : Key) (b : Bool) → b ≡ is_some (get key_eq kept key) → Decides b (HasState kept key)
+has_state kept key b e = (λ t. some_there (get key_eq kept key) (sym e ∙ t), λ h. e ∙ ap is_some h.1)
 
-pub drops_state : (old new : Kept) (key : Key) → Updates key_cmp old new key None → (b : Bool) → b ≡ is_some (get key_cmp old key) → DropsState old new key b
+pub drops_state : (old new : Kept) (key : Key) → Updates key_eq old new key None → (b : Bool) → b ≡ is_some (get key_eq old key) → DropsState old new key b
 drops_state old new key u true e = u
 drops_state old new key u false e = λ k. elim (same_or_key old new key None u k) [
-  | inl q ↦ ap (get key_cmp new) (sym q) ∙ u.1 ∙ sym (ap (get key_cmp old) (sym q) ∙ none_there (get key_cmp old key) (sym e))
+  | inl q ↦ ap (get key_eq new) (sym q) ∙ u.1 ∙ sym (ap (get key_eq old) (sym q) ∙ none_there (get key_eq old key) (sym e))
   | inr p ↦ p
 ]
 

@@ -2,18 +2,19 @@
 use Rattle.std.proofs.Common.{◌≡◌, ◌≢◌, inl, inr, ℕ, ◌+◌, ◌<◌, ◌≤◌, Bool, true, false, List, [], ◌∷◌, ◌++◌, length, map, take, Option, Some, None, refl, sym, ◌∙◌, ap, subst, arith, slice_index_or, length-append}
 use Rattle.std.specs.declared.alloc.Global.{Global}
 use Rattle.std.specs.declared.vec.Vec.{Vec}
-use Rattle.std.specs.BTreeMap.{BTreeMap, get, is_at, Updates, IsLowerBound}
-use Rattle.std.specs.Option.{is_some}
-use Rattle.std.specs.Ordering.{is_gt}
+use Rattle.std.specs.BTreeMap.{BTreeMap, get, is_at}
+use Rattle.std.specs.Ordering.{is_lt, ordering_reverse}
 use Rattle.std.specs.declared.cmp.Ordering.{Ordering}
 use Rattle.std.specs.declared.cmp.Ordering.TheVariants.{Less, Equal, Greater}
 use Rattle.std.specs.Map.{lookup}
+use Rattle.indexmap.specs.IndexMap.{Updates}
 use Rattle.evaluation.specs.Value.{In, first, AllDiffer}
-use Rattle.keys.specs.Keys.{key_cmp}
+use Rattle.keys.specs.Keys.{key_cmp, key_eq}
 use Rattle.keys.specs.declared.key.Key.{Key}
 use Rattle.node.specs.Kept.{items_of}
-use Rattle.keys.proofs.KeyLaws.{exact_keys}
-use Rattle.node.proofs.Lists.{some_is, none_some, true_false, decide_key, other_key, in_split, in_left, in_right, in_one}
+use Rattle.keys.proofs.KeyLaws.{keys_total, exact_keys}
+use Rattle.node.proofs.Lists.{some_is, none_some, true_false, decide_key, other_key as other_stop, in_split, in_left, in_right, in_one}
+use Rattle.open_nodes.proofs.Lookups.{other_key}
 use Rattle.open_nodes.specs.Nodes.{Nodes, Records, node_at, groups_of, IsOpen, Stands, Holds}
 use Rattle.open_nodes.specs.Counted.{turns_of, asked_by, MakesNone}
 use Rattle.open_nodes.specs.Steps.{HasNoted}
@@ -25,7 +26,7 @@ use Rattle.open_nodes.specs.declared.table.Table.{Table}
 use Rattle.open_nodes.proofs.Counting.{turns_snoc, counts_none, makes_on}
 use Rattle.open_nodes.proofs.Orders.{split_snoc, none_stands}
 use Rattle.open_nodes.proofs.Settlings.{differ_snoc, map_snoc, in_map, map_in}
-use Rattle.round.specs.Closing.{ClosesBy, ClosesWith, HasTurnedBy, HasTurned, StopsIn, stop_at, PutsStop, closing_keys, IsClosed, IsRunOfClosed, AreAscending, HasTaken}
+use Rattle.round.specs.Closing.{ClosesBy, ClosesWith, HasTurnedBy, HasTurned, StopsIn, stop_at, PutsStop, closing_keys, IsClosed, IsLeast, IsRunOfClosed, AreAscending, HasTaken}
 use Rattle.round.specs.declared.closing.Closing.{Closing}
 use Rattle.round.specs.declared.closing.Stall.{Stall}
 use Rattle.round.proofs.Grouping.{taken_next, items_length, snoc_in, items_taken}
@@ -68,7 +69,7 @@ append_assoc (x ∷ xs) ys zs = ap (λ w. x ∷ w) (append_assoc xs ys zs)
 
 -- one more node is taken out
 module _ (records : Records) (version : ℕ) (start old new : Table) (stall later : Stall) (h : HasTaken records version start old stall) (holds : Holds records start.nodes)
-    (k : Key) (node : Node) (was : node_at old.nodes k ≡ Some node) (u : Updates key_cmp old.nodes new.nodes k None) (least : (j : Key) → IsOpen new.nodes j → key_cmp k j ≡ Less)
+    (k : Key) (node : Node) (was : node_at old.nodes k ≡ Some node) (u : Updates key_eq old.nodes new.nodes k None) (least : (j : Key) → IsOpen new.nodes j → key_cmp k j ≡ Less)
     (groups : Vec (Vec Key Global) Global) (turned : Bool) (turns : HasTurned node turned) (by : ClosesWith records k node (items_of groups.items))
     (yes : turned ≡ true → new.runs.items ≡ old.runs.items ++ record { key = k; version = version; turns = length groups.items } ∷ [])
     (no : turned ≡ false → new.runs.items ≡ old.runs.items)
@@ -96,7 +97,7 @@ module _ (records : Records) (version : ℕ) (start old new : Table) (stall late
   stop_others j n = go stop puts
     where
       go : (o : Option Key) → PutsStop stall.stops later.stops k o → stop_at later.stops j ≡ stop_at stall.stops j
-      go (Some m) p = other_key stall.stops later.stops k (Some m) p j n
+      go (Some m) p = other_stop stall.stops later.stops k (Some m) p j n
       go None p = ap (λ x. stop_at x j) p
 
   stop_there : stop_at later.stops k ≡ stop
@@ -287,27 +288,27 @@ none_taken records version table stall none stops = record {
     no_key i = elim i [ ]
 
 -- the least key that is open is before the others
-pub least_first : (old new : Nodes) (k : Key) → IsLowerBound key_cmp old k → Updates key_cmp old new k None → (j : Key) → IsOpen new j → key_cmp k j ≡ Less
+pub least_first : (old new : Nodes) (k : Key) → IsLeast old k → Updates key_eq old new k None → (j : Key) → IsOpen new j → key_cmp k j ≡ Less
 least_first old new k low u j o = elim (decide_key k j) [
   | inl q ↦ absurd (none_some (sym u.1 ∙ ap (node_at new) q ∙ o.1))
-  | inr d ↦ go (key_cmp k j) refl (low j (ap is_some (sym (other_key old new k None u j d) ∙ o.1))) d
+  | inr d ↦ go (key_cmp j k) refl (low j (o.0, sym (other_key old new k None u j d) ∙ o.1)) d
 ]
   where
-    go : (c : Ordering) → key_cmp k j ≡ c → is_gt (key_cmp k j) ≡ false → k ≢ j → key_cmp k j ≡ Less
-    go Less e g d = e
-    go Equal e g d = absurd (d (exact_keys k j e))
-    go Greater e g d = absurd (true_false (ap is_gt e) g)
+    go : (c : Ordering) → key_cmp j k ≡ c → is_lt (key_cmp j k) ≡ false → k ≢ j → key_cmp k j ≡ Less
+    go Less e g d = absurd (true_false (ap is_lt e) g)
+    go Equal e g d = absurd (d (sym (exact_keys j k e)))
+    go Greater e g d = keys_total.antisymm k j ∙ ap ordering_reverse e
 
 -- the same, as the calls leave the table
 pub taken_step : (records : Records) (version : ℕ) (start old popped new : Table) (stall later : Stall) → HasTaken records version start old stall → Holds records start.nodes
-    → (k : Key) (node : Node) → node_at old.nodes k ≡ Some node → Updates key_cmp old.nodes popped.nodes k None → IsLowerBound key_cmp old.nodes k → popped.runs.items ≡ old.runs.items
+    → (k : Key) (node : Node) → node_at old.nodes k ≡ Some node → Updates key_eq old.nodes popped.nodes k None → IsLeast old.nodes k → popped.runs.items ≡ old.runs.items
     → (groups : Vec (Vec Key Global) Global) (turned : Bool) → HasTurned node turned → ClosesWith records k node (items_of groups.items)
     → (v n : ℕ) → v ≡ version → n ≡ length groups.items
     → (turned ≡ true → HasNoted popped new (record { key = k; version = v; turns = n })) → (turned ≡ false → new ≡ popped)
     → (stop : Option Key) → StopsIn records (items_of groups.items) stop → PutsStop stall.stops later.stops k stop
     → later.closing.items ≡ stall.closing.items ++ record { key = k; groups = groups } ∷ [] → HasTaken records version start new later
 taken_step records version start old popped new stall later h holds k node was u low runs groups turned turns by v n now count ran idle stop stops puts more =
-    taken_more records version start old new stall later h holds k node was (subst (λ (x : Nodes). Updates key_cmp old.nodes x k None) (same turned refl) u)
+    taken_more records version start old new stall later h holds k node was (subst (λ (x : Nodes). Updates key_eq old.nodes x k None) (same turned refl) u)
     (λ j o. least_first old.nodes popped.nodes k low u j (subst (λ (x : Nodes). IsOpen x j) (sym (same turned refl)) o)) groups turned turns by
     (λ e. (ran e).runs ∙ ap (λ (xs : List Run). xs ++ record { key = k; version = v; turns = n } ∷ []) runs ∙ ap (λ m. old.runs.items ++ record { key = k; version = m; turns = n } ∷ []) now ∙ ap (λ m. old.runs.items ++ record { key = k; version = version; turns = m } ∷ []) count)
     (λ e. ap (λ (x : Table). x.runs.items) (idle e) ∙ runs) stop stops puts more

@@ -1,6 +1,6 @@
 -- Leaves are read, and nodes begin.
 use Rattle.std.proofs.Common.{◌≡◌, ◌≢◌, ◌⊎◌, inl, inr, ℕ, ◌≤◌, Bool, true, false, List, [], ◌∷◌, ◌++◌, map, Option, Some, None, refl, sym, ◌∙◌, ap, subst, length, arith, Result, Ok, Err, IsErr}
-use Rattle.std.specs.BTreeMap.{Updates}
+use Rattle.indexmap.specs.IndexMap.{Updates}
 use Rattle.std.specs.Option.{is_some}
 use Rattle.std.specs.declared.alloc.Global.{Global}
 use Rattle.std.specs.declared.vec.Vec.{Vec}
@@ -14,13 +14,14 @@ use Rattle.evaluation.specs.Value as value
 use Rattle.evaluation.specs.Graph.{Record}
 use Rattle.evaluation.specs.Journal.{RunIsJustified, never_settled, ReadIsJustified, never_read, edited}
 use Rattle.keys.specs.Cycles.{cycle}
-use Rattle.keys.specs.Keys.{key_cmp}
+use Rattle.keys.specs.Keys.{key_eq}
 use Rattle.keys.specs.declared.key.Key.{Key}
 use Rattle.keys.specs.declared.value.Value.{Value}
 use Rattle.node.specs.Graphs.{Recorded, record_at, Sets, IsTouched}
 use Rattle.node.specs.Writes.{stored}
 use Rattle.node.specs.Laws.{SettlingKeepsLawful}
-use Rattle.node.proofs.Lists.{some_is, none_some, true_false, decide_key, other_key, in_split, in_left, in_right}
+use Rattle.node.proofs.Lists.{some_is, none_some, true_false, decide_key, in_split, in_left, in_right}
+use Rattle.open_nodes.proofs.Lookups.{other_key}
 use Rattle.open_nodes.specs.Nodes.{Nodes, Records, node_at, groups_of, pending, IsOpen, IsUnsettled, Stands, IsWhole}
 use Rattle.open_nodes.specs.Steps.{HasEntered, Pends, Readies, HasNoted, SameRuns}
 use Rattle.open_nodes.specs.Counted.{turns_of, asked_by}
@@ -260,7 +261,7 @@ leads_to_end_err next read old new before later (Ok x) e h = absurd (true_false 
 leads_to_end_err next read old new before later (Err x) e h = h
 
 -- one node is set: what was wanted is
-pub wanted_set : (graph : Recorded) (before later : Table) (k : Key) (n : Node) → Updates key_cmp before.nodes later.nodes k (Some n) → KeepsWanted graph graph before later
+pub wanted_set : (graph : Recorded) (before later : Table) (k : Key) (n : Node) → Updates key_eq before.nodes later.nodes k (Some n) → KeepsWanted graph graph before later
 wanted_set graph before later k n u j (inr c) = inr c
 wanted_set graph before later k n u j (inl o) = elim (decide_key k j) [
   | inl e ↦ inl (n, ap (node_at later.nodes) (sym e) ∙ u.1)

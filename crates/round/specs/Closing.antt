@@ -1,6 +1,7 @@
 -- The nodes that a stall closes, as they were open beside the graph.
-use Rattle.std.specs.Prelude.{◌≡◌, ℕ, ◌+◌, List, [], ◌∷◌, ◌++◌, length, map, take, Bool, true, false, Option, Some, None}
+use Rattle.std.specs.Prelude.{◌≡◌, ℕ, ◌+◌, List, [], ◌∷◌, ◌++◌, length, map, take, Bool, true, false, Option, Some, None, ⊤}
 use Rattle.std.specs.BTreeMap.{BTreeMap, get, Updates}
+use Rattle.std.specs.Ordering.{is_lt}
 use Rattle.std.specs.declared.cmp.Ordering.TheVariants.{Less}
 use Rattle.evaluation.specs.Graph.{Record}
 use Rattle.evaluation.specs.Value.{In, AllDiffer}
@@ -62,6 +63,15 @@ pub record IsClosed (records : Records) (nodes : Nodes) (stops : Stops) (c : Clo
   pub there : node_at nodes c.key ≡ Some node
   pub groups : ClosesWith records c.key node (items_of c.groups.items)
   pub stop : StopsIn records (items_of c.groups.items) (stop_at stops c.key)
+
+-- no key is above one before it
+abbrev pub Descends : List (Key × Node) → Type 0
+Descends [] = ⊤
+Descends (e ∷ es) = ((x : Key × Node) → In x es → is_lt (key_cmp e.0 x.0) ≡ false) × Descends es
+
+-- no open node's key is below it
+abbrev pub IsLeast : Nodes → Key → Type 0
+IsLeast nodes k = (j : Key) → IsOpen nodes j → is_lt (key_cmp j k) ≡ false
 
 -- the run of a closed node that made turns
 pub record IsRunOfClosed (version : ℕ) (nodes : Nodes) (closing : List Closing) (x : Run) : Type 0 where

@@ -1,11 +1,11 @@
 -- The states of node functions that a round keeps between turns.
 use Rattle.std.specs.Prelude.{◌≡◌, ◌⊎◌, List, [], ◌∷◌, ◌++◌, Bool, true, false, Option, Some, None}
-use Rattle.std.specs.BTreeMap.{BTreeMap, get, Updates}
+use Rattle.indexmap.specs.IndexMap.{get, Updates}
 use Rattle.keys.specs.Jobs.{Waits}
-use Rattle.keys.specs.Keys.{key_cmp}
+use Rattle.keys.specs.Keys.{key_eq}
 use Rattle.keys.specs.declared.key.Key.{Key}
 use Rattle.node.specs.Graphs.{Recorded, record_at}
-use Rattle.open_nodes.specs.Nodes.{node_at, groups_of}
+use Rattle.open_nodes.specs.Nodes.{ByKey, node_at, groups_of}
 use Rattle.open_nodes.specs.declared.table.Node.{Node}
 use Rattle.open_nodes.specs.declared.table.Phase.TheVariants as phase
 use Rattle.open_nodes.specs.declared.table.Table.{Table}
@@ -23,24 +23,24 @@ pub record IsPaused (graph : Recorded) (table : Table) (k : Key) (w : Waits) : T
   pub answered : AreAnswers (record_at graph) passed w.answers
 
 abbrev pub Kept : Type 0
-Kept = BTreeMap Key Waits
+Kept = ByKey Waits
 
 abbrev pub ArePaused : Recorded → Table → Kept → Type 0
-ArePaused graph table kept = (k : Key) (w : Waits) → get key_cmp kept k ≡ Some w → IsPaused graph table k w
+ArePaused graph table kept = (k : Key) (w : Waits) → get key_eq kept k ≡ Some w → IsPaused graph table k w
 
 -- no state came in
 abbrev pub FewerKept : Kept → Kept → Type 0
-FewerKept old new = (k : Key) (w : Waits) → get key_cmp new k ≡ Some w → get key_cmp old k ≡ Some w
+FewerKept old new = (k : Key) (w : Waits) → get key_eq new k ≡ Some w → get key_eq old k ≡ Some w
 
 -- a state of the key is kept
 abbrev pub HasState : Kept → Key → Type 0
-HasState kept key = (w : Waits) × (get key_cmp kept key ≡ Some w)
+HasState kept key = (w : Waits) × (get key_eq kept key ≡ Some w)
 
 -- the state of the key was given up and the others stay; or all stay
 abbrev pub DropsState : Kept → Kept → Key → Bool → Type 0
-DropsState old new key true = Updates key_cmp old new key None
-DropsState old new key false = (k : Key) → get key_cmp new k ≡ get key_cmp old k
+DropsState old new key true = Updates key_eq old new key None
+DropsState old new key false = (k : Key) → get key_eq new k ≡ get key_eq old k
 
 -- the state came in, if there is one, and the others stay
 abbrev pub Keeps : Kept → Kept → Key → Option Waits → Type 0
-Keeps old new key paused = (k : Key) (w : Waits) → get key_cmp new k ≡ Some w → (get key_cmp old k ≡ Some w) ⊎ ((key ≡ k) × (paused ≡ Some w))
+Keeps old new key paused = (k : Key) (w : Waits) → get key_eq new k ≡ Some w → (get key_eq old k ≡ Some w) ⊎ ((key ≡ k) × (paused ≡ Some w))

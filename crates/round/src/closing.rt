@@ -1,8 +1,8 @@
 //! The nodes that a stall closes.
 ghost use Rattle.std.specs.Prelude.{◌≡◌, ◌+◌, ◌∷◌, ◌++◌, [], ℕ, true, false, IfOk, OnOk, Some, None, take, IsTrue, IsSome, IfSome, IfNone, if◌then◌else◌, ◌↔◌, ◌<◌};
-ghost use Rattle.std.specs.BTreeMap.{btree_map_len, Updates, IsLowerBound};
+ghost use Rattle.indexmap.specs.IndexMap.{index_map_len, Updates};
 ghost use Rattle.std.specs.Option.{is_some};
-ghost use Rattle.keys.specs.Keys.{key_cmp};
+ghost use Rattle.keys.specs.Keys.{key_eq};
 ghost use Rattle.evaluation.specs.Graph.{Record};
 ghost use Rattle.keys.specs.declared.key.Key.{Key};
 ghost use Rattle.keys.specs.declared.value.Value.{Value};
@@ -12,7 +12,7 @@ ghost use Rattle.open_nodes.specs.Nodes.{node_at, Holds};
 ghost use Rattle.open_nodes.specs.Steps.{HasNoted};
 ghost use Rattle.open_nodes.specs.declared.table.Table.{Table};
 ghost use Rattle.round.specs.Looks.{IsLastGroup};
-ghost use Rattle.round.specs.Closing.{ClosesWith, StopsIn, PutsStop, HasTurned, HasTaken};
+ghost use Rattle.round.specs.Closing.{ClosesWith, StopsIn, PutsStop, HasTurned, Descends, IsLeast, HasTaken};
 
 use crate::look::recorded_groups;
 use crate::members::{first_stop, share_all};
@@ -139,30 +139,44 @@ fn put_closing(
     Ok(())
 }
 
-// The least of the open nodes is taken out, if there is one.
-fn take_least(nodes: &mut Nodes) -> Option<(Key, Node)>
-    ensures variant { IsSome result ↔ (0 < btree_map_len nodes.old) }
-    ensures value { IfSome result (λ p. node_at nodes.old p.0 ≡ Some p.1) }
-    ensures updates { IfSome result (λ p. Updates key_cmp nodes.old nodes.new p.0 None) }
-    ensures least { IfSome result (λ p. IsLowerBound key_cmp nodes.old p.0) }
-    ensures unchanged { IfNone result (nodes.new.entries ≡ nodes.old.entries) }
-    ensures len { btree_map_len nodes.new + (if is_some result then 1 else 0) ≡ btree_map_len nodes.old }
+// Puts the open nodes in the order of their keys, the least last.
+fn put_least_last(nodes: &mut Nodes) -> Result<(), Memory>
+    ensures same { (k : Key) → node_at nodes.new k ≡ node_at nodes.old k }
+    ensures descends { OnOk result (Descends nodes.new.entries) }
 {
-    nodes.pop_first()
+    nodes.sort_keys()?;
+    nodes.reverse();
+    Ok(())
 }
 
-// Takes the least of the open nodes out; false where there is none.
+// Takes the last of the open nodes out, if there is one, which is the least where they descend.
+fn take_last(nodes: &mut Nodes) -> Option<(Key, Node)>
+    requires { Descends nodes.old.entries }
+    ensures descends { Descends nodes.new.entries }
+    ensures variant { IsSome result ↔ (0 < index_map_len nodes.old) }
+    ensures value { IfSome result (λ p. node_at nodes.old p.0 ≡ Some p.1) }
+    ensures updates { IfSome result (λ p. Updates key_eq nodes.old nodes.new p.0 None) }
+    ensures least { IfSome result (λ p. IsLeast nodes.old p.0) }
+    ensures unchanged { IfNone result (nodes.new.entries ≡ nodes.old.entries) }
+    ensures len { index_map_len nodes.new + (if is_some result then 1 else 0) ≡ index_map_len nodes.old }
+{
+    nodes.pop()
+}
+
+// Takes the least of the open nodes out, which stands last; false where there is none.
 fn close_next(
     alloc: Global,
     graph: &Graph,
     table: &mut Table,
     stall: &mut Stall,
 ) -> Result<bool, Memory>
+    requires { Descends table.old.nodes.entries }
+    ensures descends { OnOk result (Descends table.new.nodes.entries) }
     ensures taken { OnOk result ((start : Table) → Holds (record_at graph.now) start.nodes → HasTaken (record_at graph.now) graph.now.version start table.old stall.old → HasTaken (record_at graph.now) graph.now.version start table.new stall.new) }
     ensures none { IfOk result (λ more. more ≡ false → (k : Key) → node_at table.new.nodes k ≡ None) }
-    ensures fewer { IfOk result (λ more. more ≡ true → btree_map_len table.new.nodes + 1 ≡ btree_map_len table.old.nodes) }
+    ensures fewer { IfOk result (λ more. more ≡ true → index_map_len table.new.nodes + 1 ≡ index_map_len table.old.nodes) }
 {
-    let Some((key, node)) = take_least(&mut table.nodes) else {
+    let Some((key, node)) = take_last(&mut table.nodes) else {
         return Ok(false);
     };
     let (groups, turned) = groups_to_close(alloc, graph, &key, node)?;
@@ -177,6 +191,7 @@ pub fn close_all(alloc: Global, graph: &Graph, table: &mut Table) -> Result<Stal
     ensures taken { IfOk result (λ stall. Holds (record_at graph.now) table.old.nodes → HasTaken (record_at graph.now) graph.now.version table.old table.new stall) }
     ensures none { OnOk result ((k : Key) → node_at table.new.nodes k ≡ None) }
 {
+    put_least_last(&mut table.nodes)?;
     let mut stall = Stall {
         closing: Vec::new(alloc),
         stops: BTreeMap::new(alloc),

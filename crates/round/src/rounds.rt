@@ -2,7 +2,6 @@
 ghost use Rattle.std.specs.Prelude.{◌≡◌, List, Option, Some, None, Ok, Err, true, false, [], IfOk, IfErr, OnOk, OnErr, IfSome, IfNone, IsTrue};
 ghost use Rattle.std.specs.Bool.{Decides};
 ghost use Rattle.std.specs.List.{All};
-ghost use Rattle.std.specs.BTreeMap.{get};
 ghost use Rattle.std.specs.Option.{is_some};
 ghost use Rattle.std.specs.BTreeMap.Range.{IsLeBy};
 ghost use Rattle.node.specs.Graphs.{Recorded};
@@ -28,11 +27,12 @@ use crate::look::look_at_all;
 use crate::settle::{is_open, want_all};
 use crate::turns::{is_out_with, next_job, take};
 use filetree::Tree;
+use indexmap::IndexMap;
 use keys::{Job, Key, Rules, Turned, Waiting};
 use node::Graph;
 use open_nodes::{Nodes, Run, Table, set_out};
 use std::alloc::Global;
-use std::collections::{BTreeMap, BTreeSet};
+use std::collections::BTreeSet;
 use texts::Memory;
 
 /// One evaluation of roots, turn by turn. It keeps neither the graph nor the tree: its calls are lent the same ones,
@@ -44,7 +44,7 @@ pub struct Round<R: Rules> {
     roots: Vec<Key>,
     table: Table,
     out: BTreeSet<Key>,
-    kept: BTreeMap<Key, Waiting<R>>,
+    kept: IndexMap<Key, Waiting<R>>,
 }
 
 /// Why a turn was not taken back.
@@ -85,7 +85,7 @@ fn take_from(out: &mut BTreeSet<Key>, key: &Key)
 
 // The state is kept, if there is one.
 fn keep<R: Rules>(
-    kept: &mut BTreeMap<Key, Waiting<R>>,
+    kept: &mut IndexMap<Key, Waiting<R>>,
     key: Key,
     paused: Option<Waiting<R>>,
 ) -> Result<(), Memory>
@@ -98,11 +98,11 @@ fn keep<R: Rules>(
 }
 
 // The state that was kept of a key is given up; false where there is none.
-fn give_up<R: Rules>(kept: &mut BTreeMap<Key, Waiting<R>>, key: &Key) -> bool
+fn give_up<R: Rules>(kept: &mut IndexMap<Key, Waiting<R>>, key: &Key) -> bool
     ensures given { Decides result (HasState kept.old key.now) }
     ensures drops { DropsState kept.old kept.new key.now result }
 {
-    kept.remove(key).is_some()
+    kept.swap_remove(key).is_some()
 }
 
 // Whether one of the keys is open.
@@ -141,7 +141,7 @@ impl<R: Rules> Round<R> {
             roots,
             table,
             out: BTreeSet::new(alloc),
-            kept: BTreeMap::new(alloc),
+            kept: IndexMap::new(alloc),
         })
     }
 
@@ -259,7 +259,7 @@ impl<R: Rules> Round<R> {
         ensures truth { (read : Key → Option Value) → Ends read graph.old graph.new self.old.table self.new.table result }
     {
         close_cycles(self.alloc, graph, &mut self.table)?;
-        self.kept = BTreeMap::new(self.alloc);
+        self.kept = IndexMap::new(self.alloc);
         Ok(())
     }
 

@@ -1,6 +1,6 @@
 //! Turns handed out and taken back.
 ghost use Rattle.std.specs.Prelude.{◌≡◌, ◌++◌, ◌∷◌, [], List, IfOk, IfSome, OnOk, Option, Some, None, IsTrue};
-ghost use Rattle.std.specs.BTreeMap.{get};
+ghost use Rattle.indexmap.specs.IndexMap.{get};
 ghost use Rattle.std.specs.Option.{option_map};
 ghost use Rattle.evaluation.specs.Value.{In};
 ghost use Rattle.node.specs.Graphs.{record_at};
@@ -9,7 +9,7 @@ ghost use Rattle.round.specs.Paused.{IsPaused, ArePaused, FewerKept};
 ghost use Rattle.std.specs.Bool.{Decides};
 ghost use Rattle.keys.specs.Turns.{values};
 ghost use Rattle.std.specs.BTreeSet.{contains};
-ghost use Rattle.keys.specs.Keys.{key_cmp};
+ghost use Rattle.keys.specs.Keys.{key_cmp, key_eq};
 ghost use Rattle.leaves.specs.Leaves as leaves;
 ghost use Rattle.keys.specs.declared.key.Key.{Key};
 ghost use Rattle.keys.specs.declared.value.Value.{Value};
@@ -25,11 +25,12 @@ ghost use Rattle.round.specs.Turning.{IsOutWith, ComesBack, NextJob};
 
 use crate::members::{answers_to, share_all};
 use crate::settle::end;
+use indexmap::IndexMap;
 use keys::{Job, Key, Rules, Step, Turned, Value, Waiting};
 use node::Graph;
 use open_nodes::{Nodes, Phase, Table, ask};
 use std::alloc::Global;
-use std::collections::{BTreeMap, BTreeSet};
+use std::collections::BTreeSet;
 use std::sync::Arc;
 use texts::Memory;
 
@@ -108,19 +109,19 @@ pub fn next_job<R: Rules>(
     alloc: Global,
     graph: &Graph,
     table: &Table,
-    kept: &mut BTreeMap<Key, Waiting<R>>,
+    kept: &mut IndexMap<Key, Waiting<R>>,
     key: &Key,
 ) -> Result<Option<Job<R>>, Memory>
     requires whole { IsWholeNow graph.now table.now }
     requires paused { ArePaused graph.now table.now kept.old }
     ensures job { IfOk result (NextJob graph.now key.now table.now) }
-    ensures gone { IfOk result (λ job. IfSome job (λ j. get key_cmp kept.new key.now ≡ None)) }
+    ensures gone { IfOk result (λ job. IfSome job (λ j. get key_eq kept.new key.now ≡ None)) }
     ensures fewer { FewerKept kept.old kept.new }
 {
     if !is_among(&table.ready, key) {
         return Ok(None);
     }
-    match kept.remove(key) {
+    match kept.swap_remove(key) {
         None => Ok(job_of(alloc, graph, table, key)?),
         Some(waiting) => Ok(resumed(alloc, graph, table, waiting, key)?),
     }

@@ -1,7 +1,6 @@
 use Rattle.std.proofs.Common.{List, refl, subst, ◌∙◌, ap}
 use Rattle.std.specs.Map.{lookup}
-use Rattle.std.specs.BTreeMap.{is_at}
-use Rattle.keys.specs.Keys.{key_cmp}
+use Rattle.keys.specs.Keys.{key_eq}
 use Rattle.keys.specs.declared.key.Key.{Key}
 use Rattle.open_nodes.specs.declared.table.Node.{Node}
 use Rattle.node.specs.Graphs.{record_at}
@@ -19,4 +18,4 @@ returns-clause-taken c = λ start holds h. taken_step (record_at c.args.graph.no
 
 pub returns-in_default-clause-taken : goal.returns-in_default-clause-taken
 returns-in_default-clause-taken c = λ start holds h.
-    taken_same (record_at c.args.graph.now) c.args.graph.now.version start c.args.table.now _ c.args.stall.now (λ k. ap (λ (es : List (Key × Node)). lookup (is_at (key_cmp k)) es) c.in_default.ensures.unchanged) refl h
+    taken_same (record_at c.args.graph.now) c.args.graph.now.version start c.args.table.now _ c.args.stall.now (λ k. ap (λ (es : List (Key × Node)). lookup (key_eq k) es) c.in_default.ensures.unchanged) refl h

@@ -10,4 +10,4 @@ pub resumed-requires-clause-ready : goal.resumed-requires-clause-ready
 resumed-requires-clause-ready g c κs within = in_has c.args.table.now.ready c.args.key.now (sym c.if-not-is_among.ensures)
 
 pub resumed-requires-clause-paused : goal.resumed-requires-clause-paused
-resumed-requires-clause-paused g c κs within = c.requires.paused c.args.key.now c.in-Some.waiting (sym c.remove.ensures.value ∙ c.in-Some.is)
+resumed-requires-clause-paused g c κs within = c.requires.paused c.args.key.now c.in-Some.waiting (sym c.swap_remove.ensures.value ∙ c.in-Some.is)
