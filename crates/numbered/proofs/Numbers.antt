@@ -1,11 +1,11 @@
 -- Keys and their numbers.
 use Rattle.std.proofs.Common.{◌≡◌, ◌≢◌, ◌↔◌, ℕ, zero, suc, ◌+◌, ◌<◌, ◌≤◌, Bool, true, false, cond, List, [], ◌∷◌, ◌++◌, length, get_or, Option, Some, None, refl, sym, ◌∙◌, ap, subst, arith, is_some, lt-ltb}
 use Rattle.std.specs.Prelude.{slice_get, position, sum_by}
-use Rattle.std.specs.List.{position_or_len, IsDistinct}
+use Rattle.std.specs.List.{position_or_len, IsDistinct, AllByRecursion}
 use Rattle.std.specs.Map.{keys_of, values_of}
 use Rattle.std.proofs.lemmas.List.Quantifiers.{position-Some}
 use Rattle.std.proofs.lemmas.List.Sums.{position_or_len_is, sum_by-cons}
-use Rattle.std.proofs.lemmas.Map.Keys.{apart_from_distinct}
+use Rattle.std.proofs.lemmas.Map.Keys.{apart_from_distinct, IsDistinct-tail, IsDistinct-head}
 use Rattle.std.proofs.lemmas.Option.{slice_get_within, get_or_from_slice_get, slice_get-get_or}
 use Rattle.indexmap.specs.IndexMap.{insert_entry, set_value_at}
 use Rattle.indexmap.proofs.MapLemmas.{some_index, Found-position}
@@ -16,6 +16,9 @@ use Rattle.numbered.specs.Tables.{key_at, value_at, number_of, value_of, AreDist
 
 none_some : {X : Type 0} {x : X} → None ≡ Some x → ⊥
 none_some e = cc
+
+some_is : {X : Type 0} {x y : X} → Some x ≡ Some y → x ≡ y
+some_is h = cc
 
 true_false : {b : Bool} → b ≡ true → b ≡ false → ⊥
 true_false t f = cc
@@ -139,3 +142,50 @@ module _ {V : Type 0} where
       let q : e.1 ≡ old = cc in
       subst (λ x. sum_by weight (new ∷ values_of es) + weight x ≡ sum_by weight (e.1 ∷ values_of es) + weight new) q (sum_swapped weight (values_of es) e.1 new)
   sum_written weight (e ∷ es) (suc n) old new h = sum_before weight e.1 old new (values_of es) (values_of (set_value_at es n new)) (sum_written weight es n old new h)
+
+  -- a new key has its value, and the other keys have theirs
+  pub value_pushed : (es : List (Key × V)) (k : Key) (v : V) → value_of es k ≡ None → value_of (es ++ (k, v) ∷ []) k ≡ Some v
+  value_pushed [] k v h = ap (λ b. cond b (Some v) None) (key_itself k)
+  value_pushed (e ∷ es) k v h = go (key_eq k e.0) refl (λ g. value_pushed es k v g)
+    where
+      go : (b : Bool) → key_eq k e.0 ≡ b → (value_of es k ≡ None → value_of (es ++ (k, v) ∷ []) k ≡ Some v) → value_of (e ∷ es ++ (k, v) ∷ []) k ≡ Some v
+      go true t rest = absurd (none_some (sym h ∙ ap (λ b. cond b (Some e.1) (value_of es k)) t))
+      go false t rest = ap (λ b. cond b (Some e.1) (value_of (es ++ (k, v) ∷ []) k)) t ∙ rest (sym (ap (λ b. cond b (Some e.1) (value_of es k)) t) ∙ h)
+
+  pub others_pushed : (es : List (Key × V)) (k : Key) (v : V) (j : Key) → k ≢ j → value_of (es ++ (k, v) ∷ []) j ≡ value_of es j
+  others_pushed [] k v j n = ap (λ b. cond b (Some v) None) (other_key j k (λ q. n (sym q)))
+  others_pushed (e ∷ es) k v j n = ap (λ o. cond (key_eq j e.0) (Some e.1) o) (others_pushed es k v j n)
+
+  -- a write at the number of a key
+  pub written_at : (es new : List (Key × V)) (k : Key) (n : ℕ) (old v : V) → AreDistinct es → number_of es k ≡ Some n → new ≡ set_value_at es n v → Writes es new k v
+  written_at es new k n old v d h e = subst (λ l. Writes es l k v) (sym e) (written es n k v d ((number_iff es d k n).0 h))
+
+  -- the value with the number of a key is the key's
+  pub value_numbered : (es : List (Key × V)) (k : Key) (n : ℕ) (v : V) → AreDistinct es → number_of es k ≡ Some n → value_at es n ≡ Some v → value_of es k ≡ Some v
+  value_numbered es k n v d h at = value_by_number es d k n ((number_iff es d k n).0 h) ∙ at
+
+  absent_value : (k : Key) (es : List (Key × V)) → AllByRecursion (λ y. key_eq k y ≡ false) (keys_of es) → value_of es k ≡ None
+  absent_value k [] a = refl
+  absent_value k (e ∷ es) a = ap (λ b. cond b (Some e.1) (value_of es k)) a.0 ∙ absent_value k es a.1
+
+  -- lists with the same keys and values
+  pub same_entries : (es fs : List (Key × V)) → AreDistinct es → keys_of fs ≡ keys_of es → ((k : Key) → value_of fs k ≡ value_of es k) → fs ≡ es
+  same_entries [] [] d q h = refl
+  same_entries [] (f ∷ fs) d q h = cc
+  same_entries (e ∷ es) [] d q h = cc
+  same_entries (e ∷ es) (f ∷ fs) d q h =
+      let first : f.0 ≡ e.0 = cc in
+      let rest : keys_of fs ≡ keys_of es = cc in
+      let v : f.1 ≡ e.1 = some_is (sym (at_head e.0 f fs (sym first)) ∙ h e.0 ∙ at_head e.0 e es refl) in
+      let none : value_of es e.0 ≡ None = absent_value e.0 es (IsDistinct-head key_eq e.0 (keys_of es) d) in
+      let none_too : value_of fs e.0 ≡ None = absent_value e.0 fs (subst (λ ks. AllByRecursion (λ y. key_eq e.0 y ≡ false) ks) (sym rest) (IsDistinct-head key_eq e.0 (keys_of es) d)) in
+      let more = same_entries es fs (IsDistinct-tail key_eq e.0 (keys_of es) d) rest (λ k. below k first none none_too (key_eq k e.0) refl) in
+      λ i. (first i, v i) ∷ more i
+    where
+      at_head : (k : Key) (x : Key × V) (xs : List (Key × V)) → k ≡ x.0 → value_of (x ∷ xs) k ≡ Some x.1
+      at_head k x xs q = ap (λ b. cond b (Some x.1) (value_of xs k)) (subst (λ y. key_eq k y ≡ true) q (key_itself k))
+
+      below : (k : Key) → f.0 ≡ e.0 → value_of es e.0 ≡ None → value_of fs e.0 ≡ None → (b : Bool) → key_eq k e.0 ≡ b → value_of fs k ≡ value_of es k
+      below k first none none_too true t = let q : k ≡ e.0 = same_key k e.0 t in ap (value_of fs) q ∙ none_too ∙ sym none ∙ ap (value_of es) (sym q)
+      below k first none none_too false t =
+          sym (ap (λ b. cond b (Some f.1) (value_of fs k)) (ap (key_eq k) first ∙ t)) ∙ h k ∙ ap (λ b. cond b (Some e.1) (value_of es k)) t

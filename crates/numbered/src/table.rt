@@ -1,14 +1,16 @@
 //! A table in which a key's number is its place.
-ghost use Rattle.std.specs.Prelude.{◌≡◌, ◌<◌, ◌++◌, [], ◌∷◌, None, Some, length, slice_get, IfOk, OnOk, OnErr};
+ghost use Rattle.std.specs.Prelude.{◌≡◌, ◌<◌, ◌++◌, [], ◌∷◌, None, Some, ◌^◌, ◌↔◌, length, IsSome, IfSome, is_some, IfOk, OnOk, OnErr};
 ghost use Rattle.std.specs.Borrow.{sem};
 ghost use Rattle.std.specs.Option.{option_copied, option_to_list};
-ghost use Rattle.std.specs.Map.{keys_of, values_of};
+ghost use Rattle.std.specs.Map.{values_of};
+ghost use Rattle.std.specs.Map.Iter.{ShowsInOrder, deref};
 ghost use Rattle.keys.specs.declared.key.Key.{Key};
 ghost use Rattle.numbered.specs.Tables.{AreDistinct, key_at, number_of, value_of, value_at};
 ghost use Rattle.numbered.specs.Lends.{lends_value};
 
 use crate::number::Number;
 use indexmap::IndexMap;
+use indexmap::map::Values;
 use keys::Key;
 use std::alloc::Global;
 use std::marker::Model;
@@ -55,12 +57,22 @@ impl<V> Table<V> {
 
     /// Returns a key's number, and None where the key is not there.
     pub fn number_of(&self, key: &Key) -> Option<Number>
-        ensures { result ≡ number_of self.now key.now }
+        ensures number { result ≡ number_of self.now key.now }
+        ensures within { IfSome result (λ n. n < length self.now) }
+        ensures distinct { AreDistinct self.now }
     {
         match self.entries.get_index_of(key) {
             None => None,
             Some(place) => Some(Number::at(place as u32)),
         }
+    }
+
+    /// Returns whether a key is there.
+    pub fn contains_key(&self, key: &Key) -> bool
+        ensures there { result ≡ is_some (value_of self.now key.now) }
+        ensures distinct { AreDistinct self.now }
+    {
+        self.entries.contains_key(key)
     }
 
     /// Returns the key with a number.
@@ -87,6 +99,16 @@ impl<V> Table<V> {
         self.entries.get(key)
     }
 
+    /// Returns the values, in the order of their numbers.
+    pub fn values(&self) -> Values<'_, Key, V>
+        ensures rest { result ≡ values_of self.now }
+        ensures len { length result ≡ length self.now }
+        ensures runs { ShowsInOrder (deref {X = V}) }
+        ensures fits { length self.now < 2 ^ 63 }
+    {
+        self.entries.values()
+    }
+
     /// Lends the value of the key with a number. The keys and the other values stay.
     pub fn value_mut(&mut self, number: Number) -> &mut V
         requires { number < length self.old }
@@ -101,10 +123,11 @@ impl<V> Table<V> {
     pub fn push(&mut self, key: Key, value: V) -> Result<Number, Memory>
     where
         V: Drop,
-        requires { number_of self.old key ≡ None }
+        requires { value_of self.old key ≡ None }
         ensures ok { OnOk result (self.new ≡ self.old ++ (key, value) ∷ []) }
         ensures number { IfOk result (λ n. n ≡ length self.old) }
         ensures err { OnErr result (self.new ≡ self.old) }
+        ensures distinct { AreDistinct self.new }
     {
         let place = self.entries.len();
         if place == MOST {
@@ -116,7 +139,8 @@ impl<V> Table<V> {
 
     /// Takes the last key out, if there is one.
     pub fn pop(&mut self) -> Option<(Key, V)>
-        ensures { self.old ≡ self.new ++ option_to_list result }
+        ensures rest { self.old ≡ self.new ++ option_to_list result }
+        ensures found { IsSome result ↔ (0 < length self.old) }
     {
         self.entries.pop()
     }
