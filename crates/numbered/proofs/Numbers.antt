@@ -1,13 +1,13 @@
 -- Keys and their numbers.
 use Rattle.std.proofs.Common.{◌≡◌, ◌≢◌, ◌↔◌, ℕ, zero, suc, ◌+◌, ◌<◌, ◌≤◌, Bool, true, false, cond, List, [], ◌∷◌, ◌++◌, length, get_or, Option, Some, None, refl, sym, ◌∙◌, ap, subst, arith, is_some, lt-ltb}
-use Rattle.std.specs.Prelude.{slice_get, position, sum_by}
+use Rattle.std.specs.Prelude.{slice_get, position, sum_by, IsSome}
 use Rattle.std.specs.List.{position_or_len, IsDistinct, AllByRecursion}
-use Rattle.std.specs.Map.{keys_of, values_of}
+use Rattle.std.specs.Map.{keys_of, values_of, set_value}
 use Rattle.std.proofs.lemmas.List.Quantifiers.{position-Some}
 use Rattle.std.proofs.lemmas.List.Sums.{position_or_len_is, sum_by-cons}
 use Rattle.std.proofs.lemmas.Map.Keys.{apart_from_distinct, IsDistinct-tail, IsDistinct-head}
 use Rattle.std.proofs.lemmas.Option.{slice_get_within, get_or_from_slice_get, slice_get-get_or}
-use Rattle.indexmap.specs.IndexMap.{insert_entry, set_value_at}
+use Rattle.indexmap.specs.IndexMap.{IndexMap, WritesThrough, insert_entry, set_value_at}
 use Rattle.indexmap.proofs.MapLemmas.{some_index, Found-position}
 use Rattle.keys.specs.Keys.{key_eq}
 use Rattle.keys.specs.declared.key.Key.{Key}
@@ -189,3 +189,11 @@ module _ {V : Type 0} where
       below k first none none_too true t = let q : k ≡ e.0 = same_key k e.0 t in ap (value_of fs) q ∙ none_too ∙ sym none ∙ ap (value_of es) (sym q)
       below k first none none_too false t =
           sym (ap (λ b. cond b (Some f.1) (value_of fs k)) (ap (key_eq k) first ∙ t)) ∙ h k ∙ ap (λ b. cond b (Some e.1) (value_of es k)) t
+
+-- what is written through a loan of the value of a key
+pub through : {V S : Type 0} (m n : IndexMap Key V S) (es : List (Key × V)) → m.entries ≡ es → (k : Key) (w : V) → WritesThrough key_eq (key_eq k) m w n → (n.entries ≡ set_value (key_eq k) es w) × (IsSome (value_of es k) → Writes es n.entries k w)
+through m n es e k w h = (
+  h.0 ∙ ap (λ l. set_value (key_eq k) l w) e,
+  λ s. let u = h.3 (subst (λ l. IsSome (value_of l k)) (sym e) s) in
+      record { keys = h.1 ∙ ap (λ l. keys_of l) e; there = u.1; others = λ j d. u.2 j (other_key k j d) ∙ ap (λ l. value_of l j) e },
+)

@@ -1,12 +1,12 @@
 //! A table in which a key's number is its place.
 ghost use Rattle.std.specs.Prelude.{◌≡◌, ◌<◌, ◌++◌, [], ◌∷◌, None, Some, ◌^◌, ◌↔◌, length, IsSome, IfSome, is_some, IfOk, OnOk, OnErr};
 ghost use Rattle.std.specs.Borrow.{sem};
-ghost use Rattle.std.specs.Option.{option_copied, option_to_list};
+ghost use Rattle.std.specs.Option.{option_copied, option_copied_mut, option_to_list};
 ghost use Rattle.std.specs.Map.{values_of};
 ghost use Rattle.std.specs.Map.Iter.{ShowsInOrder, deref};
 ghost use Rattle.keys.specs.declared.key.Key.{Key};
 ghost use Rattle.numbered.specs.Tables.{AreDistinct, key_at, number_of, value_of, value_at};
-ghost use Rattle.numbered.specs.Lends.{lends_value};
+ghost use Rattle.numbered.specs.Lends.{lends_value, lends_found};
 
 use crate::number::Number;
 use indexmap::IndexMap;
@@ -116,6 +116,15 @@ impl<V> Table<V> {
         ensures value { value_at self.old number ≡ Some result.now }
     {
         &mut self.entries[number.place()]
+    }
+
+    /// Lends the value of a key, if the key is there. The keys and the other values stay.
+    pub fn get_mut(&mut self, key: &Key) -> Option<&mut V>
+        ensures* writes_back { sem 𝓛 (lends_found V.row self.entry key.now result) }
+        ensures value { option_copied_mut result ≡ value_of self.old key.now }
+        ensures distinct { AreDistinct self.old }
+    {
+        self.entries.get_mut(key)
     }
 
     /// Adds a key that is not there, which becomes the last. Returns its number, or `Memory` if an allocation fails or
