@@ -1,5 +1,7 @@
-pub mod Members
 pub mod Exported
 pub mod Rising
 pub mod Plain
+mod Placing
+mod Writing
+mod AsText
 mod Rows

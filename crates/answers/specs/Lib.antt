@@ -1,2 +1,4 @@
 pub mod Answers
+pub mod Tokens
+pub mod Order
 pub mod Laws

@@ -1,25 +1,30 @@
 //! Faults.
-ghost use Rattle.std.specs.Prelude.{◌≡◌, IfOk};
-ghost use Rattle.serde_json.specs.View.{view};
+ghost use Rattle.std.specs.Prelude.{◌≡◌, ◌++◌, OnOk};
 ghost use Rattle.answers.specs.Answers.{fault_data, cycle_data};
+ghost use Rattle.answers.specs.Tokens.{tokens_of};
 
-use crate::strings::text_values;
-use serde_json::{Value, json};
-use std::alloc::Global;
+use crate::draft::Draft;
+use crate::strings::write_texts;
 use texts::{Memory, Text};
 
-/// A fault: its code, and the path and the line at which it is shown.
-pub fn fault(alloc: Global, code: u8, path: &Text, line: usize) -> Result<Value, Memory>
-    ensures { IfOk result (λ value. view value ≡ fault_data code path.now line) }
+/// Writes a fault: its code, and the path and the line at which it is shown.
+pub fn write_fault(out: &mut Draft, code: u8, path: &Text, line: usize) -> Result<(), Memory>
+    ensures { OnOk result (out.new ≡ out.old ++ tokens_of (fault_data code path.now line)) }
 {
-    let path = path.as_str();
-    Ok(json!(in alloc; {"code": code, "line": line, "path": path})?)
+    out.begin_object()?;
+    out.number_member("code", u64::from(code))?;
+    out.number_member("line", line as u64)?;
+    out.string_member("path", path.as_str())?;
+    out.end_object()
 }
 
-/// The fault of loads that go round: the labels of the modules on the way round, in their order.
-pub fn cycle(alloc: Global, labels: &[Text]) -> Result<Value, Memory>
-    ensures { IfOk result (λ value. view value ≡ cycle_data labels.now) }
+/// Writes the fault of loads that go round: the labels of the modules on the way round, in their order.
+pub fn write_cycle(out: &mut Draft, labels: &[Text]) -> Result<(), Memory>
+    ensures { OnOk result (out.new ≡ out.old ++ tokens_of (cycle_data labels.now)) }
 {
-    let labels = text_values(alloc, labels)?;
-    Ok(json!(in alloc; {"code": 19u8, "cycle": labels})?)
+    out.begin_object()?;
+    out.number_member("code", 19)?;
+    out.key("cycle")?;
+    write_texts(out, labels)?;
+    out.end_object()
 }

@@ -3,14 +3,18 @@
 
 ghost use Rattle.answers.specs.Laws.{AnswersArePlain, AttributesRise, ExportsRise, TextsStay};
 
+mod draft;
 mod fault_json;
 mod module_json;
+mod order;
 mod package_json;
 mod strings;
 
-pub use fault_json::{cycle, fault};
-pub use module_json::{exports, faulty_module};
-pub use package_json::{faulty_package, loaded_package, packages};
+pub use draft::Draft;
+pub use module_json::{write_cyclic_module, write_exports, write_faulty_module};
+pub use package_json::{
+    begin_packages, end_packages, write_cyclic_package, write_faulty_package, write_package,
+};
 
 /// The law that the attributes of a target are shown in byte order of their names, whatever their order, and one of each
 /// name.

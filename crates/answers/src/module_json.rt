@@ -1,13 +1,15 @@
 //! Modules.
-ghost use Rattle.std.specs.Prelude.{◌≡◌, IfOk, map};
+ghost use Rattle.std.specs.Prelude.{◌≡◌, ◌++◌, OnOk, IfOk, map};
 ghost use Rattle.serde_json.specs.Data.{string};
-ghost use Rattle.serde_json.specs.View.{view};
 ghost use Rattle.language.specs.Modules as modules;
 ghost use Rattle.language.specs.Sorting.{in_order};
 ghost use Rattle.answers.specs.Answers as answers;
+ghost use Rattle.answers.specs.Answers.{fault_data, cycle_data};
+ghost use Rattle.answers.specs.Tokens.{tokens_of};
 
+use crate::draft::Draft;
+use crate::fault_json::{write_cycle, write_fault};
 use module_values::{Binding, Module};
-use serde_json::{Value, json};
 use std::alloc::Global;
 use std::collections::BTreeSet;
 use texts::{Memory, Text};
@@ -38,30 +40,50 @@ fn public_names(alloc: Global, bindings: &[Binding]) -> Result<BTreeSet<Text>, M
     Ok(set)
 }
 
-// Names in byte order.
-fn name_values(alloc: Global, names: BTreeSet<Text>) -> Result<Value, Memory>
-    ensures { IfOk result (λ value. view value ≡ answers.list (map string names.keys)) }
+// Writes names, in byte order.
+fn write_names(out: &mut Draft, names: BTreeSet<Text>) -> Result<(), Memory>
+    ensures { OnOk result (out.new ≡ out.old ++ tokens_of (answers.list (map string names.keys))) }
 {
-    let mut all = Vec::new(alloc);
+    out.begin_array()?;
     for name in names {
-        all.push(Value::try_from_str(alloc, name.as_str())?)?;
+        out.string(name.as_str())?;
     }
-    Ok(Value::from(all))
+    out.end_array()
 }
 
-/// A module without a fault: the names of its own globals that do not begin with `_`, in byte order. The names that its
-/// loads bound are not exported.
-pub fn exports(alloc: Global, body: &Module) -> Result<Value, Memory>
-    ensures { IfOk result (λ value. view value ≡ answers.module_data body.now) }
+/// Writes a module without a fault: the names of its own globals that do not begin with `_`, in byte order. The names
+/// that its loads bound are not exported.
+pub fn write_exports(alloc: Global, out: &mut Draft, body: &Module) -> Result<(), Memory>
+    ensures { OnOk result (out.new ≡ out.old ++ tokens_of (answers.module_data body.now)) }
 {
     let names = public_names(alloc, body.own())?;
-    let exports = name_values(alloc, names)?;
-    Ok(json!(in alloc; {"exports": exports})?)
+    out.begin_object()?;
+    out.key("exports")?;
+    write_names(out, names)?;
+    out.end_object()
 }
 
-/// A module with a fault.
-pub fn faulty_module(alloc: Global, fault: Value) -> Result<Value, Memory>
-    ensures { IfOk result (λ value. view value ≡ answers.faulty_module (view fault)) }
+/// Writes a module with a fault: its code, and the path and the line at which it is shown.
+pub fn write_faulty_module(
+    out: &mut Draft,
+    code: u8,
+    path: &Text,
+    line: usize,
+) -> Result<(), Memory>
+    ensures { OnOk result (out.new ≡ out.old ++ tokens_of (answers.faulty_module (fault_data code path.now line))) }
 {
-    Ok(json!(in alloc; {"fault": fault})?)
+    out.begin_object()?;
+    out.key("fault")?;
+    write_fault(out, code, path, line)?;
+    out.end_object()
+}
+
+/// Writes a module whose loads lead to a way round: the labels of the modules on it.
+pub fn write_cyclic_module(out: &mut Draft, labels: &[Text]) -> Result<(), Memory>
+    ensures { OnOk result (out.new ≡ out.old ++ tokens_of (answers.faulty_module (cycle_data labels.now))) }
+{
+    out.begin_object()?;
+    out.key("fault")?;
+    write_cycle(out, labels)?;
+    out.end_object()
 }

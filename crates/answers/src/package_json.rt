@@ -1,77 +1,127 @@
 //! Packages and their targets.
-ghost use Rattle.std.specs.Prelude.{◌≡◌, IfOk, map};
-ghost use Rattle.serde_json.specs.View.{view};
+ghost use Rattle.std.specs.Prelude.{◌≡◌, ◌++◌, ◌∷◌, [], OnOk, codes, map};
+ghost use Rattle.json.specs.Token.{begin_object, end_object, begin_array, end_array, key};
 ghost use Rattle.answers.specs.Answers as answers;
+ghost use Rattle.answers.specs.Answers.{fault_data, cycle_data};
+ghost use Rattle.answers.specs.Tokens.{tokens_of};
 
-use crate::strings::{string_value, string_values};
+use crate::draft::Draft;
+use crate::fault_json::{write_cycle, write_fault};
+use crate::order::rows_of;
+use crate::strings::{write_string, write_strings};
 use meaning::Bytes;
 use module_values::{Attribute, Held, Target, Targets};
-use serde_json::{Map, Value, json};
 use std::alloc::Global;
-use texts::Memory;
+use texts::{Memory, Text};
 
-// What an attribute holds.
-fn attribute_value(alloc: Global, attribute: &Attribute) -> Result<Value, Memory>
-    ensures { IfOk result (λ value. view value ≡ answers.attribute_data attribute.now) }
+// Writes what an attribute holds.
+fn write_attribute(alloc: Global, out: &mut Draft, attribute: &Attribute) -> Result<(), Memory>
+    ensures { OnOk result (out.new ≡ out.old ++ tokens_of (answers.attribute_data attribute.now)) }
 {
     match attribute.held() {
-        Held::Single(text) => string_value(alloc, text),
-        Held::Several(texts) => string_values(alloc, texts.as_slice()),
+        Held::Single(text) => write_string(alloc, out, text),
+        Held::Several(texts) => write_strings(alloc, out, texts.as_slice()),
     }
 }
 
-// Attributes under their names.
-fn attributes_value(alloc: Global, attributes: &[(Bytes, Attribute)]) -> Result<Value, Memory>
-    ensures { IfOk result (λ value. view value ≡ answers.attributes_data attributes.now) }
+// Writes attributes under their names.
+fn write_attributes(
+    alloc: Global,
+    out: &mut Draft,
+    attributes: &[(Bytes, Attribute)],
+) -> Result<(), Memory>
+    ensures { OnOk result (out.new ≡ out.old ++ tokens_of (answers.attributes_data attributes.now)) }
 {
-    let mut members = Map::new(alloc);
-    for attribute in attributes {
-        let name = String::from_utf8_lossy(alloc, attribute.0.as_slice())?;
-        let value = attribute_value(alloc, &attribute.1)?;
-        members.insert(name, value)?;
+    let rows = rows_of(alloc, attributes)?;
+    out.begin_object()?;
+    for row in rows.as_slice() {
+        out.key(row.name.as_str())?;
+        write_attribute(alloc, out, row.attribute)?;
     }
-    Ok(Value::from(members))
+    out.end_object()
 }
 
-// A target: its rule, its name and the attributes that it was given.
-fn target(alloc: Global, target: &Target) -> Result<Value, Memory>
-    ensures { IfOk result (λ value. view value ≡ answers.target_data target.now) }
+// Writes a target: its rule, its name and the attributes that it was given.
+fn write_target(alloc: Global, out: &mut Draft, target: &Target) -> Result<(), Memory>
+    ensures { OnOk result (out.new ≡ out.old ++ tokens_of (answers.target_data target.now)) }
 {
-    let attributes = attributes_value(alloc, target.attributes())?;
-    let kind = target.kind().as_str();
-    let name = string_value(alloc, target.name())?;
-    Ok(json!(in alloc; {"attrs": attributes, "kind": kind, "name": name})?)
+    out.begin_object()?;
+    out.key("attrs")?;
+    write_attributes(alloc, out, target.attributes())?;
+    out.string_member("kind", target.kind().as_str())?;
+    out.key("name")?;
+    write_string(alloc, out, target.name())?;
+    out.end_object()
 }
 
-// Targets, in their order.
-fn target_values(alloc: Global, targets: &[Target]) -> Result<Value, Memory>
-    ensures { IfOk result (λ value. view value ≡ answers.list (map answers.target_data targets.now)) }
+// Writes targets, in their order.
+fn write_targets(alloc: Global, out: &mut Draft, targets: &Targets) -> Result<(), Memory>
+    ensures { OnOk result (out.new ≡ out.old ++ tokens_of (answers.list (map answers.target_data targets.now))) }
 {
-    let mut all = Vec::new(alloc);
-    for made in targets {
-        all.push(target(alloc, made)?)?;
+    out.begin_array()?;
+    for target in targets.as_slice() {
+        write_target(alloc, out, target)?;
     }
-    Ok(Value::from(all))
+    out.end_array()
 }
 
-/// A package without a fault: its name and its targets, in their order.
-pub fn loaded_package(alloc: Global, name: &str, targets: &Targets) -> Result<Value, Memory>
-    ensures { IfOk result (λ value. view value ≡ answers.package_data name.now targets.now) }
+/// Writes a package without a fault: its name and its targets, in their order.
+pub fn write_package(
+    alloc: Global,
+    out: &mut Draft,
+    name: &str,
+    targets: &Targets,
+) -> Result<(), Memory>
+    ensures { OnOk result (out.new ≡ out.old ++ tokens_of (answers.package_data name.now targets.now)) }
 {
-    let targets = target_values(alloc, targets.as_slice())?;
-    Ok(json!(in alloc; {"name": name, "targets": targets})?)
+    out.begin_object()?;
+    out.string_member("name", name)?;
+    out.key("targets")?;
+    write_targets(alloc, out, targets)?;
+    out.end_object()
 }
 
-/// A package with a fault.
-pub fn faulty_package(alloc: Global, name: &str, fault: Value) -> Result<Value, Memory>
-    ensures { IfOk result (λ value. view value ≡ answers.faulty_package name.now (view fault)) }
+/// Writes a package with a fault: its code, and the path and the line at which it is shown.
+pub fn write_faulty_package(
+    out: &mut Draft,
+    name: &str,
+    code: u8,
+    path: &Text,
+    line: usize,
+) -> Result<(), Memory>
+    ensures { OnOk result (out.new ≡ out.old ++ tokens_of (answers.faulty_package name.now (fault_data code path.now line))) }
 {
-    Ok(json!(in alloc; {"fault": fault, "name": name})?)
+    out.begin_object()?;
+    out.key("fault")?;
+    write_fault(out, code, path, line)?;
+    out.string_member("name", name)?;
+    out.end_object()
 }
 
-/// Packages, in their order.
-pub fn packages(alloc: Global, items: Vec<Value>) -> Result<Value, Memory>
-    ensures { IfOk result (λ value. view value ≡ answers.packages_data (map view items.items)) }
+/// Writes a package whose loads lead to a way round: the labels of the modules on it.
+pub fn write_cyclic_package(out: &mut Draft, name: &str, labels: &[Text]) -> Result<(), Memory>
+    ensures { OnOk result (out.new ≡ out.old ++ tokens_of (answers.faulty_package name.now (cycle_data labels.now))) }
 {
-    Ok(json!(in alloc; {"packages": items})?)
+    out.begin_object()?;
+    out.key("fault")?;
+    write_cycle(out, labels)?;
+    out.string_member("name", name)?;
+    out.end_object()
+}
+
+/// Begins an answer that tells packages.
+pub fn begin_packages(out: &mut Draft) -> Result<(), Memory>
+    ensures { OnOk result (out.new ≡ out.old ++ begin_object ∷ key (codes "packages") ∷ begin_array ∷ []) }
+{
+    out.begin_object()?;
+    out.key("packages")?;
+    out.begin_array()
+}
+
+/// Ends an answer that tells packages, each of which was written since its beginning.
+pub fn end_packages(out: &mut Draft) -> Result<(), Memory>
+    ensures { OnOk result (out.new ≡ out.old ++ end_array ∷ end_object ∷ []) }
+{
+    out.end_array()?;
+    out.end_object()
 }

@@ -1,40 +1,45 @@
 //! Strings.
-ghost use Rattle.std.specs.Prelude.{◌≡◌, IfOk, map};
+ghost use Rattle.std.specs.Prelude.{◌≡◌, ◌++◌, OnOk, map};
 ghost use Rattle.serde_json.specs.Data.{string};
-ghost use Rattle.serde_json.specs.View.{view};
 ghost use Rattle.answers.specs.Answers.{list, string_data};
+ghost use Rattle.answers.specs.Tokens.{tokens_of};
 
+use crate::draft::Draft;
 use meaning::Bytes;
-use serde_json::Value;
 use std::alloc::Global;
 use texts::{Memory, Text};
 
-/// A string that an evaluation made.
-pub fn string_value(alloc: Global, bytes: &Bytes) -> Result<Value, Memory>
-    ensures { IfOk result (λ value. view value ≡ string_data bytes.now) }
+/// Writes a string that an evaluation made. What is text is not copied.
+pub fn write_string(alloc: Global, out: &mut Draft, bytes: &Bytes) -> Result<(), Memory>
+    ensures { OnOk result (out.new ≡ out.old ++ tokens_of (string_data bytes.now)) }
 {
-    let text = String::from_utf8_lossy(alloc, bytes.as_slice())?;
-    Ok(Value::from(text))
+    match str::from_utf8(bytes.as_slice()) {
+        Ok(text) => out.string(text),
+        Err(_) => {
+            let text = String::from_utf8_lossy(alloc, bytes.as_slice())?;
+            out.string(text.as_str())
+        }
+    }
 }
 
-/// The strings of a list, in their order.
-pub fn string_values(alloc: Global, strings: &[Bytes]) -> Result<Value, Memory>
-    ensures { IfOk result (λ value. view value ≡ list (map string_data strings.now)) }
+/// Writes the strings of a list, in their order.
+pub fn write_strings(alloc: Global, out: &mut Draft, strings: &[Bytes]) -> Result<(), Memory>
+    ensures { OnOk result (out.new ≡ out.old ++ tokens_of (list (map string_data strings.now))) }
 {
-    let mut all = Vec::new(alloc);
+    out.begin_array()?;
     for bytes in strings {
-        all.push(string_value(alloc, bytes)?)?;
+        write_string(alloc, out, bytes)?;
     }
-    Ok(Value::from(all))
+    out.end_array()
 }
 
-/// Texts, in their order.
-pub fn text_values(alloc: Global, texts: &[Text]) -> Result<Value, Memory>
-    ensures { IfOk result (λ value. view value ≡ list (map string texts.now)) }
+/// Writes texts, in their order.
+pub fn write_texts(out: &mut Draft, texts: &[Text]) -> Result<(), Memory>
+    ensures { OnOk result (out.new ≡ out.old ++ tokens_of (list (map string texts.now))) }
 {
-    let mut all = Vec::new(alloc);
+    out.begin_array()?;
     for text in texts {
-        all.push(Value::try_from_str(alloc, text.as_str())?)?;
+        out.string(text.as_str())?;
     }
-    Ok(Value::from(all))
+    out.end_array()
 }

@@ -30,7 +30,6 @@ use Rattle.filetree.proofs.Lawful.{edits_keep_paths}
 use Rattle.labels.specs.Paths.{is_package_name}
 use Rattle.labels.specs.Labels.{Target, label_of, would_name, label_text, is_target, is_module}
 use Rattle.answers.specs.Answers.{packages_data, fault_data, cycle_data}
-use Rattle.answers.proofs.Plain.{answers_are_plain as plain}
 use Rattle.packages.proofs.Held.{packages_hold, modules_hold}
 use Rattle.std.proofs.lemmas.Bool.{and_parts}
 use Rattle.std.specs.List.{list_all, starts_with, AllByRecursion}
@@ -164,61 +163,29 @@ label_names text present u e = go (is_target (would_name text present)) refl
     go false h = let wrong : None ≡ Some u = ap (λ b. cond b (Some (would_name text present)) None) (sym h) ∙ e in absurd cc
 
 -- the answer to a question about a module, from what is held of it
-pub module_answered : (files : Files) (label : List ℕ) (roots : List Key) (graph : Recorded) (d : Data) → HasPaths files → request_refusal (module_of label) ≡ None → roots ≡ module_roots (module_label label)
-    → ((k : Key) → roots ≡ k ∷ [] → d ≡ module_told (present (record_at graph k))) → AreHeld files roots graph → IsValueOf (module_of label) files d
-module_answered files label roots graph d good accepted only is held = go (module_label label) refl accepted only
+pub module_answered : (files : Files) (label : List ℕ) (roots : List Key) (graph : Recorded) (text : List ℕ) → HasPaths files → request_refusal (module_of label) ≡ None → roots ≡ module_roots (module_label label)
+    → ((k : Key) → roots ≡ k ∷ [] → text ≡ compact_text (module_told (present (record_at graph k)))) → AreHeld files roots graph → Tells (IsValueOf (module_of label) files) text
+module_answered files label roots graph text good accepted only is held = go (module_label label) refl accepted only
   where
-    go : (o : Option Target) → module_label label ≡ o → refusal_without o ≡ None → roots ≡ module_roots o → IsModuleShown files o d
+    go : (o : Option Target) → module_label label ≡ o → refusal_without o ≡ None → roots ≡ module_roots o → Tells (IsModuleShown files o) text
     go None e wrong only = absurd cc
     go (Some t) e fine only =
         let named = label_named label t e in
-        let there = held (key.Module (label_text t)) (subst (In (key.Module (label_text t))) (sym only) first) in
-        (there.0, modules_hold files t there.0 good (label_names label [] t named.0) named.1 there.1, is (key.Module (label_text t)) only ∙ ap module_told there.2)
+        let there = held (key.Module (label_text t)) (subst (In (key.Module (label_text t))) (sym only) first) in (
+          module_told (present (record_at graph (key.Module (label_text t)))),
+          (there.0, modules_hold files t there.0 good (label_names label [] t named.0) named.1 there.1, ap module_told there.2),
+          is (key.Module (label_text t)) only,
+        )
 
-package_plain : (name : List ℕ) (v : Value) → has_float (package_shown name v) ≡ false
-package_plain name (value.File text) = refl
-package_plain name (value.Listing names) = refl
-package_plain name (value.Lookup build) = refl
-package_plain name (value.Glob paths) = refl
-package_plain name (value.Module m) = refl
-package_plain name (value.Package targets) = plain.loaded_package name targets
-package_plain name (value.Fault f) = plain.faulty_package name (fault_data f.code f.path f.line) (plain.fault f.code f.path f.line)
-package_plain name (value.Cycle labels) = plain.faulty_package name (cycle_data labels) (plain.cycle labels)
-
-module_plain : (v : Value) → has_float (module_shown v) ≡ false
-module_plain (value.File text) = refl
-module_plain (value.Listing names) = refl
-module_plain (value.Lookup build) = refl
-module_plain (value.Glob paths) = refl
-module_plain (value.Module m) = plain.exports m.body
-module_plain (value.Package targets) = refl
-module_plain (value.Fault f) = plain.faulty_module (fault_data f.code f.path f.line) (plain.fault f.code f.path f.line)
-module_plain (value.Cycle labels) = plain.faulty_module (cycle_data labels) (plain.cycle labels)
-
-packages_plain : (files : Files) (names : List (List ℕ)) (ds : List Data) → ArePackagesShown files names ds → AllByRecursion (λ d. has_float d ≡ false) ds
-packages_plain files [] [] are = tt
-packages_plain files [] (d ∷ ds) are = absurd are
-packages_plain files (name ∷ names) [] are = absurd are
-packages_plain files (name ∷ names) (d ∷ ds) are = (ap has_float are.0.2 ∙ package_plain name are.0.0, packages_plain files names ds are.1)
-
-shown_plain : (files : Files) (o : Option Target) (d : Data) → IsModuleShown files o d → has_float d ≡ false
-shown_plain files None d is = absurd is
-shown_plain files (Some t) d is = ap has_float is.2 ∙ module_plain is.0
-
-build_plain : (found : Option BuildName) → has_float (one_member (codes "build") (build_text found)) ≡ false
+-- the text that tells a build file has no floats
+pub build_plain : (found : Option BuildName) → has_float (one_member (codes "build") (build_text found)) ≡ false
 build_plain None = refl
 build_plain (Some BuildBazel) = refl
 build_plain (Some Build) = refl
 
--- answers have no floats
-request_plain : (request : Request) (files : Files) (d : Data) → IsValueOf request files d → has_float d ≡ false
-request_plain (find name) files d is = ap has_float is ∙ build_plain (build_of files name)
-request_plain (load names) files d is = ap has_float is.2 ∙ plain.packages is.0 (packages_plain files names is.0 is.1)
-request_plain (module_of label) files d is = shown_plain files (module_label label) d is
-
 -- the text of an answer to a request that is not refused
-pub text_told : (request : Request) (files : Files) (d : Data) (text : List ℕ) → request_refusal request ≡ None → IsValueOf request files d → (has_float d ≡ false → text ≡ compact_text d) → Tells (IsRequestAnswer request files) text
-text_told request files d text accepted is written = (d, subst (λ (n : Option ℕ). IsUnlessRefused n (IsValueOf request files) d) (sym accepted) is, written (request_plain request files d is))
+pub text_told : (request : Request) (files : Files) (text : List ℕ) → request_refusal request ≡ None → Tells (IsValueOf request files) text → Tells (IsRequestAnswer request files) text
+text_told request files text accepted told = (told.0, subst (λ (n : Option ℕ). IsUnlessRefused n (IsValueOf request files) told.0) (sym accepted) told.1, told.2)
 
 -- the files of an edit that is not refused have paths alone
 pub kept_paths : (edit : Edit) (files : Files) → HasPaths files → files_refusal edit files ≡ None → HasPaths (changed_files edit files)

@@ -3,7 +3,8 @@ ghost use Rattle.std.specs.Prelude.{◌≡◌, ◌<◌, ◌⊎◌, List};
 ghost use Rattle.open_nodes.specs.declared.run.Run.{Run};
 ghost use Rattle.loader.specs.Served.{Served, Stopped};
 
-use crate::serve::serve_here;
+use crate::runs::Unkept;
+use crate::serve::{ServeStop, serve_here, serve_into};
 use clap::error::ErrorKind;
 use clap::{Arg, ArgAction, ArgMatches, Command, Error, value_parser};
 use leaves::is_leaf;
@@ -61,10 +62,17 @@ fn tell_runs<E: Write>(alloc: Global, errors: &mut E, journal: &[Run]) -> Result
     Ok(())
 }
 
-// Serves, and answers the exit status.
-fn serve_words<R: Input, W: Output, E: Write>(
+// Tells why serving stopped. A fault of `errors` is passed over.
+fn tell_stop<E: Write>(errors: &mut E, stop: &ServeStop) -> u8
+    ensures { result ≡ 3 }
+{
+    let _ = writeln!(errors, "stop: {stop}");
+    3
+}
+
+// Serves, tells the journal, and answers the exit status.
+fn serve_and_tell<R: Input, W: Output, E: Write>(
     alloc: Global,
-    runs: bool,
     reader: &mut R,
     writer: &mut W,
     errors: &mut E,
@@ -76,16 +84,31 @@ fn serve_words<R: Input, W: Output, E: Write>(
 {
     match serve_here(alloc, reader, writer, BUDGET) {
         Ok(journal) => {
-            if runs && tell_runs(alloc, errors, journal.as_slice()).is_err() {
-                let _ = writeln!(errors, "stop: memory");
-                return 3;
+            if tell_runs(alloc, errors, journal.as_slice()).is_err() {
+                return tell_stop(errors, &ServeStop::Memory);
             }
             0
         }
-        Err(stop) => {
-            let _ = writeln!(errors, "stop: {stop}");
-            3
-        }
+        Err(stop) => tell_stop(errors, &stop),
+    }
+}
+
+// Serves, and answers the exit status. The runs are not kept.
+fn serve_alone<R: Input, W: Output, E: Write>(
+    alloc: Global,
+    reader: &mut R,
+    writer: &mut W,
+    errors: &mut E,
+) -> u8
+    ensures served { result ≡ 0 → (journal : List Run) × Served BUDGET (R.told reader.old) (R.told reader.new) (W.held writer.old) (W.held writer.new) journal }
+    ensures ended { result ≡ 0 → R.ends reader.old < R.ends reader.new }
+    ensures stopped { result ≡ 3 → Stopped (R.ends reader.old) (R.ends reader.new) (R.told reader.old) (R.told reader.new) (W.held writer.old) (W.held writer.new) }
+    ensures status { (result ≡ 0) ⊎ (result ≡ 3) }
+{
+    let mut runs = Unkept::new();
+    match serve_into(alloc, reader, writer, BUDGET, &mut runs) {
+        Ok(()) => 0,
+        Err(stop) => tell_stop(errors, &stop),
     }
 }
 
@@ -108,7 +131,12 @@ pub fn command<S: AsStr, R: Input, W: Output, E: Write>(
     ensures status { (result ≡ 0) ⊎ (result ≡ 2) ⊎ (result ≡ 3) }
 {
     match read_words(alloc, words) {
-        Ok(matches) => serve_words(alloc, wants_runs(&matches), reader, writer, errors),
+        Ok(matches) => {
+            if wants_runs(&matches) {
+                return serve_and_tell(alloc, reader, writer, errors);
+            }
+            serve_alone(alloc, reader, writer, errors)
+        }
         Err(error) => {
             if error.kind() == ErrorKind::OutOfMemory {
                 let _ = writeln!(errors, "stop: memory");

@@ -1,12 +1,13 @@
 //! Serving: lines of a reader in, their answers out to a writer.
-ghost use Rattle.std.specs.Prelude.{◌≡◌, ℕ, ◌<◌, ◌≤◌, ◌+◌, List, length, IfOk, OnOk, OnErr, IsErrOf, not, ◌&&◌, ◌==◌, false, if◌then◌else◌};
+ghost use Rattle.std.specs.Prelude.{◌≡◌, [], ℕ, ◌<◌, ◌≤◌, ◌+◌, List, length, IfOk, OnOk, OnErr, IsErrOf, not, ◌&&◌, ◌==◌, false, if◌then◌else◌};
 ghost use Rattle.lines.specs.Lines.{Keeps};
 ghost use Rattle.loader.specs.Served.{Served, Stopped, Between, After};
 
 use crate::replies::answer;
+use crate::runs::{Journal, Runs};
 use crate::session::Session;
 use lines::{Failed, Input, Line, Output, Pending, ReadStop, next_line};
-use round::{Run, Stop};
+use round::Stop;
 use std::alloc::{AllocError, Global};
 use thiserror::Error;
 
@@ -79,9 +80,6 @@ impl From<Failed> for ServeStop {
     }
 }
 
-/// The run lists of all requests, in their order.
-pub type Journal = Vec<Run>;
-
 // Whether the input ended with no byte of a line.
 fn is_end(ended: bool, line: &Line) -> bool
     ensures { (whole : List ℕ) → Keeps line.now.bytes.items line.now.too_long whole
@@ -91,23 +89,23 @@ fn is_end(ended: bool, line: &Line) -> bool
 }
 
 // Answers one more line. Tells whether more may come.
-fn serve_line<R: Input, W: Output>(
+fn serve_line<R: Input, W: Output, J: Runs>(
     alloc: Global,
     reader: &mut R,
     writer: &mut W,
     session: &mut Session,
-    journal: &mut Journal,
+    journal: &mut J,
     pending: &mut Pending,
     line: &mut Line,
     budget: u64,
 ) -> Result<bool, ServeStop>
     ensures ok { IfOk result (λ more. (told held : List ℕ) →
-        Between budget told (R.told reader.old) held (W.held writer.old) pending.old session.old journal.old.items
-        → After budget more told (R.told reader.new) held (W.held writer.new) pending.new session.new journal.new.items) }
+        Between budget told (R.told reader.old) held (W.held writer.old) pending.old session.old (J.kept journal.old)
+        → After budget more told (R.told reader.new) held (W.held writer.new) pending.new session.new (J.kept journal.new)) }
     ensures left { IfOk result (λ more. R.left reader.new + length pending.new + (if more then 1 else 0)
         ≤ R.left reader.old + length pending.old) }
     ensures err { OnErr result ((told held : List ℕ) →
-        Between budget told (R.told reader.old) held (W.held writer.old) pending.old session.old journal.old.items
+        Between budget told (R.told reader.old) held (W.held writer.old) pending.old session.old (J.kept journal.old)
         → Stopped (R.ends reader.old) (R.ends reader.new) told (R.told reader.new) held (W.held writer.new)) }
     ensures reader_counts { R.failures reader.old ≤ R.failures reader.new }
     ensures writer_counts { W.failures writer.old ≤ W.failures writer.new }
@@ -120,10 +118,46 @@ fn serve_line<R: Input, W: Output>(
     if is_end(ended, line) {
         return Ok(false);
     }
-    let mut reply = answer(alloc, session, line, budget)?;
-    journal.append(&mut reply.runs)?;
+    let reply = answer(alloc, session, line, budget)?;
+    journal.add(reply.runs)?;
     writer.write(reply.text.as_bytes())?;
     Ok(ended)
+}
+
+/// Answers all lines of the reader up to its first end, one at a time, beginning with no files. Each answer is written
+/// before more is read. A request has at most `budget` turns of node functions.
+///
+/// On Ok the reader has told its end, the bytes written are exactly the answers to the bytes read, and `journal`, which
+/// had no runs before, took those of the lines: each item is justified, none is missing, and no request has more turns
+/// than `budget`. After any stop what was written is a beginning of the answers.
+pub fn serve_into<R: Input, W: Output, J: Runs>(
+    alloc: Global,
+    reader: &mut R,
+    writer: &mut W,
+    budget: u64,
+    journal: &mut J,
+) -> Result<(), ServeStop>
+    requires { J.kept journal.old ≡ [] }
+    ensures ok { OnOk result (Served budget (R.told reader.old) (R.told reader.new) (W.held writer.old) (W.held writer.new) (J.kept journal.new)) }
+    ensures err { OnErr result (Stopped (R.ends reader.old) (R.ends reader.new) (R.told reader.old) (R.told reader.new) (W.held writer.old) (W.held writer.new)) }
+    ensures read { IsErrOf result ServeStop.Read → R.failures reader.old < R.failures reader.new }
+    ensures write { IsErrOf result ServeStop.Write → W.failures writer.old < W.failures writer.new }
+    ensures ended { OnOk result (R.ends reader.old < R.ends reader.new) }
+{
+    let mut session = Session::new(alloc);
+    let mut pending = Pending::new(alloc)?;
+    let mut line = Line::new(alloc);
+    while serve_line(
+        alloc,
+        reader,
+        writer,
+        &mut session,
+        journal,
+        &mut pending,
+        &mut line,
+        budget,
+    )? {}
+    Ok(())
 }
 
 /// Answers all lines of the reader up to its first end, one at a time, beginning with no files. Each answer is written
@@ -144,19 +178,7 @@ pub fn serve_here<R: Input, W: Output>(
     ensures write { IsErrOf result ServeStop.Write → W.failures writer.old < W.failures writer.new }
     ensures ended { OnOk result (R.ends reader.old < R.ends reader.new) }
 {
-    let mut session = Session::new(alloc);
-    let mut pending = Pending::new(alloc)?;
-    let mut line = Line::new(alloc);
     let mut journal = Vec::new(alloc);
-    while serve_line(
-        alloc,
-        reader,
-        writer,
-        &mut session,
-        &mut journal,
-        &mut pending,
-        &mut line,
-        budget,
-    )? {}
+    serve_into(alloc, reader, writer, budget, &mut journal)?;
     Ok(journal)
 }

@@ -18,7 +18,7 @@ use crate::accepted::Accepted;
 use crate::edit::EditError;
 use crate::reply::Reply;
 use crate::told::{roots_of, told};
-use crate::written::{refused, written};
+use crate::written::refused;
 use commands::{Edit, Request, refusal};
 use filetree::{Tree, TreeError};
 use functions::Loading;
@@ -155,11 +155,8 @@ impl Session {
         }
         let roots = roots_of(self.alloc, request)?;
         let runs = self.settle(roots.as_slice(), budget)?;
-        let answer = told(self.alloc, &self.graph, request, roots.as_slice())?;
-        Ok(Reply {
-            text: written(self.alloc, &answer)?,
-            runs,
-        })
+        let text = told(self.alloc, &self.graph, request, roots.as_slice())?;
+        Ok(Reply { text, runs })
     }
 
     // Evaluates keys over the graph, in at most `budget` turns, and answers what that ran. Each of them that has a value for

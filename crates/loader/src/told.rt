@@ -1,24 +1,25 @@
 //! What requests ask for, and what is told of it.
-ghost use Rattle.std.specs.Prelude.{◌≡◌, ◌∷◌, [], ℕ, List, map, Option, Some, None, IfOk, option_map};
+ghost use Rattle.std.specs.Prelude.{◌≡◌, ◌∷◌, ◌++◌, [], ℕ, List, map, Option, Some, None, IfOk, OnOk, option_map, string_bytes};
 ghost use Rattle.filetree.specs.Files.{Files};
 ghost use Rattle.keys.specs.declared.value.BuildName.{BuildName};
 ghost use Rattle.keys.specs.declared.key.Key.TheVariants as keys;
 ghost use Rattle.keys.specs.declared.value.Value.TheVariants as values;
 ghost use Rattle.node.specs.Graphs.{record_at, present};
-ghost use Rattle.serde_json.specs.View.{view};
+ghost use Rattle.serde_json.specs.Written.{compact_text};
 ghost use Rattle.std.specs.Arc.{arc_value};
 ghost use Rattle.filetree.specs.Lawful.{HasPaths};
 ghost use Rattle.keys.specs.declared.key.Key.{Key};
 ghost use Rattle.answers.specs.Answers.{packages_data};
+ghost use Rattle.answers.specs.Tokens.{tokens_of};
 ghost use Rattle.commands.specs.Seen.{request_seen, texts_seen};
 ghost use Rattle.commands.specs.Refusals.{request_refusal, module_label};
 ghost use Rattle.loader.specs.Answers as answers;
 ghost use Rattle.loader.specs.Effects.{AreHeld, request_roots, module_roots};
 ghost use Rattle.loader.specs.Told.{package_told, module_told};
 
-use crate::shown::{module_shown, package_shown};
-use crate::written::build_answer;
-use answers::packages;
+use crate::shown::{write_module_shown, write_package_shown};
+use crate::written::build_text;
+use answers::{Draft, begin_packages, end_packages};
 use commands::{Request, module_label};
 use keys::{BuildName, Key, Value};
 use node::Graph;
@@ -63,56 +64,93 @@ pub fn roots_of(alloc: Global, request: &Request<'_>) -> Result<Vec<Key>, Memory
     }
 }
 
-/// The answer to a request that is not refused, by the values that are held of its keys.
+/// The text of the answer to a request that is not refused, by the values that are held of its keys.
 pub fn told(
     alloc: Global,
     graph: &Graph,
     request: &Request<'_>,
     roots: &[Key],
-) -> Result<serde_json::Value, Memory>
-    ensures { IfOk result (λ answer. (files : Files) → HasPaths files → request_refusal (request_seen request.now) ≡ None → roots.now ≡ request_roots (request_seen request.now) → AreHeld files roots.now graph.now → answers.IsValueOf (request_seen request.now) files (view answer)) }
+) -> Result<String, Memory>
+    ensures { IfOk result (λ text. (files : Files) → HasPaths files → request_refusal (request_seen request.now) ≡ None → roots.now ≡ request_roots (request_seen request.now) → AreHeld files roots.now graph.now → answers.Tells (answers.IsValueOf (request_seen request.now) files) (string_bytes text)) }
 {
     match request {
-        Request::Find(_) => {
-            let answer = build_answer(alloc, found_by(graph, roots))?;
-            Ok(answer)
-        }
-        Request::Load(_) => packages_held(alloc, graph, roots),
-        Request::Module(_) => module_held(alloc, graph, roots),
+        Request::Find(_) => build_text(alloc, found_by(graph, roots)),
+        Request::Load(_) => packages_text(alloc, graph, roots),
+        Request::Module(_) => module_text(alloc, graph, roots),
     }
 }
 
 // The packages that are held of these keys.
-fn packages_held(alloc: Global, graph: &Graph, roots: &[Key]) -> Result<serde_json::Value, Memory>
-    ensures { IfOk result (λ answer. view answer ≡ packages_data (map (λ k. package_told k (present (record_at graph.now k))) roots.now)) }
+fn packages_text(alloc: Global, graph: &Graph, roots: &[Key]) -> Result<String, Memory>
+    ensures { IfOk result (λ text. string_bytes text ≡ compact_text (packages_data (map (λ k. package_told k (present (record_at graph.now k))) roots.now))) }
 {
-    let mut items = Vec::new(alloc);
-    for root in roots {
-        items.push(package_held(alloc, graph, root)?)?;
-    }
-    packages(alloc, items)
+    let mut out = Draft::new(alloc);
+    write_packages(alloc, &mut out, graph, roots)?;
+    out.into_text()
 }
 
-// The package that is held of a key.
-fn package_held(alloc: Global, graph: &Graph, key: &Key) -> Result<serde_json::Value, Memory>
-    ensures { IfOk result (λ answer. view answer ≡ package_told key.now (present (record_at graph.now key.now))) }
+// Writes the packages that are held of these keys.
+fn write_packages(
+    alloc: Global,
+    out: &mut Draft,
+    graph: &Graph,
+    roots: &[Key],
+) -> Result<(), Memory>
+    ensures { OnOk result (out.new ≡ out.old ++ tokens_of (packages_data (map (λ k. package_told k (present (record_at graph.now k))) roots.now))) }
+{
+    begin_packages(out)?;
+    for root in roots {
+        write_package_held(alloc, out, graph, root)?;
+    }
+    end_packages(out)
+}
+
+// Writes the package that is held of a key.
+fn write_package_held(
+    alloc: Global,
+    out: &mut Draft,
+    graph: &Graph,
+    key: &Key,
+) -> Result<(), Memory>
+    ensures { OnOk result (out.new ≡ out.old ++ tokens_of (package_told key.now (present (record_at graph.now key.now)))) }
 {
     match graph.get(key) {
-        Some(value) => package_shown(alloc, key.name(), value),
-        None => Ok(serde_json::Value::Null),
+        Some(value) => write_package_shown(alloc, out, key.name(), value),
+        None => out.null(),
     }
 }
 
 // The module that is held of the first of these keys.
-fn module_held(alloc: Global, graph: &Graph, roots: &[Key]) -> Result<serde_json::Value, Memory>
-    ensures { IfOk result (λ answer. (k : Key) → roots.now ≡ k ∷ [] → view answer ≡ module_told (present (record_at graph.now k))) }
+fn module_text(alloc: Global, graph: &Graph, roots: &[Key]) -> Result<String, Memory>
+    ensures { IfOk result (λ text. (k : Key) → roots.now ≡ k ∷ [] → string_bytes text ≡ compact_text (module_told (present (record_at graph.now k)))) }
+{
+    let mut out = Draft::new(alloc);
+    write_first_module(alloc, &mut out, graph, roots)?;
+    out.into_text()
+}
+
+// Writes the module that is held of the first of these keys.
+fn write_first_module(
+    alloc: Global,
+    out: &mut Draft,
+    graph: &Graph,
+    roots: &[Key],
+) -> Result<(), Memory>
+    ensures { OnOk result ((k : Key) → roots.now ≡ k ∷ [] → out.new ≡ out.old ++ tokens_of (module_told (present (record_at graph.now k)))) }
 {
     match roots.first() {
-        Some(root) => match graph.get(root) {
-            Some(value) => module_shown(alloc, value),
-            None => Ok(serde_json::Value::Null),
-        },
-        None => Ok(serde_json::Value::Null),
+        Some(root) => write_module_held(alloc, out, graph, root),
+        None => out.null(),
+    }
+}
+
+// Writes the module that is held of a key.
+fn write_module_held(alloc: Global, out: &mut Draft, graph: &Graph, key: &Key) -> Result<(), Memory>
+    ensures { OnOk result (out.new ≡ out.old ++ tokens_of (module_told (present (record_at graph.now key.now)))) }
+{
+    match graph.get(key) {
+        Some(value) => write_module_shown(alloc, out, value),
+        None => out.null(),
     }
 }
 

@@ -46,8 +46,8 @@ pub fn accepted(alloc: Global, version: u32) -> Result<String, Memory>
     written(alloc, &answer)
 }
 
-/// The answer that tells a package's build file.
-pub fn build_answer(alloc: Global, found: Option<BuildName>) -> Result<Value, Memory>
+// The answer that tells a package's build file.
+fn build_answer(alloc: Global, found: Option<BuildName>) -> Result<Value, Memory>
     ensures { IfOk result (λ value. view value ≡ answers.one_member (codes "build") (answers.build_text found)) }
 {
     match found {
@@ -55,4 +55,12 @@ pub fn build_answer(alloc: Global, found: Option<BuildName>) -> Result<Value, Me
         Some(BuildName::Build) => Ok(json!(in alloc; {"build": "BUILD"})?),
         None => Ok(json!(in alloc; {"build": null})?),
     }
+}
+
+/// The text of the answer that tells a package's build file.
+pub fn build_text(alloc: Global, found: Option<BuildName>) -> Result<String, Memory>
+    ensures { IfOk result (λ text. string_bytes text ≡ compact_text (answers.one_member (codes "build") (answers.build_text found))) }
+{
+    let answer = build_answer(alloc, found)?;
+    written(alloc, &answer)
 }

@@ -7,25 +7,25 @@ use Rattle.loader.proofs.serve.serve_line.Goals as goal
 
 pub returns-in_err-ended-clause-err : goal.returns-in_err-ended-clause-err
 returns-in_err-ended-clause-err g c =
-    let k : (told held : List ℕ) → Between c.args.budget told (g.R.Input.told c.args.reader.now) held (g.W.Output.held c.args.writer.now) c.args.pending.now c.args.session.now c.args.journal.now.items
+    let k : (told held : List ℕ) → Between c.args.budget told (g.R.Input.told c.args.reader.now) held (g.W.Output.held c.args.writer.now) c.args.pending.now c.args.session.now (g.J.Runs.kept c.args.journal.now)
     → Stopped (g.R.Input.ends c.args.reader.now) (g.R.Input.ends c.next_line.new.input) told (g.R.Input.told c.next_line.new.input) held (g.W.Output.held c.args.writer.now) = λ told held b. let f = c.in_err-ended.ensures.err in stopped_before b _ _ _ f.0 f.1 in
     on_err _ k
 
 pub returns-in_err-reply-clause-err : goal.returns-in_err-reply-clause-err
 returns-in_err-reply-clause-err g c =
-    let k : (told held : List ℕ) → Between c.args.budget told (g.R.Input.told c.args.reader.now) held (g.W.Output.held c.args.writer.now) c.args.pending.now c.args.session.now c.args.journal.now.items
+    let k : (told held : List ℕ) → Between c.args.budget told (g.R.Input.told c.args.reader.now) held (g.W.Output.held c.args.writer.now) c.args.pending.now c.args.session.now (g.J.Runs.kept c.args.journal.now)
     → Stopped (g.R.Input.ends c.args.reader.now) (g.R.Input.ends c.next_line.new.input) told (g.R.Input.told c.next_line.new.input) held (g.W.Output.held c.args.writer.now) = λ told held b. let t = c.in_ok-ended.ensures.took in stopped_before b _ _ _ t.fresh t.told in
     on_err _ k
 
-pub returns-in_err-append-clause-err : goal.returns-in_err-append-clause-err
-returns-in_err-append-clause-err g c =
-    let k : (told held : List ℕ) → Between c.args.budget told (g.R.Input.told c.args.reader.now) held (g.W.Output.held c.args.writer.now) c.args.pending.now c.args.session.now c.args.journal.now.items
+pub returns-in_err-add-clause-err : goal.returns-in_err-add-clause-err
+returns-in_err-add-clause-err g c =
+    let k : (told held : List ℕ) → Between c.args.budget told (g.R.Input.told c.args.reader.now) held (g.W.Output.held c.args.writer.now) c.args.pending.now c.args.session.now (g.J.Runs.kept c.args.journal.now)
     → Stopped (g.R.Input.ends c.args.reader.now) (g.R.Input.ends c.next_line.new.input) told (g.R.Input.told c.next_line.new.input) held (g.W.Output.held c.args.writer.now) = λ told held b. let t = c.in_ok-ended.ensures.took in stopped_before b _ _ _ t.fresh t.told in
     on_err _ k
 
 pub returns-in_err-write-clause-err : goal.returns-in_err-write-clause-err
 returns-in_err-write-clause-err g c =
-    let k : (told held : List ℕ) → Between c.args.budget told (g.R.Input.told c.args.reader.now) held (g.W.Output.held c.args.writer.now) c.args.pending.now c.args.session.now c.args.journal.now.items
+    let k : (told held : List ℕ) → Between c.args.budget told (g.R.Input.told c.args.reader.now) held (g.W.Output.held c.args.writer.now) c.args.pending.now c.args.session.now (g.J.Runs.kept c.args.journal.now)
     → Stopped (g.R.Input.ends c.args.reader.now) (g.R.Input.ends c.next_line.new.input) told (g.R.Input.told c.next_line.new.input) held (g.W.Output.held c.write.new.self) = λ told held b.
     let t = c.in_ok-ended.ensures.took in
     let no : (not c.in_ok-ended.ended && (length t.line == 0)) ≡ false = sym (c.is_end.ensures t.line t.keeps) ∙ c.if-is_end.false in
@@ -40,7 +40,7 @@ returns-clause-ok g c = λ told held b.
     let t = c.in_ok-ended.ensures.took in
     let no : (not c.in_ok-ended.ended && (length t.line == 0)) ≡ false = sym (c.is_end.ensures t.line t.keeps) ∙ c.if-is_end.false in
     let text = c.in_ok-reply.ensures.answer t.line t.keeps in
-    subst (λ (xs : List Run). After c.args.budget c.in_ok-ended.ended told (g.R.Input.told c.next_line.new.input) held (g.W.Output.held c.write.new.self) c.next_line.new.pending c.answer.new.session xs) (sym c.in_ok-append.ensures.items)
+    subst (λ (xs : List Run). After c.args.budget c.in_ok-ended.ended told (g.R.Input.told c.next_line.new.input) held (g.W.Output.held c.write.new.self) c.next_line.new.pending c.answer.new.session xs) (sym c.in_ok-add.ensures)
     (after_line b c.in_ok-ended.ended t no (g.W.Output.held c.write.new.self) c.answer.new.session c.in_ok-reply.reply.runs.items text.0.0 text.0.1
     (c.in_ok-write.ensures.held ∙ ap (λ r. g.W.Output.held c.args.writer.now ++ r) (c.as_bytes.ensures.value ∙ text.0.2)) text.1
     c.answer.ensures.lawful (c.in_ok-reply.ensures.moves t.line t.keeps) c.in_ok-reply.ensures.turns)

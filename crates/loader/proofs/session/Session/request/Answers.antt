@@ -1,7 +1,6 @@
-use Rattle.std.proofs.Common.{◌≡◌, ◌∙◌, ap, sym, subst, refl, ℕ, Option, None}
-use Rattle.serde_json.specs.View.{view}
+use Rattle.std.proofs.Common.{◌≡◌, ◌∙◌, ap, sym, subst, refl, ℕ, Option, None, string_bytes}
 use Rattle.commands.specs.Seen.{request_seen}
-use Rattle.loader.specs.Answers.{refused, IsValueOf, IsUnlessRefused}
+use Rattle.loader.specs.Answers.{refused, IsValueOf, IsUnlessRefused, Tells}
 use Rattle.filetree.specs.Files.{Files}
 use Rattle.filetree.specs.Lawful.{HasPaths}
 use Rattle.commands.specs.Refusals.{request_refusal}
@@ -19,8 +18,8 @@ returns-clause-text c =
     (c.as_slice.ensures.value ∙ sym c.as_slice-2.ensures.value) (sym (ap (λ (x : Held). x.graph) c.self-2.view_is)) c.in_ok-runs.ensures.held in
     let good : HasPaths files = subst (λ (f : Files). HasPaths f) (c.self.invariant.0 ∙ ap files_of c.self.view_is) c.self.invariant.2 in
     let accepted : request_refusal request ≡ None = sym c.in_ok-n.ensures ∙ c.in_default.is in
-    let told : IsValueOf request files (view c.in_ok-answer.answer) = c.in_ok-answer.ensures files good accepted (c.as_slice-2.ensures.value ∙ c.in_ok-roots.ensures) held in
-    text_told request files (view c.in_ok-answer.answer) _ accepted told c.in_ok-written.ensures
+    let told : Tells (IsValueOf request files) (string_bytes c.in_ok-text.text) = c.in_ok-text.ensures files good accepted (c.as_slice-2.ensures.value ∙ c.in_ok-roots.ensures) held in
+    text_told request files (string_bytes c.in_ok-text.text) accepted told
 
 pub returns-in-Some-clause-text : goal.returns-in-Some-clause-text
 returns-in-Some-clause-text c =

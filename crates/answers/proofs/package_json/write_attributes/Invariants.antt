@@ -1,0 +1,9 @@
+use Rattle.std.proofs.Common.{◌≡◌, ◌++◌, drop}
+use Rattle.serde_json.specs.Data.{no_members}
+use Rattle.answers.specs.Answers.{attributes_data}
+use Rattle.answers.specs.Order.{onto}
+use Rattle.answers.specs.Tokens.{tokens_of, members_rest}
+use Rattle.answers.proofs.package_json.write_attributes.Given as goal
+
+abbrev pub invariant-loop-row : goal.invariant-loop-row
+invariant-loop-row l = l.out ++ members_rest (onto (drop l.row-index l.row-items) no_members) ≡ l.fn.out ++ tokens_of (attributes_data l.attributes)

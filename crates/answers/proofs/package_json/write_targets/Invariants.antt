@@ -1,0 +1,7 @@
+use Rattle.std.proofs.Common.{◌≡◌, ◌++◌, drop, map}
+use Rattle.answers.specs.Answers.{list, target_data}
+use Rattle.answers.specs.Tokens.{tokens_of, rest_of}
+use Rattle.answers.proofs.package_json.write_targets.Given as goal
+
+abbrev pub invariant-loop-target : goal.invariant-loop-target
+invariant-loop-target l = l.out ++ rest_of (map target_data (drop l.target-index l.target-items)) ≡ l.fn.out ++ tokens_of (list (map target_data l.targets))

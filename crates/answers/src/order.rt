@@ -1,0 +1,75 @@
+//! Attributes in byte order of their names.
+ghost use Rattle.std.specs.Prelude.{◌≡◌, ◌≢◌, ◌≤◌, ◌<◌, OnOk, IfOk, length, take, drop};
+ghost use Rattle.std.specs.Cow.{cow_str_bytes};
+ghost use Rattle.std.specs.Str.Lossy.{utf8_lossy};
+ghost use Rattle.serde_json.specs.Data.{Data, put, no_members};
+ghost use Rattle.answers.specs.Answers.{attribute_data, put_attributes};
+ghost use Rattle.answers.specs.Order.{onto, Passes};
+
+use meaning::Bytes;
+use module_values::Attribute;
+use std::alloc::Global;
+use std::borrow::CowStr;
+use texts::Memory;
+
+/// An attribute under its name.
+#[derive(Drop)]
+pub struct Row<'a> {
+    /// The name, as text.
+    pub name: CowStr<'a, Global>,
+    /// The attribute.
+    pub attribute: &'a Attribute,
+}
+
+// Bytes as text. What is text is not copied.
+fn text_of<'a>(alloc: Global, bytes: &'a Bytes) -> Result<CowStr<'a, Global>, Memory>
+    ensures { IfOk result (λ text. cow_str_bytes text ≡ utf8_lossy bytes.now) }
+{
+    if let Ok(text) = str::from_utf8(bytes.as_slice()) {
+        return Ok(CowStr::Borrowed(text));
+    }
+    let text = String::from_utf8_lossy(alloc, bytes.as_slice())?;
+    Ok(CowStr::Owned(text))
+}
+
+// How many rows have names below this one, from the first on.
+fn place_of(rows: &[Row<'_>], name: &str) -> usize
+    ensures { Passes name.now rows.now result }
+{
+    let mut at = 0;
+    while at < rows.len() && name > rows[at].name.as_str() {
+        at += 1;
+    }
+    at
+}
+
+// Puts a row at its place among others. It replaces one of the same name.
+fn put_row<'a>(rows: &mut Vec<Row<'a>>, row: Row<'a>) -> Result<(), Memory>
+    ensures { OnOk result (onto rows.new.items no_members ≡ put (cow_str_bytes row.entry.name) (attribute_data row.entry.attribute.now) (onto rows.old.items no_members)) }
+{
+    let at = place_of(rows.as_slice(), row.name.as_str());
+    if at < rows.len() && row.name.as_str().cmp(rows[at].name.as_str()).is_eq() {
+        rows[at] = row;
+        return Ok(());
+    }
+    Ok(rows.insert(at, row)?)
+}
+
+/// Attributes in byte order of their names. Of several with one name the last stays.
+pub fn rows_of<'a>(
+    alloc: Global,
+    attributes: &'a [(Bytes, Attribute)],
+) -> Result<Vec<Row<'a>>, Memory>
+    ensures { IfOk result (λ rows. onto rows.items no_members ≡ put_attributes attributes.now no_members) }
+{
+    let mut rows = Vec::with_capacity(alloc, attributes.len())?;
+    for attribute in attributes {
+        let name = text_of(alloc, &attribute.0)?;
+        let row = Row {
+            name,
+            attribute: &attribute.1,
+        };
+        put_row(&mut rows, row)?;
+    }
+    Ok(rows)
+}
