@@ -1,5 +1,5 @@
 -- Members of groups, taken one by one.
-use Rattle.std.proofs.Common.{◌≡◌, ◌⊎◌, inl, inr, ℕ, ◌<◌, ◌≤◌, ◌+◌, zero, suc, Bool, true, false, List, [], ◌∷◌, ◌++◌, length, take, map, Option, Some, None, refl, sym, ◌∙◌, ap, subst, slice_index_or, add-one, drop, drop-cons, cond}
+use Rattle.std.proofs.Common.{◌≡◌, ◌⊎◌, inl, inr, ℕ, ◌<◌, ◌≤◌, ◌+◌, ◌-◌, zero, suc, Bool, true, false, List, [], ◌∷◌, ◌++◌, length, take, map, Option, Some, None, refl, sym, ◌∙◌, ap, subst, slice_index_or, add-one, drop, drop-cons, cond, arith}
 use Rattle.std.specs.Arc.{arc_value}
 use Rattle.std.specs.declared.sync.Arc.{Arc}
 use Rattle.std.specs.declared.alloc.Global.{Global}
@@ -17,7 +17,7 @@ use Rattle.keys.specs.declared.key.Key.{Key}
 use Rattle.keys.specs.declared.value.Value.{Value}
 use Rattle.keys.specs.declared.value.Value.TheVariants as value
 use Rattle.node.specs.Graphs.{present}
-use Rattle.node.proofs.Lists.{none_some, true_false, in_split, in_left, in_one, some_is}
+use Rattle.node.proofs.Lists.{none_some, true_false, not_in, in_split, in_left, in_one, some_is}
 use Rattle.open_nodes.specs.Nodes.{Records, IsClean, IsPlain, IsUnsettled}
 use Rattle.round.specs.Members.{IsMissing, is_cycle, no_cycle, plain_value, AnswersGroup, all_values, AreAnswers, Answers}
 
@@ -241,3 +241,18 @@ items_taken (suc i) (g ∷ gs) = ap (λ x. g.items ∷ x) (items_taken i gs)
 -- what there is from a place on
 pub rest_at : {X : Type 0} (xs : List X) (i : ℕ) (x : X) → x ≡ slice_index_or xs i x → i < length xs → drop i xs ≡ x ∷ drop (i + 1) xs
 rest_at xs i x e h = rw add-one (drop-cons xs i x h) ∙ ap (λ y. y ∷ drop (i + 1) xs) (sym e)
+
+-- one key more, before those that are clean
+pub one_before : (records : Records) (keys : List Key) (i : ℕ) (k : Key) → k ≡ slice_index_or keys (i - 1) k → 0 < i → i ≤ length keys
+    → ((j : Key) → In j (drop i keys) → IsClean records j) → IsClean records k → (j : Key) → In j (drop (i - 1) keys) → IsClean records j
+one_before records keys i k e positive within all c j m =
+    let less : i - 1 < length keys = omega (arith, positive, within) in
+    let back : i - 1 + 1 ≡ i = omega (arith, positive) in
+    elim (in_split (subst (In j) (rest_at keys (i - 1) k e less) m) (k ∷ []) (drop (i - 1 + 1) keys) refl) [
+      | inl a ↦ subst (IsClean records) (sym (in_one a)) c
+      | inr b ↦ all j (subst (λ n. In j (drop n keys)) back b)
+    ]
+
+-- no key stands behind the last
+pub none_behind : (records : Records) (keys : List Key) (j : Key) → In j (drop (length keys) keys) → IsClean records j
+none_behind records keys j m = absurd (not_in m (drop_all (length keys) keys (omega arith)))

@@ -13,9 +13,9 @@ pub record IsMissing (records : Records) (group missing : List Key) : Type 0 whe
   pub rest : (j : Key) → In j group → In j missing ⊎ IsClean records j
 
 -- a key of the list that is not settled, or all are
-abbrev pub IsFirst : Records → List Key → Option Key → Type 0
-IsFirst records keys (Some k) = In k keys × IsUnsettled records k
-IsFirst records keys None = (j : Key) → In j keys → IsClean records j
+abbrev pub FindsUnsettled : Records → List Key → Option Key → Type 0
+FindsUnsettled records keys (Some k) = In k keys × IsUnsettled records k
+FindsUnsettled records keys None = (j : Key) → In j keys → IsClean records j
 
 -- the value changed after a version; a key without a record counts as changed
 abbrev pub has_changed : Option (Record Key Value) → ℕ → Bool

@@ -20,7 +20,7 @@ ghost use Rattle.open_nodes.specs.Nodes.{node_at, groups_of, pending};
 ghost use Rattle.round.specs.Looks.{IsAwaiting, IsChecking, IsLastGroup, IsRunning, IsRunningAt, IsNextKey};
 ghost use Rattle.round.specs.Moves.{KeepsTrue, IsWholeBut, IsWholeNow, KeepsOut, KeepsWanted};
 
-use crate::members::{any_changed, first_stop, first_unsettled, unsettled};
+use crate::members::{any_changed, first_stop, last_unsettled, unsettled};
 use crate::settle::{confirm, want_all};
 use filetree::Tree;
 use keys::Key;
@@ -29,7 +29,7 @@ use open_nodes::{Nodes, Phase, Table, look_again, pass, put_ready, run_anew, wat
 use std::alloc::Global;
 use texts::Memory;
 
-// The members of a group are wanted, and the node waits for the first that is not settled then.
+// The members of a group are wanted, and the node waits for the last that is not settled then.
 fn wait_for(
     alloc: Global,
     graph: &mut Graph,
@@ -49,7 +49,7 @@ fn wait_for(
     ensures looked { OnOk result (table.new.looked ≡ table.old.looked) }
 {
     want_all(alloc, graph, tree, table, missing)?;
-    match first_unsettled(graph, missing) {
+    match last_unsettled(graph, missing) {
         Some(member) => watch(table, member, key)?,
         None => look_again(table, key)?,
     }

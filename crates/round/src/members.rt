@@ -45,11 +45,13 @@ pub fn unsettled(alloc: Global, graph: &Graph, group: &[Key]) -> Result<Vec<Key>
     Ok(missing)
 }
 
-/// The first of the keys that is not settled.
-pub fn first_unsettled<'a>(graph: &Graph, keys: &'a [Key]) -> Option<&'a Key>
-    ensures { specs.IsFirst (record_at graph.now) keys.now (option_map (λ k. k.now) result) }
+/// The last of the keys that is not settled. Turns are handed out in the order of keys, so where the keys ascend, most
+/// others are settled before it.
+pub fn last_unsettled<'a>(graph: &Graph, keys: &'a [Key]) -> Option<&'a Key>
+    ensures { specs.FindsUnsettled (record_at graph.now) keys.now (option_map (λ k. k.now) result) }
 {
-    for key in keys {
+    for i in (0..keys.len()).rev() {
+        let key = &keys[i];
         if !is_settled(graph, key) {
             return Some(key);
         }
