@@ -2,10 +2,9 @@
 use Rattle.std.proofs.Common.{◌≡◌, ◌⊎◌, inl, inr, ℕ, Bool, true, false, cond, List, [], Option, Some, None, refl, sym, ◌∙◌, ap, subst}
 use Rattle.std.specs.Arc.{arc_value}
 use Rattle.std.specs.Option.{option_map}
-use Rattle.std.specs.BTreeMap.{IsOrdered}
 use Rattle.evaluation.specs.Graph.{Record}
 use Rattle.evaluation.specs.Value.{AllDiffer, In, IsMember}
-use Rattle.keys.specs.Keys.{key_cmp}
+use Rattle.numbered.specs.Tables.{AreDistinct}
 use Rattle.keys.specs.Values.{value_eq}
 use Rattle.keys.specs.declared.key.Key.{Key}
 use Rattle.keys.specs.declared.value.Value.{Value}
@@ -23,7 +22,7 @@ use Rattle.node.proofs.Batching.{entry_of, key_in, decide_in, member_kept, kept_
 
 -- nothing is written yet, and all is written
 module _ (records : Records) (users : Users) (entries : List Entry) (version : ℕ) where
-  pub writing_begun : AllDiffer (keys_of entries) → ((e : Entry) → In e entries → (w : Kept) × IsToWrite records users e w) → IsOrdered key_cmp records → IsWriting records records users users entries entries version
+  pub writing_begun : AllDiffer (keys_of entries) → ((e : Entry) → In e entries → (w : Kept) × IsToWrite records users e w) → AreDistinct records → IsWriting records records users users entries entries version
   writing_begun d ready o = record {
     differ = d;
     within = λ e i. i;
@@ -100,7 +99,7 @@ module _ (old placed : Records) (old_users middle : Users) (entries : List Entry
       go (inr t) = (t.0, to_write t.0 t.2)
 
   -- the entries are written
-  module _ (new : Records) (users : Users) (wrote : HasWrittenAll placed new middle users entries version) (ordered : IsOrdered key_cmp new) (ready : HasReadyEntries (seen old) entries) where
+  module _ (new : Records) (users : Users) (wrote : HasWrittenAll placed new middle users entries version) (ordered : AreDistinct new) (ready : HasReadyEntries (seen old) entries) where
     abbrev Batch : Key → Type 0
     Batch k = In k (keys_of entries)
 

@@ -3,22 +3,25 @@ use Rattle.std.specs.Prelude.{ℕ, List, [], map, Option, Some, None, sum_by, if
 use Rattle.std.specs.Arc.{arc_value}
 use Rattle.std.specs.declared.alloc.Global.{Global}
 use Rattle.std.specs.declared.vec.Vec.{Vec}
-use Rattle.std.specs.BTreeMap.{BTreeMap, get, values}
+use Rattle.std.specs.BTreeMap.{BTreeMap, get}
+use Rattle.std.specs.Map.{values_of}
 use Rattle.std.specs.BTreeSet.{BTreeSet}
 use Rattle.evaluation.specs.Graph.{Record}
 use Rattle.keys.specs.Keys.{key_cmp}
 use Rattle.keys.specs.declared.key.Key.{Key}
 use Rattle.keys.specs.declared.value.Value.{Value}
+use Rattle.numbered.specs.Tables.{value_of}
 use Rattle.node.specs.declared.kept.Kept.{Kept}
 
+-- the records, each with its key, in the order of the keys' numbers
 abbrev pub Records : Type 0
-Records = BTreeMap Key Kept
+Records = List (Key × Kept)
 
 abbrev pub Users : Type 0
 Users = BTreeMap Key (BTreeSet Key)
 
 abbrev pub kept_at : Records → Key → Option Kept
-kept_at records k = get key_cmp records k
+kept_at records k = value_of records k
 
 abbrev pub listed : Option (BTreeSet Key) → List Key
 listed None = []
@@ -41,4 +44,4 @@ abbrev pub cost : Kept → ℕ
 cost e = if e.dirty then 0 else 1
 
 abbrev pub cleans : Records → ℕ
-cleans records = sum_by cost (values records)
+cleans records = sum_by cost (values_of records)

@@ -12,7 +12,7 @@ returns-in-Err-link_all-clause-err c =
     subst (HasLinkedEntries c.args.users.now c.link_all.new.users) c.as_slice-2.ensures.value c.link_all.ensures.some in
     let cut : HasCutAll c.place_all.new.records c.link_all.new.users c.cut_all.new.users c.args.entries.items =
     subst (HasCutAll c.place_all.new.records c.link_all.new.users c.cut_all.new.users) c.as_slice-in-Err-link_all.ensures.value c.cut_all.ensures in (
-      (c.remove_all-in-Err-link_all.ensures.removed c.args.records.now c.place_all.ensures.some, c.remove_all-in-Err-link_all.ensures.ordered c.place_all.ensures.ordered),
+      c.remove_all-in-Err-link_all.ensures c.args.records.now c.place_all.ensures.some c.len-first.ensures.len,
       cut_again c.args.records.now c.place_all.new.records c.args.users.now c.link_all.new.users c.args.entries.items c.args.version c.requires.linked placed linked c.cut_all.new.users cut,
     )
 
