@@ -61,6 +61,9 @@ module _ (old placed : Records) (old_users middle : Users) (entries : List Entry
       of_entry e q (inl t) = (t.0, ap (kept_at placed) (sym q) ∙ t.2, subst (λ (w : Kept). IsMember j (groups_of w)) (some_is (sym p.1 ∙ ap (kept_at old) (sym q) ∙ t.1)) p.2)
       of_entry e q (inr t) = absurd (none_some (sym t.1 ∙ ap (kept_at old) q ∙ p.1))
 
+  member_users : (e : Entry) (j : Key) → IsMember j (groups_at (kept_at placed e.key)) → In e.key (users_at old_users j)
+  member_users e j m = let p = same_members e.key j (kept_member placed e.key j m) in linked.complete j e.key p.0 p.1 p.2
+
   -- the edges that were linked are cut again
   pub cut_again : (later : Users) → HasCutAll placed middle later entries → SameSets old_users later
   cut_again later cut j k = (to, back)
@@ -218,3 +221,7 @@ module _ (old : Records) (version : ℕ) (was : Recorded) (b : recorded version 
       subst (λ (n : ℕ). SetsAll (record_at was) (record_at (recorded version new)) entries n) (ap (λ (x : Recorded). x.version) b)
       (subst (λ (f : Key → Option (Record Key Value)). SetsAll f (record_at (recorded version new)) entries version) (sym (seen_was old version was b))
       (subst (λ (f : Key → Option (Record Key Value)). SetsAll (seen old) f entries version) (sym (seen_all new version)) s))
+
+-- each entry's key is a user of the members of its record
+pub are_users : (old placed : Records) (users : Users) (entries : List Entry) (version : ℕ) → IsLinked old users → HasPlacedAll old placed entries version → (e : Entry) (j : Key) → IsMember j (groups_at (kept_at placed e.key)) → In e.key (users_at users j)
+are_users old placed users entries version linked there = member_users old placed users users entries version linked there (record { from = λ j k i. inl i; keeps = λ j k i. i })

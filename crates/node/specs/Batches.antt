@@ -10,7 +10,7 @@ use Rattle.node.specs.declared.kept.Kept.{Kept}
 use Rattle.node.specs.declared.entry.Entry.{Entry}
 use Rattle.node.specs.Kept.{Records, Users, kept_at, users_at, items_of}
 use Rattle.node.specs.Graphs.{seen, groups_of, IsLinked}
-use Rattle.node.specs.Writes.{stored, written}
+use Rattle.node.specs.Writes.{stored, written, groups_at}
 
 -- the groups of an entry
 abbrev pub asked : Entry → List (List Key)
@@ -63,6 +63,10 @@ HasLinkedEach new entries = (e : Entry) → In e entries → (j : Key) → IsMem
 -- the groups that are kept of a key
 abbrev pub kept_members : Records → Key → Key → Type 0
 kept_members records k j = (w : Kept) × (kept_at records k ≡ Some w) × IsMember j (groups_of w)
+
+-- each entry's key is a user of the members of its record
+abbrev pub AreUsers : Records → Users → List Entry → Type 0
+AreUsers records users entries = (e : Entry) → In e entries → (j : Key) → IsMember j (groups_at (kept_at records e.key)) → In e.key (users_at users j)
 
 -- the entries' keys are users no more of their members, but of those that are in their records
 pub record HasCutAll (records : Records) (old new : Users) (entries : List Entry) : Type 0 where

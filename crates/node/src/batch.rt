@@ -7,11 +7,11 @@ ghost use Rattle.node.specs.Kept.{Records, kept_at, items_of};
 ghost use Rattle.node.specs.Writes.{written, SameSets};
 ghost use Rattle.node.specs.Edges.{HasUsers};
 ghost use Rattle.node.specs.Graphs.{IsLinked, seen};
-ghost use Rattle.node.specs.Batches.{keys_of, HasReadyEntries, HasStoredAll, HasPlacedSome, IsThere, HasPlacedAll, HasLinkedEntries, HasLinkedEach, HasCutAll, IsToWrite, HasWrittenAll};
+ghost use Rattle.node.specs.Batches.{keys_of, HasReadyEntries, HasStoredAll, HasPlacedSome, IsThere, HasPlacedAll, AreUsers, HasLinkedEntries, HasLinkedEach, HasCutAll, IsToWrite, HasWrittenAll};
 ghost use Rattle.node.specs.declared.kept.Kept.{Kept};
 ghost use Rattle.node.specs.declared.entry.Entry.{Entry};
 
-use crate::edges::{cut, link_groups};
+use crate::edges::{cut, link_groups, members_of};
 use crate::entry::Entry;
 use crate::kept::{Records, Users};
 use crate::settling::{kept_groups, place, write};
@@ -68,12 +68,19 @@ fn remove_all(records: &mut Records, first: usize)
 }
 
 // Makes each entry's key a user of the members of its groups.
-fn link_all(alloc: Global, users: &mut Users, entries: &[Entry]) -> Result<(), Memory>
+fn link_all(
+    alloc: Global,
+    users: &mut Users,
+    records: &Records,
+    entries: &[Entry],
+) -> Result<(), Memory>
+    requires { AreUsers records.now users.old entries.now }
     ensures some { HasLinkedEntries users.old users.new entries.now }
     ensures all { OnOk result (HasLinkedEach users.new entries.now) }
 {
     for entry in entries {
-        link_groups(alloc, users, entry.groups.as_slice(), &entry.key)?;
+        let linked = members_of(alloc, kept_groups(records, &entry.key))?;
+        link_groups(alloc, users, entry.groups.as_slice(), &linked, &entry.key)?;
     }
     Ok(())
 }
@@ -137,7 +144,7 @@ pub fn store_all(
         remove_all(records, first);
         return Err(error);
     }
-    if let Err(error) = link_all(alloc, users, entries.as_slice()) {
+    if let Err(error) = link_all(alloc, users, records, entries.as_slice()) {
         cut_all(users, records, entries.as_slice());
         remove_all(records, first);
         return Err(error);

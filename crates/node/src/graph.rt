@@ -23,7 +23,6 @@ use crate::settling::{settle, store};
 use keys::{Key, Value};
 use numbered::Table;
 use std::alloc::Global;
-use std::collections::BTreeMap;
 use std::marker::Model;
 use std::sync::Arc;
 use texts::Memory;
@@ -75,7 +74,7 @@ impl Graph {
             alloc,
             version,
             records: Table::new(alloc),
-            users: BTreeMap::new(alloc),
+            users: Table::new(alloc),
         }
     }
 

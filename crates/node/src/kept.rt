@@ -1,7 +1,6 @@
 //! What a graph keeps.
 use keys::{Key, Value};
 use numbered::Table;
-use std::collections::{BTreeMap, BTreeSet};
 use std::sync::Arc;
 
 /// What is kept of a node that was settled.
@@ -23,4 +22,4 @@ pub struct Kept {
 pub type Records = Table<Kept>;
 
 /// The keys whose records have a key in a group, by that key.
-pub type Users = BTreeMap<Key, BTreeSet<Key>>;
+pub type Users = Table<Vec<Key>>;

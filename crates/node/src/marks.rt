@@ -9,7 +9,6 @@ ghost use Rattle.node.specs.declared.kept.Kept.{Kept};
 
 use crate::kept::{Records, Users};
 use keys::Key;
-use std::collections::BTreeSet;
 use texts::Memory;
 
 // Sets the mark of a record.
@@ -62,10 +61,10 @@ fn reach_users(
     ensures all { OnOk result (HasReachedAll records.new (users_at users.now key.now)) }
     ensures work { cleans records.new + vec_len marked.new ≤ cleans records.old + vec_len marked.old }
 {
-    let Some(set) = users.get(key) else {
+    let Some(list) = users.get(key) else {
         return Ok(());
     };
-    for user in set {
+    for user in list {
         reach(records, marked, user)?;
     }
     Ok(())

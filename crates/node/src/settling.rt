@@ -9,7 +9,7 @@ ghost use Rattle.node.specs.Edges.{HasUsers};
 ghost use Rattle.node.specs.Graphs.{IsLinked, HasStored, seen};
 ghost use Rattle.node.specs.declared.kept.Kept.{Kept};
 
-use crate::edges::{cut, cut_beside, link_groups, members_beside};
+use crate::edges::{cut, cut_beside, link_groups, members_beside, members_of};
 use crate::kept::{Kept, Records, Users};
 use keys::{Key, Value};
 use std::alloc::Global;
@@ -117,7 +117,8 @@ pub fn rewrite(
     ensures err { OnErr result ((records.new ≡ records.old) × SameSets users.old users.new) }
 {
     let keep = members_beside(alloc, kept_groups(records, key), groups.as_slice())?;
-    if let Err(error) = link_groups(alloc, users, groups.as_slice(), key) {
+    let linked = members_of(alloc, kept_groups(records, key))?;
+    if let Err(error) = link_groups(alloc, users, groups.as_slice(), &linked, key) {
         cut(users, groups.as_slice(), kept_groups(records, key), key);
         return Err(error);
     }
