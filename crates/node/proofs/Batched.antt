@@ -2,10 +2,9 @@
 use Rattle.std.proofs.Common.{◌≡◌, ◌⊎◌, inl, inr, ℕ, Bool, true, false, cond, List, [], Option, Some, None, refl, sym, ◌∙◌, ap, subst}
 use Rattle.std.specs.Arc.{arc_value}
 use Rattle.std.specs.Option.{option_map}
-use Rattle.std.specs.BTreeMap.{IsOrdered}
 use Rattle.evaluation.specs.Graph.{Record}
 use Rattle.evaluation.specs.Value.{AllDiffer, In, IsMember}
-use Rattle.keys.specs.Keys.{key_cmp}
+use Rattle.numbered.specs.Tables.{AreDistinct}
 use Rattle.keys.specs.Values.{value_eq}
 use Rattle.keys.specs.declared.key.Key.{Key}
 use Rattle.keys.specs.declared.value.Value.{Value}
@@ -23,7 +22,7 @@ use Rattle.node.proofs.Batching.{entry_of, key_in, decide_in, member_kept, kept_
 
 -- nothing is written yet, and all is written
 module _ (records : Records) (users : Users) (entries : List Entry) (version : ℕ) where
-  pub writing_begun : AllDiffer (keys_of entries) → ((e : Entry) → In e entries → (w : Kept) × IsToWrite records users e w) → IsOrdered key_cmp records → IsWriting records records users users entries entries version
+  pub writing_begun : AllDiffer (keys_of entries) → ((e : Entry) → In e entries → (w : Kept) × IsToWrite records users e w) → AreDistinct records → IsWriting records records users users entries entries version
   writing_begun d ready o = record {
     differ = d;
     within = λ e i. i;
@@ -61,6 +60,9 @@ module _ (old placed : Records) (old_users middle : Users) (entries : List Entry
       of_entry : (e : Entry) → e.key ≡ k → IsThere old placed e version → kept_members placed k j
       of_entry e q (inl t) = (t.0, ap (kept_at placed) (sym q) ∙ t.2, subst (λ (w : Kept). IsMember j (groups_of w)) (some_is (sym p.1 ∙ ap (kept_at old) (sym q) ∙ t.1)) p.2)
       of_entry e q (inr t) = absurd (none_some (sym t.1 ∙ ap (kept_at old) q ∙ p.1))
+
+  member_users : (e : Entry) (j : Key) → IsMember j (groups_at (kept_at placed e.key)) → In e.key (users_at old_users j)
+  member_users e j m = let p = same_members e.key j (kept_member placed e.key j m) in linked.complete j e.key p.0 p.1 p.2
 
   -- the edges that were linked are cut again
   pub cut_again : (later : Users) → HasCutAll placed middle later entries → SameSets old_users later
@@ -100,7 +102,7 @@ module _ (old placed : Records) (old_users middle : Users) (entries : List Entry
       go (inr t) = (t.0, to_write t.0 t.2)
 
   -- the entries are written
-  module _ (new : Records) (users : Users) (wrote : HasWrittenAll placed new middle users entries version) (ordered : IsOrdered key_cmp new) (ready : HasReadyEntries (seen old) entries) where
+  module _ (new : Records) (users : Users) (wrote : HasWrittenAll placed new middle users entries version) (ordered : AreDistinct new) (ready : HasReadyEntries (seen old) entries) where
     abbrev Batch : Key → Type 0
     Batch k = In k (keys_of entries)
 
@@ -219,3 +221,7 @@ module _ (old : Records) (version : ℕ) (was : Recorded) (b : recorded version 
       subst (λ (n : ℕ). SetsAll (record_at was) (record_at (recorded version new)) entries n) (ap (λ (x : Recorded). x.version) b)
       (subst (λ (f : Key → Option (Record Key Value)). SetsAll f (record_at (recorded version new)) entries version) (sym (seen_was old version was b))
       (subst (λ (f : Key → Option (Record Key Value)). SetsAll (seen old) f entries version) (sym (seen_all new version)) s))
+
+-- each entry's key is a user of the members of its record
+pub are_users : (old placed : Records) (users : Users) (entries : List Entry) (version : ℕ) → IsLinked old users → HasPlacedAll old placed entries version → (e : Entry) (j : Key) → IsMember j (groups_at (kept_at placed e.key)) → In e.key (users_at users j)
+are_users old placed users entries version linked there = member_users old placed users users entries version linked there (record { from = λ j k i. inl i; keeps = λ j k i. i })

@@ -1,14 +1,13 @@
 -- Records that are put at the keys of several entries, and their edges.
-use Rattle.std.proofs.Common.{◌≡◌, ◌≢◌, ◌⊎◌, inl, inr, ℕ, ◌+◌, ◌<◌, List, [], ◌∷◌, ◌++◌, length, take, drop, add-one, slice_index_or, Option, Some, None, refl, sym, ◌∙◌, ap, subst}
+use Rattle.std.proofs.Common.{◌≡◌, ◌≢◌, ◌⊎◌, inl, inr, ℕ, ◌+◌, ◌<◌, ◌≤◌, ◌↔◌, arith, List, [], ◌∷◌, ◌++◌, length, take, drop, add-one, slice_index_or, Option, Some, None, refl, sym, ◌∙◌, ap, subst}
 use Rattle.std.specs.List.{AllByRecursion}
-use Rattle.std.specs.Map.{lookup}
-use Rattle.std.specs.BTreeMap.{is_at, IsOrdered, Updates}
-use Rattle.std.proofs.lemmas.List.{map-append}
+use Rattle.std.specs.Option.{option_to_list, is_some, IsSome}
+use Rattle.std.proofs.lemmas.List.{map-append, append-nil, append_assoc, length-append}
 use Rattle.std.proofs.Math.ListN.{take-append-drop}
 use Rattle.std.proofs.Math.Seq.{take-suc}
 use Rattle.evaluation.specs.Graph.{Record}
 use Rattle.evaluation.specs.Value.{AllDiffer, In, first, after, IsMember}
-use Rattle.keys.specs.Keys.{key_cmp}
+use Rattle.numbered.specs.Tables.{AreDistinct, Writes}
 use Rattle.keys.specs.declared.key.Key.{Key}
 use Rattle.keys.specs.declared.value.Value.{Value}
 use Rattle.node.specs.declared.kept.Kept.{Kept}
@@ -18,7 +17,7 @@ use Rattle.node.specs.Edges.{HasLinkedSome, HasLinkedAll, HasCut, HasUsers}
 use Rattle.node.specs.Writes.{written, groups_at}
 use Rattle.node.specs.Graphs.{groups_of}
 use Rattle.node.specs.Batches.{asked, keys_of, HasReadyEntries, HasPlacedSome, IsThere, HasPlacedAll, HasLinkedEntries, HasLinkedEach, kept_members, HasCutAll, IsToWrite, IsWritten, IsWriting}
-use Rattle.node.proofs.Lists.{in_split, in_left, in_right, in_one, not_in, decide_key, other_key}
+use Rattle.node.proofs.Lists.{in_split, in_left, in_right, in_one, not_in, none_of, true_false, decide_key}
 use Rattle.node.proofs.Joining.{in_taken, is_in}
 use Rattle.node.proofs.Rewriting.{decide_member}
 
@@ -104,33 +103,12 @@ module _ (entries : List Entry) (n : ℕ) (x : Entry) (e : x ≡ slice_index_or 
   pub key_now : In x.key (keys_of (take (n + 1) entries))
   key_now = subst (In x.key) (sym keys_taken) (in_right (keys_of (take n entries)) first)
 
--- a record is put at a key that has none
-pub placed_more : (original old new : Records) (before now : List Key) (key listed : Key) → now ≡ before ++ listed ∷ [] → listed ≡ key → kept_at old key ≡ None → ((k : Key) → key ≢ k → kept_at new k ≡ kept_at old k)
-    → HasPlacedSome original old before → HasPlacedSome original new now
-placed_more original old new before now key listed e same none others h = record {
-  each = λ k i. elim (in_split i before (key ∷ []) is) [
-    | inl a ↦ h.each k a
-    | inr b ↦ subst (λ y. kept_at original y ≡ None) (sym (in_one b)) was
-  ];
-  rest = λ k. elim (decide_key key k) [
-    | inl q ↦ inl (subst (In k) (sym is) (in_right before (subst (λ y. In y (key ∷ [])) q first)))
-    | inr n ↦ elim (h.rest k) [ inl a ↦ inl (subst (In k) (sym is) (in_left (key ∷ []) a)) | inr q ↦ inr (others k n ∙ q) ]
-  ];
-}
-  where
-    is : now ≡ before ++ key ∷ []
-    is = e ∙ ap (λ k. before ++ k ∷ []) same
+-- a record is put after the others
+pub placed_more : (original old new : Records) (x : Key × Kept) → new ≡ old ++ x ∷ [] → HasPlacedSome original old → HasPlacedSome original new
+placed_more original old new x e h = (h.0 ++ x ∷ [], e ∙ ap (λ (es : Records). es ++ x ∷ []) h.1 ∙ append_assoc original h.0 (x ∷ []))
 
-    was : kept_at original key ≡ None
-    was = elim (h.rest key) [ inl a ↦ h.each key a | inr q ↦ sym q ∙ none ]
-
-pub placed_none : (records : Records) (placed : List Key) → placed ≡ [] → HasPlacedSome records records placed
-placed_none records placed e = record { each = λ k i. absurd (not_in i e); rest = λ k. inr refl }
-
--- nothing was put after all
-pub placed_listed : (original old new : Records) (before now : List Key) (key listed : Key) → now ≡ before ++ listed ∷ [] → listed ≡ key → kept_at old key ≡ None → new.entries ≡ old.entries
-    → HasPlacedSome original old before → HasPlacedSome original new now
-placed_listed original old new before now key listed e same none entries h = placed_more original old new before now key listed e same none (λ k n. ap (lookup (is_at (key_cmp k))) entries) h
+pub placed_none : (records : Records) → HasPlacedSome records records
+placed_none records = ([], sym (append-nil records))
 
 pub nothing_placed : (records : Records) (version : ℕ) → HasPlacedAll records records [] version
 nothing_placed records version = record { there = λ e i. elim i [ ]; others = λ k f. refl }
@@ -153,21 +131,25 @@ placed_step start old new entries n x version e h d all there others = record {
   others = λ k f. others k (λ q. f (subst (λ z. In z (keys_of (take (n + 1) entries))) q (key_now entries n x e h))) ∙ all.others k (λ i. f (key_before entries n x e h i));
 }
 
--- a listed record is removed
-pub removed_popped : (original old new : Records) (placed rest : List Key) (key : Key) → placed ≡ rest ++ key ∷ [] → Updates key_cmp old new key None → HasPlacedSome original old placed → HasPlacedSome original new rest
-removed_popped original old new placed rest key e u h = record {
-  each = λ k i. h.each k (subst (In k) (sym e) (in_left (key ∷ []) i));
-  rest = λ k. elim (decide_key key k) [
-    | inl q ↦ inr (subst (λ y. kept_at new y ≡ kept_at original y) q (u.1 ∙ sym (h.each key (subst (In key) (sym e) (in_right rest first)))))
-    | inr n ↦ elim (h.rest k) [
-      | inl i ↦ elim (in_split i rest (key ∷ []) e) [ inl a ↦ inl a | inr b ↦ absurd (n (sym (in_one b))) ]
-      | inr q ↦ inr (other_key old new key None u k n ∙ q)
-    ]
-  ];
-}
+-- the last record is removed, while there are more than the first ones
+popped_last : (original more new : Records) (x : Key × Kept) → original ++ more ≡ new ++ x ∷ [] → length original < length (original ++ more) → HasPlacedSome original new
+popped_last [] more new x e h = (new, refl)
+popped_last (o ∷ original) more [] x e h = absurd (omega (arith, ap length e, length-append (o ∷ original) more))
+popped_last (o ∷ original) more (n ∷ new) x e h =
+    let rest : original ++ more ≡ new ++ x ∷ [] = cc in
+    let head : o ≡ n = cc in
+    let p = popped_last original more new x rest (omega arith) in
+    (p.0, λ i. sym head i ∷ p.1 i)
 
-pub all_removed : (original records : Records) (rest : List Key) → rest ≡ [] → HasPlacedSome original records rest → (k : Key) → kept_at records k ≡ kept_at original k
-all_removed original records rest e h k = elim (h.rest k) [ inl i ↦ absurd (not_in i e) | inr q ↦ q ]
+pub removed_last : (original old new : Records) (out : Option (Key × Kept)) → old ≡ new ++ option_to_list out → (IsSome out ↔ (0 < length old)) → length original < length old → HasPlacedSome original old → HasPlacedSome original new
+removed_last original old new out r f l h = go out refl
+  where
+    go : (o : Option (Key × Kept)) → out ≡ o → HasPlacedSome original new
+    go None q = absurd (true_false (f.1 (omega arith)) (ap is_some q))
+    go (Some x) q = popped_last original h.0 new x (sym h.1 ∙ r ∙ ap (λ o. new ++ option_to_list o) q) (omega (arith, ap length h.1))
+
+pub all_removed : (original records : Records) → length records ≤ length original → HasPlacedSome original records → records ≡ original
+all_removed original records l h = h.1 ∙ ap (λ (es : Records). original ++ es) (none_of h.0 (omega (arith, ap length h.1, length-append original h.0))) ∙ append-nil original
 
 -- edges of one more entry
 pub entries_none : (users : Users) (entries : List Entry) → HasLinkedEntries users users entries
@@ -239,8 +221,8 @@ written_users records old new e w t cut_groups keep g p cut = record {
 -- one more entry is written
 module _ (start old new : Records) (start_users old_users users : Users) (entries now rest : List Entry) (x : Entry) (version : ℕ) (e : now ≡ rest ++ x ∷ [])
     (s : IsWriting start old start_users old_users entries now version)
-    (updates : (w : Kept) → kept_at old x.key ≡ Some w → Updates key_cmp old new x.key (Some (written w x.value x.groups version)))
-    (uses : HasUsers old_users users x.key (asked x)) (ordered : IsOrdered key_cmp new) where
+    (updates : (w : Kept) → kept_at old x.key ≡ Some w → Writes old new x.key (written w x.value x.groups version))
+    (uses : HasUsers old_users users x.key (asked x)) (ordered : AreDistinct new) where
   keys_split : keys_of now ≡ keys_of rest ++ x.key ∷ []
   keys_split = ap keys_of e ∙ map-append (λ (y : Entry). y.key) rest (x ∷ [])
 
@@ -250,11 +232,11 @@ module _ (start old new : Records) (start_users old_users users : Users) (entrie
   had : (w : Kept) × (kept_at start x.key ≡ Some w) × IsToWrite old old_users x w
   had = s.left x x_left
 
-  changed : Updates key_cmp old new x.key (Some (written had.0 x.value x.groups version))
+  changed : Writes old new x.key (written had.0 x.value x.groups version)
   changed = updates had.0 had.2.there
 
   other : (k : Key) → x.key ≢ k → kept_at new k ≡ kept_at old k
-  other k n = other_key old new x.key _ changed k n
+  other k n = changed.others k n
 
   apart : {y : Entry} → In y rest → x.key ≢ y.key
   apart i q = differ_apart (keys_of rest) x.key [] (subst AllDiffer keys_split s.differ) (key_in i) (sym q)
@@ -274,7 +256,7 @@ module _ (start old new : Records) (start_users old_users users : Users) (entrie
       )
 
   is_written : (w : Kept) × (kept_at start x.key ≡ Some w) × IsWritten new users x version w
-  is_written = (had.0, had.1, record { there = changed.1; own = uses.own; has = uses.has })
+  is_written = (had.0, had.1, record { there = changed.there; own = uses.own; has = uses.has })
 
   still_written : (y : Entry) → x.key ≢ y.key → (w : Kept) × (kept_at start y.key ≡ Some w) × IsWritten old old_users y version w → (w : Kept) × (kept_at start y.key ≡ Some w) × IsWritten new users y version w
   still_written y n p = let t = p.2 in

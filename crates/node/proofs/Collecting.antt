@@ -1,16 +1,19 @@
 -- What an edit reaches is collected by marks that are taken away again, and marked later.
 use Rattle.std.proofs.Common.{◌≡◌, ◌⊎◌, inl, inr, ℕ, ◌+◌, ◌<◌, Bool, true, false, List, [], ◌∷◌, ◌++◌, Option, Some, None, refl, sym, ◌∙◌, ap, subst, length, take, slice_index_or}
-use Rattle.std.specs.BTreeMap.{Updates, IsOrdered}
 use Rattle.evaluation.specs.Graph.{Record, Reaches, leaf, through, Marks}
 use Rattle.evaluation.specs.Value.{In, IsMember, first}
-use Rattle.keys.specs.Keys.{key_cmp}
+use Rattle.std.specs.Map.{keys_of}
+use Rattle.numbered.specs.Tables.{AreDistinct, Writes}
+use Rattle.numbered.proofs.Numbers.{same_entries}
+use Rattle.std.specs.List.{IsDistinct}
+use Rattle.keys.specs.Keys.{key_eq}
 use Rattle.keys.specs.declared.key.Key.{Key}
 use Rattle.keys.specs.declared.value.Value.{Value}
 use Rattle.node.specs.declared.kept.Kept.{Kept}
 use Rattle.node.specs.Kept.{Records, Users, kept_at, record_of}
 use Rattle.node.specs.Marks.{IsDirty, IsReached, at_leaf, by_user, Marked, HasPassed, SetsMarks}
 use Rattle.node.specs.Graphs.{Recorded, recorded, record_at, seen, touched_leaves, IsTouched, IsLinked, AreReached}
-use Rattle.node.proofs.Lists.{in_split, in_left, in_right, in_one, not_in, some_is, none_some, same_or_key}
+use Rattle.node.proofs.Lists.{in_split, in_left, in_right, in_one, not_in, some_is, none_some, same_or_value}
 use Rattle.node.proofs.Linking.{is_kept, is_seen, seen_all, reaches, edit_marks, still_linked, touched_marks}
 use Rattle.node.proofs.Reaching.{one_more}
 
@@ -24,8 +27,8 @@ none_set dirty records keys q = record {
 
 -- one more mark is set
 module _ (dirty : Bool) (old middle new : Records) (keys : List Key) (key : Key) (s : SetsMarks dirty old middle keys)
-    (u : (e : Kept) → kept_at middle key ≡ Some e → Updates key_cmp middle new key (Some (record e { dirty = dirty })))
-    (n : kept_at middle key ≡ None → new.entries ≡ middle.entries) where
+    (u : (e : Kept) → kept_at middle key ≡ Some e → Writes middle new key (record e { dirty = dirty }))
+    (n : kept_at middle key ≡ None → new ≡ middle) where
   -- what is kept of a key so far is what was kept at first, but for its mark
   same_but_mark : (k : Key) (e x : Kept) → kept_at old k ≡ Some e → kept_at middle k ≡ Some x → record x { dirty = dirty } ≡ record e { dirty = dirty }
   same_but_mark k e x h g = elim (s.rest k) [
@@ -35,18 +38,18 @@ module _ (dirty : Bool) (old middle new : Records) (keys : List Key) (key : Key)
 
   some_set : (x : Kept) → kept_at middle key ≡ Some x → SetsMarks dirty old new (keys ++ key ∷ [])
   some_set x g = record {
-    each = λ k i e h. elim (same_or_key middle new key _ (u x g) k) [
-      | inl q ↦ ap (kept_at new) (sym q) ∙ (u x g).1 ∙ ap (λ (y : Kept). Some y) (same_but_mark k e x h (ap (kept_at middle) (sym q) ∙ g))
+    each = λ k i e h. elim (same_or_value middle new key _ (u x g) k) [
+      | inl q ↦ ap (kept_at new) (sym q) ∙ (u x g).there ∙ ap (λ (y : Kept). Some y) (same_but_mark k e x h (ap (kept_at middle) (sym q) ∙ g))
       | inr p ↦ elim (in_split i keys (key ∷ []) refl) [
         | inl a ↦ p ∙ s.each k a e h
-        | inr b ↦ ap (kept_at new) (in_one b) ∙ (u x g).1 ∙ ap (λ (y : Kept). Some y) (same_but_mark k e x h (ap (kept_at middle) (in_one b) ∙ g))
+        | inr b ↦ ap (kept_at new) (in_one b) ∙ (u x g).there ∙ ap (λ (y : Kept). Some y) (same_but_mark k e x h (ap (kept_at middle) (in_one b) ∙ g))
       ]
     ];
-    none = λ k h. elim (same_or_key middle new key _ (u x g) k) [
+    none = λ k h. elim (same_or_value middle new key _ (u x g) k) [
       | inl q ↦ absurd (none_some (sym (s.none k h) ∙ ap (kept_at middle) (sym q) ∙ g))
       | inr p ↦ p ∙ s.none k h
     ];
-    rest = λ k. elim (same_or_key middle new key _ (u x g) k) [
+    rest = λ k. elim (same_or_value middle new key _ (u x g) k) [
       | inl q ↦ inl (in_right keys (subst (λ y. In y (key ∷ [])) q first))
       | inr p ↦ elim (s.rest k) [ inl a ↦ inl (in_left (key ∷ []) a) | inr r ↦ inr (p ∙ r) ]
     ];
@@ -63,7 +66,7 @@ module _ (dirty : Bool) (old middle new : Records) (keys : List Key) (key : Key)
   }
     where
       same : (k : Key) → kept_at new k ≡ kept_at middle k
-      same k = rw (n g) refl
+      same k = ap (λ (es : Records). kept_at es k) (n g)
 
       missing : (e : Kept) → kept_at old key ≡ Some e → In key keys ⊎ (kept_at middle key ≡ kept_at old key) → ⊥
       missing e h (inl a) = none_some (sym g ∙ s.each key a e h)
@@ -78,8 +81,8 @@ module _ (dirty : Bool) (old middle new : Records) (keys : List Key) (key : Key)
 
 -- the mark of the key at that place
 pub place_set : (dirty : Bool) (old middle new : Records) (keys : List Key) (at : ℕ) (d key : Key) → key ≡ slice_index_or keys at d → at < length keys
-    → ((e : Kept) → kept_at middle key ≡ Some e → Updates key_cmp middle new key (Some (record e { dirty = dirty })))
-    → (kept_at middle key ≡ None → new.entries ≡ middle.entries)
+    → ((e : Kept) → kept_at middle key ≡ Some e → Writes middle new key (record e { dirty = dirty }))
+    → (kept_at middle key ≡ None → new ≡ middle)
     → SetsMarks dirty old middle (take at keys) → SetsMarks dirty old new (take (at + 1) keys)
 place_set dirty old middle new keys at d key e l u n s =
     subst (SetsMarks dirty old new) (ap (λ k. take at keys ++ k ∷ []) e ∙ sym (one_more keys at d l)) (one_set dirty old middle new (take at keys) key s u n)
@@ -96,6 +99,10 @@ unmarked users leaves old middle new keys given e m t k = elim (m.rest k) [
 
     listed : In k keys → kept_at new k ≡ kept_at old k
     listed a = let p = m.each k a in s.each k a (record p.0 { dirty = true }) p.3 ∙ ap (λ b. Some (record p.0 { dirty = b })) (sym p.2) ∙ sym p.1
+
+-- so the records are the same
+pub unmarked_same : (users : Users) (leaves : List Key) (old middle new : Records) (keys given : List Key) → AreDistinct old → given ≡ keys → keys_of middle ≡ keys_of old → keys_of new ≡ keys_of middle → Marked users leaves old middle keys → SetsMarks false middle new given → new ≡ old
+unmarked_same users leaves old middle new keys given d e k l m t = same_entries old new d (l ∙ k) (unmarked users leaves old middle new keys given e m t)
 
 -- what was marked from the leaves is what an edit that touches them reaches
 module _ (users : Users) (leaves : List Key) (old new : Records) (marked : List Key) (linked : IsLinked old users) (m : Marked users leaves old new marked) (passed : HasPassed users new marked) (begun : (k : Key) → In k leaves → IsDirty new k) where
@@ -166,8 +173,8 @@ shown_reached records version before b leaves path keys e r =
 
 -- a graph whose records were marked so
 module _ (users : Users) (old new : Records) (version : ℕ) (before : Recorded) (b : recorded version old ≡ before) (linked : IsLinked old users) (keys : List Key) (s : SetsMarks true old new keys) where
-  pub marking_linked : (path : List ℕ) → AreReached (record_at before) (IsTouched path) keys → IsOrdered key_cmp new → IsLinked new users
-  marking_linked path r o = let a = seen_reached old version before b (IsTouched path) keys r in
+  pub marking_linked : (path : List ℕ) → AreReached (record_at before) (IsTouched path) keys → keys_of new ≡ keys_of old → IsLinked new users
+  marking_linked path r k = let o : AreDistinct new = subst (λ ks. IsDistinct key_eq ks) (sym k) linked.ordered in let a = seen_reached old version before b (IsTouched path) keys r in
       still_linked users (touched_leaves path) old new keys linked (set_marked users (touched_leaves path) old new keys linked a s) (set_passed users (touched_leaves path) old new keys linked a s) (set_begun users (touched_leaves path) old new keys linked a s) o
 
   pub marking_marks : (path : List ℕ) → AreReached (record_at before) (IsTouched path) keys → (later : ℕ) → Marks (record_at before) (record_at (recorded later new)) (IsTouched path)

@@ -1,7 +1,6 @@
 -- Sets of users.
-use Rattle.std.proofs.Common.{◌≡◌, ◌≢◌, ◌⊎◌, inl, inr, ℕ, ◌+◌, ◌<◌, ◌≤◌, length, take, map, add-one, slice_index_or, Bool, true, false, cond, ◌||◌, List, [], ◌∷◌, ◌++◌, Some, None, refl, sym, ◌∙◌, ap, subst}
-use Rattle.std.specs.List.{list_any}
-use Rattle.std.specs.BTreeMap as map_of
+use Rattle.std.proofs.Common.{◌≡◌, ◌≢◌, ◌⊎◌, inl, inr, ℕ, ◌+◌, ◌<◌, ◌≤◌, length, take, map, add-one, slice_index_or, Bool, true, false, cond, not, ◌||◌, List, [], ◌∷◌, ◌++◌, Some, None, refl, sym, ◌∙◌, ap, subst}
+use Rattle.std.specs.List.{list_any, filter}
 use Rattle.std.specs.BTreeMap.{is_at}
 use Rattle.std.specs.BTreeSet.{BTreeSet, contains, Updates}
 use Rattle.std.specs.Ordering.{is_eq}
@@ -12,7 +11,6 @@ use Rattle.keys.specs.Keys.{key_cmp}
 use Rattle.keys.specs.declared.key.Key.{Key}
 use Rattle.keys.proofs.KeyLaws.{keys_total, exact_keys, exact_key_eq}
 use Rattle.keys.specs.Keys.{key_eq}
-use Rattle.std.specs.BTreeMap.{get}
 use Rattle.std.specs.declared.alloc.Global.{Global}
 use Rattle.std.specs.declared.vec.Vec.{Vec}
 use Rattle.std.proofs.lemmas.List.{map-append}
@@ -20,7 +18,9 @@ use Rattle.std.proofs.Math.Seq.{take-suc, take_all}
 use Rattle.std.specs.Prelude.{Option, IfSome, IfNone}
 use Rattle.node.specs.Kept.{Users, users_at, listed, items_of}
 use Rattle.node.specs.Edges.{IsAdded, IsRemoved, SameUsers, HasLinked, HasUnlinked, HasLinkedSome, HasLinkedAll, HasCut, AreMembers, among}
-use Rattle.node.proofs.Lists.{true_false, decide_key, other_key, not_in, in_split, in_one}
+use Rattle.numbered.specs.Tables.{value_of, Writes}
+use Rattle.numbered.proofs.Numbers.{key_itself, other_key, value_pushed, others_pushed}
+use Rattle.node.proofs.Lists.{true_false, decide_key, not_in, in_split, in_one, in_left, in_right}
 use Rattle.node.proofs.Reaching.{in_at_is}
 
 or_right : (a b : Bool) → b ≡ true → a || b ≡ true
@@ -81,15 +81,53 @@ module _ (old new : BTreeSet Key) (key : Key) where
       keeps k i true t = inr (tells_apart exact_keys key k t)
       keeps k i false t = inl (in_has new k (u.2 k t ∙ has_in old k i))
 
--- a member's set is changed
-module _ (old new : Users) (member key : Key) (t : BTreeSet Key) (u : map_of.Updates key_cmp old new member (Some t)) where
-  at_member : (j : Key) → member ≡ j → users_at new j ≡ t.keys
-  at_member j q = ap (users_at new) (sym q) ∙ ap listed u.1
+-- a user is added to a list, or taken out
+pub list_added : (list : List Key) (key : Key) → IsAdded list (list ++ key ∷ []) key
+list_added list key = record {
+  from = λ k i. elim (in_split i list (key ∷ []) refl) [ inl a ↦ inl a | inr b ↦ inr (sym (in_one b)) ];
+  keeps = λ k i. in_left (key ∷ []) i;
+  has = in_right list first;
+}
+
+one_of : {k x : Key} {xs : List Key} → In k (x ∷ xs) → (x ≡ k) ⊎ In k xs
+one_of first = inl refl
+one_of (after i) = inr i
+
+in_filter : {k : Key} (test : Key → Bool) (xs : List Key) → In k (filter test xs) → In k xs × (test k ≡ true)
+in_filter test [] i = elim i [ ]
+in_filter {k} test (x ∷ xs) i = go (test x) refl i (λ a. in_filter test xs a)
+  where
+    go : (b : Bool) → test x ≡ b → In k (cond b (x ∷ filter test xs) (filter test xs)) → (In k (filter test xs) → In k xs × (test k ≡ true)) → In k (x ∷ xs) × (test k ≡ true)
+    go true t i f = elim (one_of i) [
+      | inl q ↦ (subst (λ y. In y (x ∷ xs)) q first, subst (λ y. test y ≡ true) q t)
+      | inr a ↦ let r = f a in (after r.0, r.1)
+    ]
+    go false t i f = let r = f i in (after r.0, r.1)
+
+filter_in : {k : Key} (test : Key → Bool) (xs : List Key) → In k xs → test k ≡ true → In k (filter test xs)
+filter_in test [] i h = elim i [ ]
+filter_in {k} test (x ∷ xs) i h = go (test x) refl (λ a. filter_in test xs a h)
+  where
+    go : (b : Bool) → test x ≡ b → (In k xs → In k (filter test xs)) → In k (cond b (x ∷ filter test xs) (filter test xs))
+    go true t f = elim (one_of i) [ inl q ↦ subst (λ y. In y (x ∷ filter test xs)) q first | inr a ↦ after (f a) ]
+    go false t f = elim (one_of i) [ inl q ↦ absurd (true_false (subst (λ y. test y ≡ true) (sym q) h) t) | inr a ↦ f a ]
+
+pub list_removed : (list : List Key) (key : Key) → IsRemoved list (filter (λ k. not (key_eq k key)) list) key
+list_removed list key = record {
+  from = λ k i. (in_filter (λ k. not (key_eq k key)) list i).0;
+  keeps = λ k i. elim (decide_key key k) [ inl q ↦ inr q | inr n ↦ inl (filter_in (λ k. not (key_eq k key)) list i (ap not (other_key k key (λ q. n (sym q))))) ];
+  gone = λ i. true_false (in_filter (λ k. not (key_eq k key)) list i).1 (ap not (key_itself key));
+}
+
+-- a member's list is changed
+module _ (old new : Users) (member key : Key) (t : Vec Key Global) (there : value_of new member ≡ Some t) (others : (j : Key) → member ≢ j → value_of new j ≡ value_of old j) where
+  at_member : (j : Key) → member ≡ j → users_at new j ≡ t.items
+  at_member j q = ap (users_at new) (sym q) ∙ ap listed there
 
   elsewhere : (j : Key) → member ≢ j → users_at new j ≡ users_at old j
-  elsewhere j n = ap listed (other_key old new member (Some t) u j n)
+  elsewhere j n = ap listed (others j n)
 
-  pub linked : IsAdded (users_at old member) t.keys key → HasLinked old new member key
+  pub linked : IsAdded (users_at old member) t.items key → HasLinked old new member key
   linked a = record {
     from = λ j k i. elim (decide_key member j) [
       | inl q ↦ elim (a.from k (subst (In k) (at_member j q) i)) [ inl x ↦ inl (subst (λ m. In k (users_at old m)) q x) | inr x ↦ inr (q, x) ]
@@ -102,7 +140,7 @@ module _ (old new : Users) (member key : Key) (t : BTreeSet Key) (u : map_of.Upd
     has = subst (In key) (sym (at_member member refl)) a.has;
   }
 
-  pub unlinked : IsRemoved (users_at old member) t.keys key → HasUnlinked old new member key
+  pub unlinked : IsRemoved (users_at old member) t.items key → HasUnlinked old new member key
   unlinked a = record {
     from = λ j k i. elim (decide_key member j) [
       | inl q ↦ subst (λ m. In k (users_at old m)) q (a.from k (subst (In k) (at_member j q) i))
@@ -115,7 +153,7 @@ module _ (old new : Users) (member key : Key) (t : BTreeSet Key) (u : map_of.Upd
     gone = λ i. a.gone (subst (In key) (at_member member refl) i);
   }
 
-  pub same_set : t.keys ≡ users_at old member → SameUsers old new
+  pub same_set : t.items ≡ users_at old member → SameUsers old new
   same_set e j = elim (decide_key member j) [ inl q ↦ at_member j q ∙ e ∙ ap (users_at old) q | inr n ↦ elsewhere j n ]
 
 pub unlinked_none : (users : Users) (member key : Key) → users_at users member ≡ [] → HasUnlinked users users member key
@@ -209,16 +247,19 @@ pub not_among : (groups : List (List Key)) (key : Key) → among groups key ≡ 
 not_among groups key h m = true_false (member_among groups key m.1 m.2) h
 
 -- the same by what the calls ensure
-pub linked_through : (old new : Users) (member key user : Key) (s : List Key) (t : BTreeSet Key) → map_of.Updates key_cmp old new member (Some t) → s ≡ users_at old member → user ≡ key → IsAdded s t.keys user → HasLinked old new member key
-linked_through old new member key user s t u e q a = linked old new member key t u (subst (IsAdded (users_at old member) t.keys) q (subst (λ x. IsAdded x t.keys user) e a))
+pub linked_through : (old new : Users) (member key user : Key) (s : List Key) (t : Vec Key Global) → Writes old new member t → s ≡ users_at old member → user ≡ key → t.items ≡ s ++ user ∷ [] → HasLinked old new member key
+linked_through old new member key user s t u e q a =
+    linked old new member key t u.there u.others (subst (λ l. IsAdded (users_at old member) l key) (sym (a ∙ (λ i. e i ++ q i ∷ []))) (list_added (users_at old member) key))
 
-pub linked_first : (start old new : Users) (asked member user key : Key) (s : List Key) (t : BTreeSet Key) → map_of.Updates key_cmp old new asked (Some t) → asked ≡ member → old ≡ start → None ≡ get key_cmp start member → s ≡ [] → user ≡ key → IsAdded s t.keys user → HasLinked start new member key
+pub linked_first : (start old new : Users) (asked member user key : Key) (s : List Key) (t : Vec Key Global) → new ≡ old ++ (asked, t) ∷ [] → asked ≡ member → old ≡ start → None ≡ value_of start member → s ≡ [] → user ≡ key → t.items ≡ s ++ user ∷ [] → HasLinked start new member key
 linked_first start old new asked member user key s t u m o none e q a =
-    subst (λ x. HasLinked x new member key) o (linked_through old new member key user s t (subst (λ x. map_of.Updates key_cmp old new x (Some t)) m u)
-    (e ∙ ap listed none ∙ ap (λ x. users_at x member) (sym o)) q a)
+    let is : new ≡ start ++ (member, t) ∷ [] = u ∙ (λ i. o i ++ (m i, t) ∷ []) in
+    linked start new member key t (ap (λ (es : Users). value_of es member) is ∙ value_pushed start member t (sym none)) (λ j n. ap (λ (es : Users). value_of es j) is ∙ others_pushed start member t j n)
+    (subst (λ l. IsAdded (users_at start member) l key) (sym (a ∙ (λ i. e i ++ q i ∷ []) ∙ ap (λ o. listed o ++ key ∷ []) none)) (list_added (users_at start member) key))
 
-pub unlinked_through : (old new : Users) (member key : Key) (s : List Key) (t : BTreeSet Key) → map_of.Updates key_cmp old new member (Some t) → s ≡ users_at old member → IsRemoved s t.keys key → HasUnlinked old new member key
-unlinked_through old new member key s t u e a = unlinked old new member key t u (subst (λ x. IsRemoved x t.keys key) e a)
+pub unlinked_through : (old new : Users) (member key : Key) (s : List Key) (t : Vec Key Global) → Writes old new member t → s ≡ users_at old member → t.items ≡ filter (λ k. not (key_eq k key)) s → HasUnlinked old new member key
+unlinked_through old new member key s t u e a =
+    unlinked old new member key t u.there u.others (subst (λ l. IsRemoved (users_at old member) l key) (sym (a ∙ ap (filter (λ k. not (key_eq k key))) e)) (list_removed (users_at old member) key))
 
 -- one more element of a list
 pub in_taken : {X : Type 0} (xs : List X) (n : ℕ) (x j : X) → x ≡ slice_index_or xs n x → n < length xs → In j (take (n + 1) xs) → In j (take n xs) ⊎ (x ≡ j)
@@ -248,6 +289,10 @@ group_member groups n g j e h i = (g.items, in_mapped (λ (x : Vec Key Global). 
 
 pub one_linked_more : (old new : Users) (key : Key) (group : List Key) (n : ℕ) (m : Key) → m ≡ slice_index_or group n m → n < length group → HasLinked old new m key → HasLinkedAll old key (λ j. In j (take n group)) → HasLinkedAll new key (λ j. In j (take (n + 1) group))
 one_linked_more old new key group n m e h l a j i = elim (in_taken group n m j e h i) [ inl x ↦ l.keeps j key (a j x) | inr x ↦ subst (λ y. In key (users_at new y)) x l.has ]
+
+-- of one member it was a user
+pub one_linked_same : (users : Users) (key : Key) (group : List Key) (n : ℕ) (m : Key) → m ≡ slice_index_or group n m → n < length group → In key (users_at users m) → HasLinkedAll users key (λ j. In j (take n group)) → HasLinkedAll users key (λ j. In j (take (n + 1) group))
+one_linked_same users key group n m e h l a j i = elim (in_taken group n m j e h i) [ inl x ↦ a j x | inr x ↦ subst (λ y. In key (users_at users y)) x l ]
 
 pub group_linked_more : (old new : Users) (key : Key) (groups : List (Vec Key Global)) (n : ℕ) (g : Vec Key Global) → g ≡ slice_index_or groups n g → n < length groups → HasLinkedSome old new key (λ j. In j g.items) → HasLinkedAll new key (λ j. In j g.items)
     → HasLinkedAll old key (λ j. IsMember j (items_of (take n groups))) → HasLinkedAll new key (λ j. IsMember j (items_of (take (n + 1) groups)))

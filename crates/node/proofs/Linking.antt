@@ -2,31 +2,46 @@
 use Rattle.std.proofs.Common.{◌≡◌, ◌⊎◌, inl, inr, ℕ, Bool, true, false, cond, List, [], ◌∷◌, map, Bor, Option, Some, None, refl, sym, ◌∙◌, ap, subst}
 use Rattle.std.specs.Option.{option_map, option_copied}
 use Rattle.std.specs.Map.{lookup}
-use Rattle.std.specs.BTreeMap.{is_at, IsOrdered}
+use Rattle.std.specs.BTreeMap.{is_at}
 use Rattle.evaluation.specs.Graph.{Record, Reaches, leaf, through, Marks}
 use Rattle.evaluation.specs.Value.{In, IsMember}
 use Rattle.evaluation.proofs.Marking.{reached_marked}
-use Rattle.keys.specs.Keys.{key_cmp}
+use Rattle.numbered.specs.Tables.{AreDistinct}
+use Rattle.std.specs.Ordering.{is_eq}
+use Rattle.std.proofs.lemmas.Cmp.{tied_itself}
+use Rattle.std.proofs.lemmas.Map.Views.{tells_apart}
+use Rattle.keys.specs.Keys.{key_cmp, key_eq}
+use Rattle.numbered.proofs.Numbers.{other_key}
 use Rattle.keys.specs.declared.key.Key.{Key}
 use Rattle.keys.specs.declared.value.Value.{Value}
 use Rattle.node.specs.declared.kept.Kept.{Kept}
-use Rattle.node.specs.Kept.{Records, Users, kept_at, record_of}
+use Rattle.node.specs.Kept.{Records, Users, kept_at, users_at, record_of}
 use Rattle.node.specs.Marks.{IsDirty, IsReached, at_leaf, by_user, Marked, HasPassed}
 use Rattle.node.specs.Graphs.{Recorded, recorded, record_at, seen, groups_of, touched_leaves, IsTouched, IsLinked}
-use Rattle.std.proofs.lemmas.Map.Lookups.{btree_map_from_get}
-use Rattle.keys.proofs.KeyLaws.{keys_total, exact_keys}
-use Rattle.node.proofs.Lists.{some_is, none_some}
+use Rattle.keys.proofs.KeyLaws.{keys_total, exact_keys, exact_key_eq}
+use Rattle.node.proofs.Lists.{some_is, none_some, true_false, not_in}
+
+-- the order of keys tells the keys apart that the equality does
+same_test : (k x : Key) → is_at (key_cmp k) x ≡ key_eq k x
+same_test k x = go (is_at (key_cmp k) x) refl
+  where
+    itself : is_at (key_cmp k) k ≡ true
+    itself = ap is_eq (tied_itself keys_total k)
+
+    go : (b : Bool) → is_at (key_cmp k) x ≡ b → is_at (key_cmp k) x ≡ key_eq k x
+    go true t = t ∙ sym ((exact_key_eq k x).1 (tells_apart exact_keys k x t))
+    go false t = t ∙ sym (other_key k x (λ q. true_false (subst (λ y. is_at (key_cmp k) y ≡ true) q itself) t))
 
 pub seen_is : (records : Records) (version : ℕ) (k : Key) → record_at (recorded version records) k ≡ seen records k
-seen_is records version k = go records.entries
+seen_is records version k = go records
   where
     pushed : (b : Bool) (x : Kept) (o : Option Kept) → cond b (Some (record_of x)) (option_map record_of o) ≡ option_map record_of (cond b (Some x) o)
     pushed true x o = refl
     pushed false x o = refl
 
-    go : (es : List (Key × Kept)) → lookup (is_at (key_cmp k)) (map (λ e. (e.0, record_of e.1)) es) ≡ option_map record_of (lookup (is_at (key_cmp k)) es)
+    go : (es : List (Key × Kept)) → lookup (is_at (key_cmp k)) (map (λ e. (e.0, record_of e.1)) es) ≡ option_map record_of (kept_at es k)
     go [] = refl
-    go (e ∷ es) = ap (cond (is_at (key_cmp k) e.0) (Some (record_of e.1))) (go es) ∙ pushed (is_at (key_cmp k) e.0) e.1 (lookup (is_at (key_cmp k)) es)
+    go (e ∷ es) = (λ i. cond (same_test k e.0 i) (Some (record_of e.1)) (go es i)) ∙ pushed (key_eq k e.0) e.1 (kept_at es k)
 
 pub seen_all : (records : Records) (version : ℕ) → record_at (recorded version records) ≡ seen records
 seen_all records version = λ i k. seen_is records version k i
@@ -68,7 +83,7 @@ module _ (users : Users) (leaves : List Key) (old new : Records) (marked : List 
     | inr p ↦ dirty_stays k (λ x g. let q : e ≡ x = some_is (sym h ∙ g) in subst (λ (y : Kept). y.dirty ≡ true) q (linked.dirty_above j k e s h i (sym p ∙ t) d))
   ]
 
-  pub still_linked : IsOrdered key_cmp new → IsLinked new users
+  pub still_linked : AreDistinct new → IsLinked new users
   still_linked o = record {
     ordered = o;
     used = λ j k i. let p = linked.used j k i in let l = later k p.0 p.1 in (record p.0 { dirty = l.0 }, l.1, p.2);
@@ -127,20 +142,6 @@ kept_seen records version k found h = go found ∙ ap (option_map record_of) h �
     go None = refl
     go (Some e) = refl
 
--- a table with the same records
-module _ (old new : Records) (same : (k : Key) → kept_at new k ≡ kept_at old k) (ordered : IsOrdered key_cmp new) where
-  pub linked_same : (users : Users) → IsLinked old users → IsLinked new users
-  linked_same users l = record {
-    ordered = ordered;
-    used = λ j k i. let p = l.used j k i in (p.0, same k ∙ p.1, p.2);
-    complete = λ j k e h i. l.complete j k e (sym (same k) ∙ h) i;
-    members = λ j k e h i. let p = l.members j k e (sym (same k) ∙ h) i in (p.0, same j ∙ p.1);
-    dirty_above = λ j k e s h i t d. l.dirty_above j k e s (sym (same k) ∙ h) i (sym (same j) ∙ t) d;
-  }
-
-  pub seen_same : (version : ℕ) → IsOrdered key_cmp old → recorded version new ≡ recorded version old
-  seen_same version o = ap (λ es. record { version = version; records = map (λ e. (e.0, record_of e.1)) es }) (btree_map_from_get keys_total new old ordered o same exact_keys)
-
 -- marks from the leaves that an edit touches
 module _ (users : Users) (leaves : List Key) (old new : Records) (marked : List Key) (linked : IsLinked old users) (m : Marked users leaves old new marked) (passed : HasPassed users new marked) (begins : (k : Key) → In k leaves → IsDirty new k) where
   pub touched_marks : (path : List ℕ) → leaves ≡ touched_leaves path → (before : Recorded) (version later_version : ℕ) → recorded version old ≡ before → Marks (record_at before) (record_at (recorded later_version new)) (IsTouched path)
@@ -149,3 +150,16 @@ module _ (users : Users) (leaves : List Key) (old new : Records) (marked : List 
       (subst (λ (r : Recorded). Marks (record_at r) (record_at (recorded later_version new)) (λ k. In k leaves)) b
       (subst (λ (f : Key → Option (Record Key Value)). Marks f (record_at (recorded later_version new)) (λ k. In k leaves)) (sym (seen_all old version))
       (subst (λ (f : Key → Option (Record Key Value)). Marks (seen old) f (λ k. In k leaves)) (sym (seen_all new later_version)) (edit_marks users leaves old new marked linked m passed begins))))
+
+-- without records the parts are linked
+pub nothing_linked : (records : Records) (users : Users) → records ≡ [] → AreDistinct records → users ≡ [] → IsLinked records users
+nothing_linked records users e d u = record {
+  ordered = d;
+  used = λ j k i. absurd (not_in i (ap (λ (es : Users). users_at es j) u));
+  complete = λ j k x h m. absurd (none_some (sym (none k) ∙ h));
+  members = λ j k x h m. absurd (none_some (sym (none k) ∙ h));
+  dirty_above = λ j k x s h m t c. absurd (none_some (sym (none k) ∙ h));
+}
+  where
+    none : (k : Key) → kept_at records k ≡ None
+    none k = ap (λ (es : Records). kept_at es k) e

@@ -9,6 +9,7 @@ use Rattle.keys.specs.Keys.{key_cmp}
 use Rattle.keys.proofs.KeyLaws.{keys_total, exact_keys}
 use Rattle.std.proofs.lemmas.Cmp.{tied_itself}
 use Rattle.std.specs.Ordering.{is_eq}
+use Rattle.numbered.specs.Tables.{value_of, Writes}
 
 module _ {X : Type 0} where
   -- an element of two lists joined
@@ -71,6 +72,10 @@ decide_key key k = go (is_at (key_cmp key) k) refl
 -- another key is as before
 pub other_key : {X : Type 0} (old new : BTreeMap Key X) (key : Key) (o : Option X) → Updates key_cmp old new key o → (k : Key) → key ≢ k → get key_cmp new k ≡ get key_cmp old k
 other_key old new key o u k n = elim (same_or_key old new key o u k) [ inl q ↦ absurd (n q) | inr q ↦ q ]
+
+-- a key is the written one, or has the value that it had
+pub same_or_value : {X : Type 0} (old new : List (Key × X)) (key : Key) (v : X) → Writes old new key v → (k : Key) → (key ≡ k) ⊎ (value_of new k ≡ value_of old k)
+same_or_value old new key v w k = elim (decide_key key k) [ inl q ↦ inl q | inr n ↦ inr (w.others k n) ]
 
 pub on_err : {T E : Type 0} {P : Type 0} (r : Result T E) → P → OnErr r P
 on_err (Ok x) p = tt

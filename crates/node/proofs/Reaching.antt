@@ -1,25 +1,25 @@
 -- Marks are spread a key at a time.
 use Rattle.std.proofs.Common.{◌≡◌, ◌⊎◌, inl, inr, ℕ, ◌+◌, ◌<◌, ◌≤◌, true, false, List, [], ◌∷◌, ◌++◌, Some, refl, sym, ◌∙◌, ap, subst, length, take, drop, arith, add-one, append-nil, append_assoc, slice_index_or}
-use Rattle.std.specs.BTreeMap.{Updates, IsOrdered}
 use Rattle.std.proofs.lemmas.List.{take-append-le, length-append}
 use Rattle.std.proofs.Math.ListN.{take-append-drop}
 use Rattle.std.proofs.Math.Seq.{take-suc, take_all}
 use Rattle.evaluation.specs.Value.{In, first, after}
+use Rattle.std.specs.Map.{keys_of}
+use Rattle.numbered.specs.Tables.{Writes}
 use Rattle.keys.specs.declared.key.Key.{Key}
-use Rattle.keys.specs.Keys.{key_cmp}
 use Rattle.node.specs.declared.kept.Kept.{Kept}
 use Rattle.node.specs.Kept.{Records, Users, kept_at, users_at}
 use Rattle.node.specs.Marks.{IsDirty, IsReached, at_leaf, by_user, Marked, HasReached, HasReachedSome, HasReachedAll, HasSpread, HasPassed}
-use Rattle.node.proofs.Lists.{in_split, in_left, in_right, in_one, not_in, some_is, true_false, same_or_key}
+use Rattle.node.proofs.Lists.{in_split, in_left, in_right, in_one, not_in, some_is, true_false, same_or_value}
 
 module _ (old new : Records) (before now : List Key) (key : Key) where
   -- the key has its mark
-  module _ (e : Kept) (had : kept_at old key ≡ Some e) (clean : e.dirty ≡ false) (u : Updates key_cmp old new key (Some (record e { dirty = true }))) where
+  module _ (e : Kept) (had : kept_at old key ≡ Some e) (clean : e.dirty ≡ false) (u : Writes old new key (record e { dirty = true })) where
     now_dirty : IsDirty new key
-    now_dirty x h = let q : record e { dirty = true } ≡ x = some_is (sym u.1 ∙ h) in ap (λ (y : Kept). y.dirty) (sym q)
+    now_dirty x h = let q : record e { dirty = true } ≡ x = some_is (sym u.there ∙ h) in ap (λ (y : Kept). y.dirty) (sym q)
 
     still_dirty : (k : Key) → IsDirty old k → IsDirty new k
-    still_dirty k d = elim (same_or_key old new key _ u k) [ inl q ↦ subst (IsDirty new) q now_dirty | inr q ↦ λ x h. d x (sym q ∙ h) ]
+    still_dirty k d = elim (same_or_value old new key _ u k) [ inl q ↦ subst (IsDirty new) q now_dirty | inr q ↦ λ x h. d x (sym q ∙ h) ]
 
     -- it was not listed
     fresh : (users : Users) (leaves : List Key) (original : Records) → Marked users leaves original old before → In key before → ⊥
@@ -29,14 +29,14 @@ module _ (old new : Records) (before now : List Key) (key : Key) where
     more_marked : (users : Users) (leaves : List Key) (original : Records) → Marked users leaves original old before → IsReached users leaves key → Marked users leaves original new (before ++ key ∷ [])
     more_marked users leaves original m r = record {
       each = λ k i. elim (in_split i before (key ∷ []) refl) [
-        | inl a ↦ elim (same_or_key old new key _ u k) [
+        | inl a ↦ elim (same_or_value old new key _ u k) [
           | inl q ↦ absurd (fresh users leaves original m (subst (λ x. In x before) (sym q) a))
           | inr q ↦ let p = m.each k a in (p.0, p.1, p.2, q ∙ p.3, p.4)
         ]
         | inr b ↦ let Each : Key → Type 0 = λ x. (y : Kept) × (kept_at original x ≡ Some y) × (y.dirty ≡ false) × (kept_at new x ≡ Some (record y { dirty = true })) × IsReached users leaves x in
-            subst Each (sym (in_one b)) (e, was, clean, u.1, r)
+            subst Each (sym (in_one b)) (e, was, clean, u.there, r)
       ];
-      rest = λ k. elim (same_or_key old new key _ u k) [
+      rest = λ k. elim (same_or_value old new key _ u k) [
         | inl q ↦ inl (in_right before (subst (λ x. In x (key ∷ [])) q first))
         | inr q ↦ elim (m.rest k) [ inl a ↦ inl (in_left (key ∷ []) a) | inr p ↦ inr (q ∙ p) ]
       ];
@@ -57,9 +57,9 @@ module _ (old new : Records) (before now : List Key) (key : Key) where
   reached_marked (inl s) users leaves original m r = subst (λ t. Marked users leaves original t now) (sym s.0) (subst (Marked users leaves original old) (sym s.1) m)
   reached_marked (inr s) users leaves original m r = subst (Marked users leaves original new) (sym s.5) (more_marked s.0 s.1 s.2 s.3 users leaves original m r)
 
-  reached_ordered : HasReached old new before now key → IsOrdered key_cmp old → IsOrdered key_cmp new
-  reached_ordered (inl s) o = subst (IsOrdered key_cmp) (sym s.0) o
-  reached_ordered (inr s) o = s.4
+  reached_keys : HasReached old new before now key → keys_of new ≡ keys_of old
+  reached_keys (inl s) = ap (λ (es : Records). keys_of es) s.0
+  reached_keys (inr s) = s.4
 
   reached_grows : HasReached old new before now key → (more : List Key) × (now ≡ before ++ more)
   reached_grows (inl s) = ([], s.1 ∙ sym (append-nil before))
@@ -70,7 +70,7 @@ module _ (old new : Records) (before now : List Key) (key : Key) where
   some_more start begun keys s h i = record {
     marks = λ users leaves original m r. reached_marked h users leaves original (s.marks users leaves original m r) (r key i);
     still = λ k d. reached_still h k (s.still k d);
-    ordered = λ o. reached_ordered h (s.ordered o);
+    same_keys = reached_keys h ∙ s.same_keys;
     more = s.more ++ (reached_grows h).0;
     grows = (reached_grows h).1 ∙ ap (λ xs. xs ++ (reached_grows h).0) s.grows ∙ append_assoc begun s.more (reached_grows h).0;
   }
@@ -80,13 +80,13 @@ pub some_none : (records : Records) (marked keys : List Key) → HasReachedSome 
 some_none records marked keys = record {
   marks = λ users leaves original m r. m;
   still = λ k d. d;
-  ordered = λ o. o;
+  same_keys = refl;
   more = [];
   grows = sym (append-nil marked);
 }
 
 pub spread_none : (users : Users) (records : Records) (marked : List Key) → HasSpread users records records marked marked
-spread_none users records marked = record { marks = λ leaves original m. m; still = λ k d. d; ordered = λ o. o }
+spread_none users records marked = record { marks = λ leaves original m. m; still = λ k d. d; same_keys = refl }
 
 module _ (users : Users) (start old new : Records) (begun before now : List Key) (j : Key) where
   -- from a listed key to its users
@@ -94,7 +94,7 @@ module _ (users : Users) (start old new : Records) (begun before now : List Key)
   spread_more s h i = record {
     marks = λ leaves original m. let p = s.marks leaves original m in h.marks users leaves original p (λ k u. by_user (p.each j i).4 u);
     still = λ k d. h.still k (s.still k d);
-    ordered = λ o. h.ordered (s.ordered o);
+    same_keys = h.same_keys ∙ s.same_keys;
   }
 
 module _ {X : Type 0} where

@@ -27,7 +27,7 @@ module _ (records : Records) (users : Users) (linked : IsLinked records users) (
   abbrev old_groups : List (List Key)
   old_groups = groups_at (kept_at records key)
 
-  complete_at : (j : Key) → IsMember j old_groups → In key (users_at users j)
+  pub complete_at : (j : Key) → IsMember j old_groups → In key (users_at users j)
   complete_at j m = go (kept_at records key) refl m
     where
       go : (o : Option Kept) → kept_at records key ≡ o → IsMember j (groups_at o) → In key (users_at users j)

@@ -1,39 +1,38 @@
 -- A record that is written keeps the parts of the graph linked.
 use Rattle.std.proofs.Common.{◌≡◌, ◌≢◌, inl, inr, ℕ, true, false, Option, Some, None, refl, sym, ◌∙◌, ap, subst}
-use Rattle.std.specs.BTreeMap.{IsOrdered, Updates}
 use Rattle.std.specs.Option.{option_map, IsSome}
 use Rattle.evaluation.specs.Graph.{Record}
 use Rattle.evaluation.specs.Value.{In, IsMember}
-use Rattle.keys.specs.Keys.{key_cmp}
+use Rattle.numbered.specs.Tables.{AreDistinct, Writes}
 use Rattle.keys.specs.declared.key.Key.{Key}
 use Rattle.keys.specs.declared.value.Value.{Value}
 use Rattle.node.specs.declared.kept.Kept.{Kept}
 use Rattle.node.specs.Kept.{Records, Users, kept_at, users_at, record_of}
 use Rattle.node.specs.Edges.{HasUsers}
 use Rattle.node.specs.Graphs.{Recorded, recorded, record_at, seen, groups_of, IsLinked, HasCleanMembers, Sets}
-use Rattle.node.proofs.Lists.{some_is, true_false, decide_key, other_key}
+use Rattle.node.proofs.Lists.{some_is, true_false, decide_key}
 use Rattle.node.proofs.Linking.{seen_all, is_seen, is_kept}
 
-module _ (old new : Records) (old_users users : Users) (key : Key) (e : Kept) (u : Updates key_cmp old new key (Some e)) (linked : IsLinked old old_users) (uses : HasUsers old_users users key (groups_of e)) (clean : e.dirty ≡ false)
+module _ (old new : Records) (old_users users : Users) (key : Key) (e : Kept) (u : Writes old new key e) (linked : IsLinked old old_users) (uses : HasUsers old_users users key (groups_of e)) (clean : e.dirty ≡ false)
     (ready : (j : Key) → IsMember j (groups_of e) → (s : Kept) × (kept_at new j ≡ Some s) × (s.dirty ≡ false)) where
   there : kept_at new key ≡ Some e
-  there = u.1
+  there = u.there
 
   is_it : (k : Key) (x : Kept) → key ≡ k → kept_at new k ≡ Some x → e ≡ x
   is_it k x q h = some_is (sym there ∙ ap (kept_at new) q ∙ h)
 
   before : (k : Key) (x : Kept) → key ≢ k → kept_at new k ≡ Some x → kept_at old k ≡ Some x
-  before k x n h = sym (other_key old new key (Some e) u k n) ∙ h
+  before k x n h = sym (u.others k n) ∙ h
 
   still : (j : Key) (s : Kept) → kept_at old j ≡ Some s → (x : Kept) × (kept_at new j ≡ Some x)
-  still j s h = elim (decide_key key j) [ inl q ↦ (e, ap (kept_at new) (sym q) ∙ there) | inr n ↦ (s, other_key old new key (Some e) u j n ∙ h) ]
+  still j s h = elim (decide_key key j) [ inl q ↦ (e, ap (kept_at new) (sym q) ∙ there) | inr n ↦ (s, u.others j n ∙ h) ]
 
-  pub written_linked : IsOrdered key_cmp new → IsLinked new users
+  pub written_linked : AreDistinct new → IsLinked new users
   written_linked o = record {
     ordered = o;
     used = λ j k i. elim (decide_key key k) [
       | inl q ↦ (e, ap (kept_at new) (sym q) ∙ there, uses.own j (subst (λ x. In x (users_at users j)) (sym q) i))
-      | inr n ↦ let p = linked.used j k (uses.others j k n i) in (p.0, other_key old new key (Some e) u k n ∙ p.1, p.2)
+      | inr n ↦ let p = linked.used j k (uses.others j k n i) in (p.0, u.others k n ∙ p.1, p.2)
     ];
     complete = λ j k x h i. elim (decide_key key k) [
       | inl q ↦ subst (λ y. In y (users_at users j)) q (uses.has j (subst (λ (y : Kept). IsMember j (groups_of y)) (sym (is_it k x q h)) i))
@@ -54,7 +53,7 @@ module _ (old new : Records) (old_users users : Users) (key : Key) (e : Kept) (u
   }
 
   pub seen_sets : Sets (seen old) (seen new) key (record_of e)
-  seen_sets = record { there = is_seen new key e there; others = λ j n. ap (option_map record_of) (other_key old new key (Some e) u j n) }
+  seen_sets = record { there = is_seen new key e there; others = λ j n. ap (option_map record_of) (u.others j n) }
 
   pub written_sets : (version later_version : ℕ) (was : Recorded) → recorded version old ≡ was → Sets (record_at was) (record_at (recorded later_version new)) key (record_of e)
   written_sets version later_version was b =
@@ -64,7 +63,7 @@ module _ (old new : Records) (old_users users : Users) (key : Key) (e : Kept) (u
 
 -- a record that is only settled keeps its users
 module _ (old new : Records) (users : Users) (key : Key) (version : ℕ) (linked : IsLinked old users)
-    (u : (e : Kept) → kept_at old key ≡ Some e → Updates key_cmp old new key (Some (record e { settled_at = version; dirty = false })))
+    (u : (e : Kept) → kept_at old key ≡ Some e → Writes old new key (record e { settled_at = version; dirty = false }))
     (was : Recorded) (b : recorded version old ≡ was) (clean : HasCleanMembers (record_at was) key) where
   seen_was : (k : Key) (e : Kept) → kept_at old k ≡ Some e → record_at was k ≡ Some (record_of e)
   seen_was k e h = ap (λ (r : Recorded). record_at r k) (sym b) ∙ (λ i. seen_all old version i k) ∙ is_seen old k e h
@@ -84,14 +83,14 @@ module _ (old new : Records) (users : Users) (key : Key) (version : ℕ) (linked
   ready_now e h j i =
       let s = linked.members j key e h i in
       elim (decide_key key j) [
-        | inl q ↦ (record e { settled_at = version; dirty = false }, ap (kept_at new) (sym q) ∙ (u e h).1, refl)
-        | inr n ↦ (s.0, other_key old new key _ (u e h) j n ∙ s.1, clean (record_of e) (record_of s.0) j (seen_was key e h) i (seen_was j s.0 s.1))
+        | inl q ↦ (record e { settled_at = version; dirty = false }, ap (kept_at new) (sym q) ∙ (u e h).there, refl)
+        | inr n ↦ (s.0, (u e h).others j n ∙ s.1, clean (record_of e) (record_of s.0) j (seen_was key e h) i (seen_was j s.0 s.1))
       ]
 
   no_record : IsSome (option_map record_of None) → ⊥
   no_record h = true_false h refl
 
-  pub settled_linked : IsSome (record_at was key) → IsOrdered key_cmp new → IsLinked new users
+  pub settled_linked : IsSome (record_at was key) → AreDistinct new → IsLinked new users
   settled_linked g o = go (kept_at old key) refl
     where
       go : (x : Option Kept) → kept_at old key ≡ x → IsLinked new users

@@ -1,17 +1,16 @@
 -- Records that are stored together.
-use Rattle.std.specs.Prelude.{◌≡◌, ◌⊎◌, ℕ, List, [], map, Option, Some, None, false}
+use Rattle.std.specs.Prelude.{◌≡◌, ◌⊎◌, ℕ, List, [], ◌++◌, map, Option, Some, None, false}
 use Rattle.std.specs.Arc.{arc_value}
-use Rattle.std.specs.BTreeMap.{IsOrdered}
 use Rattle.evaluation.specs.Graph.{Record}
 use Rattle.evaluation.specs.Value.{AllDiffer, In, IsMember}
-use Rattle.keys.specs.Keys.{key_cmp}
+use Rattle.numbered.specs.Tables.{AreDistinct}
 use Rattle.keys.specs.declared.key.Key.{Key}
 use Rattle.keys.specs.declared.value.Value.{Value}
 use Rattle.node.specs.declared.kept.Kept.{Kept}
 use Rattle.node.specs.declared.entry.Entry.{Entry}
 use Rattle.node.specs.Kept.{Records, Users, kept_at, users_at, items_of}
 use Rattle.node.specs.Graphs.{seen, groups_of, IsLinked}
-use Rattle.node.specs.Writes.{stored, written}
+use Rattle.node.specs.Writes.{stored, written, groups_at}
 
 -- the groups of an entry
 abbrev pub asked : Entry → List (List Key)
@@ -34,10 +33,9 @@ pub record HasStoredAll (old new : Records) (users : Users) (entries : List Entr
   pub sets : SetsAll (seen old) (seen new) entries version
   pub linked : IsLinked new users
 
--- the listed keys had no record, and the other keys have the record that they had
-pub record HasPlacedSome (old new : Records) (placed : List Key) : Type 0 where
-  pub each : (k : Key) → In k placed → kept_at old k ≡ None
-  pub rest : (k : Key) → In k placed ⊎ (kept_at new k ≡ kept_at old k)
+-- records were put after the old ones
+abbrev pub HasPlacedSome : Records → Records → Type 0
+HasPlacedSome old new = (more : Records) × (new ≡ old ++ more)
 
 -- the entry's key had a record and has it still, or it had none and has one without groups
 abbrev pub IsThere : Records → Records → Entry → ℕ → Type 0
@@ -65,6 +63,10 @@ HasLinkedEach new entries = (e : Entry) → In e entries → (j : Key) → IsMem
 -- the groups that are kept of a key
 abbrev pub kept_members : Records → Key → Key → Type 0
 kept_members records k j = (w : Kept) × (kept_at records k ≡ Some w) × IsMember j (groups_of w)
+
+-- each entry's key is a user of the members of its record
+abbrev pub AreUsers : Records → Users → List Entry → Type 0
+AreUsers records users entries = (e : Entry) → In e entries → (j : Key) → IsMember j (groups_at (kept_at records e.key)) → In e.key (users_at users j)
 
 -- the entries' keys are users no more of their members, but of those that are in their records
 pub record HasCutAll (records : Records) (old new : Users) (entries : List Entry) : Type 0 where
@@ -103,4 +105,4 @@ pub record IsWriting (start now : Records) (start_users users : Users) (entries 
   pub left : (e : Entry) → In e rest → (w : Kept) × (kept_at start e.key ≡ Some w) × IsToWrite now users e w
   pub done : (e : Entry) → In e entries → In e rest ⊎ ((w : Kept) × (kept_at start e.key ≡ Some w) × IsWritten now users e version w)
   pub others : (k : Key) → (In k (keys_of entries) → ⊥) → IsSame start now start_users users k
-  pub ordered : IsOrdered key_cmp now
+  pub ordered : AreDistinct now

@@ -1,6 +1,6 @@
 -- How many edges are recorded.
 use Rattle.std.specs.Prelude.{ℕ, List, length, sum_by}
-use Rattle.std.specs.BTreeMap.{values}
+use Rattle.std.specs.Map.{values_of}
 use Rattle.keys.specs.declared.key.Key.{Key}
 use Rattle.node.specs.declared.kept.Kept.{Kept}
 use Rattle.node.specs.Kept.{Records}
@@ -19,4 +19,4 @@ abbrev pub size : Kept → ℕ
 size e = members_of (groups_of e)
 
 abbrev pub kept_edges : Records → ℕ
-kept_edges records = sum_by size (values records)
+kept_edges records = sum_by size (values_of records)

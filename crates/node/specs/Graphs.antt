@@ -2,23 +2,24 @@
 use Rattle.std.specs.Prelude.{◌≡◌, ◌≢◌, ◌⊎◌, ℕ, List, map, Option, Some, None, true, false, if◌then◌else◌}
 use Rattle.std.specs.Option.{option_map}
 use Rattle.std.specs.Map.{lookup}
-use Rattle.std.specs.BTreeMap.{is_at, IsOrdered}
+use Rattle.std.specs.BTreeMap.{is_at}
 use Rattle.evaluation.specs.Graph.{Record, Reaches}
 use Rattle.evaluation.specs.Value.{In, IsMember}
 use Rattle.keys.specs.Keys.{key_cmp}
 use Rattle.keys.specs.declared.key.Key.{Key}
 use Rattle.keys.specs.declared.value.Value.{Value}
 pub use Rattle.keys.specs.Touched.{touched_leaves, IsTouched}
+use Rattle.numbered.specs.Tables.{AreDistinct}
 use Rattle.node.specs.declared.kept.Kept.{Kept}
 use Rattle.node.specs.Kept.{Records, Users, kept_at, users_at, record_of}
 
--- its version, and its records in the order of their keys
+-- its version, and its records in the order in which their keys were recorded first
 pub record Recorded : Type 0 where
   pub version : ℕ
   pub records : List (Key × Record Key Value)
 
 abbrev pub recorded : ℕ → Records → Recorded
-recorded version records = record { version = version; records = map (λ e. (e.0, record_of e.1)) records.entries }
+recorded version records = record { version = version; records = map (λ e. (e.0, record_of e.1)) records }
 
 -- the record of a key
 abbrev pub record_at : Recorded → Key → Option (Record Key Value)
@@ -38,7 +39,7 @@ groups_of e = map (λ g. g.items) e.groups.items
 
 -- the users are the inverse of the recorded groups; each member of a group has a record, dirty only where the record with that group is
 pub record IsLinked (records : Records) (users : Users) : Type 0 where
-  pub ordered : IsOrdered key_cmp records
+  pub ordered : AreDistinct records
   pub used : (j k : Key) → In k (users_at users j) → (e : Kept) × (kept_at records k ≡ Some e) × IsMember j (groups_of e)
   pub complete : (j k : Key) (e : Kept) → kept_at records k ≡ Some e → IsMember j (groups_of e) → In k (users_at users j)
   pub members : (j k : Key) (e : Kept) → kept_at records k ≡ Some e → IsMember j (groups_of e) → (s : Kept) × (kept_at records j ≡ Some s)

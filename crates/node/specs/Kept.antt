@@ -3,30 +3,30 @@ use Rattle.std.specs.Prelude.{ℕ, List, [], map, Option, Some, None, sum_by, if
 use Rattle.std.specs.Arc.{arc_value}
 use Rattle.std.specs.declared.alloc.Global.{Global}
 use Rattle.std.specs.declared.vec.Vec.{Vec}
-use Rattle.std.specs.BTreeMap.{BTreeMap, get, values}
-use Rattle.std.specs.BTreeSet.{BTreeSet}
+use Rattle.std.specs.Map.{values_of}
 use Rattle.evaluation.specs.Graph.{Record}
-use Rattle.keys.specs.Keys.{key_cmp}
 use Rattle.keys.specs.declared.key.Key.{Key}
 use Rattle.keys.specs.declared.value.Value.{Value}
+use Rattle.numbered.specs.Tables.{value_of}
 use Rattle.node.specs.declared.kept.Kept.{Kept}
 
+-- the records, each with its key, in the order of the keys' numbers
 abbrev pub Records : Type 0
-Records = BTreeMap Key Kept
+Records = List (Key × Kept)
 
 abbrev pub Users : Type 0
-Users = BTreeMap Key (BTreeSet Key)
+Users = List (Key × Vec Key Global)
 
 abbrev pub kept_at : Records → Key → Option Kept
-kept_at records k = get key_cmp records k
+kept_at records k = value_of records k
 
-abbrev pub listed : Option (BTreeSet Key) → List Key
+abbrev pub listed : Option (Vec Key Global) → List Key
 listed None = []
-listed (Some set) = set.keys
+listed (Some list) = list.items
 
 -- the keys that are kept as users of j
 abbrev pub users_at : Users → Key → List Key
-users_at users j = listed (get key_cmp users j)
+users_at users j = listed (value_of users j)
 
 -- the groups of a list of lists
 abbrev pub items_of : List (Vec Key Global) → List (List Key)
@@ -41,4 +41,4 @@ abbrev pub cost : Kept → ℕ
 cost e = if e.dirty then 0 else 1
 
 abbrev pub cleans : Records → ℕ
-cleans records = sum_by cost (values records)
+cleans records = sum_by cost (values_of records)

@@ -1,9 +1,9 @@
 -- What marks are spread along reverse edges.
 use Rattle.std.specs.Prelude.{◌≡◌, ◌⊎◌, Bool, true, false, List, [], ◌∷◌, ◌++◌, Some, None}
-use Rattle.std.specs.BTreeMap.{Updates, IsOrdered}
+use Rattle.std.specs.Map.{keys_of}
 use Rattle.evaluation.specs.Value.{In}
 use Rattle.keys.specs.declared.key.Key.{Key}
-use Rattle.keys.specs.Keys.{key_cmp}
+use Rattle.numbered.specs.Tables.{Writes}
 use Rattle.node.specs.declared.kept.Kept.{Kept}
 use Rattle.node.specs.Kept.{Records, Users, kept_at, users_at}
 
@@ -24,13 +24,13 @@ pub record Marked (users : Users) (leaves : List Key) (old new : Records) (marke
 -- nothing had to be done, or the record is now dirty and listed
 abbrev pub HasReached : Records → Records → List Key → List Key → Key → Type 0
 HasReached old new before after key = ((new ≡ old) × (after ≡ before) × IsDirty old key)
-    ⊎ ((e : Kept) × (kept_at old key ≡ Some e) × (e.dirty ≡ false) × Updates key_cmp old new key (Some (record e { dirty = true })) × IsOrdered key_cmp new × (after ≡ before ++ key ∷ []))
+    ⊎ ((e : Kept) × (kept_at old key ≡ Some e) × (e.dirty ≡ false) × Writes old new key (record e { dirty = true }) × (keys_of new ≡ keys_of old) × (after ≡ before ++ key ∷ []))
 
 -- some of these keys were reached
 pub record HasReachedSome (old new : Records) (before after keys : List Key) : Type 0 where
   pub marks : (users : Users) (leaves : List Key) (original : Records) → Marked users leaves original old before → ((k : Key) → In k keys → IsReached users leaves k) → Marked users leaves original new after
   pub still : (k : Key) → IsDirty old k → IsDirty new k
-  pub ordered : IsOrdered key_cmp old → IsOrdered key_cmp new
+  pub same_keys : keys_of new ≡ keys_of old
   pub more : List Key
   pub grows : after ≡ before ++ more
 
@@ -42,7 +42,7 @@ HasReachedAll new keys = (k : Key) → In k keys → IsDirty new k
 pub record HasSpread (users : Users) (old new : Records) (before after : List Key) : Type 0 where
   pub marks : (leaves : List Key) (original : Records) → Marked users leaves original old before → Marked users leaves original new after
   pub still : (k : Key) → IsDirty old k → IsDirty new k
-  pub ordered : IsOrdered key_cmp old → IsOrdered key_cmp new
+  pub same_keys : keys_of new ≡ keys_of old
 
 -- the users of these keys are dirty
 abbrev pub HasPassed : Users → Records → List Key → Type 0

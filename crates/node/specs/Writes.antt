@@ -1,19 +1,18 @@
 -- What is written into a record.
-use Rattle.std.specs.Prelude.{◌≡◌, ◌⊎◌, ℕ, List, [], Bool, false, Option, Some, None, if◌then◌else◌, ◌↔◌, not, ◌||◌}
+use Rattle.std.specs.Prelude.{◌≡◌, ◌⊎◌, ℕ, List, [], ◌∷◌, ◌++◌, Bool, false, Option, Some, None, if◌then◌else◌, ◌↔◌, not, ◌||◌}
 use Rattle.std.specs.List.{list_all}
 use Rattle.std.specs.Arc.{arc_value}
 use Rattle.std.specs.declared.sync.Arc.{Arc}
 use Rattle.std.specs.declared.alloc.Global.{Global}
 use Rattle.std.specs.declared.vec.Vec.{Vec}
-use Rattle.std.specs.BTreeMap.{Updates, IsOrdered}
-use Rattle.keys.specs.Keys.{key_cmp, key_eq}
+use Rattle.keys.specs.Keys.{key_eq}
 use Rattle.evaluation.specs.Graph.{Record}
 use Rattle.evaluation.specs.Value.{In, IsMember}
 use Rattle.keys.specs.Values.{value_eq}
 use Rattle.keys.specs.declared.key.Key.{Key}
 use Rattle.keys.specs.declared.value.Value.{Value}
 use Rattle.node.specs.declared.kept.Kept.{Kept}
-use Rattle.node.specs.Kept.{Records, Users, kept_at, users_at, items_of}
+use Rattle.node.specs.Kept.{Records, Users, users_at, items_of}
 
 -- the version at which a value last changed: it is kept where an equal value was there
 abbrev pub change_of : Option (Record Key Value) → Value → ℕ → ℕ
@@ -55,8 +54,4 @@ SameSets old new = (j k : Key) → In k (users_at new j) ↔ In k (users_at old 
 
 -- a record without groups was put at the key
 abbrev pub HasPlaced : Records → Records → Key → Value → ℕ → Type 0
-HasPlaced old new key value version = (e : Kept) × Updates key_cmp old new key (Some e) × (arc_value e.value ≡ value) × (e.groups.items ≡ []) × (e.changed_at ≡ version) × (e.dirty ≡ false)
-
--- each key has the record that it had
-abbrev pub SameRecords : Records → Records → Type 0
-SameRecords old new = ((k : Key) → kept_at new k ≡ kept_at old k) × IsOrdered key_cmp new
+HasPlaced old new key value version = (e : Kept) × (new ≡ old ++ (key, e) ∷ []) × (arc_value e.value ≡ value) × (e.groups.items ≡ []) × (e.changed_at ≡ version) × (e.dirty ≡ false)

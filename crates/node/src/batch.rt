@@ -1,18 +1,17 @@
 //! Records that are stored together, all or none.
-ghost use Rattle.std.specs.Prelude.{◌≡◌, ◌≢◌, [], Some, OnOk, OnErr, refl};
-ghost use Rattle.std.specs.BTreeMap.{Updates, IsOrdered};
+ghost use Rattle.std.specs.Prelude.{◌≡◌, ◌≢◌, Some, length, OnOk, OnErr, refl};
+ghost use Rattle.numbered.specs.Tables.{AreDistinct, Writes};
 ghost use Rattle.evaluation.specs.Value.{AllDiffer, In};
-ghost use Rattle.keys.specs.Keys.{key_cmp};
 ghost use Rattle.keys.specs.declared.key.Key.{Key};
 ghost use Rattle.node.specs.Kept.{Records, kept_at, items_of};
-ghost use Rattle.node.specs.Writes.{written, SameSets, SameRecords};
+ghost use Rattle.node.specs.Writes.{written, SameSets};
 ghost use Rattle.node.specs.Edges.{HasUsers};
 ghost use Rattle.node.specs.Graphs.{IsLinked, seen};
-ghost use Rattle.node.specs.Batches.{keys_of, HasReadyEntries, HasStoredAll, HasPlacedSome, IsThere, HasPlacedAll, HasLinkedEntries, HasLinkedEach, HasCutAll, IsToWrite, HasWrittenAll};
+ghost use Rattle.node.specs.Batches.{keys_of, HasReadyEntries, HasStoredAll, HasPlacedSome, IsThere, HasPlacedAll, AreUsers, HasLinkedEntries, HasLinkedEach, HasCutAll, IsToWrite, HasWrittenAll};
 ghost use Rattle.node.specs.declared.kept.Kept.{Kept};
 ghost use Rattle.node.specs.declared.entry.Entry.{Entry};
 
-use crate::edges::{cut, link_groups};
+use crate::edges::{cut, link_groups, members_of};
 use crate::entry::Entry;
 use crate::kept::{Records, Users};
 use crate::settling::{kept_groups, place, write};
@@ -20,67 +19,68 @@ use keys::Key;
 use std::alloc::Global;
 use texts::Memory;
 
-// Keeps a record without groups at the key of an entry that has none, and lists that key.
+// Keeps a record without groups at the key of an entry that has none.
 fn place_entry(
     alloc: Global,
     records: &mut Records,
     entry: &Entry,
     version: u32,
-    placed: &mut Vec<Key>,
 ) -> Result<(), Memory>
-    requires { IsOrdered key_cmp records.old }
-    ensures some { (original : Records) → HasPlacedSome original records.old placed.old.items → HasPlacedSome original records.new placed.new.items }
+    requires { AreDistinct records.old }
+    ensures some { (original : Records) → HasPlacedSome original records.old → HasPlacedSome original records.new }
     ensures there { OnOk result (IsThere records.old records.new entry.now version) }
     ensures others { (k : Key) → entry.now.key ≢ k → kept_at records.new k ≡ kept_at records.old k }
-    ensures ordered { IsOrdered key_cmp records.new }
+    ensures ordered { AreDistinct records.new }
 {
     if records.contains_key(&entry.key) {
         return Ok(());
     }
-    placed.push(entry.key.share()?)?;
     place(alloc, records, &entry.key, &entry.value, version)?;
     Ok(())
 }
 
-// Keeps a record without groups at the key of each entry that has none, and lists these keys.
+// Keeps a record without groups at the key of each entry that has none.
 fn place_all(
     alloc: Global,
     records: &mut Records,
     entries: &[Entry],
     version: u32,
-    placed: &mut Vec<Key>,
 ) -> Result<(), Memory>
-    requires ordered { IsOrdered key_cmp records.old }
+    requires ordered { AreDistinct records.old }
     requires differ { AllDiffer (keys_of entries.now) }
-    requires none { placed.old.items ≡ [] }
-    ensures some { HasPlacedSome records.old records.new placed.new.items }
+    ensures some { HasPlacedSome records.old records.new }
     ensures all { OnOk result (HasPlacedAll records.old records.new entries.now version) }
-    ensures ordered { IsOrdered key_cmp records.new }
+    ensures ordered { AreDistinct records.new }
 {
     for entry in entries {
-        place_entry(alloc, records, entry, version, placed)?;
+        place_entry(alloc, records, entry, version)?;
     }
     Ok(())
 }
 
-// Removes the records of the listed keys.
-fn remove_all(records: &mut Records, mut placed: Vec<Key>)
-    ensures removed { (original : Records) → HasPlacedSome original records.old placed.items → (k : Key) → kept_at records.new k ≡ kept_at original k }
-    ensures ordered { IsOrdered key_cmp records.old → IsOrdered key_cmp records.new }
+// Removes the records after the first ones, of which there are so many.
+fn remove_all(records: &mut Records, first: usize)
+    ensures { (original : Records) → HasPlacedSome original records.old → first ≡ length original → records.new ≡ original }
 {
-    while let Some(key) = placed.pop() {
-        drop(records.remove(&key));
-        drop(key);
+    while records.len() > first {
+        drop(records.pop());
     }
 }
 
 // Makes each entry's key a user of the members of its groups.
-fn link_all(alloc: Global, users: &mut Users, entries: &[Entry]) -> Result<(), Memory>
+fn link_all(
+    alloc: Global,
+    users: &mut Users,
+    records: &Records,
+    entries: &[Entry],
+) -> Result<(), Memory>
+    requires { AreUsers records.now users.old entries.now }
     ensures some { HasLinkedEntries users.old users.new entries.now }
     ensures all { OnOk result (HasLinkedEach users.new entries.now) }
 {
     for entry in entries {
-        link_groups(alloc, users, entry.groups.as_slice(), &entry.key)?;
+        let linked = members_of(alloc, kept_groups(records, &entry.key))?;
+        link_groups(alloc, users, entry.groups.as_slice(), &linked, &entry.key)?;
     }
     Ok(())
 }
@@ -102,9 +102,9 @@ fn cut_all(users: &mut Users, records: &Records, entries: &[Entry])
 // Writes an entry into its key's record, and cuts the members that are in its groups no more.
 fn write_entry(records: &mut Records, users: &mut Users, entry: Entry, version: u32)
     requires { (w : Kept) × IsToWrite records.old users.old entry w }
-    ensures updates { (w : Kept) → kept_at records.old entry.key ≡ Some w → Updates key_cmp records.old records.new entry.key (Some (written w entry.value entry.groups version)) }
+    ensures updates { (w : Kept) → kept_at records.old entry.key ≡ Some w → Writes records.old records.new entry.key (written w entry.value entry.groups version) }
     ensures users { HasUsers users.old users.new entry.key (items_of entry.groups.items) }
-    ensures ordered { IsOrdered key_cmp records.new }
+    ensures ordered { AreDistinct records.new }
 {
     let Entry { key, value, groups } = entry;
     let old = write(records, &key, value, groups, version);
@@ -115,9 +115,9 @@ fn write_entry(records: &mut Records, users: &mut Users, entry: Entry, version: 
 fn write_all(records: &mut Records, users: &mut Users, mut entries: Vec<Entry>, version: u32)
     requires differ { AllDiffer (keys_of entries.items) }
     requires ready { (e : Entry) → In e entries.items → (w : Kept) × IsToWrite records.old users.old e w }
-    requires ordered { IsOrdered key_cmp records.old }
+    requires ordered { AreDistinct records.old }
     ensures written { HasWrittenAll records.old records.new users.old users.new entries.items version }
-    ensures ordered { IsOrdered key_cmp records.new }
+    ensures ordered { AreDistinct records.new }
 {
     while let Some(entry) = entries.pop() {
         write_entry(records, users, entry, version);
@@ -137,16 +137,16 @@ pub fn store_all(
     requires differ { AllDiffer (keys_of entries.items) }
     requires ready { HasReadyEntries (seen records.old) entries.items }
     ensures ok { OnOk result (HasStoredAll records.old records.new users.new entries.items version) }
-    ensures err { OnErr result (SameRecords records.old records.new × SameSets users.old users.new) }
+    ensures err { OnErr result ((records.new ≡ records.old) × SameSets users.old users.new) }
 {
-    let mut placed = Vec::new(alloc);
-    if let Err(error) = place_all(alloc, records, entries.as_slice(), version, &mut placed) {
-        remove_all(records, placed);
+    let first = records.len();
+    if let Err(error) = place_all(alloc, records, entries.as_slice(), version) {
+        remove_all(records, first);
         return Err(error);
     }
-    if let Err(error) = link_all(alloc, users, entries.as_slice()) {
+    if let Err(error) = link_all(alloc, users, records, entries.as_slice()) {
         cut_all(users, records, entries.as_slice());
-        remove_all(records, placed);
+        remove_all(records, first);
         return Err(error);
     }
     write_all(records, users, entries, version);

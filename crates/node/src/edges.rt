@@ -1,9 +1,10 @@
 //! Reverse edges, from a key to those whose records have it in a group.
-ghost use Rattle.std.specs.Prelude.{◌≡◌, List, [], map, OnOk, OnErr, IfOk, IfSome, IfNone, IsTrue, ◌↔◌};
+ghost use Rattle.std.specs.Prelude.{◌≡◌, List, [], ◌∷◌, ◌++◌, not, filter, map, OnOk, OnErr, IfOk, IfSome, IfNone, IsTrue, ◌↔◌};
 ghost use Rattle.evaluation.specs.Value.{In, IsMember};
 ghost use Rattle.keys.specs.declared.key.Key.{Key};
-ghost use Rattle.node.specs.Kept.{items_of};
-ghost use Rattle.node.specs.Edges.{IsAdded, IsRemoved, HasLinked, HasUnlinked, SameUsers, HasLinkedSome, HasLinkedAll, HasCut, AddsMembers, AreMembers, among};
+ghost use Rattle.keys.specs.Keys.{key_eq};
+ghost use Rattle.node.specs.Kept.{items_of, users_at};
+ghost use Rattle.node.specs.Edges.{IsAdded, HasLinked, HasUnlinked, SameUsers, HasLinkedSome, HasLinkedAll, HasCut, AddsMembers, AreMembers, among};
 
 use crate::kept::Users;
 use keys::Key;
@@ -20,11 +21,20 @@ fn add(set: &mut BTreeSet<Key>, key: Key) -> Result<(), Memory>
     Ok(())
 }
 
-// Removes a key from a set.
-fn remove(set: &mut BTreeSet<Key>, key: &Key)
-    ensures { IsRemoved set.old.keys set.new.keys key.now }
+// Adds a user to a list.
+fn add_user(list: &mut Vec<Key>, user: Key) -> Result<(), Memory>
+    ensures ok { OnOk result (list.new.items ≡ list.old.items ++ user ∷ []) }
+    ensures err { OnErr result (list.new.items ≡ list.old.items) }
 {
-    let _was_there = set.remove(key);
+    list.push(user)?;
+    Ok(())
+}
+
+// Takes a user out of a list, as often as it is there.
+fn remove_user(list: &mut Vec<Key>, user: &Key)
+    ensures { list.new.items ≡ filter (λ k. not (key_eq k user.now)) list.old.items }
+{
+    list.retain(|k| *k != *user);
 }
 
 // Whether a key is in a set.
@@ -40,13 +50,13 @@ fn link(alloc: Global, users: &mut Users, member: &Key, key: &Key) -> Result<(),
     ensures err { OnErr result (SameUsers users.old users.new) }
 {
     let user = key.share()?;
-    if let Some(set) = users.get_mut(member) {
-        add(set, user)?;
+    if let Some(list) = users.get_mut(member) {
+        add_user(list, user)?;
         return Ok(());
     }
-    let mut set = BTreeSet::new(alloc);
-    add(&mut set, user)?;
-    users.insert(member.share()?, set)?;
+    let mut list = Vec::with_capacity(alloc, 1)?;
+    add_user(&mut list, user)?;
+    users.push(member.share()?, list)?;
     Ok(())
 }
 
@@ -54,34 +64,45 @@ fn link(alloc: Global, users: &mut Users, member: &Key, key: &Key) -> Result<(),
 fn unlink(users: &mut Users, member: &Key, key: &Key)
     ensures { HasUnlinked users.old users.new member.now key.now }
 {
-    if let Some(set) = users.get_mut(member) {
-        remove(set, key);
+    if let Some(list) = users.get_mut(member) {
+        remove_user(list, key);
     }
 }
 
-// Makes the key a user of each member of a group.
-fn link_group(alloc: Global, users: &mut Users, group: &[Key], key: &Key) -> Result<(), Memory>
+// Makes the key a user of each member of a group. It is one already of those in the set.
+fn link_group(
+    alloc: Global,
+    users: &mut Users,
+    group: &[Key],
+    linked: &BTreeSet<Key>,
+    key: &Key,
+) -> Result<(), Memory>
+    requires { (j : Key) → In j linked.now.keys → In key.now (users_at users.old j) }
     ensures some { HasLinkedSome users.old users.new key.now (λ j. In j group.now) }
     ensures all { OnOk result (HasLinkedAll users.new key.now (λ j. In j group.now)) }
 {
     for member in group {
-        link(alloc, users, member, key)?;
+        if !has(linked, member) {
+            link(alloc, users, member, key)?;
+        }
     }
     Ok(())
 }
 
-/// Makes the key a user of each member of the groups.
+/// Makes the key a user of each member of the groups. It is one already of those in the set.
 pub fn link_groups(
     alloc: Global,
     users: &mut Users,
     groups: &[Vec<Key>],
+    linked: &BTreeSet<Key>,
     key: &Key,
 ) -> Result<(), Memory>
+    requires { (j : Key) → In j linked.now.keys → In key.now (users_at users.old j) }
     ensures some { HasLinkedSome users.old users.new key.now (λ j. IsMember j (items_of groups.now)) }
     ensures all { OnOk result (HasLinkedAll users.new key.now (λ j. IsMember j (items_of groups.now))) }
 {
     for group in groups {
-        link_group(alloc, users, group.as_slice(), key)?;
+        link_group(alloc, users, group.as_slice(), linked, key)?;
     }
     Ok(())
 }
@@ -128,8 +149,8 @@ fn add_members(set: &mut BTreeSet<Key>, group: &[Key]) -> Result<(), Memory>
     Ok(())
 }
 
-// The members of the groups.
-fn members_of(alloc: Global, groups: &[Vec<Key>]) -> Result<BTreeSet<Key>, Memory>
+/// Returns the members of the groups.
+pub fn members_of(alloc: Global, groups: &[Vec<Key>]) -> Result<BTreeSet<Key>, Memory>
     ensures { IfOk result (λ set. AreMembers set.keys (items_of groups.now)) }
 {
     let mut set = BTreeSet::new(alloc);

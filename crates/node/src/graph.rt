@@ -21,16 +21,16 @@ use crate::leaves::touched;
 use crate::marks::{mark_from, set_all};
 use crate::settling::{settle, store};
 use keys::{Key, Value};
+use numbered::Table;
 use std::alloc::Global;
-use std::collections::BTreeMap;
 use std::marker::Model;
 use std::sync::Arc;
 use texts::Memory;
 
 /// What was recorded of the nodes that were settled: of each its value, the groups that it asked, the version at which
 /// it was last settled, the version at which its value last changed, and whether an edit since then may have changed
-/// it (it is dirty then). A contract sees the graph's version and the records in the order of their keys. The reverse
-/// edges, from a key to those whose records have it in a group, are kept beside them and are their inverse.
+/// it (it is dirty then). A contract sees the graph's version and the records, in the order in which their keys were
+/// recorded first. The reverse edges, from a key to those whose records have it in a group, are kept beside them and are their inverse.
 #[derive(Drop)]
 pub struct Graph {
     alloc: Global,
@@ -73,8 +73,8 @@ impl Graph {
         Graph {
             alloc,
             version,
-            records: BTreeMap::new(alloc),
-            users: BTreeMap::new(alloc),
+            records: Table::new(alloc),
+            users: Table::new(alloc),
         }
     }
 

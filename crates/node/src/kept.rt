@@ -1,6 +1,6 @@
 //! What a graph keeps.
 use keys::{Key, Value};
-use std::collections::{BTreeMap, BTreeSet};
+use numbered::Table;
 use std::sync::Arc;
 
 /// What is kept of a node that was settled.
@@ -18,8 +18,8 @@ pub struct Kept {
     pub dirty: bool,
 }
 
-/// Records by key.
-pub type Records = BTreeMap<Key, Kept>;
+/// Records by key. A key's number is that of its record.
+pub type Records = Table<Kept>;
 
 /// The keys whose records have a key in a group, by that key.
-pub type Users = BTreeMap<Key, BTreeSet<Key>>;
+pub type Users = Table<Vec<Key>>;

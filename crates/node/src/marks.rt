@@ -1,7 +1,7 @@
 //! Dirty marks, spread along reverse edges.
 ghost use Rattle.std.specs.Prelude.{◌≡◌, ◌+◌, ◌≤◌, [], ◌∷◌, ◌++◌, List, Some, None, true, false, OnOk, OnErr, vec_len};
-ghost use Rattle.std.specs.BTreeMap.{Updates, IsOrdered};
-ghost use Rattle.keys.specs.Keys.{key_cmp};
+ghost use Rattle.std.specs.Map.{keys_of};
+ghost use Rattle.numbered.specs.Tables.{Writes};
 ghost use Rattle.keys.specs.declared.key.Key.{Key};
 ghost use Rattle.node.specs.Kept.{Records, kept_at, users_at, cleans, cost};
 ghost use Rattle.node.specs.Marks.{HasReached, HasReachedAll, HasReachedSome, HasSpread, HasPassed, IsDirty, Marked, SetsMarks};
@@ -9,14 +9,13 @@ ghost use Rattle.node.specs.declared.kept.Kept.{Kept};
 
 use crate::kept::{Records, Users};
 use keys::Key;
-use std::collections::BTreeSet;
 use texts::Memory;
 
 // Sets the mark of a record.
 fn mark(records: &mut Records, key: &Key)
-    ensures updates { (e : Kept) → kept_at records.old key.now ≡ Some e → Updates key_cmp records.old records.new key.now (Some (record e { dirty = true })) }
+    ensures updates { (e : Kept) → kept_at records.old key.now ≡ Some e → Writes records.old records.new key.now (record e { dirty = true }) }
     ensures work { (e : Kept) → kept_at records.old key.now ≡ Some e → cleans records.new + cost e ≡ cleans records.old }
-    ensures ordered { IsOrdered key_cmp records.new }
+    ensures keys { keys_of records.new ≡ keys_of records.old }
 {
     if let Some(kept) = records.get_mut(key) {
         kept.dirty = true;
@@ -25,9 +24,9 @@ fn mark(records: &mut Records, key: &Key)
 
 // Sets or takes away the mark of a key's record, if it has one.
 fn set(records: &mut Records, key: &Key, dirty: bool)
-    ensures updates { (e : Kept) → kept_at records.old key.now ≡ Some e → Updates key_cmp records.old records.new key.now (Some (record e { dirty = dirty })) }
-    ensures absent { kept_at records.old key.now ≡ None → records.new.entries ≡ records.old.entries }
-    ensures ordered { IsOrdered key_cmp records.old → IsOrdered key_cmp records.new }
+    ensures updates { (e : Kept) → kept_at records.old key.now ≡ Some e → Writes records.old records.new key.now (record e { dirty = dirty }) }
+    ensures absent { kept_at records.old key.now ≡ None → records.new ≡ records.old }
+    ensures keys { keys_of records.new ≡ keys_of records.old }
 {
     if let Some(kept) = records.get_mut(key) {
         kept.dirty = dirty;
@@ -62,10 +61,10 @@ fn reach_users(
     ensures all { OnOk result (HasReachedAll records.new (users_at users.now key.now)) }
     ensures work { cleans records.new + vec_len marked.new ≤ cleans records.old + vec_len marked.old }
 {
-    let Some(set) = users.get(key) else {
+    let Some(list) = users.get(key) else {
         return Ok(());
     };
-    for user in set {
+    for user in list {
         reach(records, marked, user)?;
     }
     Ok(())
@@ -90,7 +89,7 @@ fn spread(records: &mut Records, users: &Users, marked: &mut Vec<Key>) -> Result
 /// Sets or takes away the marks of these keys' records.
 pub fn set_all(records: &mut Records, keys: &[Key], dirty: bool)
     ensures sets { SetsMarks dirty records.old records.new keys.now }
-    ensures ordered { IsOrdered key_cmp records.old → IsOrdered key_cmp records.new }
+    ensures keys { keys_of records.new ≡ keys_of records.old }
 {
     for key in keys {
         set(records, key, dirty);
@@ -117,7 +116,7 @@ pub fn mark_from(
 ) -> Result<(), Memory>
     requires { marked.old.items ≡ [] }
     ensures marked { Marked users.now leaves.now records.old records.new marked.new.items }
-    ensures ordered { IsOrdered key_cmp records.old → IsOrdered key_cmp records.new }
+    ensures keys { keys_of records.new ≡ keys_of records.old }
     ensures passed { OnOk result (HasPassed users.now records.new marked.new.items) }
     ensures begun { OnOk result (HasReachedAll records.new leaves.now) }
 {

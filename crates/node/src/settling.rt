@@ -1,16 +1,15 @@
 //! Records written in place.
 ghost use Rattle.std.specs.Prelude.{◌≡◌, Some, None, false, OnOk, OnErr, IsSome, if◌then◌else◌};
 ghost use Rattle.std.specs.Arc.{arc_value};
-ghost use Rattle.std.specs.BTreeMap.{Updates, IsOrdered};
-ghost use Rattle.keys.specs.Keys.{key_cmp};
+ghost use Rattle.numbered.specs.Tables.{AreDistinct, Writes};
 ghost use Rattle.keys.specs.Values.{value_eq};
 ghost use Rattle.node.specs.Kept.{kept_at, items_of};
-ghost use Rattle.node.specs.Writes.{written, stored, groups_at, HasPlaced, HasReadyMembers, SameSets, SameRecords};
+ghost use Rattle.node.specs.Writes.{written, stored, groups_at, HasPlaced, HasReadyMembers, SameSets};
 ghost use Rattle.node.specs.Edges.{HasUsers};
 ghost use Rattle.node.specs.Graphs.{IsLinked, HasStored, seen};
 ghost use Rattle.node.specs.declared.kept.Kept.{Kept};
 
-use crate::edges::{cut, cut_beside, link_groups, members_beside};
+use crate::edges::{cut, cut_beside, link_groups, members_beside, members_of};
 use crate::kept::{Kept, Records, Users};
 use keys::{Key, Value};
 use std::alloc::Global;
@@ -20,8 +19,8 @@ use texts::Memory;
 
 /// Writes a version into a record, and takes its mark away.
 pub fn settle(records: &mut Records, key: &Key, version: u32)
-    ensures updates { (e : Kept) → kept_at records.old key.now ≡ Some e → Updates key_cmp records.old records.new key.now (Some (record e { settled_at = version; dirty = false })) }
-    ensures ordered { IsOrdered key_cmp records.new }
+    ensures updates { (e : Kept) → kept_at records.old key.now ≡ Some e → Writes records.old records.new key.now (record e { settled_at = version; dirty = false }) }
+    ensures ordered { AreDistinct records.new }
 {
     if let Some(found) = records.get_mut(key) {
         found.settled_at = version;
@@ -49,9 +48,9 @@ pub fn write(
     groups: Vec<Vec<Key>>,
     version: u32,
 ) -> Vec<Vec<Key>>
-    ensures updates { (e : Kept) → kept_at records.old key.now ≡ Some e → Updates key_cmp records.old records.new key.now (Some (written e value groups version)) }
+    ensures updates { (e : Kept) → kept_at records.old key.now ≡ Some e → Writes records.old records.new key.now (written e value groups version) }
     ensures groups { (e : Kept) → kept_at records.old key.now ≡ Some e → result.items ≡ e.groups.items }
-    ensures ordered { IsOrdered key_cmp records.new }
+    ensures ordered { AreDistinct records.new }
 {
     match records.get_mut(key) {
         None => groups,
@@ -83,10 +82,11 @@ pub fn place(
     value: &Arc<Value>,
     version: u32,
 ) -> Result<(), Memory>
-    requires { IsOrdered key_cmp records.old }
+    requires ordered { AreDistinct records.old }
+    requires none { kept_at records.old key.now ≡ None }
     ensures ok { OnOk result (HasPlaced records.old records.new key.now (arc_value value.now) version) }
-    ensures err { OnErr result (records.new.entries ≡ records.old.entries) }
-    ensures ordered { IsOrdered key_cmp records.new }
+    ensures err { OnErr result (records.new ≡ records.old) }
+    ensures ordered { AreDistinct records.new }
 {
     let kept = Kept {
         value: Arc::try_clone(value)?,
@@ -95,7 +95,7 @@ pub fn place(
         changed_at: version,
         dirty: false,
     };
-    records.insert(key.share()?, kept)?;
+    records.push(key.share()?, kept)?;
     Ok(())
 }
 
@@ -112,12 +112,13 @@ pub fn rewrite(
 ) -> Result<(), Memory>
     requires recorded { IsSome (kept_at records.old key.now) }
     requires linked { IsLinked records.old users.old }
-    ensures ok { OnOk result ((e : Kept) → kept_at records.old key.now ≡ Some e → Updates key_cmp records.old records.new key.now (Some (written e value groups version)) × IsOrdered key_cmp records.new) }
+    ensures ok { OnOk result ((e : Kept) → kept_at records.old key.now ≡ Some e → Writes records.old records.new key.now (written e value groups version) × AreDistinct records.new) }
     ensures users { OnOk result (HasUsers users.old users.new key.now (items_of groups.items)) }
     ensures err { OnErr result ((records.new ≡ records.old) × SameSets users.old users.new) }
 {
     let keep = members_beside(alloc, kept_groups(records, key), groups.as_slice())?;
-    if let Err(error) = link_groups(alloc, users, groups.as_slice(), key) {
+    let linked = members_of(alloc, kept_groups(records, key))?;
+    if let Err(error) = link_groups(alloc, users, groups.as_slice(), &linked, key) {
         cut(users, groups.as_slice(), kept_groups(records, key), key);
         return Err(error);
     }
@@ -140,7 +141,7 @@ pub fn store(
     requires linked { IsLinked records.old users.old }
     requires ready { HasReadyMembers (seen records.old) key.now (items_of groups.items) }
     ensures ok { OnOk result (HasStored records.old records.new users.new key.now (stored (seen records.old key.now) (arc_value value) (items_of groups.items) version)) }
-    ensures err { OnErr result (SameRecords records.old records.new × SameSets users.old users.new) }
+    ensures err { OnErr result ((records.new ≡ records.old) × SameSets users.old users.new) }
 {
     if records.contains_key(key) {
         rewrite(alloc, records, users, key, value, groups, version)?;
@@ -150,7 +151,7 @@ pub fn store(
     match rewrite(alloc, records, users, key, value, groups, version) {
         Ok(()) => Ok(()),
         Err(error) => {
-            let _placed = records.remove(key);
+            let _placed = records.pop();
             Err(error)
         }
     }

@@ -40,7 +40,8 @@ impl<V> Model for Table<V> {
 impl<V> Table<V> {
     /// Returns an empty table.
     pub fn new(alloc: Global) -> Table<V>
-        ensures { result ≡ [] }
+        ensures empty { result ≡ [] }
+        ensures distinct { AreDistinct result }
     {
         Table {
             entries: IndexMap::new(alloc),
@@ -94,7 +95,7 @@ impl<V> Table<V> {
 
     /// Returns the value of a key, and None where the key is not there.
     pub fn get(&self, key: &Key) -> Option<&V>
-        ensures { option_copied result ≡ value_of self.now key.now }
+        ensures value { option_copied result ≡ value_of self.now key.now }
     {
         self.entries.get(key)
     }

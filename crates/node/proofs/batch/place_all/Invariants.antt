@@ -1,12 +1,11 @@
 use Rattle.std.proofs.Common.{take}
-use Rattle.std.specs.BTreeMap.{IsOrdered}
-use Rattle.keys.specs.Keys.{key_cmp}
+use Rattle.numbered.specs.Tables.{AreDistinct}
 use Rattle.node.specs.Batches.{HasPlacedSome, HasPlacedAll}
 use Rattle.node.proofs.batch.place_all.Given as goal
 
 abbrev pub invariant-loop-entry : goal.invariant-loop-entry
 invariant-loop-entry l = record {
-  some : HasPlacedSome l.fn.records l.records l.placed.items;
+  some : HasPlacedSome l.fn.records l.records;
   all : HasPlacedAll l.fn.records l.records (take l.entry-index l.entries) l.version;
-  ordered : IsOrdered key_cmp l.records;
+  ordered : AreDistinct l.records;
 }

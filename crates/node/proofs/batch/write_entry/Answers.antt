@@ -9,5 +9,5 @@ returns-clause-users c =
     let t = c.requires.1 in
     written_users c.args.records.now c.args.users.now c.cut.new.users c.args.entry c.requires.0 t _ _
     (ap items_of (c.as_slice.ensures.value ∙ c.write-old.ensures.groups c.requires.0 t.there))
-    (c.kept_groups.ensures ∙ ap groups_at (c.write-old.ensures.updates c.requires.0 t.there).1)
+    (c.kept_groups.ensures ∙ ap groups_at (c.write-old.ensures.updates c.requires.0 t.there).there)
     c.cut.ensures

@@ -10,3 +10,6 @@ loop-group-preserved c = record {
   some = group_some c.args.users.now c.loop-group.users c.link_group.new.users c.args.key.now c.args.groups.now c.loop-group.group-index c.group-item.result c.group-item.is c.loop-group-test.true c.loop-group.invariant.some c.as_slice.result.now c.as_slice.ensures.value c.link_group.ensures.some;
   all = group_all c.loop-group.users c.link_group.new.users c.args.key.now c.args.groups.now c.loop-group.group-index c.group-item.result c.group-item.is c.loop-group-test.true c.as_slice.result.now c.as_slice.ensures.value c.link_group.ensures.some c.in_ok-link_group.ensures.all c.loop-group.invariant.all;
 }
+
+pub link_group-requires : goal.link_group-requires
+link_group-requires c = λ j i. c.loop-group.invariant.some.keeps j c.args.key.now (c.requires j i)

@@ -1,16 +1,16 @@
-use Rattle.std.proofs.Common.{refl}
+use Rattle.std.proofs.Common.{refl, ◌∙◌}
 use Rattle.node.proofs.Collecting.{none_set, place_set}
 use Rattle.node.proofs.marks.set_all.Goals as goal
 
 pub loop-key-init : goal.loop-key-init
 loop-key-init c = record {
   sets = none_set c.args.dirty c.args.records.now _ refl;
-  ordered = λ o. o;
+  keys = refl;
 }
 
 pub loop-key-preserved : goal.loop-key-preserved
 loop-key-preserved c = record {
   sets = place_set c.args.dirty c.args.records.now c.loop-key.records c.set.new.records c.args.keys.now c.loop-key.key-index _ c.key-item.result c.key-item.is c.loop-key-test.true
       c.set.ensures.updates c.set.ensures.absent c.loop-key.invariant.sets;
-  ordered = λ o. c.set.ensures.ordered (c.loop-key.invariant.ordered o);
+  keys = c.set.ensures.keys ∙ c.loop-key.invariant.keys;
 }

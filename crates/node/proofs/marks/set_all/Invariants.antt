@@ -1,11 +1,10 @@
-use Rattle.std.proofs.Common.{take}
-use Rattle.std.specs.BTreeMap.{IsOrdered}
-use Rattle.keys.specs.Keys.{key_cmp}
+use Rattle.std.proofs.Common.{◌≡◌, take}
+use Rattle.std.specs.Map.{keys_of}
 use Rattle.node.specs.Marks.{SetsMarks}
 use Rattle.node.proofs.marks.set_all.Given as goal
 
 abbrev pub invariant-loop-key : goal.invariant-loop-key
 invariant-loop-key l = record {
   sets : SetsMarks l.fn.dirty l.fn.records l.records (take l.key-index l.keys);
-  ordered : IsOrdered key_cmp l.fn.records → IsOrdered key_cmp l.records;
+  keys : keys_of l.records ≡ keys_of l.fn.records;
 }

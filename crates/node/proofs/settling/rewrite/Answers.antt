@@ -1,8 +1,9 @@
-use Rattle.std.proofs.Common.{refl, sym, ◌∙◌, ap}
+use Rattle.std.proofs.Common.{refl, sym, subst, ◌∙◌, ap}
+use Rattle.evaluation.specs.Value.{IsMember}
 use Rattle.node.specs.Kept.{kept_at, items_of}
 use Rattle.node.specs.Writes.{groups_at}
 use Rattle.node.proofs.Joining.{cut_by_members}
-use Rattle.node.proofs.Rewriting.{some_kept, undone_users, finished_users}
+use Rattle.node.proofs.Rewriting.{some_kept, complete_at, undone_users, finished_users}
 use Rattle.node.proofs.settling.rewrite.Goals as goal
 
 pub returns-in-Err-clause-err : goal.returns-in-Err-clause-err
@@ -23,3 +24,7 @@ returns-clause-users c =
     (ap items_of c.as_slice-2.ensures.value) c.in_default.ensures.some c.in_default.ensures.all same (ap items_of c.as_slice.ensures.value)
     (cut_by_members c.link_groups.new.users c.cut_beside.new.users c.args.key.now (items_of c.as_slice-3.result.now) (items_of c.kept_groups.result.now) (items_of c.as_slice.result.now) c.in_ok-keep.keep
     (same ∙ sym c.kept_groups.ensures) c.in_ok-keep.ensures.some c.in_ok-keep.ensures.none c.cut_beside.ensures.some c.cut_beside.ensures.none)
+
+pub link_groups-requires : goal.link_groups-requires
+link_groups-requires c = λ j i.
+    complete_at c.args.records.now c.args.users.now c.requires.linked c.args.key.now j (subst (IsMember j) c.kept_groups-2.ensures ((c.in_ok-linked.ensures j).0 i))

@@ -7,7 +7,7 @@ use Rattle.node.proofs.graph.Graph.mark.Goals as goal
 pub invariant_of-self : goal.invariant_of-self
 invariant_of-self c =
     marking_linked c.self.inside.users c.self.inside.records c.set_all.new.records c.self.inside.version c.args.self.now c.self.view_is c.self.invariant c.args.reached.now c.set_all.ensures.sets
-    c.requires.reached.0 c.requires.reached.1 (c.set_all.ensures.ordered c.self.invariant.ordered)
+    c.requires.reached.0 c.requires.reached.1 c.set_all.ensures.keys
 
 pub returns-clause-marks : goal.returns-clause-marks
 returns-clause-marks c = λ path r.

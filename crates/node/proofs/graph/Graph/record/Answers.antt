@@ -1,7 +1,6 @@
 use Rattle.std.proofs.Common.{◌∙◌, ap}
 use Rattle.node.specs.Kept.{items_of}
 use Rattle.node.proofs.Lists.{on_err}
-use Rattle.node.proofs.Linking.{seen_same}
 use Rattle.node.proofs.Storing.{unstored_linked, ready_seen, stored_seen}
 use Rattle.std.specs.Arc.{arc_value}
 use Rattle.node.specs.Graphs.{Recorded, recorded}
@@ -19,7 +18,7 @@ invariant_of-self c =
 pub returns-in_err-store-clause-refused : goal.returns-in_err-store-clause-refused
 returns-in_err-store-clause-refused c =
     let e = c.in_err-store.ensures.err in
-    on_err c.from_residual.result (seen_same c.self.inside.records c.store.new.records e.0.0 e.0.1 c.self.inside.version c.self.invariant.ordered ∙ c.self.view_is)
+    on_err c.from_residual.result (ap (recorded c.self.inside.version) e.0 ∙ c.self.view_is)
 
 pub returns-clause-recorded : goal.returns-clause-recorded
 returns-clause-recorded c =
