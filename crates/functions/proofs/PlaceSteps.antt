@@ -1,5 +1,5 @@
 -- The first places of the keys of a group, from one key to the next.
-use Rattle.std.proofs.Common.{◌≡◌, ℕ, zero, suc, ◌+◌, Bool, true, false, cond, List, [], ◌∷◌, drop, Option, Some, None, refl, sym, ◌∙◌, ap, subst}
+use Rattle.std.proofs.Common.{◌≡◌, ℕ, zero, suc, ◌+◌, Bool, true, false, cond, List, [], ◌∷◌, drop, Option, Some, None, refl, sym, ◌∙◌, ap, subst, arith}
 use Rattle.std.specs.Option.{is_some}
 use Rattle.std.specs.List.{slice_get}
 use Rattle.std.specs.BTreeMap.{BTreeMap, get, Updates, is_at}
@@ -26,18 +26,23 @@ none_left k [] = refl
 none_left k (j ∷ group) = refl
 
 -- one key of the group: its answer, or that of the keys behind it
-one_key : (i : ℕ) (answers : List Value) (k j : Key) (behind : List Key) → answer_at k (j ∷ behind) (drop i answers) ≡ cond (key_eq k j) (slice_get answers i) (answer_at k behind (drop (i + 1) answers))
-one_key i [] k j behind = go (drop i []) (drop (i + 1) []) (nothing i) (nothing (i + 1)) (key_eq k j)
+one_key_suc : (i : ℕ) (answers : List Value) (k j : Key) (behind : List Key) → answer_at k (j ∷ behind) (drop i answers) ≡ cond (key_eq k j) (slice_get answers i) (answer_at k behind (drop (suc i) answers))
+one_key_suc i [] k j behind = go (drop i []) (nothing i) (key_eq k j)
   where
     nothing : (n : ℕ) → ◌≡◌ {A = List Value} (drop n []) []
     nothing zero = refl
     nothing (suc n) = refl
 
-    go : (here later : List Value) → here ≡ [] → later ≡ [] → (b : Bool) → answer_at k (j ∷ behind) here ≡ cond b None (answer_at k behind later)
-    go here later h l true = ap (answer_at k (j ∷ behind)) h
-    go here later h l false = ap (answer_at k (j ∷ behind)) h ∙ sym (none_left k behind) ∙ ap (answer_at k behind) (sym l)
-one_key zero (a ∷ answers) k j behind = refl
-one_key (suc i) (a ∷ answers) k j behind = one_key i answers k j behind
+    go : (here : List Value) → here ≡ [] → (b : Bool) → answer_at k (j ∷ behind) here ≡ cond b None (answer_at k behind [])
+    go here h true = ap (answer_at k (j ∷ behind)) h
+    go here h false = ap (answer_at k (j ∷ behind)) h ∙ sym (none_left k behind)
+one_key_suc zero (a ∷ answers) k j behind = refl
+one_key_suc (suc i) (a ∷ answers) k j behind = one_key_suc i answers k j behind
+
+one_key : (i : ℕ) (answers : List Value) (k j : Key) (behind : List Key) → answer_at k (j ∷ behind) (drop i answers) ≡ cond (key_eq k j) (slice_get answers i) (answer_at k behind (drop (i + 1) answers))
+one_key i answers k j behind =
+    let next : suc i ≡ i + 1 = omega arith in
+    subst (λ n. answer_at k (j ∷ behind) (drop i answers) ≡ cond (key_eq k j) (slice_get answers i) (answer_at k behind (drop n answers))) next (one_key_suc i answers k j behind)
 
 same_key : (k j : Key) → key_eq k j ≡ true → k ≡ j
 same_key k j e = (exact_key_eq k j).0 e
@@ -73,6 +78,7 @@ module _ (i : ℕ) (places : BTreeMap Key ℕ) (group : List Key) (j : Key) (nex
   pub place_set : (more : BTreeMap Key ℕ) → is_some (get key_cmp places j) ≡ false → Updates key_cmp places more j (Some i) → ArePlacesUpTo (i + 1) more group
   place_set more new u k answers = ap (λ o. answer_or o answers (answer_at k (drop (i + 1) group) (drop (i + 1) answers))) (u.0 k) ∙ go (is_at (key_cmp j) k) refl ∙ so_far k answers
     where
+      rest : Option Value
       rest = answer_at k (drop i group) (drop i answers)
 
       -- no place was there

@@ -39,7 +39,7 @@ module _ (paused : Paused) (w : IsWaiting paused) where
     asks_first none =
         let all = group_is group g in
         let some : length answers < length group = subst (λ (l : List Key). length answers < length l) (sym all) (subst (λ (l : List Value). length l < length (glob_group env.package_name patterns)) (sym none) (some_group env patterns w.asks)) in
-        (asks_again some, record { may = w; goes = λ more. ap (λ l. led env (l ++ more)) none; })
+        (asks_again some, record { may = w; goes = λ more. ap (λ l. led env (l ++ more)) none })
 
   -- with those of its group it goes on to the outcome of the file with their paths
   pub goes_on_by : (answers : List Value) (n : ℕ) (paths : List (List (List ℕ))) (outcome : Outcome) → Gives paused.package_name patterns answers paths n
@@ -48,7 +48,7 @@ module _ (paused : Paused) (w : IsWaiting paused) where
       let all = glob_group env.package_name patterns in
       let count : n ≡ length all = gives.count ∙ ap length (group_is (glob_group paused.package_name patterns) refl) in
       let given : answered env patterns paths ≡ with_paths env patterns answers =
-      ap (λ ps. with_answers (env.globs ++ zip patterns ps) env) (gives.paths ∙ ap (λ name. paths_by (glob_group name patterns) (glob_keys name patterns) answers) (sym w.named)) in
+      ap (λ ps. with_answers (env.globs ++ zip patterns ps) env) (gives.given ∙ ap (λ name. paths_by (glob_group name patterns) (glob_keys name patterns) answers) (sym w.named)) in
       record {
         given = with_paths env patterns answers;
         named = refl;

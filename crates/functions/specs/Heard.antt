@@ -7,10 +7,10 @@ use Rattle.functions.specs.declared.evaluating.Heard.{Heard}
 use Rattle.functions.specs.declared.evaluating.Heard.TheVariants as heard
 
 -- enough answers are there, and give these paths
-record Gives (package_name : List ℕ) (patterns : List (List ℕ)) (answers : List Value) (paths : List (List (List ℕ))) (n : ℕ) : Type 0 where
+pub record Gives (package_name : List ℕ) (patterns : List (List ℕ)) (answers : List Value) (paths : List (List (List ℕ))) (n : ℕ) : Type 0 where
   pub count : n ≡ length (glob_group package_name patterns)
   pub there : n ≤ length answers
-  pub paths : paths ≡ paths_by (glob_group package_name patterns) (glob_keys package_name patterns) answers
+  pub given : paths ≡ paths_by (glob_group package_name patterns) (glob_keys package_name patterns) answers
 
 -- no answer is there, too few are, or enough
 abbrev pub IsHeard : List ℕ → List (List ℕ) → List Value → Heard → Type 0

@@ -3,7 +3,6 @@ ghost use Rattle.std.specs.Prelude.{◌≡◌, true, Some, is_some, IfOk, OnOk, 
 ghost use Rattle.std.specs.BTreeMap.{get, Updates as MapUpdates};
 ghost use Rattle.std.specs.BTreeSet.{contains, Updates};
 ghost use Rattle.keys.specs.Keys.{key_cmp};
-ghost use Rattle.std.specs.Arc.{arc_value};
 ghost use Rattle.keys.specs.Turns.{values};
 ghost use Rattle.functions.specs.Once as specs;
 ghost use Rattle.functions.specs.Once.{ArePlaces};
