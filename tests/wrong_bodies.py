@@ -293,7 +293,13 @@ def lay_out(room, name, uses):
         for part in [*PARTS, kept]:
             if os.path.isdir(f"{ROOT}/crates/{it}/{part}"):
                 os.makedirs(os.path.dirname(f"{room}/crates/{it}/{part}"), exist_ok=True)
-                subprocess.run(["cp", "-a", f"{ROOT}/crates/{it}/{part}", f"{room}/crates/{it}/{part}"], check=True)
+                paths = [f"{ROOT}/crates/{it}/{part}", f"{room}/crates/{it}/{part}"]
+                # The libraries below are only read, so links to them do, where the disk is the same.
+                link = ["cp", "-al", *paths]
+                is_linked = part == "out/rlib" and not subprocess.run(link, stderr=subprocess.DEVNULL).returncode
+                if not is_linked:
+                    shutil.rmtree(paths[1], ignore_errors=True)
+                    subprocess.run(["cp", "-a", *paths], check=True)
 
 
 def check(room, name, texts):
