@@ -1,10 +1,9 @@
 -- Attributes under their names as members of an object.
-use Rattle.std.specs.Prelude.{◌≡◌, ◌≢◌, ℕ, ◌<◌, ◌≤◌, List, [], ◌∷◌, length, take, drop}
+use Rattle.std.specs.Prelude.{◌≡◌, ◌≢◌, ℕ, ◌≤◌, List, [], ◌∷◌, length, take, drop}
 use Rattle.std.specs.Cow.{cow_str_bytes}
 use Rattle.std.specs.Cmp.Lexicographic.{slice_cmp}
 use Rattle.std.specs.Ordering.{nat_cmp}
 use Rattle.std.specs.declared.cmp.Ordering.TheVariants.{Greater}
-use Rattle.std.specs.List.{HoldsAt}
 use Rattle.serde_json.specs.Data.{Data, Members, member, put}
 use Rattle.answers.specs.Answers.{attribute_data}
 use Rattle.answers.specs.declared.order.Row.{Row}

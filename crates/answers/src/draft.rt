@@ -1,5 +1,5 @@
 //! The text of an answer that is being written.
-ghost use Rattle.std.specs.Prelude.{◌≡◌, ◌++◌, ◌∷◌, [], IfOk, OnOk, decimal, string_bytes};
+ghost use Rattle.std.specs.Prelude.{◌≡◌, ◌++◌, ◌∷◌, [], OnOk, decimal, string_bytes};
 ghost use Rattle.json.specs.Print.{print};
 ghost use Rattle.serde_json.specs.Data.{Data};
 ghost use Rattle.serde_json.specs.Written.{compact_text};
@@ -12,7 +12,7 @@ use std::marker::Model;
 use texts::Memory;
 
 /// The beginning of a text of JSON. It grows by a token at a time, straight from where the values stand. A contract
-/// sees the tokens. Each call that is refused memory leaves them as they were, or is the last.
+/// sees the tokens. Each call that writes returns `Memory` if an allocation fails; the draft is of no use then.
 #[derive(Drop)]
 pub struct Draft {
     writer: Writer,
@@ -42,13 +42,13 @@ impl Draft {
     }
 
     /// The text. Where the tokens are those of a value, it is that value's.
-    pub fn into_text(self) -> Result<String, Memory>
-        ensures print { IfOk result (λ text. string_bytes text ≡ print self) }
-        ensures value { IfOk result (λ text. (d : Data) → self ≡ tokens_of d → string_bytes text ≡ compact_text d) }
+    pub fn into_text(self) -> String
+        ensures print { string_bytes result ≡ print self }
+        ensures value { (d : Data) → self ≡ tokens_of d → string_bytes result ≡ compact_text d }
     {
         match String::from_utf8(self.writer.into_inner()) {
-            Ok(text) => Ok(text),
-            Err(_) => Err(Memory),
+            Ok(text) => text,
+            Err(_) => unreachable!(),
         }
     }
 

@@ -1,8 +1,8 @@
 //! Attributes in byte order of their names.
-ghost use Rattle.std.specs.Prelude.{◌≡◌, ◌≢◌, ◌≤◌, ◌<◌, OnOk, IfOk, length, take, drop};
+ghost use Rattle.std.specs.Prelude.{◌≡◌, OnOk, IfOk};
 ghost use Rattle.std.specs.Cow.{cow_str_bytes};
 ghost use Rattle.std.specs.Str.Lossy.{utf8_lossy};
-ghost use Rattle.serde_json.specs.Data.{Data, put, no_members};
+ghost use Rattle.serde_json.specs.Data.{put, no_members};
 ghost use Rattle.answers.specs.Answers.{attribute_data, put_attributes};
 ghost use Rattle.answers.specs.Order.{onto, Passes};
 

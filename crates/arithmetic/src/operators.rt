@@ -22,19 +22,28 @@ pub fn add(heap: &mut Heap, a: Val, b: Val) -> Result<Val, Halt>
 fn join(heap: &mut Heap, a: usize, b: usize) -> Result<Val, Halt>
     ensures { Says (joins (at a (store_of heap.old)) (at b (store_of heap.old)) (store_of heap.old)) result (store_of heap.new) }
 {
-    match (heap.objects.get(a), heap.objects.get(b)) {
-        (Some(Object::Text(x)), Some(Object::Text(y))) => {
-            let bytes = joined(heap.alloc, x.as_slice(), y.as_slice())?;
-            heap.make_text(bytes)
-        }
-        (Some(Object::List(x, _)), Some(Object::List(y, _))) => {
-            let members = joined(heap.alloc, x.as_slice(), y.as_slice())?;
-            heap.make_list(members)
-        }
-        (Some(Object::Tuple(x)), Some(Object::Tuple(y))) => {
-            let members = joined(heap.alloc, x.as_slice(), y.as_slice())?;
-            heap.make_tuple(members)
-        }
+    match heap.object(a) {
+        Some(Object::Text(x)) => match heap.object(b) {
+            Some(Object::Text(y)) => {
+                let bytes = joined(heap.alloc, x.as_slice(), y.as_slice())?;
+                heap.make_text(bytes)
+            }
+            _ => Err(Halt::Code(5)),
+        },
+        Some(Object::List(x, _)) => match heap.object(b) {
+            Some(Object::List(y, _)) => {
+                let members = joined(heap.alloc, x.as_slice(), y.as_slice())?;
+                heap.make_list(members)
+            }
+            _ => Err(Halt::Code(5)),
+        },
+        Some(Object::Tuple(x)) => match heap.object(b) {
+            Some(Object::Tuple(y)) => {
+                let members = joined(heap.alloc, x.as_slice(), y.as_slice())?;
+                heap.make_tuple(members)
+            }
+            _ => Err(Halt::Code(5)),
+        },
         _ => Err(Halt::Code(5)),
     }
 }
@@ -141,7 +150,7 @@ pub fn is_true(heap: &Heap, a: Val) -> bool
 fn is_object_true(heap: &Heap, place: usize) -> bool
     ensures { result ≡ object_is_true (at place (store_of heap.now)) }
 {
-    match heap.objects.get(place) {
+    match heap.object(place) {
         Some(Object::Text(bytes)) => !bytes.as_slice().is_empty(),
         Some(Object::List(members, _)) => !members.is_empty(),
         Some(Object::Tuple(members)) => !members.is_empty(),

@@ -4,7 +4,7 @@ ghost use Rattle.meaning.specs.Hashing.{key, inner_key, along, part_key, visit_k
 ghost use Rattle.heap.specs.View.{object_of, SaysItems};
 ghost use Rattle.comparing.specs.Seen.{key_seen};
 
-use heap::{Halt, Object, Part, Val, tick};
+use heap::{Halt, Object, Part, Val, object_at, tick};
 use std::alloc::Global;
 use texts::Memory;
 
@@ -25,7 +25,7 @@ fn as_key<'a>(objects: &'a [Object], x: Val) -> Result<AsKey<'a>, Memory>
         Val::Bool(b) => Ok(AsKey::Part(Part::Bool(b))),
         Val::Int(n) => Ok(AsKey::Part(Part::Int(n))),
         Val::Builtin(_) => Ok(AsKey::NoKey),
-        Val::At(place) => match objects.get(place) {
+        Val::At(place) => match object_at(objects, place) {
             Some(Object::Text(bytes)) => Ok(AsKey::Part(Part::Text(bytes.share()?))),
             Some(Object::Tuple(members)) => Ok(AsKey::Parts(members.as_slice())),
             _ => Ok(AsKey::NoKey),

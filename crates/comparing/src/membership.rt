@@ -96,7 +96,7 @@ fn hashed_has(heap: &mut Heap, a: usize, x: Val) -> Result<bool, Halt>
 fn has_key(heap: &Heap, a: usize, key: &Key) -> Result<bool, Halt>
     ensures { Says (has_key (at a (store_of heap.now)) key.now (store_of heap.now)) result (store_of heap.now) }
 {
-    match heap.objects.get(a) {
+    match heap.object(a) {
         Some(Object::Dict(entries, _)) => Ok(found(entries, key).is_some()),
         _ => Err(Halt::Code(5)),
     }

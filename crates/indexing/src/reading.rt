@@ -68,7 +68,7 @@ fn found_key(heap: &mut Heap, a: usize, i: Val) -> Result<Val, Halt>
 fn at_key(heap: &Heap, a: usize, key: &Key) -> Result<Val, Halt>
     ensures { Says (at_key (at a (store_of heap.now)) key.now (store_of heap.now)) result (store_of heap.now) }
 {
-    match heap.objects.get(a) {
+    match heap.object(a) {
         Some(Object::Dict(entries, _)) => match found(entries, key) {
             Some(entry) => Ok(entry.value),
             None => Err(Halt::Code(8)),
@@ -100,7 +100,7 @@ pub fn slice(heap: &mut Heap, a: Val, i: Val, j: Val) -> Result<Val, Halt>
 fn slice_object(heap: &mut Heap, a: usize, i: Val, j: Val) -> Result<Val, Halt>
     ensures { Says (slice_object (at a (store_of heap.old)) i j (store_of heap.old)) result (store_of heap.new) }
 {
-    match heap.objects.get(a) {
+    match heap.object(a) {
         Some(Object::Text(bytes)) => {
             let part = cut(heap.alloc, bytes.as_slice(), i, j)?;
             heap.make_text(part)

@@ -143,9 +143,10 @@ impl Ord for Key {
     ghost matches_eq = { Prim.search (comparing, rules) };
 
     fn cmp(&self, other: &Key) -> Ordering {
-        self.kind()
-            .cmp(&other.kind())
-            .then(self.name().cmp(other.name()))
+        match self.kind().cmp(&other.kind()) {
+            Ordering::Equal => self.name().cmp(other.name()),
+            apart => apart,
+        }
     }
 }
 

@@ -1,5 +1,6 @@
 //! A turn that was made.
 ghost use Rattle.std.specs.Prelude.{◌≡◌, ◌↔◌, IsOk, IfOk};
+ghost use Rattle.std.specs.Bool.{Decides};
 ghost use Rattle.keys.specs.Steps.{IsStep};
 ghost use Rattle.keys.specs.Turns.{values};
 ghost use Rattle.keys.specs.Jobs.{Made};
@@ -86,6 +87,17 @@ impl<R: Rules> Turned<R> {
         ensures { values result.now ≡ self.now.asked.answers }
     {
         self.answers.as_slice()
+    }
+
+    /// Whether the turn was made, and not refused for memory.
+    pub fn is_made(&self) -> bool
+        ensures { Decides result (self.now.ending ≡ Made) }
+    {
+        match self.answer {
+            Answer::Made(_) => true,
+            Answer::Refused => false,
+            Answer::NotBegun => false,
+        }
     }
 
     /// What the turn leads to, or `Memory` where it was refused.

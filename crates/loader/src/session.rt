@@ -1,5 +1,5 @@
 //! The present files with the graph of what was found out about them, and their edits.
-ghost use Rattle.std.specs.Prelude.{◌≡◌, ◌<◌, ◌≤◌, ◌++◌, ◌∷◌, [], Option, Some, Ok, IfOk, IfErr, OnOk, OnErr, option_map, string_bytes};
+ghost use Rattle.std.specs.Prelude.{◌≡◌, ◌≤◌, ◌++◌, ◌∷◌, [], Ok, IfOk, OnOk, OnErr, string_bytes};
 ghost use Rattle.evaluation.specs.Graph.{Marks};
 ghost use Rattle.filetree.specs.Edits as edits;
 ghost use Rattle.node.specs.Graphs.{record_at, IsTouched};
@@ -7,7 +7,6 @@ ghost use Rattle.functions.specs.Next.{next};
 ghost use Rattle.leaves.specs.Leaves.{read};
 ghost use Rattle.open_nodes.specs.Counted.{turns_of};
 ghost use Rattle.round.specs.Call.{Calls};
-ghost use Rattle.serde_json.specs.Written.{compact_text};
 ghost use Rattle.loader.specs.Answers as answers;
 ghost use Rattle.loader.specs.Effects.{AreHeld, Moves, StopsAfter, request_effect, request_roots};
 ghost use Rattle.loader.specs.State as state;

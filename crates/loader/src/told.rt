@@ -86,7 +86,7 @@ fn packages_text(alloc: Global, graph: &Graph, roots: &[Key]) -> Result<String, 
 {
     let mut out = Draft::new(alloc);
     write_packages(alloc, &mut out, graph, roots)?;
-    out.into_text()
+    Ok(out.into_text())
 }
 
 // Writes the packages that are held of these keys.
@@ -126,7 +126,7 @@ fn module_text(alloc: Global, graph: &Graph, roots: &[Key]) -> Result<String, Me
 {
     let mut out = Draft::new(alloc);
     write_first_module(alloc, &mut out, graph, roots)?;
-    out.into_text()
+    Ok(out.into_text())
 }
 
 // Writes the module that is held of the first of these keys.

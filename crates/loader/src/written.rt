@@ -1,6 +1,5 @@
 //! Answers as they are written.
-ghost use Rattle.std.specs.Prelude.{◌≡◌, Option, IfOk, string_bytes, codes, false};
-ghost use Rattle.keys.specs.declared.value.BuildName.{BuildName};
+ghost use Rattle.std.specs.Prelude.{◌≡◌, IfOk, string_bytes, codes, false};
 ghost use Rattle.serde_json.specs.View.{view};
 ghost use Rattle.serde_json.specs.Written.{compact_text, has_float};
 ghost use Rattle.loader.specs.Answers as answers;

@@ -1,12 +1,12 @@
 -- The methods as they are called one by one are those of the definition.
-use Rattle.std.proofs.Common.{◌≡◌, ℕ, List, [], ◌∷◌, Bool, map, Some, refl, ap, ◌∙◌}
+use Rattle.std.proofs.Common.{◌≡◌, ℕ, List, [], ◌∷◌, Bool, map, Option, Some, refl, ap, sym, subst, ◌∙◌}
 use Rattle.std.specs.Prelude.{codes, if◌then◌else◌}
 use Rattle.meaning.specs.declared.val.Val.{Val}
 use Rattle.meaning.specs.Outcome.{Does, ◌>>=◌, pure, fault}
-use Rattle.meaning.specs.Heap.{Entries, Store, list, dict, makes_list}
+use Rattle.meaning.specs.Heap.{Entries, Store, Obj, text, list, dict, makes_list}
 use Rattle.meaning.specs.Comparing.{same_text}
 use Rattle.meaning.specs.Indexing.{keys_of}
-use Rattle.meaning.specs.Methods.{list_method, dict_method, text_method, makes_items}
+use Rattle.meaning.specs.Methods.{object_method, list_method, dict_method, text_method, makes_items}
 use Rattle.methods.specs.Cases.{of_list, of_dict, of_text, entry_tuple, entry_tuples, entry_list, get_other}
 
 pub list_same : (a : ℕ) (members : List Val) (f : Bool) (name : List ℕ) (xs : List Val) → list_method a (list members f) name xs ≡ of_list a (Some (list members f)) name xs
@@ -43,3 +43,13 @@ dict_same es f name [] =
 dict_same es f name (x ∷ []) = refl
 dict_same es f name (x ∷ y ∷ []) = refl
 dict_same es f name (x ∷ y ∷ z ∷ zs) = refl
+
+-- the same, of what stands at a place
+pub text_here : (a : ℕ) (o : Option Obj) (bytes name : List ℕ) (xs : List Val) → o ≡ Some (text bytes) → object_method a o name xs ≡ of_text bytes name xs
+text_here a o bytes name xs h = ap (λ p. object_method a p name xs) h ∙ text_same bytes name xs
+
+pub list_here : (a : ℕ) (o : Option Obj) (members : List Val) (f : Bool) (name : List ℕ) (xs : List Val) → o ≡ Some (list members f) → object_method a o name xs ≡ of_list a o name xs
+list_here a o members f name xs h = subst (λ p. object_method a p name xs ≡ of_list a p name xs) (sym h) (list_same a members f name xs)
+
+pub dict_here : (a : ℕ) (o : Option Obj) (es : Entries) (f : Bool) (name : List ℕ) (xs : List Val) → o ≡ Some (dict es f) → object_method a o name xs ≡ of_dict o name xs
+dict_here a o es f name xs h = subst (λ p. object_method a p name xs ≡ of_dict p name xs) (sym h) (dict_same es f name xs)

@@ -3,3 +3,4 @@ pub mod Endings
 pub mod Split
 pub mod Joined
 pub mod Bridges
+pub mod Turns

@@ -37,7 +37,6 @@ pub fn method(
 }
 
 // A method of what stands at a place.
-#[tactic(auto, using(crate::proofs::Bridges::text_same, crate::proofs::Bridges::list_same, crate::proofs::Bridges::dict_same))]
 fn object_method(heap: &mut Heap, a: usize, name: &str, xs: &[Val]) -> Result<Val, Halt>
     ensures { Says (object_method a (at a (store_of heap.old)) name.now xs.now (store_of heap.old)) result (store_of heap.new) }
 {

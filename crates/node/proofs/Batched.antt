@@ -1,7 +1,7 @@
 -- What a batch comes to: all of its records are stored, or nothing has changed.
 use Rattle.std.proofs.Common.{◌≡◌, ◌⊎◌, inl, inr, ℕ, Bool, true, false, cond, List, [], Option, Some, None, refl, sym, ◌∙◌, ap, subst}
 use Rattle.std.specs.Arc.{arc_value}
-use Rattle.std.specs.Option.{option_map}
+use Rattle.std.specs.Option.{option_map, is_some}
 use Rattle.evaluation.specs.Graph.{Record}
 use Rattle.evaluation.specs.Value.{AllDiffer, In, IsMember}
 use Rattle.numbered.specs.Tables.{AreDistinct}
@@ -13,7 +13,7 @@ use Rattle.node.specs.declared.entry.Entry.{Entry}
 use Rattle.node.specs.Kept.{Records, Users, kept_at, users_at, record_of, items_of}
 use Rattle.node.specs.Writes.{stored, written, groups_at, SameSets}
 use Rattle.node.specs.Graphs.{Recorded, recorded, record_at, seen, groups_of, IsLinked}
-use Rattle.node.specs.Batches.{asked, keys_of, HasReadyEntries, SetsAll, HasStoredAll, IsThere, HasPlacedAll, HasLinkedEntries, HasLinkedEach, kept_members, HasCutAll, IsToWrite, IsWritten, HasWrittenAll, IsWriting}
+use Rattle.node.specs.Batches.{AreRecorded, asked, keys_of, HasReadyEntries, SetsAll, HasStoredAll, IsThere, HasPlacedAll, HasLinkedEntries, HasLinkedEach, kept_members, HasCutAll, IsToWrite, IsWritten, HasWrittenAll, IsWriting}
 use Rattle.node.proofs.Lists.{not_in, none_some, some_is, true_false}
 use Rattle.node.proofs.Linking.{is_seen, is_kept, seen_all}
 use Rattle.node.proofs.Storing.{seen_was}
@@ -225,3 +225,7 @@ module _ (old : Records) (version : ℕ) (was : Recorded) (b : recorded version 
 -- each entry's key is a user of the members of its record
 pub are_users : (old placed : Records) (users : Users) (entries : List Entry) (version : ℕ) → IsLinked old users → HasPlacedAll old placed entries version → (e : Entry) (j : Key) → IsMember j (groups_at (kept_at placed e.key)) → In e.key (users_at users j)
 are_users old placed users entries version linked there = member_users old placed users users entries version linked there (record { from = λ j k i. inl i; keeps = λ j k i. i })
+
+-- each entry's key has a record once the records are put there
+pub there_recorded : (old placed : Records) (entries : List Entry) (version : ℕ) → HasPlacedAll old placed entries version → AreRecorded placed entries
+there_recorded old placed entries version p e i = elim (p.there e i) [ inl w ↦ ap is_some w.2 | inr w ↦ ap is_some w.2 ]

@@ -15,7 +15,7 @@ use Rattle.node.specs.Marks.{IsDirty, IsReached, at_leaf, by_user, Marked, HasPa
 use Rattle.node.specs.Graphs.{Recorded, recorded, record_at, seen, touched_leaves, IsTouched, IsLinked, AreReached}
 use Rattle.node.proofs.Lists.{in_split, in_left, in_right, in_one, not_in, some_is, none_some, same_or_value}
 use Rattle.node.proofs.Linking.{is_kept, is_seen, seen_all, reaches, edit_marks, still_linked, touched_marks}
-use Rattle.node.proofs.Reaching.{one_more}
+use Rattle.node.proofs.Numbering.{one_more}
 
 -- no mark is set yet
 pub none_set : (dirty : Bool) (records : Records) (keys : List Key) → keys ≡ [] → SetsMarks dirty records records keys

@@ -1,5 +1,5 @@
 -- Sets of users.
-use Rattle.std.proofs.Common.{◌≡◌, ◌≢◌, ◌⊎◌, inl, inr, ℕ, ◌+◌, ◌<◌, ◌≤◌, length, take, map, add-one, slice_index_or, Bool, true, false, cond, not, ◌||◌, List, [], ◌∷◌, ◌++◌, Some, None, refl, sym, ◌∙◌, ap, subst}
+use Rattle.std.proofs.Common.{◌≡◌, ◌≢◌, ◌⊎◌, inl, inr, ℕ, ◌+◌, ◌<◌, ◌≤◌, length, take, map, add-one, slice_index_or, Bool, true, false, ◌==◌, cond, not, ◌||◌, List, [], ◌∷◌, ◌++◌, Some, None, refl, sym, ◌∙◌, ap, subst}
 use Rattle.std.specs.List.{list_any, filter}
 use Rattle.std.specs.BTreeMap.{is_at}
 use Rattle.std.specs.BTreeSet.{BTreeSet, contains, Updates}
@@ -14,14 +14,15 @@ use Rattle.keys.specs.Keys.{key_eq}
 use Rattle.std.specs.declared.alloc.Global.{Global}
 use Rattle.std.specs.declared.vec.Vec.{Vec}
 use Rattle.std.proofs.lemmas.List.{map-append}
+use Rattle.std.proofs.lemmas.Bool.{eq-eqb, eqb-true}
 use Rattle.std.proofs.Math.Seq.{take-suc, take_all}
 use Rattle.std.specs.Prelude.{Option, IfSome, IfNone}
-use Rattle.node.specs.Kept.{Users, users_at, listed, items_of}
+use Rattle.node.specs.Kept.{UserLists, numbers_at, listed, items_of}
 use Rattle.node.specs.Edges.{IsAdded, IsRemoved, SameUsers, HasLinked, HasUnlinked, HasLinkedSome, HasLinkedAll, HasCut, AreMembers, among}
 use Rattle.numbered.specs.Tables.{value_of, Writes}
-use Rattle.numbered.proofs.Numbers.{key_itself, other_key, value_pushed, others_pushed}
+use Rattle.numbered.proofs.Numbers.{value_pushed, others_pushed}
 use Rattle.node.proofs.Lists.{true_false, decide_key, not_in, in_split, in_one, in_left, in_right}
-use Rattle.node.proofs.Reaching.{in_at_is}
+use Rattle.node.proofs.Numbering.{in_at_is}
 
 or_right : (a b : Bool) → b ≡ true → a || b ≡ true
 or_right true b e = refl
@@ -82,18 +83,18 @@ module _ (old new : BTreeSet Key) (key : Key) where
       keeps k i false t = inl (in_has new k (u.2 k t ∙ has_in old k i))
 
 -- a user is added to a list, or taken out
-pub list_added : (list : List Key) (key : Key) → IsAdded list (list ++ key ∷ []) key
+pub list_added : {X : Type 0} (list : List X) (key : X) → IsAdded list (list ++ key ∷ []) key
 list_added list key = record {
   from = λ k i. elim (in_split i list (key ∷ []) refl) [ inl a ↦ inl a | inr b ↦ inr (sym (in_one b)) ];
   keeps = λ k i. in_left (key ∷ []) i;
   has = in_right list first;
 }
 
-one_of : {k x : Key} {xs : List Key} → In k (x ∷ xs) → (x ≡ k) ⊎ In k xs
+one_of : {k x : ℕ} {xs : List ℕ} → In k (x ∷ xs) → (x ≡ k) ⊎ In k xs
 one_of first = inl refl
 one_of (after i) = inr i
 
-in_filter : {k : Key} (test : Key → Bool) (xs : List Key) → In k (filter test xs) → In k xs × (test k ≡ true)
+in_filter : {k : ℕ} (test : ℕ → Bool) (xs : List ℕ) → In k (filter test xs) → In k xs × (test k ≡ true)
 in_filter test [] i = elim i [ ]
 in_filter {k} test (x ∷ xs) i = go (test x) refl i (λ a. in_filter test xs a)
   where
@@ -104,7 +105,7 @@ in_filter {k} test (x ∷ xs) i = go (test x) refl i (λ a. in_filter test xs a)
     ]
     go false t i f = let r = f i in (after r.0, r.1)
 
-filter_in : {k : Key} (test : Key → Bool) (xs : List Key) → In k xs → test k ≡ true → In k (filter test xs)
+filter_in : {k : ℕ} (test : ℕ → Bool) (xs : List ℕ) → In k xs → test k ≡ true → In k (filter test xs)
 filter_in test [] i h = elim i [ ]
 filter_in {k} test (x ∷ xs) i h = go (test x) refl (λ a. filter_in test xs a h)
   where
@@ -112,55 +113,65 @@ filter_in {k} test (x ∷ xs) i h = go (test x) refl (λ a. filter_in test xs a 
     go true t f = elim (one_of i) [ inl q ↦ subst (λ y. In y (x ∷ filter test xs)) q first | inr a ↦ after (f a) ]
     go false t f = elim (one_of i) [ inl q ↦ absurd (true_false (subst (λ y. test y ≡ true) (sym q) h) t) | inr a ↦ f a ]
 
-pub list_removed : (list : List Key) (key : Key) → IsRemoved list (filter (λ k. not (key_eq k key)) list) key
-list_removed list key = record {
-  from = λ k i. (in_filter (λ k. not (key_eq k key)) list i).0;
-  keeps = λ k i. elim (decide_key key k) [ inl q ↦ inr q | inr n ↦ inl (filter_in (λ k. not (key_eq k key)) list i (ap not (other_key k key (λ q. n (sym q))))) ];
-  gone = λ i. true_false (in_filter (λ k. not (key_eq k key)) list i).1 (ap not (key_itself key));
+same_number : (m n : ℕ) → m == n ≡ true → n ≡ m
+same_number m n h = sym (eqb-true m n h)
+
+number_itself : (n : ℕ) → n == n ≡ true
+number_itself n = eq-eqb n n refl
+
+pub list_removed : (list : List ℕ) (n : ℕ) → IsRemoved list (filter (λ m. not (m == n)) list) n
+list_removed list n = record {
+  from = λ k i. (in_filter (λ m. not (m == n)) list i).0;
+  keeps = λ k i. keeps k i (k == n) refl;
+  gone = λ i. true_false (in_filter (λ m. not (m == n)) list i).1 (ap not (number_itself n));
 }
+  where
+    keeps : (k : ℕ) → In k list → (b : Bool) → k == n ≡ b → In k (filter (λ m. not (m == n)) list) ⊎ (n ≡ k)
+    keeps k i true t = inr (same_number k n t)
+    keeps k i false t = inl (filter_in (λ m. not (m == n)) list i (ap not t))
 
 -- a member's list is changed
-module _ (old new : Users) (member key : Key) (t : Vec Key Global) (there : value_of new member ≡ Some t) (others : (j : Key) → member ≢ j → value_of new j ≡ value_of old j) where
-  at_member : (j : Key) → member ≡ j → users_at new j ≡ t.items
-  at_member j q = ap (users_at new) (sym q) ∙ ap listed there
+module _ (old new : UserLists) (member : Key) (key : ℕ) (t : Vec ℕ Global) (there : value_of new member ≡ Some t) (others : (j : Key) → member ≢ j → value_of new j ≡ value_of old j) where
+  at_member : (j : Key) → member ≡ j → numbers_at new j ≡ t.items
+  at_member j q = ap (numbers_at new) (sym q) ∙ ap listed there
 
-  elsewhere : (j : Key) → member ≢ j → users_at new j ≡ users_at old j
+  elsewhere : (j : Key) → member ≢ j → numbers_at new j ≡ numbers_at old j
   elsewhere j n = ap listed (others j n)
 
-  pub linked : IsAdded (users_at old member) t.items key → HasLinked old new member key
+  pub linked : IsAdded (numbers_at old member) t.items key → HasLinked (numbers_at old) (numbers_at new) member key
   linked a = record {
     from = λ j k i. elim (decide_key member j) [
-      | inl q ↦ elim (a.from k (subst (In k) (at_member j q) i)) [ inl x ↦ inl (subst (λ m. In k (users_at old m)) q x) | inr x ↦ inr (q, x) ]
+      | inl q ↦ elim (a.from k (subst (In k) (at_member j q) i)) [ inl x ↦ inl (subst (λ m. In k (numbers_at old m)) q x) | inr x ↦ inr (q, x) ]
       | inr n ↦ inl (subst (In k) (elsewhere j n) i)
     ];
     keeps = λ j k i. elim (decide_key member j) [
-      | inl q ↦ subst (In k) (sym (at_member j q)) (a.keeps k (subst (λ m. In k (users_at old m)) (sym q) i))
+      | inl q ↦ subst (In k) (sym (at_member j q)) (a.keeps k (subst (λ m. In k (numbers_at old m)) (sym q) i))
       | inr n ↦ subst (In k) (sym (elsewhere j n)) i
     ];
     has = subst (In key) (sym (at_member member refl)) a.has;
   }
 
-  pub unlinked : IsRemoved (users_at old member) t.items key → HasUnlinked old new member key
+  pub unlinked : IsRemoved (numbers_at old member) t.items key → HasUnlinked (numbers_at old) (numbers_at new) member key
   unlinked a = record {
     from = λ j k i. elim (decide_key member j) [
-      | inl q ↦ subst (λ m. In k (users_at old m)) q (a.from k (subst (In k) (at_member j q) i))
+      | inl q ↦ subst (λ m. In k (numbers_at old m)) q (a.from k (subst (In k) (at_member j q) i))
       | inr n ↦ subst (In k) (elsewhere j n) i
     ];
     keeps = λ j k i. elim (decide_key member j) [
-      | inl q ↦ elim (a.keeps k (subst (λ m. In k (users_at old m)) (sym q) i)) [ inl x ↦ inl (subst (In k) (sym (at_member j q)) x) | inr x ↦ inr (q, x) ]
+      | inl q ↦ elim (a.keeps k (subst (λ m. In k (numbers_at old m)) (sym q) i)) [ inl x ↦ inl (subst (In k) (sym (at_member j q)) x) | inr x ↦ inr (q, x) ]
       | inr n ↦ inl (subst (In k) (sym (elsewhere j n)) i)
     ];
     gone = λ i. a.gone (subst (In key) (at_member member refl) i);
   }
 
-  pub same_set : t.items ≡ users_at old member → SameUsers old new
-  same_set e j = elim (decide_key member j) [ inl q ↦ at_member j q ∙ e ∙ ap (users_at old) q | inr n ↦ elsewhere j n ]
+  pub same_set : t.items ≡ numbers_at old member → SameUsers (numbers_at old) (numbers_at new)
+  same_set e j = elim (decide_key member j) [ inl q ↦ at_member j q ∙ e ∙ ap (numbers_at old) q | inr n ↦ elsewhere j n ]
 
-pub unlinked_none : (users : Users) (member key : Key) → users_at users member ≡ [] → HasUnlinked users users member key
+pub unlinked_none : {X : Type 0} (users : Key → List X) (member : Key) (key : X) → users member ≡ [] → HasUnlinked users users member key
 unlinked_none users member key e = record { from = λ j k i. i; keeps = λ j k i. inl i; gone = λ i. not_in i e }
 
 -- more members
-module _ (old middle new : Users) (key : Key) (M : Key → Type 0) where
+module _ {X : Type 0} (old middle new : Key → List X) (key : X) (M : Key → Type 0) where
   pub linked_more : (m : Key) → HasLinkedSome old middle key M → HasLinked middle new m key → M m → HasLinkedSome old new key M
   linked_more m s h i = record {
     from = λ j k x. elim (h.from j k x) [ inl y ↦ s.from j k y | inr y ↦ inr (subst M y.0 i, y.1) ];
@@ -179,18 +190,18 @@ module _ (old middle new : Users) (key : Key) (M : Key → Type 0) where
     keeps = λ j k x. h.keeps j k (s.keeps j k x);
   }
 
-pub linked_none : (users : Users) (key : Key) (M : Key → Type 0) → HasLinkedSome users users key M
+pub linked_none : {X : Type 0} (users : Key → List X) (key : X) (M : Key → Type 0) → HasLinkedSome users users key M
 linked_none users key M = record { from = λ j k x. inl x; keeps = λ j k x. x }
 
-pub cut_none : (users : Users) (key : Key) (M K : Key → Type 0) → ((j : Key) → M j → ⊥) → HasCut users users key M K
+pub cut_none : {X : Type 0} (users : Key → List X) (key : X) (M K : Key → Type 0) → ((j : Key) → M j → ⊥) → HasCut users users key M K
 cut_none users key M K f = record { from = λ j k x. x; gone = λ j m. absurd (f j m); others = λ j k n x. x; kept = λ j k x. x }
 
-module _ (old middle new : Users) (key : Key) (M N K : Key → Type 0) where
+module _ {X : Type 0} (old middle new : Key → List X) (key : X) (M N K : Key → Type 0) where
   -- one more member is cut, or kept
   pub cut_more : (m : Key) → HasCut old middle key M K → HasUnlinked middle new m key → (K m → ⊥) → ((j : Key) → N j → M j ⊎ (m ≡ j)) → HasCut old new key N K
   cut_more m s h n f = record {
     from = λ j k x. s.from j k (h.from j k x);
-    gone = λ j i g x. elim (f j i) [ inl y ↦ s.gone j y g (h.from j key x) | inr y ↦ h.gone (subst (λ z. In key (users_at new z)) (sym y) x) ];
+    gone = λ j i g x. elim (f j i) [ inl y ↦ s.gone j y g (h.from j key x) | inr y ↦ h.gone (subst (λ z. In key (new z)) (sym y) x) ];
     others = λ j k d x. elim (h.keeps j k (s.others j k d x)) [ inl y ↦ y | inr y ↦ absurd (d y.1) ];
     kept = λ j i x. elim (h.keeps j key (s.kept j i x)) [ inl y ↦ y | inr y ↦ absurd (n (subst K (sym y.0) i)) ];
   }
@@ -247,19 +258,19 @@ pub not_among : (groups : List (List Key)) (key : Key) → among groups key ≡ 
 not_among groups key h m = true_false (member_among groups key m.1 m.2) h
 
 -- the same by what the calls ensure
-pub linked_through : (old new : Users) (member key user : Key) (s : List Key) (t : Vec Key Global) → Writes old new member t → s ≡ users_at old member → user ≡ key → t.items ≡ s ++ user ∷ [] → HasLinked old new member key
+pub linked_through : (old new : UserLists) (member : Key) (key user : ℕ) (s : List ℕ) (t : Vec ℕ Global) → Writes old new member t → s ≡ numbers_at old member → user ≡ key → t.items ≡ s ++ user ∷ [] → HasLinked (numbers_at old) (numbers_at new) member key
 linked_through old new member key user s t u e q a =
-    linked old new member key t u.there u.others (subst (λ l. IsAdded (users_at old member) l key) (sym (a ∙ (λ i. e i ++ q i ∷ []))) (list_added (users_at old member) key))
+    linked old new member key t u.there u.others (subst (λ l. IsAdded (numbers_at old member) l key) (sym (a ∙ (λ i. e i ++ q i ∷ []))) (list_added (numbers_at old member) key))
 
-pub linked_first : (start old new : Users) (asked member user key : Key) (s : List Key) (t : Vec Key Global) → new ≡ old ++ (asked, t) ∷ [] → asked ≡ member → old ≡ start → None ≡ value_of start member → s ≡ [] → user ≡ key → t.items ≡ s ++ user ∷ [] → HasLinked start new member key
+pub linked_first : (start old new : UserLists) (asked member : Key) (user key : ℕ) (s : List ℕ) (t : Vec ℕ Global) → new ≡ old ++ (asked, t) ∷ [] → asked ≡ member → old ≡ start → None ≡ value_of start member → s ≡ [] → user ≡ key → t.items ≡ s ++ user ∷ [] → HasLinked (numbers_at start) (numbers_at new) member key
 linked_first start old new asked member user key s t u m o none e q a =
     let is : new ≡ start ++ (member, t) ∷ [] = u ∙ (λ i. o i ++ (m i, t) ∷ []) in
-    linked start new member key t (ap (λ (es : Users). value_of es member) is ∙ value_pushed start member t (sym none)) (λ j n. ap (λ (es : Users). value_of es j) is ∙ others_pushed start member t j n)
-    (subst (λ l. IsAdded (users_at start member) l key) (sym (a ∙ (λ i. e i ++ q i ∷ []) ∙ ap (λ o. listed o ++ key ∷ []) none)) (list_added (users_at start member) key))
+    linked start new member key t (ap (λ (es : UserLists). value_of es member) is ∙ value_pushed start member t (sym none)) (λ j n. ap (λ (es : UserLists). value_of es j) is ∙ others_pushed start member t j n)
+    (subst (λ l. IsAdded (numbers_at start member) l key) (sym (a ∙ (λ i. e i ++ q i ∷ []) ∙ ap (λ o. listed o ++ key ∷ []) none)) (list_added (numbers_at start member) key))
 
-pub unlinked_through : (old new : Users) (member key : Key) (s : List Key) (t : Vec Key Global) → Writes old new member t → s ≡ users_at old member → t.items ≡ filter (λ k. not (key_eq k key)) s → HasUnlinked old new member key
+pub unlinked_through : (old new : UserLists) (member : Key) (key : ℕ) (s : List ℕ) (t : Vec ℕ Global) → Writes old new member t → s ≡ numbers_at old member → t.items ≡ filter (λ k. not (k == key)) s → HasUnlinked (numbers_at old) (numbers_at new) member key
 unlinked_through old new member key s t u e a =
-    unlinked old new member key t u.there u.others (subst (λ l. IsRemoved (users_at old member) l key) (sym (a ∙ ap (filter (λ k. not (key_eq k key))) e)) (list_removed (users_at old member) key))
+    unlinked old new member key t u.there u.others (subst (λ l. IsRemoved (numbers_at old member) l key) (sym (a ∙ ap (filter (λ k. not (k == key))) e)) (list_removed (numbers_at old member) key))
 
 -- one more element of a list
 pub in_taken : {X : Type 0} (xs : List X) (n : ℕ) (x j : X) → x ≡ slice_index_or xs n x → n < length xs → In j (take (n + 1) xs) → In j (take n xs) ⊎ (x ≡ j)
@@ -287,25 +298,25 @@ in_mapped f (after i) = after (in_mapped f i)
 pub group_member : (groups : List (Vec Key Global)) (n : ℕ) (g : Vec Key Global) (j : Key) → g ≡ slice_index_or groups n g → n < length groups → In j g.items → IsMember j (items_of groups)
 group_member groups n g j e h i = (g.items, in_mapped (λ (x : Vec Key Global). x.items) (is_in groups n g e h), i)
 
-pub one_linked_more : (old new : Users) (key : Key) (group : List Key) (n : ℕ) (m : Key) → m ≡ slice_index_or group n m → n < length group → HasLinked old new m key → HasLinkedAll old key (λ j. In j (take n group)) → HasLinkedAll new key (λ j. In j (take (n + 1) group))
-one_linked_more old new key group n m e h l a j i = elim (in_taken group n m j e h i) [ inl x ↦ l.keeps j key (a j x) | inr x ↦ subst (λ y. In key (users_at new y)) x l.has ]
+pub one_linked_more : {X : Type 0} (old new : Key → List X) (key : X) (group : List Key) (n : ℕ) (m : Key) → m ≡ slice_index_or group n m → n < length group → HasLinked old new m key → HasLinkedAll old key (λ j. In j (take n group)) → HasLinkedAll new key (λ j. In j (take (n + 1) group))
+one_linked_more old new key group n m e h l a j i = elim (in_taken group n m j e h i) [ inl x ↦ l.keeps j key (a j x) | inr x ↦ subst (λ y. In key (new y)) x l.has ]
 
 -- of one member it was a user
-pub one_linked_same : (users : Users) (key : Key) (group : List Key) (n : ℕ) (m : Key) → m ≡ slice_index_or group n m → n < length group → In key (users_at users m) → HasLinkedAll users key (λ j. In j (take n group)) → HasLinkedAll users key (λ j. In j (take (n + 1) group))
-one_linked_same users key group n m e h l a j i = elim (in_taken group n m j e h i) [ inl x ↦ a j x | inr x ↦ subst (λ y. In key (users_at users y)) x l ]
+pub one_linked_same : {X : Type 0} (users : Key → List X) (key : X) (group : List Key) (n : ℕ) (m : Key) → m ≡ slice_index_or group n m → n < length group → In key (users m) → HasLinkedAll users key (λ j. In j (take n group)) → HasLinkedAll users key (λ j. In j (take (n + 1) group))
+one_linked_same users key group n m e h l a j i = elim (in_taken group n m j e h i) [ inl x ↦ a j x | inr x ↦ subst (λ y. In key (users y)) x l ]
 
-pub group_linked_more : (old new : Users) (key : Key) (groups : List (Vec Key Global)) (n : ℕ) (g : Vec Key Global) → g ≡ slice_index_or groups n g → n < length groups → HasLinkedSome old new key (λ j. In j g.items) → HasLinkedAll new key (λ j. In j g.items)
+pub group_linked_more : {X : Type 0} (old new : Key → List X) (key : X) (groups : List (Vec Key Global)) (n : ℕ) (g : Vec Key Global) → g ≡ slice_index_or groups n g → n < length groups → HasLinkedSome old new key (λ j. In j g.items) → HasLinkedAll new key (λ j. In j g.items)
     → HasLinkedAll old key (λ j. IsMember j (items_of (take n groups))) → HasLinkedAll new key (λ j. IsMember j (items_of (take (n + 1) groups)))
 group_linked_more old new key groups n g e h s a b j i = elim (member_taken groups n g j e h i) [ inl x ↦ s.keeps j key (b j x) | inr x ↦ a j x ]
 
-pub group_some : (start old new : Users) (key : Key) (groups : List (Vec Key Global)) (n : ℕ) (g : Vec Key Global) → g ≡ slice_index_or groups n g → n < length groups → HasLinkedSome start old key (λ j. IsMember j (items_of groups)) → (items : List Key) → items ≡ g.items → HasLinkedSome old new key (λ j. In j items) → HasLinkedSome start new key (λ j. IsMember j (items_of groups))
+pub group_some : {X : Type 0} (start old new : Key → List X) (key : X) (groups : List (Vec Key Global)) (n : ℕ) (g : Vec Key Global) → g ≡ slice_index_or groups n g → n < length groups → HasLinkedSome start old key (λ j. IsMember j (items_of groups)) → (items : List Key) → items ≡ g.items → HasLinkedSome old new key (λ j. In j items) → HasLinkedSome start new key (λ j. IsMember j (items_of groups))
 group_some start old new key groups n g e h s items q l = linked_some start old new key (λ j. IsMember j (items_of groups)) (λ j. In j items) s l (λ j i. group_member groups n g j e h (subst (In j) q i))
 
-pub group_all : (old new : Users) (key : Key) (groups : List (Vec Key Global)) (n : ℕ) (g : Vec Key Global) → g ≡ slice_index_or groups n g → n < length groups → (items : List Key) → items ≡ g.items → HasLinkedSome old new key (λ j. In j items) → HasLinkedAll new key (λ j. In j items)
+pub group_all : {X : Type 0} (old new : Key → List X) (key : X) (groups : List (Vec Key Global)) (n : ℕ) (g : Vec Key Global) → g ≡ slice_index_or groups n g → n < length groups → (items : List Key) → items ≡ g.items → HasLinkedSome old new key (λ j. In j items) → HasLinkedAll new key (λ j. In j items)
     → HasLinkedAll old key (λ j. IsMember j (items_of (take n groups))) → HasLinkedAll new key (λ j. IsMember j (items_of (take (n + 1) groups)))
 group_all old new key groups n g e h items q s a b j i = elim (member_taken groups n g j e h i) [ inl x ↦ s.keeps j key (b j x) | inr x ↦ a j (subst (In j) (sym q) x) ]
 
-pub group_cut : (start old new : Users) (key : Key) (groups : List (Vec Key Global)) (n : ℕ) (g : Vec Key Global) → g ≡ slice_index_or groups n g → n < length groups → (K : Key → Type 0) → HasCut start old key (λ j. IsMember j (items_of (take n groups))) K → (items : List Key) → items ≡ g.items → HasCut old new key (λ j. In j items) K → HasCut start new key (λ j. IsMember j (items_of (take (n + 1) groups))) K
+pub group_cut : {X : Type 0} (start old new : Key → List X) (key : X) (groups : List (Vec Key Global)) (n : ℕ) (g : Vec Key Global) → g ≡ slice_index_or groups n g → n < length groups → (K : Key → Type 0) → HasCut start old key (λ j. IsMember j (items_of (take n groups))) K → (items : List Key) → items ≡ g.items → HasCut old new key (λ j. In j items) K → HasCut start new key (λ j. IsMember j (items_of (take (n + 1) groups))) K
 group_cut start old new key groups n g e h K s items q l =
     cut_both start old new key (λ j. IsMember j (items_of (take n groups))) (λ j. IsMember j (items_of (take (n + 1) groups))) K (λ j. In j items) s l
     (λ j i. elim (member_taken groups n g j e h i) [ inl x ↦ inl x | inr x ↦ inr (subst (In j) (sym q) x) ])
@@ -318,10 +329,10 @@ pub member_all : (groups : List (Vec Key Global)) (n : ℕ) (j : Key) → length
 member_all groups n j h m = subst (λ (gs : List (Vec Key Global)). IsMember j (items_of gs)) (sym (take_all n groups h)) m
 
 -- members of old groups were cut, but those of the new ones; or there are no old ones
-pub cut_by_members : (old new : Users) (key : Key) (cut_groups olds news : List (List Key)) (found : Option (BTreeSet Key)) → cut_groups ≡ olds → IfSome found (λ set. AreMembers set.keys news) → IfNone found (olds ≡ [])
-    → IfSome found (λ set. HasCut old new key (λ j. IsMember j cut_groups) (λ j. In j set.keys)) → IfNone found (new ≡ old) → HasCut old new key (λ j. IsMember j cut_groups) (λ j. IsMember j news)
-cut_by_members old new key cut_groups olds news None q m e c n = subst (λ (x : Users). HasCut old x key (λ j. IsMember j cut_groups) (λ j. IsMember j news)) (sym n)
-    (cut_none old key (λ j. IsMember j cut_groups) (λ j. IsMember j news) (λ j i. not_in (subst (In i.0) (q ∙ e) i.1) refl))
+pub cut_by_members : (old new : UserLists) (key : ℕ) (cut_groups olds news : List (List Key)) (found : Option (BTreeSet Key)) → cut_groups ≡ olds → IfSome found (λ set. AreMembers set.keys news) → IfNone found (olds ≡ [])
+    → IfSome found (λ set. HasCut (numbers_at old) (numbers_at new) key (λ j. IsMember j cut_groups) (λ j. In j set.keys)) → IfNone found (new ≡ old) → HasCut (numbers_at old) (numbers_at new) key (λ j. IsMember j cut_groups) (λ j. IsMember j news)
+cut_by_members old new key cut_groups olds news None q m e c n = subst (λ (x : UserLists). HasCut (numbers_at old) (numbers_at x) key (λ j. IsMember j cut_groups) (λ j. IsMember j news)) (sym n)
+    (cut_none (numbers_at old) key (λ j. IsMember j cut_groups) (λ j. IsMember j news) (λ j i. not_in (subst (In i.0) (q ∙ e) i.1) refl))
 cut_by_members old new key cut_groups olds news (Some set) q m e c n = record {
   from = c.from;
   gone = λ j i g x. c.gone j i (λ k. g ((m j).0 k)) x;

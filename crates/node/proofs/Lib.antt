@@ -1,5 +1,7 @@
 pub mod Lists
+pub mod Numbering
 pub mod Reaching
+pub mod Relating
 pub mod Linking
 pub mod Writing
 pub mod Joining

@@ -15,9 +15,9 @@ use Rattle.numbered.proofs.Numbers.{other_key}
 use Rattle.keys.specs.declared.key.Key.{Key}
 use Rattle.keys.specs.declared.value.Value.{Value}
 use Rattle.node.specs.declared.kept.Kept.{Kept}
-use Rattle.node.specs.Kept.{Records, Users, kept_at, users_at, record_of}
+use Rattle.node.specs.Kept.{Records, Users, UserLists, kept_at, users_in, numbers_at, record_of}
 use Rattle.node.specs.Marks.{IsDirty, IsReached, at_leaf, by_user, Marked, HasPassed}
-use Rattle.node.specs.Graphs.{Recorded, recorded, record_at, seen, groups_of, touched_leaves, IsTouched, IsLinked}
+use Rattle.node.specs.Graphs.{Recorded, recorded, record_at, seen, groups_of, touched_leaves, IsTouched, IsLinked, IsLinkedBy}
 use Rattle.keys.proofs.KeyLaws.{keys_total, exact_keys, exact_key_eq}
 use Rattle.node.proofs.Lists.{some_is, none_some, true_false, not_in}
 
@@ -152,13 +152,16 @@ module _ (users : Users) (leaves : List Key) (old new : Records) (marked : List 
       (subst (λ (f : Key → Option (Record Key Value)). Marks (seen old) f (λ k. In k leaves)) (sym (seen_all new later_version)) (edit_marks users leaves old new marked linked m passed begins))))
 
 -- without records the parts are linked
-pub nothing_linked : (records : Records) (users : Users) → records ≡ [] → AreDistinct records → users ≡ [] → IsLinked records users
-nothing_linked records users e d u = record {
-  ordered = d;
-  used = λ j k i. absurd (not_in i (ap (λ (es : Users). users_at es j) u));
-  complete = λ j k x h m. absurd (none_some (sym (none k) ∙ h));
-  members = λ j k x h m. absurd (none_some (sym (none k) ∙ h));
-  dirty_above = λ j k x s h m t c. absurd (none_some (sym (none k) ∙ h));
+pub nothing_linked : (records : Records) (lists : UserLists) → records ≡ [] → AreDistinct records → lists ≡ [] → IsLinkedBy records lists
+nothing_linked records lists e d u = record {
+  linked = record {
+    ordered = d;
+    used = λ j k i. absurd (not_in i (ap (λ (ls : UserLists). users_in records ls j) u));
+    complete = λ j k x h m. absurd (none_some (sym (none k) ∙ h));
+    members = λ j k x h m. absurd (none_some (sym (none k) ∙ h));
+    dirty_above = λ j k x s h m t c. absurd (none_some (sym (none k) ∙ h));
+  };
+  numbers = λ j n i. absurd (not_in i (ap (λ (ls : UserLists). numbers_at ls j) u));
 }
   where
     none : (k : Key) → kept_at records k ≡ None

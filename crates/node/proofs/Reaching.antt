@@ -1,15 +1,17 @@
 -- Marks are spread a key at a time.
-use Rattle.std.proofs.Common.{◌≡◌, ◌⊎◌, inl, inr, ℕ, ◌+◌, ◌<◌, ◌≤◌, true, false, List, [], ◌∷◌, ◌++◌, Some, refl, sym, ◌∙◌, ap, subst, length, take, drop, arith, add-one, append-nil, append_assoc, slice_index_or}
+use Rattle.std.proofs.Common.{◌≡◌, ◌⊎◌, inl, inr, ℕ, ◌+◌, ◌<◌, ◌≤◌, true, false, List, [], ◌∷◌, ◌++◌, Some, refl, sym, ◌∙◌, ap, subst, length, take, arith, append-nil, append_assoc, slice_index_or}
 use Rattle.std.proofs.lemmas.List.{take-append-le, length-append}
-use Rattle.std.proofs.Math.ListN.{take-append-drop}
-use Rattle.std.proofs.Math.Seq.{take-suc, take_all}
+use Rattle.std.proofs.Math.Seq.{take_all}
 use Rattle.evaluation.specs.Value.{In, first, after}
 use Rattle.std.specs.Map.{keys_of}
-use Rattle.numbered.specs.Tables.{Writes}
+use Rattle.numbered.specs.Tables.{Writes, key_at}
+use Rattle.numbered.specs.Flats.{members_in}
 use Rattle.keys.specs.declared.key.Key.{Key}
 use Rattle.node.specs.declared.kept.Kept.{Kept}
 use Rattle.node.specs.Kept.{Records, Users, kept_at, users_at}
-use Rattle.node.specs.Marks.{IsDirty, IsReached, at_leaf, by_user, Marked, HasReached, HasReachedSome, HasReachedAll, HasSpread, HasPassed}
+use Rattle.node.specs.Marks.{IsDirty, IsReached, at_leaf, by_user, Marked, HasReached, HasReachedSome, HasReachedAll, HasSpread, HasPassed, Lists}
+pub use Rattle.node.proofs.Numbering.{one_more, in_at, in_at_is}
+use Rattle.node.proofs.Numbering.{members_same, members_pushed}
 use Rattle.node.proofs.Lists.{in_split, in_left, in_right, in_one, not_in, some_is, true_false, same_or_value}
 
 module _ (old new : Records) (before now : List Key) (key : Key) where
@@ -97,36 +99,30 @@ module _ (users : Users) (start old new : Records) (begun before now : List Key)
     same_keys = h.same_keys ∙ s.same_keys;
   }
 
-module _ {X : Type 0} where
-  in_take : {x : X} (n : ℕ) (xs : List X) → In x (take n xs) → In x xs
-  in_take {x} n xs i = subst (In x) (take-append-drop n xs) (in_left (drop n xs) i)
-
-  pub one_more : (xs : List X) (n : ℕ) (d : X) → n < length xs → take (n + 1) xs ≡ take n xs ++ slice_index_or xs n d ∷ []
-  one_more xs n d h = rw add-one (take-suc xs n d h)
-
-  pub in_at : (xs : List X) (n : ℕ) (d : X) → n < length xs → In (slice_index_or xs n d) xs
-  in_at xs n d h = in_take (n + 1) xs (subst (In (slice_index_or xs n d)) (sym (one_more xs n d h)) (in_right (take n xs) first))
-
-module _ (users : Users) (old new : Records) (before now : List Key) (at : ℕ) (d : Key) where
+module _ (users : Users) (old new : Records) (before now : List ℕ) (at n : ℕ) where
   -- the users of one more listed key are dirty
-  pub passed_more : (j : Key) → j ≡ slice_index_or before at d → at < length before → HasPassed users old (take at before) → HasReachedSome old new before now (users_at users j) → HasReachedAll new (users_at users j) → HasPassed users new (take (at + 1) now)
-  passed_more j e l p s a = λ i m k u. elim (in_split m (take at before) (j ∷ []) these) [
+  pub passed_more : (j : Key) → key_at old n ≡ Some j → n ≡ slice_index_or before at n → at < length before → HasPassed users old (members_in old (take at before))
+      → HasReachedSome old new (members_in old before) (members_in new now) (users_at users j) → Lists old before now → HasReachedAll new (users_at users j) → HasPassed users new (members_in new (take (at + 1) now))
+  passed_more j e q l p s g a = λ i m k u. elim (in_split m (members_in old (take at before)) (j ∷ []) these) [
     | inl x ↦ s.still k (p i x k u)
     | inr x ↦ a k (subst (λ y. In k (users_at users y)) (in_one x) u)
   ]
     where
-      these : take (at + 1) now ≡ take at before ++ j ∷ []
-      these =
-          ap (take (at + 1)) s.grows ∙ take-append-le (at + 1) before s.more (omega arith) ∙ one_more before at d l ∙ ap (λ y. take at before ++ y ∷ []) (sym e)
+      numbers : take (at + 1) now ≡ take at before ++ n ∷ []
+      numbers =
+          ap (take (at + 1)) g.1 ∙ take-append-le (at + 1) before g.0 (omega arith) ∙ one_more before at n l ∙ ap (λ y. take at before ++ y ∷ []) (sym q)
 
-  pub within_more : (keys : List Key) → at < length before → HasReachedSome old new before now keys → at + 1 ≤ length now
-  within_more keys l s = let e = ap length s.grows ∙ length-append before s.more in omega arith
+      these : members_in new (take (at + 1) now) ≡ members_in old (take at before) ++ j ∷ []
+      these = members_same old new s.same_keys (take (at + 1) now) ∙ ap (members_in old) numbers ∙ members_pushed old (take at before) n j e
+
+  pub within_more : at < length before → Lists old before now → at + 1 ≤ length now
+  within_more l g = let e = ap length g.1 ∙ length-append before g.0 in omega arith
 
 pub passed_none : (users : Users) (records : Records) → HasPassed users records []
 passed_none users records j i = elim i [ ]
 
-pub all_passed : (users : Users) (records : Records) (marked : List Key) (at : ℕ) → HasPassed users records (take at marked) → length marked ≤ at → HasPassed users records marked
-all_passed users records marked at p h = subst (HasPassed users records) (take_all at marked h) p
+pub all_passed : (users : Users) (records : Records) (marked : List ℕ) (at : ℕ) → HasPassed users records (members_in records (take at marked)) → length marked ≤ at → HasPassed users records (members_in records marked)
+all_passed users records marked at p h = subst (λ (ns : List ℕ). HasPassed users records (members_in records ns)) (take_all at marked h) p
 
 -- one more of the keys that are gone over
 module _ (old new : Records) (before now : List Key) (keys left more : List Key) (key : Key) (e : left ≡ key ∷ more) where
@@ -149,9 +145,6 @@ module _ (old new : Records) (before now : List Key) (keys left more : List Key)
 pub none_left : (records : Records) (keys left : List Key) → left ≡ [] → ((k : Key) → In k keys → In k left ⊎ IsDirty records k) → HasReachedAll records keys
 none_left records keys left e f k i = elim (f k i) [ inl a ↦ absurd (not_in a e) | inr d ↦ d ]
 
-pub in_at_is : {X : Type 0} (xs : List X) (n : ℕ) (d x : X) → x ≡ slice_index_or xs n d → n < length xs → In x xs
-in_at_is xs n d x e h = subst (λ y. In y xs) (sym e) (in_at xs n d h)
-
 -- from the leaves on, with nothing listed before
 pub from_leaves : (users : Users) (old middle : Records) (none listed leaves : List Key) → none ≡ [] → HasReachedSome old middle none listed leaves → Marked users leaves old middle listed
 from_leaves users old middle none listed leaves e h = h.marks users leaves old start (λ k i. at_leaf i)
@@ -164,4 +157,11 @@ pub leaf_taken : (old new : Records) (before now leaves : List Key) (n : ℕ) (d
 leaf_taken old new before now leaves n d leaf e l h a k i = elim (in_split i (take n leaves) (leaf ∷ []) (one_more leaves n d l ∙ ap (λ y. take n leaves ++ y ∷ []) (sym e))) [
   | inl x ↦ reached_still old new before now leaf h k (a k x)
   | inr x ↦ subst (IsDirty new) (sym (in_one x)) (reached_dirty old new before now leaf h)
+]
+
+-- one more user
+pub user_taken : (old new : Records) (before now : List Key) (k : Key) (keys next : List Key) → next ≡ keys ++ k ∷ [] → HasReached old new before now k → HasReachedAll old keys → HasReachedAll new next
+user_taken old new before now k keys next e h a x i = elim (in_split i keys (k ∷ []) e) [
+  | inl y ↦ reached_still old new before now k h x (a x y)
+  | inr y ↦ subst (IsDirty new) (sym (in_one y)) (reached_dirty old new before now k h)
 ]

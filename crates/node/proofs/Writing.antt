@@ -1,6 +1,7 @@
 -- A record that is written keeps the parts of the graph linked.
 use Rattle.std.proofs.Common.{◌≡◌, ◌≢◌, inl, inr, ℕ, true, false, Option, Some, None, refl, sym, ◌∙◌, ap, subst}
 use Rattle.std.specs.Option.{option_map, IsSome}
+use Rattle.std.specs.Map.{keys_of}
 use Rattle.evaluation.specs.Graph.{Record}
 use Rattle.evaluation.specs.Value.{In, IsMember}
 use Rattle.numbered.specs.Tables.{AreDistinct, Writes}
@@ -104,3 +105,12 @@ module _ (old new : Records) (users : Users) (key : Key) (version : ℕ) (linked
       subst (λ (v : ℕ). Sets (record_at was) (record_at (recorded version new)) key (record r { settled_at = v; dirty = false })) (ap (λ (x : Recorded). x.version) b)
       (subst (λ (x : Record Key Value). Sets (record_at was) (record_at (recorded version new)) key (record x { settled_at = version; dirty = false })) k.2
       (written_sets old new users users key (record k.0 { settled_at = version; dirty = false }) (u k.0 k.1) linked (same_users k.0 k.1) refl (ready_now k.0 k.1) version version was b))
+
+-- a record that is settled has its key
+pub settled_keys : (old new : Records) (key : Key) (version : ℕ) (was : Recorded) → recorded version old ≡ was → IsSome (record_at was key)
+    → ((e : Kept) → kept_at old key ≡ Some e → Writes old new key (record e { settled_at = version; dirty = false })) → keys_of new ≡ keys_of old
+settled_keys old new key version was b g u = go (kept_at old key) refl
+  where
+    go : (x : Option Kept) → kept_at old key ≡ x → keys_of new ≡ keys_of old
+    go None h = absurd (true_false (subst IsSome (ap (λ (r : Recorded). record_at r key) (sym b) ∙ (λ i. seen_all old version i key) ∙ ap (option_map record_of) h) g) refl)
+    go (Some e) h = (u e h).keys

@@ -1,5 +1,5 @@
 -- Records that are stored together.
-use Rattle.std.specs.Prelude.{◌≡◌, ◌⊎◌, ℕ, List, [], ◌++◌, map, Option, Some, None, false}
+use Rattle.std.specs.Prelude.{◌≡◌, ◌⊎◌, ℕ, List, [], ◌++◌, map, Option, Some, None, false, IsSome}
 use Rattle.std.specs.Arc.{arc_value}
 use Rattle.evaluation.specs.Graph.{Record}
 use Rattle.evaluation.specs.Value.{AllDiffer, In, IsMember}
@@ -8,7 +8,7 @@ use Rattle.keys.specs.declared.key.Key.{Key}
 use Rattle.keys.specs.declared.value.Value.{Value}
 use Rattle.node.specs.declared.kept.Kept.{Kept}
 use Rattle.node.specs.declared.entry.Entry.{Entry}
-use Rattle.node.specs.Kept.{Records, Users, kept_at, users_at, items_of}
+use Rattle.node.specs.Kept.{Records, Users, UserLists, kept_at, users_at, numbers_at, items_of}
 use Rattle.node.specs.Graphs.{seen, groups_of, IsLinked}
 use Rattle.node.specs.Writes.{stored, written, groups_at}
 
@@ -63,6 +63,14 @@ HasLinkedEach new entries = (e : Entry) → In e entries → (j : Key) → IsMem
 -- the groups that are kept of a key
 abbrev pub kept_members : Records → Key → Key → Type 0
 kept_members records k j = (w : Kept) × (kept_at records k ≡ Some w) × IsMember j (groups_of w)
+
+-- each entry's key has a record
+abbrev pub AreRecorded : Records → List Entry → Type 0
+AreRecorded records entries = (e : Entry) → In e entries → IsSome (kept_at records e.key)
+
+-- users were taken out alone
+abbrev pub HasFewer : UserLists → UserLists → Type 0
+HasFewer old new = (j : Key) (n : ℕ) → In n (numbers_at new j) → In n (numbers_at old j)
 
 -- each entry's key is a user of the members of its record
 abbrev pub AreUsers : Records → Users → List Entry → Type 0

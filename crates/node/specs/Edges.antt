@@ -6,49 +6,50 @@ use Rattle.evaluation.specs.Value.{In, IsMember}
 use Rattle.keys.specs.declared.key.Key.{Key}
 use Rattle.node.specs.Kept.{Users, users_at}
 
--- a key is added
-pub record IsAdded (old new : List Key) (key : Key) : Type 0 where
-  pub from : (k : Key) → In k new → In k old ⊎ (key ≡ k)
-  pub keeps : (k : Key) → In k old → In k new
-  pub has : In key new
+module _ {X : Type 0} where
+  -- a key is added
+  pub record IsAdded (old new : List X) (key : X) : Type 0 where
+    pub from : (k : X) → In k new → In k old ⊎ (key ≡ k)
+    pub keeps : (k : X) → In k old → In k new
+    pub has : In key new
 
--- a key is removed
-pub record IsRemoved (old new : List Key) (key : Key) : Type 0 where
-  pub from : (k : Key) → In k new → In k old
-  pub keeps : (k : Key) → In k old → In k new ⊎ (key ≡ k)
-  pub gone : In key new → ⊥
+  -- a key is removed
+  pub record IsRemoved (old new : List X) (key : X) : Type 0 where
+    pub from : (k : X) → In k new → In k old
+    pub keeps : (k : X) → In k old → In k new ⊎ (key ≡ k)
+    pub gone : In key new → ⊥
 
--- each key has the users that it had
-abbrev pub SameUsers : Users → Users → Type 0
-SameUsers old new = (j : Key) → users_at new j ≡ users_at old j
+  -- each key has the users that it had
+  abbrev pub SameUsers : (Key → List X) → (Key → List X) → Type 0
+  SameUsers old new = (j : Key) → new j ≡ old j
 
--- the key is a user of the member
-pub record HasLinked (old new : Users) (member key : Key) : Type 0 where
-  pub from : (j k : Key) → In k (users_at new j) → In k (users_at old j) ⊎ ((member ≡ j) × (key ≡ k))
-  pub keeps : (j k : Key) → In k (users_at old j) → In k (users_at new j)
-  pub has : In key (users_at new member)
+  -- the key is a user of the member
+  pub record HasLinked (old new : Key → List X) (member : Key) (key : X) : Type 0 where
+    pub from : (j : Key) (k : X) → In k (new j) → In k (old j) ⊎ ((member ≡ j) × (key ≡ k))
+    pub keeps : (j : Key) (k : X) → In k (old j) → In k (new j)
+    pub has : In key (new member)
 
--- the key is no user of the member
-pub record HasUnlinked (old new : Users) (member key : Key) : Type 0 where
-  pub from : (j k : Key) → In k (users_at new j) → In k (users_at old j)
-  pub keeps : (j k : Key) → In k (users_at old j) → In k (users_at new j) ⊎ ((member ≡ j) × (key ≡ k))
-  pub gone : In key (users_at new member) → ⊥
+  -- the key is no user of the member
+  pub record HasUnlinked (old new : Key → List X) (member : Key) (key : X) : Type 0 where
+    pub from : (j : Key) (k : X) → In k (new j) → In k (old j)
+    pub keeps : (j : Key) (k : X) → In k (old j) → In k (new j) ⊎ ((member ≡ j) × (key ≡ k))
+    pub gone : In key (new member) → ⊥
 
--- the key became a user of some of these members
-pub record HasLinkedSome (old new : Users) (key : Key) (members : Key → Type 0) : Type 0 where
-  pub from : (j k : Key) → In k (users_at new j) → In k (users_at old j) ⊎ (members j × (key ≡ k))
-  pub keeps : (j k : Key) → In k (users_at old j) → In k (users_at new j)
+  -- the key became a user of some of these members
+  pub record HasLinkedSome (old new : Key → List X) (key : X) (members : Key → Type 0) : Type 0 where
+    pub from : (j : Key) (k : X) → In k (new j) → In k (old j) ⊎ (members j × (key ≡ k))
+    pub keeps : (j : Key) (k : X) → In k (old j) → In k (new j)
 
--- the key is a user of all of these members
-abbrev pub HasLinkedAll : Users → Key → (Key → Type 0) → Type 0
-HasLinkedAll new key members = (j : Key) → members j → In key (users_at new j)
+  -- the key is a user of all of these members
+  abbrev pub HasLinkedAll : (Key → List X) → X → (Key → Type 0) → Type 0
+  HasLinkedAll new key members = (j : Key) → members j → In key (new j)
 
--- the key is a user of these members no more, but of those that are kept
-pub record HasCut (old new : Users) (key : Key) (members keep : Key → Type 0) : Type 0 where
-  pub from : (j k : Key) → In k (users_at new j) → In k (users_at old j)
-  pub gone : (j : Key) → members j → (keep j → ⊥) → In key (users_at new j) → ⊥
-  pub others : (j k : Key) → key ≢ k → In k (users_at old j) → In k (users_at new j)
-  pub kept : (j : Key) → keep j → In key (users_at old j) → In key (users_at new j)
+  -- the key is a user of these members no more, but of those that are kept
+  pub record HasCut (old new : Key → List X) (key : X) (members keep : Key → Type 0) : Type 0 where
+    pub from : (j : Key) (k : X) → In k (new j) → In k (old j)
+    pub gone : (j : Key) → members j → (keep j → ⊥) → In key (new j) → ⊥
+    pub others : (j : Key) (k : X) → key ≢ k → In k (old j) → In k (new j)
+    pub kept : (j : Key) → keep j → In key (old j) → In key (new j)
 
 -- whether the key is a member of the groups
 abbrev pub among : List (List Key) → Key → Bool

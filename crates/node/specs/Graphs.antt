@@ -11,7 +11,7 @@ use Rattle.keys.specs.declared.value.Value.{Value}
 pub use Rattle.keys.specs.Touched.{touched_leaves, IsTouched}
 use Rattle.numbered.specs.Tables.{AreDistinct}
 use Rattle.node.specs.declared.kept.Kept.{Kept}
-use Rattle.node.specs.Kept.{Records, Users, kept_at, users_at, record_of}
+use Rattle.node.specs.Kept.{Records, Users, UserLists, AreNumbers, kept_at, users_at, users_in, record_of}
 
 -- its version, and its records in the order in which their keys were recorded first
 pub record Recorded : Type 0 where
@@ -44,6 +44,11 @@ pub record IsLinked (records : Records) (users : Users) : Type 0 where
   pub complete : (j k : Key) (e : Kept) → kept_at records k ≡ Some e → IsMember j (groups_of e) → In k (users_at users j)
   pub members : (j k : Key) (e : Kept) → kept_at records k ≡ Some e → IsMember j (groups_of e) → (s : Kept) × (kept_at records j ≡ Some s)
   pub dirty_above : (j k : Key) (e s : Kept) → kept_at records k ≡ Some e → IsMember j (groups_of e) → kept_at records j ≡ Some s → s.dirty ≡ true → e.dirty ≡ true
+
+-- the same where the users are kept by their numbers
+pub record IsLinkedBy (records : Records) (lists : UserLists) : Type 0 where
+  pub linked : IsLinked records (users_in records lists)
+  pub numbers : AreNumbers records lists
 
 -- no member of the groups of k's record has a dirty one
 abbrev pub HasCleanMembers : (Key → Option (Record Key Value)) → Key → Type 0

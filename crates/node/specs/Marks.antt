@@ -1,5 +1,5 @@
 -- What marks are spread along reverse edges.
-use Rattle.std.specs.Prelude.{◌≡◌, ◌⊎◌, Bool, true, false, List, [], ◌∷◌, ◌++◌, Some, None}
+use Rattle.std.specs.Prelude.{◌≡◌, ◌⊎◌, ◌<◌, ℕ, Bool, true, false, List, [], ◌∷◌, ◌++◌, Some, None, All, length}
 use Rattle.std.specs.Map.{keys_of}
 use Rattle.evaluation.specs.Value.{In}
 use Rattle.keys.specs.declared.key.Key.{Key}
@@ -25,6 +25,10 @@ pub record Marked (users : Users) (leaves : List Key) (old new : Records) (marke
 abbrev pub HasReached : Records → Records → List Key → List Key → Key → Type 0
 HasReached old new before after key = ((new ≡ old) × (after ≡ before) × IsDirty old key)
     ⊎ ((e : Kept) × (kept_at old key ≡ Some e) × (e.dirty ≡ false) × Writes old new key (record e { dirty = true }) × (keys_of new ≡ keys_of old) × (after ≡ before ++ key ∷ []))
+
+-- numbers of records were listed after the others
+abbrev pub Lists : Records → List ℕ → List ℕ → Type 0
+Lists records before after = (more : List ℕ) × (after ≡ before ++ more) × All (λ n. n < length records) more
 
 -- some of these keys were reached
 pub record HasReachedSome (old new : Records) (before after keys : List Key) : Type 0 where

@@ -3,11 +3,12 @@ ghost use Rattle.std.specs.Prelude.{◌≡◌, ◌≢◌, Some, length, OnOk, On
 ghost use Rattle.numbered.specs.Tables.{AreDistinct, Writes};
 ghost use Rattle.evaluation.specs.Value.{AllDiffer, In};
 ghost use Rattle.keys.specs.declared.key.Key.{Key};
-ghost use Rattle.node.specs.Kept.{Records, kept_at, items_of};
+ghost use Rattle.std.specs.Map.{keys_of as keys_of_records};
+ghost use Rattle.node.specs.Kept.{Records, kept_at, items_of, users_in, AreNumbers};
 ghost use Rattle.node.specs.Writes.{written, SameSets};
 ghost use Rattle.node.specs.Edges.{HasUsers};
-ghost use Rattle.node.specs.Graphs.{IsLinked, seen};
-ghost use Rattle.node.specs.Batches.{keys_of, HasReadyEntries, HasStoredAll, HasPlacedSome, IsThere, HasPlacedAll, AreUsers, HasLinkedEntries, HasLinkedEach, HasCutAll, IsToWrite, HasWrittenAll};
+ghost use Rattle.node.specs.Graphs.{IsLinkedBy, seen};
+ghost use Rattle.node.specs.Batches.{keys_of, HasReadyEntries, HasStoredAll, HasPlacedSome, IsThere, HasPlacedAll, AreRecorded, AreUsers, HasFewer, HasLinkedEntries, HasLinkedEach, HasCutAll, IsToWrite, HasWrittenAll};
 ghost use Rattle.node.specs.declared.kept.Kept.{Kept};
 ghost use Rattle.node.specs.declared.entry.Entry.{Entry};
 
@@ -74,49 +75,60 @@ fn link_all(
     records: &Records,
     entries: &[Entry],
 ) -> Result<(), Memory>
-    requires { AreUsers records.now users.old entries.now }
-    ensures some { HasLinkedEntries users.old users.new entries.now }
-    ensures all { OnOk result (HasLinkedEach users.new entries.now) }
+    requires there { AreRecorded records.now entries.now }
+    requires users { AreUsers records.now (users_in records.now users.old) entries.now }
+    requires numbers { AreNumbers records.now users.old }
+    ensures some { HasLinkedEntries (users_in records.now users.old) (users_in records.now users.new) entries.now }
+    ensures all { OnOk result (HasLinkedEach (users_in records.now users.new) entries.now) }
+    ensures numbers { AreNumbers records.now users.new }
 {
     for entry in entries {
+        let user = records.number_of(&entry.key).unwrap();
         let linked = members_of(alloc, kept_groups(records, &entry.key))?;
-        link_groups(alloc, users, entry.groups.as_slice(), &linked, &entry.key)?;
+        link_groups(alloc, users, entry.groups.as_slice(), &linked, user)?;
     }
     Ok(())
 }
 
 // Makes each entry's key no user of the members of its groups, but of those in the groups of its record.
 fn cut_all(users: &mut Users, records: &Records, entries: &[Entry])
-    ensures { HasCutAll records.now users.old users.new entries.now }
+    requires { AreRecorded records.now entries.now }
+    ensures cut { HasCutAll records.now (users_in records.now users.old) (users_in records.now users.new) entries.now }
+    ensures fewer { HasFewer users.old users.new }
 {
     for entry in entries {
+        let user = records.number_of(&entry.key).unwrap();
         cut(
             users,
             entry.groups.as_slice(),
             kept_groups(records, &entry.key),
-            &entry.key,
+            user,
         );
     }
 }
 
 // Writes an entry into its key's record, and cuts the members that are in its groups no more.
 fn write_entry(records: &mut Records, users: &mut Users, entry: Entry, version: u32)
-    requires { (w : Kept) × IsToWrite records.old users.old entry w }
+    requires { (w : Kept) × IsToWrite records.old (users_in records.old users.old) entry w }
     ensures updates { (w : Kept) → kept_at records.old entry.key ≡ Some w → Writes records.old records.new entry.key (written w entry.value entry.groups version) }
-    ensures users { HasUsers users.old users.new entry.key (items_of entry.groups.items) }
+    ensures users { HasUsers (users_in records.old users.old) (users_in records.new users.new) entry.key (items_of entry.groups.items) }
+    ensures fewer { HasFewer users.old users.new }
     ensures ordered { AreDistinct records.new }
 {
     let Entry { key, value, groups } = entry;
+    let user = records.number_of(&key).unwrap();
     let old = write(records, &key, value, groups, version);
-    cut(users, old.as_slice(), kept_groups(records, &key), &key);
+    cut(users, old.as_slice(), kept_groups(records, &key), user);
 }
 
 // Writes the entries into their keys' records.
 fn write_all(records: &mut Records, users: &mut Users, mut entries: Vec<Entry>, version: u32)
     requires differ { AllDiffer (keys_of entries.items) }
-    requires ready { (e : Entry) → In e entries.items → (w : Kept) × IsToWrite records.old users.old e w }
+    requires ready { (e : Entry) → In e entries.items → (w : Kept) × IsToWrite records.old (users_in records.old users.old) e w }
     requires ordered { AreDistinct records.old }
-    ensures written { HasWrittenAll records.old records.new users.old users.new entries.items version }
+    ensures written { HasWrittenAll records.old records.new (users_in records.old users.old) (users_in records.new users.new) entries.items version }
+    ensures fewer { HasFewer users.old users.new }
+    ensures keys { keys_of_records records.new ≡ keys_of_records records.old }
     ensures ordered { AreDistinct records.new }
 {
     while let Some(entry) = entries.pop() {
@@ -133,11 +145,12 @@ pub fn store_all(
     entries: Vec<Entry>,
     version: u32,
 ) -> Result<(), Memory>
-    requires linked { IsLinked records.old users.old }
+    requires linked { IsLinkedBy records.old users.old }
     requires differ { AllDiffer (keys_of entries.items) }
     requires ready { HasReadyEntries (seen records.old) entries.items }
-    ensures ok { OnOk result (HasStoredAll records.old records.new users.new entries.items version) }
-    ensures err { OnErr result ((records.new ≡ records.old) × SameSets users.old users.new) }
+    ensures ok { OnOk result (HasStoredAll records.old records.new (users_in records.new users.new) entries.items version) }
+    ensures err { OnErr result ((records.new ≡ records.old) × SameSets (users_in records.old users.old) (users_in records.new users.new)) }
+    ensures numbers { AreNumbers records.new users.new }
 {
     let first = records.len();
     if let Err(error) = place_all(alloc, records, entries.as_slice(), version) {

@@ -1,13 +1,13 @@
 //! Reverse edges, from a key to those whose records have it in a group.
-ghost use Rattle.std.specs.Prelude.{◌≡◌, List, [], ◌∷◌, ◌++◌, not, filter, map, OnOk, OnErr, IfOk, IfSome, IfNone, IsTrue, ◌↔◌};
+ghost use Rattle.std.specs.Prelude.{◌≡◌, List, [], ◌∷◌, ◌++◌, not, filter, map, OnOk, OnErr, IfOk, IfSome, IfNone, IsTrue, ◌↔◌, ◌==◌};
 ghost use Rattle.evaluation.specs.Value.{In, IsMember};
 ghost use Rattle.keys.specs.declared.key.Key.{Key};
-ghost use Rattle.keys.specs.Keys.{key_eq};
-ghost use Rattle.node.specs.Kept.{items_of, users_at};
+ghost use Rattle.node.specs.Kept.{items_of, numbers_at};
 ghost use Rattle.node.specs.Edges.{IsAdded, HasLinked, HasUnlinked, SameUsers, HasLinkedSome, HasLinkedAll, HasCut, AddsMembers, AreMembers, among};
 
 use crate::kept::Users;
 use keys::Key;
+use numbered::Number;
 use std::alloc::Global;
 use std::collections::BTreeSet;
 use texts::Memory;
@@ -22,7 +22,7 @@ fn add(set: &mut BTreeSet<Key>, key: Key) -> Result<(), Memory>
 }
 
 // Adds a user to a list.
-fn add_user(list: &mut Vec<Key>, user: Key) -> Result<(), Memory>
+fn add_user(list: &mut Vec<Number>, user: Number) -> Result<(), Memory>
     ensures ok { OnOk result (list.new.items ≡ list.old.items ++ user ∷ []) }
     ensures err { OnErr result (list.new.items ≡ list.old.items) }
 {
@@ -31,10 +31,10 @@ fn add_user(list: &mut Vec<Key>, user: Key) -> Result<(), Memory>
 }
 
 // Takes a user out of a list, as often as it is there.
-fn remove_user(list: &mut Vec<Key>, user: &Key)
-    ensures { list.new.items ≡ filter (λ k. not (key_eq k user.now)) list.old.items }
+fn remove_user(list: &mut Vec<Number>, user: Number)
+    ensures { list.new.items ≡ filter (λ n. not (n == user)) list.old.items }
 {
-    list.retain(|k| *k != *user);
+    list.retain(|n| n.place() != user.place());
 }
 
 // Whether a key is in a set.
@@ -44,12 +44,11 @@ fn has(set: &BTreeSet<Key>, key: &Key) -> bool
     set.contains(key)
 }
 
-// Makes the key a user of the member.
-fn link(alloc: Global, users: &mut Users, member: &Key, key: &Key) -> Result<(), Memory>
-    ensures ok { OnOk result (HasLinked users.old users.new member.now key.now) }
-    ensures err { OnErr result (SameUsers users.old users.new) }
+// Makes the record with a number a user of the member.
+fn link(alloc: Global, users: &mut Users, member: &Key, user: Number) -> Result<(), Memory>
+    ensures ok { OnOk result (HasLinked (numbers_at users.old) (numbers_at users.new) member.now user) }
+    ensures err { OnErr result (SameUsers (numbers_at users.old) (numbers_at users.new)) }
 {
-    let user = key.share()?;
     if let Some(list) = users.get_mut(member) {
         add_user(list, user)?;
         return Ok(());
@@ -60,49 +59,49 @@ fn link(alloc: Global, users: &mut Users, member: &Key, key: &Key) -> Result<(),
     Ok(())
 }
 
-// Makes the key no user of the member.
-fn unlink(users: &mut Users, member: &Key, key: &Key)
-    ensures { HasUnlinked users.old users.new member.now key.now }
+// Makes the record with a number no user of the member.
+fn unlink(users: &mut Users, member: &Key, user: Number)
+    ensures { HasUnlinked (numbers_at users.old) (numbers_at users.new) member.now user }
 {
     if let Some(list) = users.get_mut(member) {
-        remove_user(list, key);
+        remove_user(list, user);
     }
 }
 
-// Makes the key a user of each member of a group. It is one already of those in the set.
+// Makes the record with a number a user of each member of a group. It is one already of those in the set.
 fn link_group(
     alloc: Global,
     users: &mut Users,
     group: &[Key],
     linked: &BTreeSet<Key>,
-    key: &Key,
+    user: Number,
 ) -> Result<(), Memory>
-    requires { (j : Key) → In j linked.now.keys → In key.now (users_at users.old j) }
-    ensures some { HasLinkedSome users.old users.new key.now (λ j. In j group.now) }
-    ensures all { OnOk result (HasLinkedAll users.new key.now (λ j. In j group.now)) }
+    requires { (j : Key) → In j linked.now.keys → In user (numbers_at users.old j) }
+    ensures some { HasLinkedSome (numbers_at users.old) (numbers_at users.new) user (λ j. In j group.now) }
+    ensures all { OnOk result (HasLinkedAll (numbers_at users.new) user (λ j. In j group.now)) }
 {
     for member in group {
         if !has(linked, member) {
-            link(alloc, users, member, key)?;
+            link(alloc, users, member, user)?;
         }
     }
     Ok(())
 }
 
-/// Makes the key a user of each member of the groups. It is one already of those in the set.
+/// Makes the record with a number a user of each member of the groups. It is one already of those in the set.
 pub fn link_groups(
     alloc: Global,
     users: &mut Users,
     groups: &[Vec<Key>],
     linked: &BTreeSet<Key>,
-    key: &Key,
+    user: Number,
 ) -> Result<(), Memory>
-    requires { (j : Key) → In j linked.now.keys → In key.now (users_at users.old j) }
-    ensures some { HasLinkedSome users.old users.new key.now (λ j. IsMember j (items_of groups.now)) }
-    ensures all { OnOk result (HasLinkedAll users.new key.now (λ j. IsMember j (items_of groups.now))) }
+    requires { (j : Key) → In j linked.now.keys → In user (numbers_at users.old j) }
+    ensures some { HasLinkedSome (numbers_at users.old) (numbers_at users.new) user (λ j. IsMember j (items_of groups.now)) }
+    ensures all { OnOk result (HasLinkedAll (numbers_at users.new) user (λ j. IsMember j (items_of groups.now))) }
 {
     for group in groups {
-        link_group(alloc, users, group.as_slice(), linked, key)?;
+        link_group(alloc, users, group.as_slice(), linked, user)?;
     }
     Ok(())
 }
@@ -119,23 +118,23 @@ fn is_among(groups: &[Vec<Key>], key: &Key) -> bool
     false
 }
 
-// Makes the key no user of the members of a group, but of those among the groups that are kept.
-fn cut_group(users: &mut Users, group: &[Key], keep: &[Vec<Key>], key: &Key)
-    ensures { HasCut users.old users.new key.now (λ j. In j group.now) (λ j. IsMember j (items_of keep.now)) }
+// Makes the record with a number no user of the members of a group, but of those among the groups that are kept.
+fn cut_group(users: &mut Users, group: &[Key], keep: &[Vec<Key>], user: Number)
+    ensures { HasCut (numbers_at users.old) (numbers_at users.new) user (λ j. In j group.now) (λ j. IsMember j (items_of keep.now)) }
 {
     for member in group {
         if !is_among(keep, member) {
-            unlink(users, member, key);
+            unlink(users, member, user);
         }
     }
 }
 
-/// Makes the key no user of the members of the groups, but of those among the groups that are kept.
-pub fn cut(users: &mut Users, groups: &[Vec<Key>], keep: &[Vec<Key>], key: &Key)
-    ensures { HasCut users.old users.new key.now (λ j. IsMember j (items_of groups.now)) (λ j. IsMember j (items_of keep.now)) }
+/// Makes the record with a number no user of the members of the groups, but of those among the groups that are kept.
+pub fn cut(users: &mut Users, groups: &[Vec<Key>], keep: &[Vec<Key>], user: Number)
+    ensures { HasCut (numbers_at users.old) (numbers_at users.new) user (λ j. IsMember j (items_of groups.now)) (λ j. IsMember j (items_of keep.now)) }
 {
     for group in groups {
-        cut_group(users, group.as_slice(), keep, key);
+        cut_group(users, group.as_slice(), keep, user);
     }
 }
 
@@ -175,33 +174,34 @@ pub fn members_beside(
     Ok(Some(members_of(alloc, new)?))
 }
 
-// Makes the key no user of the members of a group, but of those in the set.
-fn cut_group_beside(users: &mut Users, group: &[Key], keep: &BTreeSet<Key>, key: &Key)
-    ensures { HasCut users.old users.new key.now (λ j. In j group.now) (λ j. In j keep.now.keys) }
+// Makes the record with a number no user of the members of a group, but of those in the set.
+fn cut_group_beside(users: &mut Users, group: &[Key], keep: &BTreeSet<Key>, user: Number)
+    ensures { HasCut (numbers_at users.old) (numbers_at users.new) user (λ j. In j group.now) (λ j. In j keep.now.keys) }
 {
     for member in group {
         if !has(keep, member) {
-            unlink(users, member, key);
+            unlink(users, member, user);
         }
     }
 }
 
-// Makes the key no user of the members of the groups, but of those in the set.
-fn cut_groups_beside(users: &mut Users, groups: &[Vec<Key>], keep: &BTreeSet<Key>, key: &Key)
-    ensures { HasCut users.old users.new key.now (λ j. IsMember j (items_of groups.now)) (λ j. In j keep.now.keys) }
+// Makes the record with a number no user of the members of the groups, but of those in the set.
+fn cut_groups_beside(users: &mut Users, groups: &[Vec<Key>], keep: &BTreeSet<Key>, user: Number)
+    ensures { HasCut (numbers_at users.old) (numbers_at users.new) user (λ j. IsMember j (items_of groups.now)) (λ j. In j keep.now.keys) }
 {
     for group in groups {
-        cut_group_beside(users, group.as_slice(), keep, key);
+        cut_group_beside(users, group.as_slice(), keep, user);
     }
 }
 
-/// Makes the key no user of the members of the groups, but of those in the set. Without a set nothing is cut.
-pub fn cut_beside(users: &mut Users, groups: &[Vec<Key>], keep: Option<BTreeSet<Key>>, key: &Key)
-    ensures some { IfSome keep (λ set. HasCut users.old users.new key.now (λ j. IsMember j (items_of groups.now)) (λ j. In j set.keys)) }
+/// Makes the record with a number no user of the members of the groups, but of those in the set. Without a set nothing
+/// is cut.
+pub fn cut_beside(users: &mut Users, groups: &[Vec<Key>], keep: Option<BTreeSet<Key>>, user: Number)
+    ensures some { IfSome keep (λ set. HasCut (numbers_at users.old) (numbers_at users.new) user (λ j. IsMember j (items_of groups.now)) (λ j. In j set.keys)) }
     ensures none { IfNone keep (users.new ≡ users.old) }
 {
     match keep {
         None => {}
-        Some(set) => cut_groups_beside(users, groups, &set, key),
+        Some(set) => cut_groups_beside(users, groups, &set, user),
     }
 }

@@ -18,7 +18,7 @@ use crate::counts::{Counts, edges};
 use crate::entry::Entry;
 use crate::kept::{Kept, Records, Users};
 use crate::leaves::touched;
-use crate::marks::{mark_from, set_all};
+use crate::marks::{keys_with, mark_from, set_all, unmark_all};
 use crate::settling::{settle, store};
 use keys::{Key, Value};
 use numbered::Table;
@@ -30,7 +30,8 @@ use texts::Memory;
 /// What was recorded of the nodes that were settled: of each its value, the groups that it asked, the version at which
 /// it was last settled, the version at which its value last changed, and whether an edit since then may have changed
 /// it (it is dirty then). A contract sees the graph's version and the records, in the order in which their keys were
-/// recorded first. The reverse edges, from a key to those whose records have it in a group, are kept beside them and are their inverse.
+/// recorded first. The reverse edges, from a key to those whose records have it in a group, are kept beside them and
+/// are their inverse.
 #[derive(Drop)]
 pub struct Graph {
     alloc: Global,
@@ -40,7 +41,7 @@ pub struct Graph {
 }
 
 impl Model for Graph {
-    ghost use Rattle.node.specs.Graphs.{Recorded, recorded, IsLinked};
+    ghost use Rattle.node.specs.Graphs.{Recorded, recorded, IsLinkedBy};
 
     ghost Value = { Recorded };
 
@@ -51,7 +52,7 @@ impl Model for Graph {
 
     ghost view = { λ g. recorded g.version g.records };
 
-    ghost invariant = { λ g. IsLinked g.records g.users };
+    ghost invariant = { λ g. IsLinkedBy g.records g.users };
 }
 
 impl Graph {
@@ -160,9 +161,10 @@ impl Graph {
             &mut marked,
             leaves.as_slice(),
         );
-        set_all(&mut self.records, marked.as_slice(), false);
+        unmark_all(&mut self.records, marked.as_slice());
         spread?;
-        Ok(marked)
+        let keys = keys_with(self.alloc, &self.records, marked.as_slice())?;
+        Ok(keys)
     }
 
     /// Takes in an edit: one version more, and the records of these keys are marked. They must be what `reached_by`

@@ -1,6 +1,6 @@
 //! What a graph keeps.
 use keys::{Key, Value};
-use numbered::Table;
+use numbered::{Number, Table};
 use std::sync::Arc;
 
 /// What is kept of a node that was settled.
@@ -21,5 +21,5 @@ pub struct Kept {
 /// Records by key. A key's number is that of its record.
 pub type Records = Table<Kept>;
 
-/// The keys whose records have a key in a group, by that key.
-pub type Users = Table<Vec<Key>>;
+/// The numbers of the records that have a key in a group, by that key.
+pub type Users = Table<Vec<Number>>;

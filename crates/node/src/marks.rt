@@ -1,25 +1,28 @@
 //! Dirty marks, spread along reverse edges.
-ghost use Rattle.std.specs.Prelude.{◌≡◌, ◌+◌, ◌≤◌, [], ◌∷◌, ◌++◌, List, Some, None, true, false, OnOk, OnErr, vec_len};
+ghost use Rattle.std.specs.Prelude.{◌≡◌, ◌+◌, ◌<◌, ◌≤◌, [], ◌∷◌, ◌++◌, List, Some, None, true, false, All, IfOk, OnOk, OnErr, length, vec_len};
 ghost use Rattle.std.specs.Map.{keys_of};
-ghost use Rattle.numbered.specs.Tables.{Writes};
+ghost use Rattle.numbered.specs.Tables.{AreDistinct, Writes, key_at};
+ghost use Rattle.numbered.specs.Flats.{members_in};
 ghost use Rattle.keys.specs.declared.key.Key.{Key};
-ghost use Rattle.node.specs.Kept.{Records, kept_at, users_at, cleans, cost};
-ghost use Rattle.node.specs.Marks.{HasReached, HasReachedAll, HasReachedSome, HasSpread, HasPassed, IsDirty, Marked, SetsMarks};
+ghost use Rattle.node.specs.Kept.{Records, AreNumbers, kept_at, numbers_at, users_in, cleans, cost};
+ghost use Rattle.node.specs.Marks.{HasReached, HasReachedAll, HasReachedSome, HasSpread, HasPassed, IsDirty, Lists, Marked, SetsMarks};
 ghost use Rattle.node.specs.declared.kept.Kept.{Kept};
 
 use crate::kept::{Records, Users};
 use keys::Key;
+use numbered::Number;
+use std::alloc::Global;
 use texts::Memory;
 
-// Sets the mark of a record.
-fn mark(records: &mut Records, key: &Key)
-    ensures updates { (e : Kept) → kept_at records.old key.now ≡ Some e → Writes records.old records.new key.now (record e { dirty = true }) }
-    ensures work { (e : Kept) → kept_at records.old key.now ≡ Some e → cleans records.new + cost e ≡ cleans records.old }
+// Sets or takes away the mark of the record with a number.
+fn set_at(records: &mut Records, number: Number, dirty: bool)
+    requires within { number < length records.old }
+    requires distinct { AreDistinct records.old }
+    ensures updates { (k : Key) (e : Kept) → key_at records.old number ≡ Some k → kept_at records.old k ≡ Some e → Writes records.old records.new k (record e { dirty = dirty }) }
+    ensures work { (k : Key) (e : Kept) → key_at records.old number ≡ Some k → kept_at records.old k ≡ Some e → cleans records.new + cost e ≡ cleans records.old + cost (record e { dirty = dirty }) }
     ensures keys { keys_of records.new ≡ keys_of records.old }
 {
-    if let Some(kept) = records.get_mut(key) {
-        kept.dirty = true;
-    }
+    records.value_mut(number).dirty = dirty;
 }
 
 // Sets or takes away the mark of a key's record, if it has one.
@@ -33,54 +36,95 @@ fn set(records: &mut Records, key: &Key, dirty: bool)
     }
 }
 
-// Marks a record that is not dirty, and lists its key.
-fn reach(records: &mut Records, marked: &mut Vec<Key>, key: &Key) -> Result<(), Memory>
-    ensures ok { OnOk result (HasReached records.old records.new marked.old.items marked.new.items key.now) }
+// Marks the record with a number if it is not dirty, and lists the number.
+fn reach(records: &mut Records, marked: &mut Vec<Number>, number: Number) -> Result<(), Memory>
+    requires within { number < length records.old }
+    requires distinct { AreDistinct records.old }
+    ensures ok { OnOk result ((k : Key) → key_at records.old number ≡ Some k → HasReached records.old records.new (members_in records.old marked.old.items) (members_in records.new marked.new.items) k) }
     ensures err { OnErr result ((records.new ≡ records.old) × (marked.new.items ≡ marked.old.items)) }
     ensures work { cleans records.new + vec_len marked.new ≤ cleans records.old + vec_len marked.old }
+    ensures lists { Lists records.old marked.old.items marked.new.items }
 {
-    let Some(kept) = records.get(key) else {
-        return Ok(());
-    };
-    if kept.dirty {
+    if records.value_at(number).dirty {
         return Ok(());
     }
-    marked.push(key.share()?)?;
-    mark(records, key);
+    marked.push(number)?;
+    set_at(records, number, true);
     Ok(())
 }
 
-// Marks the records of a key's users.
-fn reach_users(
-    records: &mut Records,
-    users: &Users,
-    marked: &mut Vec<Key>,
-    key: &Key,
-) -> Result<(), Memory>
-    ensures some { HasReachedSome records.old records.new marked.old.items marked.new.items (users_at users.now key.now) }
-    ensures all { OnOk result (HasReachedAll records.new (users_at users.now key.now)) }
-    ensures work { cleans records.new + vec_len marked.new ≤ cleans records.old + vec_len marked.old }
+// Marks a leaf's record if it has one, and lists its number.
+fn reach_leaf(records: &mut Records, marked: &mut Vec<Number>, leaf: &Key) -> Result<(), Memory>
+    ensures ok { OnOk result (HasReached records.old records.new (members_in records.old marked.old.items) (members_in records.new marked.new.items) leaf.now) }
+    ensures err { OnErr result ((records.new ≡ records.old) × (marked.new.items ≡ marked.old.items)) }
+    ensures lists { Lists records.old marked.old.items marked.new.items }
 {
-    let Some(list) = users.get(key) else {
+    let Some(number) = records.number_of(leaf) else {
         return Ok(());
     };
-    for user in list {
-        reach(records, marked, user)?;
+    reach(records, marked, number)?;
+    Ok(())
+}
+
+// Marks the records of the leaves, and lists their numbers.
+fn reach_leaves(
+    records: &mut Records,
+    marked: &mut Vec<Number>,
+    leaves: &[Key],
+) -> Result<(), Memory>
+    ensures some { HasReachedSome records.old records.new (members_in records.old marked.old.items) (members_in records.new marked.new.items) leaves.now }
+    ensures all { OnOk result (HasReachedAll records.new leaves.now) }
+    ensures lists { Lists records.old marked.old.items marked.new.items }
+{
+    for leaf in leaves {
+        reach_leaf(records, marked, leaf)?;
     }
     Ok(())
+}
+
+// Marks the records of these users, and lists their numbers.
+fn reach_users(
+    records: &mut Records,
+    marked: &mut Vec<Number>,
+    users: &[Number],
+) -> Result<(), Memory>
+    requires within { All (λ n. n < length records.old) users.now }
+    requires distinct { AreDistinct records.old }
+    ensures some { HasReachedSome records.old records.new (members_in records.old marked.old.items) (members_in records.new marked.new.items) (members_in records.old users.now) }
+    ensures all { OnOk result (HasReachedAll records.new (members_in records.old users.now)) }
+    ensures work { cleans records.new + vec_len marked.new ≤ cleans records.old + vec_len marked.old }
+    ensures lists { Lists records.old marked.old.items marked.new.items }
+{
+    for user in users {
+        reach(records, marked, *user)?;
+    }
+    Ok(())
+}
+
+// Returns the users of the key with a number.
+fn users_of<'a>(records: &Records, users: &'a Users, number: Number) -> &'a [Number]
+    requires { number < length records.now }
+    ensures { (j : Key) → key_at records.now number ≡ Some j → result.now ≡ numbers_at users.now j }
+{
+    match users.get(records.key_at(number)) {
+        None => &[],
+        Some(list) => list.as_slice(),
+    }
 }
 
 // Marks what is reached from the listed keys, and lists it too.
-fn spread(records: &mut Records, users: &Users, marked: &mut Vec<Key>) -> Result<(), Memory>
-    ensures spread { HasSpread users.now records.old records.new marked.old.items marked.new.items }
-    ensures passed { OnOk result (HasPassed users.now records.new marked.new.items) }
+fn spread(records: &mut Records, users: &Users, marked: &mut Vec<Number>) -> Result<(), Memory>
+    requires within { All (λ n. n < length records.old) marked.old.items }
+    requires distinct { AreDistinct records.old }
+    requires numbers { AreNumbers records.old users.now }
+    ensures spread { HasSpread (users_in records.old users.now) records.old records.new (members_in records.old marked.old.items) (members_in records.new marked.new.items) }
+    ensures passed { OnOk result (HasPassed (users_in records.old users.now) records.new (members_in records.new marked.new.items)) }
+    ensures lists { Lists records.old marked.old.items marked.new.items }
 {
     let mut at = 0;
     while at < marked.len() {
-        let key = marked[at].share()?;
-        let reached = reach_users(records, users, marked, &key);
-        drop(key);
-        reached?;
+        let number = marked[at];
+        reach_users(records, marked, users_of(records, users, number))?;
         at += 1;
     }
     Ok(())
@@ -96,28 +140,44 @@ pub fn set_all(records: &mut Records, keys: &[Key], dirty: bool)
     }
 }
 
-// Marks the records of the leaves.
-fn reach_leaves(records: &mut Records, marked: &mut Vec<Key>, leaves: &[Key]) -> Result<(), Memory>
-    ensures some { HasReachedSome records.old records.new marked.old.items marked.new.items leaves.now }
-    ensures all { OnOk result (HasReachedAll records.new leaves.now) }
+/// Takes away the marks of the records with these numbers.
+pub fn unmark_all(records: &mut Records, numbers: &[Number])
+    requires within { All (λ n. n < length records.old) numbers.now }
+    requires distinct { AreDistinct records.old }
+    ensures sets { SetsMarks false records.old records.new (members_in records.old numbers.now) }
+    ensures keys { keys_of records.new ≡ keys_of records.old }
 {
-    for leaf in leaves {
-        reach(records, marked, leaf)?;
+    for number in numbers {
+        set_at(records, *number, false);
     }
-    Ok(())
 }
 
-/// Marks what is reached from the leaves and not dirty yet, and lists it.
+/// Returns the keys with these numbers.
+pub fn keys_with(alloc: Global, records: &Records, numbers: &[Number]) -> Result<Vec<Key>, Memory>
+    requires { All (λ n. n < length records.now) numbers.now }
+    ensures { IfOk result (λ keys. keys.items ≡ members_in records.now numbers.now) }
+{
+    let mut keys = Vec::with_capacity(alloc, numbers.len())?;
+    for number in numbers {
+        keys.push(records.key_at(*number).share()?)?;
+    }
+    Ok(keys)
+}
+
+/// Marks what is reached from the leaves and not dirty yet, and lists its numbers.
 pub fn mark_from(
     records: &mut Records,
     users: &Users,
-    marked: &mut Vec<Key>,
+    marked: &mut Vec<Number>,
     leaves: &[Key],
 ) -> Result<(), Memory>
-    requires { marked.old.items ≡ [] }
-    ensures marked { Marked users.now leaves.now records.old records.new marked.new.items }
+    requires none { marked.old.items ≡ [] }
+    requires distinct { AreDistinct records.old }
+    requires numbers { AreNumbers records.old users.now }
+    ensures marked { Marked (users_in records.old users.now) leaves.now records.old records.new (members_in records.new marked.new.items) }
     ensures keys { keys_of records.new ≡ keys_of records.old }
-    ensures passed { OnOk result (HasPassed users.now records.new marked.new.items) }
+    ensures within { All (λ n. n < length records.new) marked.new.items }
+    ensures passed { OnOk result (HasPassed (users_in records.old users.now) records.new (members_in records.new marked.new.items)) }
     ensures begun { OnOk result (HasReachedAll records.new leaves.now) }
 {
     reach_leaves(records, marked, leaves)?;

@@ -3,10 +3,10 @@ ghost use Rattle.std.specs.Prelude.{◌≡◌, Some, None, false, OnOk, OnErr, I
 ghost use Rattle.std.specs.Arc.{arc_value};
 ghost use Rattle.numbered.specs.Tables.{AreDistinct, Writes};
 ghost use Rattle.keys.specs.Values.{value_eq};
-ghost use Rattle.node.specs.Kept.{kept_at, items_of};
+ghost use Rattle.node.specs.Kept.{kept_at, items_of, users_in, AreNumbers};
 ghost use Rattle.node.specs.Writes.{written, stored, groups_at, HasPlaced, HasReadyMembers, SameSets};
 ghost use Rattle.node.specs.Edges.{HasUsers};
-ghost use Rattle.node.specs.Graphs.{IsLinked, HasStored, seen};
+ghost use Rattle.node.specs.Graphs.{IsLinkedBy, HasStored, seen};
 ghost use Rattle.node.specs.declared.kept.Kept.{Kept};
 
 use crate::edges::{cut, cut_beside, link_groups, members_beside, members_of};
@@ -111,19 +111,21 @@ pub fn rewrite(
     version: u32,
 ) -> Result<(), Memory>
     requires recorded { IsSome (kept_at records.old key.now) }
-    requires linked { IsLinked records.old users.old }
+    requires linked { IsLinkedBy records.old users.old }
     ensures ok { OnOk result ((e : Kept) → kept_at records.old key.now ≡ Some e → Writes records.old records.new key.now (written e value groups version) × AreDistinct records.new) }
-    ensures users { OnOk result (HasUsers users.old users.new key.now (items_of groups.items)) }
-    ensures err { OnErr result ((records.new ≡ records.old) × SameSets users.old users.new) }
+    ensures users { OnOk result (HasUsers (users_in records.old users.old) (users_in records.new users.new) key.now (items_of groups.items)) }
+    ensures err { OnErr result ((records.new ≡ records.old) × SameSets (users_in records.old users.old) (users_in records.old users.new)) }
+    ensures numbers { AreNumbers records.new users.new }
 {
+    let user = records.number_of(key).unwrap();
     let keep = members_beside(alloc, kept_groups(records, key), groups.as_slice())?;
     let linked = members_of(alloc, kept_groups(records, key))?;
-    if let Err(error) = link_groups(alloc, users, groups.as_slice(), &linked, key) {
-        cut(users, groups.as_slice(), kept_groups(records, key), key);
+    if let Err(error) = link_groups(alloc, users, groups.as_slice(), &linked, user) {
+        cut(users, groups.as_slice(), kept_groups(records, key), user);
         return Err(error);
     }
     let old = write(records, key, value, groups, version);
-    cut_beside(users, old.as_slice(), keep, key);
+    cut_beside(users, old.as_slice(), keep, user);
     Ok(())
 }
 
@@ -138,10 +140,11 @@ pub fn store(
     groups: Vec<Vec<Key>>,
     version: u32,
 ) -> Result<(), Memory>
-    requires linked { IsLinked records.old users.old }
+    requires linked { IsLinkedBy records.old users.old }
     requires ready { HasReadyMembers (seen records.old) key.now (items_of groups.items) }
-    ensures ok { OnOk result (HasStored records.old records.new users.new key.now (stored (seen records.old key.now) (arc_value value) (items_of groups.items) version)) }
-    ensures err { OnErr result ((records.new ≡ records.old) × SameSets users.old users.new) }
+    ensures ok { OnOk result (HasStored records.old records.new (users_in records.new users.new) key.now (stored (seen records.old key.now) (arc_value value) (items_of groups.items) version)) }
+    ensures err { OnErr result ((records.new ≡ records.old) × SameSets (users_in records.old users.old) (users_in records.new users.new)) }
+    ensures numbers { AreNumbers records.new users.new }
 {
     if records.contains_key(key) {
         rewrite(alloc, records, users, key, value, groups, version)?;

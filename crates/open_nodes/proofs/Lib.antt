@@ -1,3 +1,4 @@
+pub mod Followings
 pub mod Lookups
 pub mod Wholes
 pub mod Settlings

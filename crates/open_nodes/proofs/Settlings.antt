@@ -5,6 +5,8 @@ use Rattle.indexmap.specs.IndexMap.{Updates}
 use Rattle.evaluation.specs.Reply.{Reply}
 use Rattle.evaluation.specs.Value.{Grounded, is_leaf, has_run, IsUngrounded, AllDiffer, Settles, leaf, run, closed, In, first, after, IsMember}
 use Rattle.evaluation.specs.Graph.{Record}
+use Rattle.evaluation.specs.Choices.{Choice}
+use Rattle.evaluation.proofs.Moves.{TellsAlike}
 use Rattle.evaluation.proofs.Closed.{ungrounded}
 use Rattle.evaluation.proofs.Plain.{of_grounded}
 use Rattle.keys.specs.Cycles.{cycle}
@@ -17,9 +19,10 @@ use Rattle.node.specs.Laws.{IsLawfulFor}
 use Rattle.node.proofs.Lists.{some_is, none_some, true_false, decide_key, in_split, in_left, in_right, in_one}
 use Rattle.open_nodes.proofs.Lookups.{other_key}
 use Rattle.open_nodes.specs.Nodes.{Nodes, node_at, groups_of, IsUnsettled, IsClean}
-use Rattle.open_nodes.specs.Truths.{IsNext, Past, IsReached, IsSince, IsAfter, IsDoing, IsOpenTruly, IsItem, IsRunOf, run_keys, IsTold, AreBehind, IsTrueOf}
+use Rattle.open_nodes.specs.Truths.{IsNext, Past, IsReached, IsSince, IsAfter, IsOpenTruly, IsItem, IsRunOf, run_keys, IsTold, AreBehind, IsSettledTruly, IsUntold, IsTrueOf}
 use Rattle.open_nodes.specs.declared.run.Run.{Run}
 use Rattle.open_nodes.specs.declared.table.Node.{Node}
+use Rattle.open_nodes.proofs.Followings.{Grows, opened_on, settled_still, untold_on}
 use Rattle.open_nodes.proofs.Orders.{split_snoc}
 use Rattle.open_nodes.proofs.Wholes.{unsettled_not_clean}
 
@@ -99,33 +102,57 @@ module _ (next : Key → List Value → Reply Key Value) (read : Key → Option 
         go true q f = absurd (true_false (f q) d)
 
   -- one node is set
-  pub truth_changes : (graph : Recorded) (nodes later : Nodes) (runs : List Run) (k : Key) (n : Node) → Updates key_eq nodes later k (Some n)
-      → IsTrueOf next read past graph nodes runs → read k ≡ None → IsReached next read past k → record_at graph k ≡ record_at past.entry k → IsDoing next read past k (groups_of n) n.phase
-      → IsTrueOf next read past graph later runs
-  truth_changes graph nodes later runs k n u t no_leaf reached same doing = record {
+  pub truth_changes : (cs ds : List (Choice Key)) (g : Grows next read past cs ds) (graph : Recorded) (nodes later : Nodes) (runs : List Run) (k : Key) (n : Node) → ((j : Key) → k ≢ j → TellsAlike j cs ds)
+      → Updates key_eq nodes later k (Some n) → IsTrueOf next read past cs graph nodes runs → IsOpenTruly next read past ds graph k n → IsUnsettled (record_at graph) k → IsTrueOf next read past ds graph later runs
+  truth_changes cs ds g graph nodes later runs k n alike u t o was = record {
+    before = t.before;
     after = t.after;
     opened = λ j m e. elim (decide_key k j) [
       | inl q ↦ let is : n ≡ m = some_is (sym u.1 ∙ ap (node_at later) q ∙ e) in
-          subst (λ (y : Key). IsOpenTruly next read past graph y m) q (subst (λ (y : Node). IsOpenTruly next read past graph k y) is (record { no_leaf = no_leaf; reached = reached; same = same; doing = doing }))
-      | inr d ↦ t.opened j m (sym (other_key nodes later k (Some n) u j d) ∙ e)
+          subst (λ (y : Key). IsOpenTruly next read past ds graph y m) q (subst (λ (y : Node). IsOpenTruly next read past ds graph k y) is o)
+      | inr d ↦ opened_on next read past graph graph (λ i c. c) cs ds g j (alike j d) m refl (t.opened j m (sym (other_key nodes later k (Some n) u j d) ∙ e))
     ];
     ran = t.ran;
     differ = t.differ;
     told = t.told;
     behind = t.behind;
     grounded = t.grounded;
+    settled = λ j e c. elim (decide_key k j) [
+      | inl q ↦ absurd (unsettled_not_clean (record_at graph j) c.0 (subst (IsUnsettled (record_at graph)) q was) c.1 c.2)
+      | inr d ↦ settled_still next read past graph graph (λ i h. h) cs ds g j (alike j d) refl (t.settled j e c)
+    ];
+    untold = λ j e same. elim (decide_key k j) [
+      | inl q ↦ absurd (none_some (sym e ∙ ap (node_at later) (sym q) ∙ u.1))
+      | inr d ↦ untold_on next read past graph graph (λ i h. h) cs ds g j (alike j d) (t.untold j (sym (other_key nodes later k (Some n) u j d) ∙ e) same)
+    ];
   }
 
   -- one key is settled, and leaves the open nodes
-  module _ (graph new : Recorded) (nodes left : Nodes) (runs : List Run) (k : Key) (r : Record Key Value)
-      (t : IsTrueOf next read past graph nodes runs) (version : new.version ≡ graph.version)
+  module _ (cs ds : List (Choice Key)) (g : Grows next read past cs ds) (graph new : Recorded) (nodes left : Nodes) (runs : List Run) (k : Key) (r : Record Key Value)
+      (alike : (j : Key) → k ≢ j → TellsAlike j cs ds) (t : IsTrueOf next read past cs graph nodes runs) (version : new.version ≡ graph.version)
       (sets : Sets (record_at graph) (record_at new) k r) (was : IsUnsettled (record_at graph) k)
       (is_clean : r.dirty ≡ false) (reached : IsReached next read past k) (at : r.settled_at ≡ graph.version) (lawful : IsLawfulFor next past.reads past.edits new)
-      (gone : node_at left k ≡ None) (others_stay : (j : Key) → k ≢ j → node_at left j ≡ node_at nodes j) where
+      (gone : node_at left k ≡ None) (others_stay : (j : Key) → k ≢ j → node_at left j ≡ node_at nodes j)
+      (truly : ((j : Key) → IsClean (record_at graph) j → IsClean (record_at new) j) → IsSettledTruly next read past ds new k) where
     keeps : (j : Key) (s : Record Key Value) → record_at graph j ≡ Some s → s.dirty ≡ false → record_at new j ≡ Some s
     keeps j s e d = elim (decide_key k j) [
       | inl q ↦ absurd (unsettled_not_clean (record_at graph j) s (subst (IsUnsettled (record_at graph)) q was) e d)
       | inr n ↦ sets.others j n ∙ e
+    ]
+
+    clean_still : (j : Key) → IsClean (record_at graph) j → IsClean (record_at new) j
+    clean_still j c = (c.0, keeps j c.0 c.1 c.2, c.2)
+
+    settled_still_or : (j : Key) → IsUnsettled (record_at past.entry) j → IsClean (record_at new) j → IsSettledTruly next read past ds new j
+    settled_still_or j e c = elim (decide_key k j) [
+      | inl q ↦ subst (IsSettledTruly next read past ds new) q (truly clean_still)
+      | inr n ↦ settled_still next read past graph new clean_still cs ds g j (alike j n) (sets.others j n) (t.settled j e (c.0, sym (sets.others j n) ∙ c.1, c.2))
+    ]
+
+    untold_still : (j : Key) → node_at left j ≡ None → record_at new j ≡ record_at past.entry j → IsUntold next read past ds j
+    untold_still j e same = elim (decide_key k j) [
+      | inl q ↦ absurd (unsettled_not_clean (record_at past.entry k) r (subst (λ o. present o ≡ None) (same_since graph t.after k was) was) (ap (λ i. record_at past.entry i) q ∙ sym same ∙ ap (record_at new) (sym q) ∙ sets.there) is_clean)
+      | inr n ↦ untold_on next read past graph new clean_still cs ds g j (alike j n) (t.untold j (sym (others_stay j n) ∙ e) (sym (sets.others j n) ∙ same))
     ]
 
     pub settled_after : IsAfter next read past new
@@ -141,10 +168,10 @@ module _ (next : Key → List Value → Reply Key Value) (read : Key → Option 
       ];
     }
 
-    left_nodes : (j : Key) (m : Node) → node_at left j ≡ Some m → IsOpenTruly next read past new j m
+    left_nodes : (j : Key) (m : Node) → node_at left j ≡ Some m → IsOpenTruly next read past ds new j m
     left_nodes j m e = elim (decide_key k j) [
       | inl q ↦ absurd (none_some (sym gone ∙ ap (node_at left) q ∙ e))
-      | inr n ↦ let o = t.opened j m (sym (others_stay j n) ∙ e) in record { no_leaf = o.no_leaf; reached = o.reached; same = sets.others j n ∙ o.same; doing = o.doing }
+      | inr n ↦ opened_on next read past graph new clean_still cs ds g j (alike j n) m (sets.others j n) (t.opened j m (sym (others_stay j n) ∙ e))
     ]
 
     run_stays : (x : Run) → IsRunOf next read past graph x → IsRunOf next read past new x
@@ -161,8 +188,9 @@ module _ (next : Key → List Value → Reply Key Value) (read : Key → Option 
     behind_still before rest x e w f j m i apart = t.behind before rest x e w (same_record x (at_place before rest x e) w f) j m i apart
 
     -- without a run: its value is that of the entry, or that of a cycle
-    pub settles_quietly : (s : Record Key Value) → record_at past.entry k ≡ Some s → (r.value ≡ s.value) ⊎ IsUngrounded next read k → IsTrueOf next read past new left runs
+    pub settles_quietly : (s : Record Key Value) → record_at past.entry k ≡ Some s → (r.value ≡ s.value) ⊎ IsUngrounded next read k → IsTrueOf next read past ds new left runs
     settles_quietly s e same = record {
+      before = t.before;
       after = settled_after;
       opened = left_nodes;
       ran = λ x i. run_stays x (t.ran x i);
@@ -173,6 +201,8 @@ module _ (next : Key → List Value → Reply Key Value) (read : Key → Option 
       ];
       behind = behind_still;
       grounded = t.grounded;
+      settled = settled_still_or;
+      untold = untold_still;
     }
 
     -- with a run, where its members were settled before
@@ -210,8 +240,9 @@ module _ (next : Key → List Value → Reply Key Value) (read : Key → Option 
             subst (λ (zs : List Run). In j (run_keys next read past zs)) (sym l.0) (among_old j (members j (subst (λ (z : Record Key Value). IsMember j z.groups) (sym is) m)) i)
       ]
 
-      pub settles_by_run : IsTrueOf next read past new left (runs ++ x ∷ [])
+      pub settles_by_run : IsTrueOf next read past ds new left (runs ++ x ∷ [])
       settles_by_run = record {
+        before = t.before;
         after = settled_after;
         opened = left_nodes;
         ran = λ y i. elim (in_split i runs (x ∷ []) refl) [
@@ -229,4 +260,6 @@ module _ (next : Key → List Value → Reply Key Value) (read : Key → Option 
           | inl o ↦ t.grounded y o
           | inr o ↦ (r.value, subst (λ z. Grounded next read z r.value) (sym of_k ∙ ap (λ (z : Run). z.key) (sym (in_one o))) is_grounded)
         ];
+        settled = settled_still_or;
+        untold = untold_still;
       }

@@ -1,11 +1,13 @@
 -- What is true of a round: of the graph since the entry, of the open nodes, and of the runs so far.
-use Rattle.std.specs.Prelude.{◌≡◌, ◌⊎◌, ℕ, suc, List, [], ◌∷◌, ◌++◌, length, map, false, Option, Some, None, Result, Ok, Err, ⊤}
+use Rattle.std.specs.Prelude.{◌≡◌, ◌≢◌, ◌⊎◌, ℕ, suc, List, [], ◌∷◌, ◌++◌, length, take, map, true, false, Option, Some, None, Result, Ok, Err}
 use Rattle.std.specs.List.{AllByRecursion}
 use Rattle.std.specs.declared.cmp.Ordering.TheVariants.{Less}
 use Rattle.evaluation.specs.Reply.{Reply, Ask, Done}
 use Rattle.evaluation.specs.Value.{Grounded, AllGrounded, IsUngrounded, AllDiffer, In, IsMember}
 use Rattle.evaluation.specs.Graph.{Record}
 use Rattle.evaluation.specs.Reached.{Reached}
+use Rattle.evaluation.specs.Choices.{Choice, IsOut, Comes, Changed, Unchanged, Wanted, Checks, Runs, Settled}
+use Rattle.evaluation.specs.States.{HasBacks}
 use Rattle.evaluation.specs.Journal.{RunIsJustified, ReadIsJustified}
 use Rattle.keys.specs.Cycles.{cycle}
 use Rattle.keys.specs.Keys.{key_cmp}
@@ -14,7 +16,7 @@ use Rattle.keys.specs.declared.key.Key.{Key}
 use Rattle.keys.specs.declared.value.Value.{Value}
 use Rattle.node.specs.Graphs.{Recorded, record_at, IsTouched}
 use Rattle.node.specs.Laws.{IsLawfulFor}
-use Rattle.open_nodes.specs.Nodes.{Nodes, node_at, groups_of, IsUnsettled}
+use Rattle.open_nodes.specs.Nodes.{Nodes, node_at, groups_of, IsUnsettled, IsClean}
 use Rattle.open_nodes.specs.declared.run.Run.{Run}
 use Rattle.open_nodes.specs.declared.table.Node.{Node}
 use Rattle.open_nodes.specs.declared.table.Phase.{Phase}
@@ -63,22 +65,106 @@ module _ (next : Key → List Value → Reply Key Value) (read : Key → Option 
     more : {k : Key} {a : List Value} {group : List Key} {vs : List Value} {groups : List (List Key)}
         → next k a ≡ Ask group → AllGrounded next read group vs → Asks k (a ++ vs) groups → Asks k a (group ∷ groups)
 
-  -- a node that makes turns: it may, and its turns asked these groups
-  pub record IsRun (k : Key) (groups : List (List Key)) : Type 0 where
-    pub justified : RunIsJustified next cycle past.reads (λ u j. IsTouched (past.edits u) j) past.entry.version (record_at past.entry k)
-    pub asks : Asks k [] groups
+  -- the members of the groups are settled, each with the value that it had at version u
+  abbrev pub AreUnchanged : Recorded → ℕ → List (List Key) → Type 0
+  AreUnchanged graph u groups = (j : Key) → IsMember j groups → IsClean (record_at graph) j × Unchanged next cycle read (record_at past.entry) u j
 
-  abbrev pub IsDoing : Key → List (List Key) → Phase → Type 0
-  IsDoing k groups (phase.Checking at) = ⊤
-  IsDoing k groups phase.Running = IsRun k groups
-  IsDoing k groups phase.Out = IsRun k groups
+  -- the check of the record stopped at a group with a changed member
+  pub record HasStopped (graph : Recorded) (r : Record Key Value) : Type 0 where
+    pub passed : List (List Key)
+    pub group : List Key
+    pub rest : List (List Key)
+    pub split : r.groups ≡ passed ++ group ∷ rest
+    pub unchanged : AreUnchanged graph r.settled_at passed
+    pub settled : (j : Key) → In j group → IsClean (record_at graph) j
+    pub member : Key
+    pub among : In member group
+    pub changed : Changed next cycle read (record_at past.entry) r.settled_at member
 
-  -- an open node
-  pub record IsOpenTruly (graph : Recorded) (k : Key) (n : Node) : Type 0 where
-    pub no_leaf : read k ≡ None
-    pub reached : IsReached k
-    pub same : record_at graph k ≡ record_at past.entry k
-    pub doing : IsDoing k (groups_of n) n.phase
+  -- the key had no record at the entry, or the check of its record stopped
+  abbrev pub HasBegun : Recorded → Key → Type 0
+  HasBegun graph k = (record_at past.entry k ≡ None) ⊎ ((r : Record Key Value) × (record_at past.entry k ≡ Some r) × (r.dirty ≡ true) × HasStopped graph r)
+
+  -- what is true of the nodes after these choices, the newest first
+  module _ (cs : List (Choice Key)) where
+    abbrev pub IsWantedBy : Key → Type 0
+    IsWantedBy k = Wanted next cycle read (record_at past.entry) past.roots cs k
+
+    -- the roots reach the keys, and these choices made them wanted
+    abbrev pub AreSought : List Key → Type 0
+    AreSought keys = (k : Key) → In k keys → IsReached k × IsWantedBy k
+
+    -- a node that makes turns: it may, its turns asked these groups, and each of these turns was taken back
+    pub record IsRun (graph : Recorded) (k : Key) (groups : List (List Key)) : Type 0 where
+      pub justified : RunIsJustified next cycle past.reads (λ u j. IsTouched (past.edits u) j) past.entry.version (record_at past.entry k)
+      pub asks : Asks k [] groups
+      pub runs : Runs next cycle read (record_at past.entry) past.roots cs k
+      pub begun : HasBegun graph k
+      pub taken : HasBacks k (length groups) cs
+
+    -- a node whose record is checked, and that passed so many groups
+    pub record IsCheck (graph : Recorded) (k : Key) (at : ℕ) : Type 0 where
+      pub of_entry : Record Key Value
+      pub recorded : record_at past.entry k ≡ Some of_entry
+      pub marked : of_entry.dirty ≡ true
+      pub rest : List (List Key)
+      pub checks : Checks next cycle read (record_at past.entry) past.roots cs k of_entry (take at of_entry.groups) rest
+      pub split : of_entry.groups ≡ take at of_entry.groups ++ rest
+      pub unchanged : AreUnchanged graph of_entry.settled_at (take at of_entry.groups)
+      pub none_taken : HasBacks k 0 cs
+
+    abbrev pub IsDoing : Recorded → Key → List (List Key) → Phase → Type 0
+    IsDoing graph k groups (phase.Checking at) = IsCheck graph k at
+    IsDoing graph k groups phase.Running = IsRun graph k groups
+    IsDoing graph k groups phase.Out = IsRun graph k groups
+
+    -- the choices tell whether its job is out
+    abbrev pub TellOut : Key → Phase → Type 0
+    TellOut k (phase.Checking at) = ¬ IsOut k cs
+    TellOut k phase.Running = ¬ IsOut k cs
+    TellOut k phase.Out = IsOut k cs
+
+    -- an open node
+    pub record IsOpenTruly (graph : Recorded) (k : Key) (n : Node) : Type 0 where
+      pub no_leaf : read k ≡ None
+      pub reached : IsReached k
+      pub wanted : IsWantedBy k
+      pub same : record_at graph k ≡ record_at past.entry k
+      pub doing : IsDoing graph k (groups_of n) n.phase
+      pub out : TellOut k n.phase
+
+    -- a node that its turns settled
+    pub record IsRunToEnd (graph : Recorded) (k : Key) : Type 0 where
+      pub no_leaf : read k ≡ None
+      pub begun : HasBegun graph k
+      pub groups : List (List Key)
+      pub answers : List Value
+      pub value : Value
+      pub comes : Comes next cycle read k [] groups answers
+      pub ends : next k answers ≡ Done value
+      pub members : (j : Key) → IsMember j groups → IsClean (record_at graph) j
+      pub taken : HasBacks k (suc (length groups)) cs
+
+    -- how a key was settled: a leaf was read, all groups of a record were passed, or turns ended it
+    pub data HasEnded (graph : Recorded) (k : Key) : Type 0 where
+      by_read : {v : Value} → read k ≡ Some v → HasBacks k 0 cs → HasEnded graph k
+      by_check : {r : Record Key Value} → read k ≡ None → record_at past.entry k ≡ Some r → AreUnchanged graph r.settled_at r.groups → HasBacks k 0 cs → HasEnded graph k
+      by_turns : IsRunToEnd graph k → HasEnded graph k
+
+    -- the value of a record is that of the entry, which changed when it did then, or it changed in this call
+    abbrev pub TellsChange : Recorded → Key → Type 0
+    TellsChange graph k = (r s : Record Key Value) → record_at graph k ≡ Some r → record_at past.entry k ≡ Some s → ((s.value ≡ r.value) × (r.changed_at ≡ s.changed_at)) ⊎ ((r.changed_at ≡ past.entry.version) × (s.value ≢ r.value))
+
+    -- a key that was settled in this call
+    pub record IsSettledTruly (graph : Recorded) (k : Key) : Type 0 where
+      pub settled : Settled next cycle read (record_at past.entry) past.roots cs k
+      pub not_out : ¬ IsOut k cs
+      pub how : HasEnded graph k
+      pub change : TellsChange graph k
+
+    -- no turn of the key was made
+    abbrev pub IsUntold : Key → Type 0
+    IsUntold k = HasBacks k 0 cs × (¬ IsOut k cs)
 
   -- a leaf that was read, or a node that made turns, one for each group and one more where it ended
   abbrev pub IsItem : Run → Record Key Value → Type 0
@@ -111,15 +197,20 @@ module _ (next : Key → List Value → Reply Key Value) (read : Key → Option 
   AreClosedLast runs = (before rest : List Run) (run : Run) → runs ≡ before ++ run ∷ rest → IsUngrounded next read run.key
       → (later : Run) → In later rest → IsUngrounded next read later.key × (key_cmp run.key later.key ≡ Less)
 
-  pub record IsTrueOf (graph : Recorded) (nodes : Nodes) (runs : List Run) : Type 0 where
-    pub after : IsAfter graph
-    pub opened : (k : Key) (n : Node) → node_at nodes k ≡ Some n → IsOpenTruly graph k n
-    pub ran : (run : Run) → In run runs → IsRunOf graph run
-    pub differ : AllDiffer (run_keys runs)
-    pub told : (k : Key) (r : Record Key Value) → record_at graph k ≡ Some r → IsTold runs k r
-    pub behind : AreBehind graph runs
-    -- no stall was closed yet
-    pub grounded : (run : Run) → In run runs → (v : Value) × Grounded next read run.key v
+  module _ (cs : List (Choice Key)) where
+    pub record IsTrueOf (graph : Recorded) (nodes : Nodes) (runs : List Run) : Type 0 where
+      pub before : IsLawfulFor next past.reads past.edits past.entry
+      pub after : IsAfter graph
+      pub opened : (k : Key) (n : Node) → node_at nodes k ≡ Some n → IsOpenTruly cs graph k n
+      pub ran : (run : Run) → In run runs → IsRunOf graph run
+      pub differ : AllDiffer (run_keys runs)
+      pub told : (k : Key) (r : Record Key Value) → record_at graph k ≡ Some r → IsTold runs k r
+      pub behind : AreBehind graph runs
+      -- no stall was closed yet
+      pub grounded : (run : Run) → In run runs → (v : Value) × Grounded next read run.key v
+      -- each key that was settled in this call, and each that was not
+      pub settled : (k : Key) → IsUnsettled (record_at past.entry) k → IsClean (record_at graph) k → IsSettledTruly cs graph k
+      pub untold : (k : Key) → node_at nodes k ≡ None → record_at graph k ≡ record_at past.entry k → IsUntold cs k
 
   -- what is true once a stall was closed: no node is open any more
   pub record IsTrueAtEnd (graph : Recorded) (runs : List Run) : Type 0 where
@@ -130,17 +221,21 @@ module _ (next : Key → List Value → Reply Key Value) (read : Key → Option 
     pub behind : AreBehind graph runs
     pub closed : AreClosedLast runs
 
--- where the state was true before, it is after; and after want of memory the graph is as after a stop
-abbrev pub Leads : {X E : Type 0} → (Key → List Value → Reply Key Value) → (Key → Option Value) → Recorded → Recorded → Table → Table → Result X E → Type 0
-Leads next read old new before after (Ok x) = (laws : IsNext next) (past : Past read) → IsTrueOf next read past old before.nodes before.runs.items → IsTrueOf next read past new after.nodes after.runs.items
-Leads next read old new before after (Err e) = (laws : IsNext next) (past : Past read) → IsTrueOf next read past old before.nodes before.runs.items → IsAfter next read past new
+-- where the state was true before, it is after these further choices, the newest first; and after want of memory the graph is as after a stop
+abbrev pub LeadsBy : {X E : Type 0} → List (Choice Key) → (Key → List Value → Reply Key Value) → (Key → Option Value) → Recorded → Recorded → Table → Table → Result X E → Type 0
+LeadsBy added next read old new before after (Ok x) = (laws : IsNext next) (past : Past read) (cs : List (Choice Key)) → IsTrueOf next read past cs old before.nodes before.runs.items → IsTrueOf next read past (added ++ cs) new after.nodes after.runs.items
+LeadsBy added next read old new before after (Err e) = (laws : IsNext next) (past : Past read) (cs : List (Choice Key)) → IsTrueOf next read past cs old before.nodes before.runs.items → IsAfter next read past new
 
--- the same for what is known of these keys: an evaluation of the roots reaches them
+-- the same without a choice
+abbrev pub Leads : {X E : Type 0} → (Key → List Value → Reply Key Value) → (Key → Option Value) → Recorded → Recorded → Table → Table → Result X E → Type 0
+Leads next read old new before after result = LeadsBy [] next read old new before after result
+
+-- the same for what is known of these keys: an evaluation of the roots reaches them, and the choices made them wanted
 abbrev pub LeadsOf : {X E : Type 0} → (Key → List Value → Reply Key Value) → (Key → Option Value) → List Key → Recorded → Recorded → Table → Table → Result X E → Type 0
-LeadsOf next read keys old new before after (Ok x) = (laws : IsNext next) (past : Past read) → AreReached next read past keys → IsTrueOf next read past old before.nodes before.runs.items → IsTrueOf next read past new after.nodes after.runs.items
-LeadsOf next read keys old new before after (Err e) = (laws : IsNext next) (past : Past read) → AreReached next read past keys → IsTrueOf next read past old before.nodes before.runs.items → IsAfter next read past new
+LeadsOf next read keys old new before after (Ok x) = (laws : IsNext next) (past : Past read) (cs : List (Choice Key)) → AreSought next read past cs keys → IsTrueOf next read past cs old before.nodes before.runs.items → IsTrueOf next read past cs new after.nodes after.runs.items
+LeadsOf next read keys old new before after (Err e) = (laws : IsNext next) (past : Past read) (cs : List (Choice Key)) → AreSought next read past cs keys → IsTrueOf next read past cs old before.nodes before.runs.items → IsAfter next read past new
 
 -- where the state was true before, what is true at the end is; and after want of memory the graph is as after a stop
 abbrev pub LeadsToEnd : {X E : Type 0} → (Key → List Value → Reply Key Value) → (Key → Option Value) → Recorded → Recorded → Table → Table → Result X E → Type 0
-LeadsToEnd next read old new before after (Ok x) = (laws : IsNext next) (past : Past read) → IsTrueOf next read past old before.nodes before.runs.items → IsTrueAtEnd next read past new after.runs.items
-LeadsToEnd next read old new before after (Err e) = (laws : IsNext next) (past : Past read) → IsTrueOf next read past old before.nodes before.runs.items → IsAfter next read past new
+LeadsToEnd next read old new before after (Ok x) = (laws : IsNext next) (past : Past read) (cs : List (Choice Key)) → IsTrueOf next read past cs old before.nodes before.runs.items → IsTrueAtEnd next read past new after.runs.items
+LeadsToEnd next read old new before after (Err e) = (laws : IsNext next) (past : Past read) (cs : List (Choice Key)) → IsTrueOf next read past cs old before.nodes before.runs.items → IsAfter next read past new

@@ -4,7 +4,12 @@ use Rattle.indexmap.specs.IndexMap.{Updates}
 use Rattle.std.specs.declared.alloc.Global.{Global}
 use Rattle.std.specs.declared.vec.Vec.{Vec}
 use Rattle.evaluation.specs.Value.{In, first, after, IsMember}
+use Rattle.evaluation.specs.Reply.{Reply}
 use Rattle.evaluation.specs.Graph.{Record, Differs}
+use Rattle.evaluation.specs.Choices.{Choice}
+use Rattle.evaluation.specs.Choices as choices
+use Rattle.evaluation.specs.States.{HasBacks}
+use Rattle.evaluation.proofs.Moves.{alike}
 use Rattle.evaluation.specs.Journal.{RunIsJustified, dependency_differs}
 use Rattle.keys.specs.Cycles.{cycle}
 use Rattle.keys.specs.Keys.{key_eq}
@@ -14,9 +19,9 @@ use Rattle.node.specs.Graphs.{Recorded, record_at, IsTouched}
 use Rattle.node.specs.Kept.{items_of}
 use Rattle.node.proofs.Lists.{some_is, decide_key, in_left, in_right}
 use Rattle.open_nodes.proofs.Lookups.{other_key}
-use Rattle.open_nodes.specs.Nodes.{node_at, groups_of, pending, IsStill, IsCurrent, Stands, IsWhole, AreOut}
+use Rattle.open_nodes.specs.Nodes.{node_at, groups_of, pending, IsClean, IsStill, IsCurrent, Stands, IsWhole, AreOut}
 use Rattle.open_nodes.specs.Steps.{Pends, Readies, HasPhase, SameRuns}
-use Rattle.open_nodes.specs.Truths.{IsTrueOf, Asks, nothing}
+use Rattle.open_nodes.specs.Truths.{IsNext, Past, IsTrueOf, Asks, nothing, IsDoing, IsCheck, TellOut, AreUnchanged}
 use Rattle.open_nodes.specs.declared.run.Run.{Run}
 use Rattle.open_nodes.specs.declared.table.Node.{Node}
 use Rattle.open_nodes.specs.declared.table.Phase.{Phase}
@@ -25,6 +30,7 @@ use Rattle.open_nodes.specs.declared.table.Table.{Table}
 use Rattle.open_nodes.proofs.Wholes.{node_changes}
 use Rattle.open_nodes.specs.Counted.{MakesNone}
 use Rattle.open_nodes.proofs.Counting.{same_asked}
+use Rattle.open_nodes.proofs.Followings.{grows_none}
 use Rattle.open_nodes.proofs.Settlings.{truth_changes}
 use Rattle.round.specs.Members.{IsMissing, has_changed}
 use Rattle.round.specs.Compared.{IsNextGroup, ComparesGroup, Compares}
@@ -35,6 +41,8 @@ use Rattle.round.specs.Looks.{IsAwaiting, IsChecking, HasPassed}
 use Rattle.round.proofs.Grouping.{split_at, snoc_in, items_taken}
 use Rattle.round.proofs.Wanting.{StaysTrue, wanted_set}
 use Rattle.round.proofs.Confirming.{standing}
+use Rattle.round.proofs.Reaching.{rest_is, current_wants}
+use Rattle.round.proofs.Seeking.{settled_by, still_unchanged, changed_since}
 
 items_joined : (xs ys : List (Vec Key Global)) → items_of (xs ++ ys) ≡ items_of xs ++ items_of ys
 items_joined [] ys = refl
@@ -138,6 +146,29 @@ module _ (graph : Recorded) (before later : Table) (k : Key) (at : ℕ) (c : IsC
   pub set_keeps : (p : Phase) → HasPhase before.nodes later.nodes k p → KeepsWanted graph graph before later
   set_keeps p h = wanted_set graph before later k (record n { phase = p }) (u p h)
 
+  regroup : (p : List (List Key)) (g : List Key) (q : List (List Key)) → p ++ g ∷ q ≡ (p ++ g ∷ []) ++ q
+  regroup [] g q = refl
+  regroup (x ∷ p) g q = ap (λ y. x ∷ y) (regroup p g q)
+
+  -- its record at the entry, and what the choices say of its check, which comes to the group
+  its_check : (next : Key → List Value → Reply Key Value) (read : Key → Option Value) (past : Past read) (cs : List (Choice Key)) → IsTrueOf next read past cs graph before.nodes before.runs.items → (group : List Key) (g : IsNextGroup r at group)
+      → (e : Record Key Value) × (record_at past.entry k ≡ Some e) × (e.dirty ≡ true) × (r ≡ e) × (e.groups ≡ take at e.groups ++ group ∷ g.0)
+      × choices.Checks next cycle read (record_at past.entry) past.roots cs k e (take at e.groups) (group ∷ g.0) × AreUnchanged next read past graph e.settled_at (take at e.groups) × HasBacks k 0 cs
+  its_check next read past cs t group g =
+      let o = t.opened k n c.1 in
+      let d = subst (λ (x : Phase). IsDoing next read past cs graph k (groups_of n) x) c.2 o.doing in
+      let same : r ≡ d.of_entry = some_is (sym stand.1 ∙ (o.same ∙ d.recorded)) in
+      let split : d.of_entry.groups ≡ take at d.of_entry.groups ++ group ∷ g.0 = subst (λ (x : Record Key Value). x.groups ≡ take at x.groups ++ group ∷ g.0) same g.1 in (
+        d.of_entry,
+        d.recorded,
+        d.marked,
+        same,
+        split,
+        subst (λ y. choices.Checks next cycle read (record_at past.entry) past.roots cs k d.of_entry (take at d.of_entry.groups) y) (rest_is (take at d.of_entry.groups) d.rest (group ∷ g.0) (sym d.split ∙ split)) d.checks,
+        d.unchanged,
+        d.none_taken,
+      )
+
   -- the next group has not changed
   module _ (found : (group : List Key) × IsNextGroup r at group × ComparesGroup (record_at graph) group r.settled_at compared.Passes)
       (pends : Pends before later k) (h : HasPhase before.nodes later.nodes k (phase.Checking (at + 1))) where
@@ -167,9 +198,43 @@ module _ (graph : Recorded) (before later : Table) (k : Key) (at : ℕ) (c : IsC
     passed_turns = none_more (phase.Checking (at + 1)) h pends.runs
 
     pub passed_true : (read : Key → Option Value) → StaysTrue read graph graph before later
-    passed_true read = λ next laws past t. let o = t.opened k n c.1 in
-        subst (λ (x : List Run). IsTrueOf next read past graph later.nodes x) (sym pends.runs)
-        (truth_changes next read laws past graph before.nodes later.nodes before.runs.items k (record n { phase = phase.Checking (at + 1) }) (u (phase.Checking (at + 1)) h) t o.no_leaf o.reached o.same tt)
+    passed_true read = λ next laws past cs t. let o = t.opened k n c.1 in
+        subst (λ (x : List Run). IsTrueOf next read past cs graph later.nodes x) (sym pends.runs)
+        (truth_changes next read laws past cs cs (grows_none next read past cs) graph before.nodes later.nodes before.runs.items k (record n { phase = phase.Checking (at + 1) }) (λ j d. alike j cs) (u (phase.Checking (at + 1)) h) t (record {
+          no_leaf = o.no_leaf;
+          reached = o.reached;
+          wanted = o.wanted;
+          same = o.same;
+          doing = further next laws past cs t;
+          out = subst (λ (x : Phase). TellOut next read past cs k x) c.2 o.out;
+        }) (w.holds k n c.1).0)
+      where
+        further : (next : Key → List Value → Reply Key Value) (laws : IsNext next) (past : Past read) (cs : List (Choice Key)) → IsTrueOf next read past cs graph before.nodes before.runs.items → IsCheck next read past cs graph k (at + 1)
+        further next laws past cs t =
+            let s = its_check next read past cs t found.0 found.1 in
+            let e = s.0 in
+            let more = next_taken at e.groups found.0 found.1.0 s.4 in
+            let wants = λ (j : Key) (i : In j found.0). current_wants next read laws past cs graph before.nodes before.runs.items t k n c.1 found.0 (subst (λ p. IsCurrent (record_at graph) k (groups_of n) p found.0) (sym c.2) (r, found.1.0, stand.1, found.1.1)) j i in
+            let same = λ (j : Key) (i : In j found.0). still_unchanged next read laws past cs graph before.nodes before.runs.items t k e s.1 s.2 j (found.0, subst (In found.0) (sym s.4) (in_right (take at e.groups) first), i)
+            (subst (λ (x : Record Key Value). IsStill (record_at graph) x.settled_at j) s.3 (still_member j i)) in
+            record {
+              of_entry = e;
+              recorded = s.1;
+              marked = s.2;
+              rest = found.1.0;
+              checks = subst (λ gs. choices.Checks next cycle read (record_at past.entry) past.roots cs k e gs found.1.0) (rw add-one (sym more))
+                  (choices.passes s.5 (λ j i. settled_by next read laws past cs graph before.nodes before.runs.items t j (found.2.0 j i) (wants j i)) same);
+              split = s.4 ∙ regroup (take at e.groups) found.0 found.1.0 ∙ ap (λ gs. gs ++ found.1.0) (rw add-one (sym more));
+              unchanged = λ j m. grown e s.6 same j (subst (IsMember j) (rw add-one more) m);
+              none_taken = s.7;
+            }
+          where
+            grown : (e : Record Key Value) → AreUnchanged next read past graph e.settled_at (take at e.groups) → ((j : Key) → In j found.0 → choices.Unchanged next cycle read (record_at past.entry) e.settled_at j)
+                → (j : Key) → IsMember j (take at e.groups ++ found.0 ∷ []) → IsClean (record_at graph) j × choices.Unchanged next cycle read (record_at past.entry) e.settled_at j
+            grown e before same j m = elim (snoc_in (take at e.groups) m.1) [
+              | inl a ↦ before j (m.0, a, m.2)
+              | inr q ↦ let i = subst (In j) q m.2 in (found.2.0 j i, same j i)
+            ]
 
   -- a member of the next group has changed
   module _ (found : (group : List Key) × IsNextGroup r at group × ComparesGroup (record_at graph) group r.settled_at compared.Differs)
@@ -194,16 +259,46 @@ module _ (graph : Recorded) (before later : Table) (k : Key) (at : ℕ) (c : IsC
     rerun_turns = none_more phase.Running h readies.runs
 
     pub rerun_true : (read : Key → Option Value) → StaysTrue read graph graph before later
-    rerun_true read = λ next laws past t. let o = t.opened k n c.1 in
+    rerun_true read = λ next laws past cs t. let o = t.opened k n c.1 in
+        let s = its_check next read past cs t found.0 found.1 in
+        let e = s.0 in
+        let changes = changed_since next read laws past cs graph before.nodes before.runs.items t k e s.1 s.2 found.2.1.0 (found.0, subst (In found.0) (sym s.4) (in_right (take at e.groups) first), found.2.1.1)
+        (found.2.0 found.2.1.0 found.2.1.1) (subst (λ (x : Record Key Value). has_changed (record_at graph found.2.1.0) x.settled_at ≡ true) s.3 found.2.1.2) in
         let j = found.2.1.0 in
         let d = (t.after.lawful.each k r stand.1).depends j (found.0, in_groups, found.2.1.1) in
         let changed : nat_lt r.settled_at d.of_j.changed_at ≡ true = sym (ap (λ x. has_changed x r.settled_at) d.recorded) ∙ found.2.1.2 in
-        subst (λ (x : List Run). IsTrueOf next read past graph later.nodes x) (sym readies.runs)
-        (truth_changes next read laws past graph before.nodes later.nodes before.runs.items k (record n { phase = phase.Running }) (u phase.Running h) t o.no_leaf o.reached o.same (record {
-          justified = subst (RunIsJustified next cycle past.reads (λ x y. IsTouched (past.edits x) y) past.entry.version) (sym stand.1 ∙ o.same)
-              (dependency_differs (found.0, in_groups, found.2.1.1) (subst (λ v. Differs next cycle past.reads j r.settled_at v) t.after.version (d.changed (late changed)).0));
-          asks = subst (Asks next read past k []) (sym stand.2) nothing;
-        }))
+        subst (λ (x : List Run). IsTrueOf next read past cs graph later.nodes x) (sym readies.runs)
+        (truth_changes next read laws past cs cs (grows_none next read past cs) graph before.nodes later.nodes before.runs.items k (record n { phase = phase.Running }) (λ j d. alike j cs) (u phase.Running h) t (record {
+          no_leaf = o.no_leaf;
+          reached = o.reached;
+          wanted = o.wanted;
+          same = o.same;
+          out = subst (λ (x : Phase). TellOut next read past cs k x) c.2 o.out;
+          doing = record {
+            justified = subst (RunIsJustified next cycle past.reads (λ x y. IsTouched (past.edits x) y) past.entry.version) (sym stand.1 ∙ o.same)
+                (dependency_differs (found.0, in_groups, found.2.1.1) (subst (λ v. Differs next cycle past.reads j r.settled_at v) t.after.version (d.changed (late changed)).0));
+            asks = subst (Asks next read past k []) (sym stand.2) nothing;
+            runs = choices.differs s.5 (λ i m. settled_by next read laws past cs graph before.nodes before.runs.items t i (found.2.0 i m)
+                (current_wants next read laws past cs graph before.nodes before.runs.items t k n c.1 found.0 (subst (λ p. IsCurrent (record_at graph) k (groups_of n) p found.0) (sym c.2) (r, found.1.0, stand.1, found.1.1)) i m)) found.2.1.1 changes;
+            begun = inr (
+              e,
+              s.1,
+              s.2,
+              record {
+                passed = take at e.groups;
+                group = found.0;
+                rest = found.1.0;
+                split = s.4;
+                unchanged = s.6;
+                settled = found.2.0;
+                member = found.2.1.0;
+                among = found.2.1.1;
+                changed = changes;
+              },
+            );
+            taken = subst (λ (gs : List (List Key)). HasBacks k (length gs) cs) (sym stand.2) s.7;
+          };
+        }) (w.holds k n c.1).0)
       where
         late : {a b : ℕ} → nat_lt a b ≡ true → a < b
         late e = grind (arith, e)

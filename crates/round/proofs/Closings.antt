@@ -6,6 +6,7 @@ use Rattle.evaluation.specs.Reply.{Reply}
 use Rattle.evaluation.specs.Value.{Grounded, AllGrounded, IsUngrounded, First, at_head, further, Walk, stay, step, Cyclic, Settles, leaf, run, closed, In, first, after, IsMember, AllDiffer}
 use Rattle.evaluation.specs.Value as value
 use Rattle.evaluation.specs.Graph.{Record}
+use Rattle.evaluation.specs.Choices.{Choice}
 use Rattle.evaluation.specs.Journal.{RunIsJustified}
 use Rattle.evaluation.proofs.Stall.{never, stops_after, walk_on}
 use Rattle.evaluation.proofs.Closed.{stops_map}
@@ -80,26 +81,26 @@ map_join f (x ∷ xs) ys = ap (λ zs. f x ∷ zs) (map_join f xs ys)
 
 module _ (old : Recorded) (start later : Table) (stall : Stall) (w : IsWholeNow old start) (idle : IsIdle start)
     (t : HasTaken (record_at old) old.version start later stall) (none : (k : Key) → node_at later.nodes k ≡ None)
-    (next : Key → List Value → Reply Key Value) (read : Key → Option Value) (laws : IsNext next) (past : Past read) (h : IsTrueOf next read past old start.nodes start.runs.items) where
+    (next : Key → List Value → Reply Key Value) (read : Key → Option Value) (laws : IsNext next) (past : Past read) (cs : List (Choice Key)) (h : IsTrueOf next read past cs old start.nodes start.runs.items) where
   abbrev records : Records
   records = record_at old
 
   abbrev stopped_of : (c : Closing) → In c stall.closing.items → IsStopped records start.nodes stall.stops c
   stopped_of c i = stopped old start later stall old.version w idle t none c i
 
-  opened : (c : Closing) (i : In c stall.closing.items) → IsOpenTruly next read past old c.key (stopped_of c i).node
+  opened : (c : Closing) (i : In c stall.closing.items) → IsOpenTruly next read past cs old c.key (stopped_of c i).node
   opened c i = h.opened c.key (stopped_of c i).node (stopped_of c i).there
 
   -- its turns come to the group that it waits for
-  comes : (c : Closing) (i : In c stall.closing.items) → AsksAfter next read laws past c.key [] (stopped_of c i).passed (stopped_of c i).group
+  comes : (c : Closing) (i : In c stall.closing.items) → AsksAfter next read laws past cs c.key [] (stopped_of c i).passed (stopped_of c i).group
   comes c i = go s.node.phase (opened c i).doing s.come
     where
       s : IsStopped records start.nodes stall.stops c
       s = stopped_of c i
 
-      go : (p : Phase) → IsDoing next read past c.key (groups_of s.node) p → ComesBy records c.key (groups_of s.node) p s.passed s.group → AsksAfter next read laws past c.key [] s.passed s.group
-      go (phase.Checking at) d b = check_asks next read laws past old start.nodes start.runs.items h c.key b.0 b.2 s.passed b.1 s.group b.3 b.4
-      go phase.Running d b = asks_last next read laws past d.asks s.passed s.group b
+      go : (p : Phase) → IsDoing next read past cs old c.key (groups_of s.node) p → ComesBy records c.key (groups_of s.node) p s.passed s.group → AsksAfter next read laws past cs c.key [] s.passed s.group
+      go (phase.Checking at) d b = check_asks next read laws past cs old start.nodes start.runs.items h c.key b.0 b.2 s.passed b.1 s.group b.3 b.4
+      go phase.Running d b = asks_last next read laws past cs d.asks s.passed s.group b
       go phase.Out d b = absurd b
 
   -- open, or known not to be grounded
@@ -203,7 +204,7 @@ module _ (old : Recorded) (start later : Table) (stall : Stall) (w : IsWholeNow 
     its_open : (e : Entry) (i : In e entries) → node_at start.nodes e.key ≡ Some (stopped_of (closing_of e i) (closing_in e i)).node
     its_open e i = ap (node_at start.nodes) (key_is e i) ∙ (stopped_of (closing_of e i) (closing_in e i)).there
 
-    truly : (e : Entry) (i : In e entries) → IsOpenTruly next read past old e.key (stopped_of (closing_of e i) (closing_in e i)).node
+    truly : (e : Entry) (i : In e entries) → IsOpenTruly next read past cs old e.key (stopped_of (closing_of e i) (closing_in e i)).node
     truly e i = h.opened e.key (stopped_of (closing_of e i) (closing_in e i)).node (its_open e i)
 
     settles : (e : Entry) → In e entries → Settles next read cycle e.key (asked e) (arc_value e.value)
@@ -249,10 +250,10 @@ module _ (old : Recorded) (start later : Table) (stall : Stall) (w : IsWholeNow 
     }
 
     -- a closed node that made turns was justified to
-    justified_by : (k : Key) (n : Node) → IsOpenTruly next read past old k n → HasTurned n true → RunIsJustified next cycle past.reads (λ u j. IsTouched (past.edits u) j) past.entry.version (record_at past.entry k)
+    justified_by : (k : Key) (n : Node) → IsOpenTruly next read past cs old k n → HasTurned n true → RunIsJustified next cycle past.reads (λ u j. IsTouched (past.edits u) j) past.entry.version (record_at past.entry k)
     justified_by k n o turned = go n.phase turned o.doing
       where
-        go : (p : Phase) → HasTurnedBy p true → IsDoing next read past k (groups_of n) p → RunIsJustified next cycle past.reads (λ u j. IsTouched (past.edits u) j) past.entry.version (record_at past.entry k)
+        go : (p : Phase) → HasTurnedBy p true → IsDoing next read past cs old k (groups_of n) p → RunIsJustified next cycle past.reads (λ u j. IsTouched (past.edits u) j) past.entry.version (record_at past.entry k)
         go (phase.Checking at) q d = absurd (true_false refl q)
         go phase.Running q d = d.justified
         go phase.Out q d = d.justified

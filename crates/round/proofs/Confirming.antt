@@ -4,6 +4,10 @@ use Rattle.std.proofs.lemmas.List.{take-append-drop, drop_all}
 use Rattle.std.specs.Prelude.{IsSome}
 use Rattle.evaluation.specs.Value.{In, first, after, IsMember}
 use Rattle.evaluation.specs.Graph.{Record}
+use Rattle.evaluation.specs.Reply.{Reply}
+use Rattle.evaluation.specs.Choices.{Choice}
+use Rattle.evaluation.specs.Choices as choices
+use Rattle.evaluation.proofs.Moves.{alike}
 use Rattle.evaluation.proofs.Settle.{confirm_holds}
 use Rattle.keys.specs.Cycles.{cycle}
 use Rattle.keys.specs.declared.key.Key.{Key}
@@ -13,9 +17,9 @@ use Rattle.node.specs.Graphs.{Recorded, record_at, Sets, IsTouched, HasCleanMemb
 use Rattle.node.specs.Laws.{SettlingKeepsLawful}
 use Rattle.node.proofs.Lists.{some_is, none_some, decide_key, in_left, in_right}
 use Rattle.open_nodes.proofs.Lookups.{other_key}
-use Rattle.open_nodes.specs.Nodes.{Nodes, Records, node_at, groups_of, pending, IsStill, Stands, Holds, IsWhole, AreOut}
+use Rattle.open_nodes.specs.Nodes.{Nodes, Records, node_at, groups_of, pending, IsClean, IsStill, Stands, Holds, IsWhole, AreOut}
 use Rattle.open_nodes.specs.Steps.{HasLeft}
-use Rattle.open_nodes.specs.Truths.{Past, IsTrueOf}
+use Rattle.open_nodes.specs.Truths.{IsNext, Past, IsTrueOf, IsDoing, TellOut, AreUnchanged, IsSettledTruly, by_check}
 use Rattle.open_nodes.specs.declared.run.Run.{Run}
 use Rattle.open_nodes.specs.declared.table.Node.{Node}
 use Rattle.open_nodes.specs.declared.table.Phase.{Phase}
@@ -27,10 +31,12 @@ use Rattle.std.specs.declared.vec.Vec.{Vec}
 use Rattle.node.specs.Kept.{items_of}
 use Rattle.open_nodes.specs.Counted.{turns_of, asked_by, MakesNone}
 use Rattle.open_nodes.proofs.Counting.{counts_none}
+use Rattle.open_nodes.proofs.Followings.{grows_none, unchanged_on}
 use Rattle.open_nodes.proofs.Settlings.{plain, settles_quietly}
 use Rattle.round.specs.Moves.{KeepsWanted}
 use Rattle.round.specs.Looks.{HasPassed}
 use Rattle.round.proofs.Wanting.{StaysTrue, wanted_leaves}
+use Rattle.round.proofs.Seeking.{no_rest}
 
 -- what a checked node's record and members are
 module _ (records : Records) (nodes : Nodes) (h : Holds records nodes) (k : Key) (n : Node) (there : node_at nodes k ≡ Some n) (at : ℕ) (checking : n.phase ≡ phase.Checking at) where
@@ -107,21 +113,40 @@ module _ (graph : Recorded) (table : Table) (k : Key) (p : HasPassed graph table
         no_items (g ∷ gs) e = cc
 
     pub confirmed_true : ((r : Record Key Value) → record_at graph k ≡ Some r → SettlingKeepsLawful graph new k r.value r.groups) → (read : Key → Option Value) → StaysTrue read graph new table later
-    confirmed_true keeps read = λ next laws past t.
+    confirmed_true keeps read = λ next laws past cs t.
         let e = recorded.1 in
         let r = recorded.0 in
         let o = t.opened k p.node p.there in
         let law = t.after.lawful in
         let none_now : past.reads graph.version k ≡ None = ap (λ u. past.reads u k) t.after.version ∙ past.at_present k ∙ o.no_leaf in
         let s = sets r e in
-        subst (λ (x : List Run). IsTrueOf next read past new later.nodes x) (sym left.runs)
-        (settles_quietly next read laws past graph new table.nodes later.nodes table.runs.items k (record r { settled_at = graph.version; dirty = false }) t version s (w.holds k p.node p.there).0 refl o.reached refl
+        subst (λ (x : List Run). IsTrueOf next read past cs new later.nodes x) (sym left.runs)
+        (settles_quietly next read laws past cs cs (grows_none next read past cs) graph new table.nodes later.nodes table.runs.items k (record r { settled_at = graph.version; dirty = false }) (λ j d. alike j cs) t version s (w.holds k p.node p.there).0 refl o.reached refl
         (keeps r e next past.reads past.edits law
         (confirm_holds next cycle turned past.reads (record_at graph) (λ u j. IsTouched (past.edits u) j) graph.version law (plain next read laws past) k r e
         (none_now ∙ sym (never_leaf past graph.version r.settled_at none_now))
         (λ j m x f. let y = all_still r e j m in let same : y.0 ≡ x = some_is (sym y.1 ∙ f) in (ap (λ (z : Record Key Value). z.dirty) (sym same) ∙ y.2, subst (λ (z : Record Key Value). z.changed_at ≤ r.settled_at) same y.3))))
-        left.gone others_stay r (sym o.same ∙ e) (inl refl))
+        left.gone others_stay (λ clean_still. truly next laws past cs t clean_still) r (sym o.same ∙ e) (inl refl))
       where
+        truly : (next : Key → List Value → Reply Key Value) (laws : IsNext next) (past : Past read) (cs : List (Choice Key)) (t : IsTrueOf next read past cs graph table.nodes table.runs.items)
+            → ((j : Key) → IsClean (record_at graph) j → IsClean (record_at new) j) → IsSettledTruly next read past cs new k
+        truly next laws past cs t clean_still =
+            let r = recorded.0 in
+            let o = t.opened k p.node p.there in
+            let c = subst (λ (x : Phase). IsDoing next read past cs graph k (groups_of p.node) x) p.checking o.doing in
+            let of_r : r ≡ c.of_entry = some_is (sym recorded.1 ∙ (o.same ∙ c.recorded)) in
+            let whole : take p.at c.of_entry.groups ≡ c.of_entry.groups = take_whole c.of_entry.groups p.at (p.over c.of_entry (o.same ∙ c.recorded)) in
+            let none : c.rest ≡ [] = no_rest c.of_entry.groups c.rest (c.split ∙ ap (λ gs. gs ++ c.rest) whole) in
+            record {
+              settled = choices.checked (subst (λ gs. choices.Checks next cycle read (record_at past.entry) past.roots cs k c.of_entry (take p.at c.of_entry.groups) gs) none c.checks);
+              not_out = subst (λ (x : Phase). TellOut next read past cs k x) p.checking o.out;
+              how = by_check o.no_leaf c.recorded (unchanged_on next read past graph new clean_still (subst (λ gs. AreUnchanged next read past graph c.of_entry.settled_at gs) whole c.unchanged)) c.none_taken;
+              change = λ x s f h.
+                  let is : record r { settled_at = graph.version; dirty = false } ≡ x = some_is (sym (sets r recorded.1).there ∙ f) in
+                  let was : r ≡ s = some_is (sym recorded.1 ∙ (o.same ∙ h)) in
+                  inl (ap (λ (z : Record Key Value). z.value) (sym was) ∙ ap (λ (z : Record Key Value). z.value) is, ap (λ (z : Record Key Value). z.changed_at) (sym is) ∙ ap (λ (z : Record Key Value). z.changed_at) was);
+            }
+
         never_leaf : {read : Key → Option Value} (past : Past read) (u v : ℕ) → past.reads u k ≡ None → past.reads v k ≡ None
         never_leaf past u v e = go (past.reads v k) refl
           where

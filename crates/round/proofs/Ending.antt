@@ -2,6 +2,9 @@
 use Rattle.std.proofs.Common.{◌≡◌, ◌≢◌, inl, inr, ℕ, ◌+◌, suc, List, [], ◌∷◌, ◌++◌, length, map, Option, Some, None, refl, sym, ◌∙◌, ap, subst, arith, vec_len}
 use Rattle.evaluation.specs.Reply.{Reply, Ask, Done}
 use Rattle.evaluation.specs.Value.{Grounded, has_run, Turns, ends, asks, AllGrounded, none, one, Settles, run, In, first, after, IsMember}
+use Rattle.evaluation.specs.Choices.{Choice, Back}
+use Rattle.evaluation.specs.Choices as choices
+use Rattle.evaluation.proofs.Moves.{alike_back, has_back, not_out_back}
 use Rattle.evaluation.proofs.Unique.{same_values}
 use Rattle.keys.specs.declared.key.Key.{Key}
 use Rattle.keys.specs.declared.value.Value.{Value}
@@ -14,9 +17,9 @@ use Rattle.node.specs.Writes.{stored, HasReadyMembers}
 use Rattle.node.specs.Laws.{SettlingKeepsLawful}
 use Rattle.node.proofs.Lists.{some_is, none_some, decide_key, in_left, in_right}
 use Rattle.open_nodes.proofs.Lookups.{other_key}
-use Rattle.open_nodes.specs.Nodes.{Nodes, Records, node_at, groups_of, pending, IsUnsettled, IsPlain, Stands, IsWhole, AreOut}
+use Rattle.open_nodes.specs.Nodes.{Nodes, Records, node_at, groups_of, pending, IsUnsettled, IsClean, IsPlain, Stands, IsWhole, AreOut}
 use Rattle.open_nodes.specs.Steps.{HasLeft, HasNoted}
-use Rattle.open_nodes.specs.Truths.{IsNext, Past, IsAfter, IsTrueOf, IsOpenTruly, IsDoing, IsRun, Asks, nothing, last, more}
+use Rattle.open_nodes.specs.Truths.{IsNext, Past, IsAfter, IsTrueOf, IsOpenTruly, IsDoing, IsRun, IsSettledTruly, by_turns, Asks, nothing, last, more}
 use Rattle.open_nodes.specs.declared.run.Run.{Run}
 use Rattle.open_nodes.specs.declared.table.Node.{Node}
 use Rattle.open_nodes.specs.declared.table.Phase.{Phase}
@@ -25,11 +28,13 @@ use Rattle.open_nodes.specs.declared.table.Table.{Table}
 use Rattle.open_nodes.proofs.Wholes.{node_settles}
 use Rattle.open_nodes.specs.Counted.{turns_of, asked_by, MakesMore}
 use Rattle.open_nodes.proofs.Counting.{counts, turns_snoc}
+use Rattle.open_nodes.proofs.Followings.{Grows, grows_one, begun_on}
 use Rattle.open_nodes.proofs.Settlings.{now_is, plain_grounded, settles_by_run}
 use Rattle.round.specs.Members.{plain_value, all_values, AreAnswers}
 use Rattle.round.specs.Turning.{IsOutWith}
 use Rattle.round.specs.Moves.{KeepsWanted}
 use Rattle.round.proofs.Wanting.{wanted_leaves}
+use Rattle.round.proofs.Seeking.{stored_change}
 use Rattle.round.proofs.Grouping.{plain_is, items_length}
 
 -- a list of values, cut where a list before it ends
@@ -82,6 +87,18 @@ module _ (next : Key → List Value → Reply Key Value) (read : Key → Option 
       let s = split_some (map (λ j. plain_value (records j)) g) (all_values records gs) answers h in
       let q : us ≡ s.0 = same_values next read u (group_grounded g s.0 s.3) refl in
       more f u (asks_more t s.1 s.4 group (ap (next k) (sym (join a us s.1) ∙ ap (λ ys. a ++ (ys ++ s.1)) q ∙ ap (λ ys. a ++ ys) (sym s.2)) ∙ e))
+
+  -- they come through these groups with these answers
+  pub asks_come : {k : Key} {a : List Value} {groups : List (List Key)} → Asks next read past k a groups → (answers : List Value) → AreAnswers records groups answers → choices.Comes next cycle read k a groups (a ++ answers)
+  asks_come {k = k} {a = a} nothing answers h = subst (λ ys. choices.Comes next cycle read k a [] ys) (sym (nil_right a) ∙ ap (λ ys. a ++ ys) (sym (no_values answers h))) choices.stay
+  asks_come {k = k} {a = a} (last {group = g} f) answers h =
+      let s = split_some (map (λ j. plain_value (records j)) g) [] answers h in
+      let w = no_values s.1 s.4 in
+      subst (λ ys. choices.Comes next cycle read k a (g ∷ []) (a ++ ys)) (sym (nil_right s.0) ∙ ap (λ zs. s.0 ++ zs) (sym w) ∙ sym s.2) (choices.asks f (group_grounded g s.0 s.3) choices.stay)
+  asks_come {k = k} {a = a} (more {group = g} {vs = us} {groups = gs} f u t) answers h =
+      let s = split_some (map (λ j. plain_value (records j)) g) (all_values records gs) answers h in
+      let q : us ≡ s.0 = same_values next read u (group_grounded g s.0 s.3) refl in
+      subst (λ ys. choices.Comes next cycle read k a (g ∷ gs) ys) (sym (join a us s.1) ∙ ap (λ ys. a ++ (ys ++ s.1)) q ∙ ap (λ ys. a ++ ys) (sym s.2)) (choices.asks f u (asks_come t s.1 s.4))
 
 -- a plain value of the graph is the key's value
 pub plain_values : (next : Key → List Value → Reply Key Value) (read : Key → Option Value) (laws : IsNext next) (past : Past read) (graph : Recorded) → IsAfter next read past graph
@@ -137,23 +154,47 @@ module _ (old new : Recorded) (before mid later : Table) (k : Key) (v : Value) (
       let s = turns_snoc before.runs.items (record { key = k; version = at; turns = turns }) in let i = items_length o.node.groups.items in omega (arith, a, b, r, s, count, i))
 
   pub ended_true : at ≡ old.version → turns ≡ suc (length (groups_of o.node)) → SettlingKeepsLawful old new k v (groups_of o.node)
-      → (next : Key → List Value → Reply Key Value) → next k answers ≡ Done v → (read : Key → Option Value) (laws : IsNext next) (past : Past read)
-      → IsTrueOf next read past old before.nodes before.runs.items → IsTrueOf next read past new later.nodes later.runs.items
-  ended_true now count keeps next ended read laws past t =
-      subst (λ (x : Nodes). IsTrueOf next read past new x later.runs.items) (sym noted.nodes) (subst (λ (x : List Run). IsTrueOf next read past new mid.nodes x) (sym (noted.runs ∙ ap (λ (xs : List Run). xs ++ record { key = k; version = at; turns = turns } ∷ []) left.runs))
-      (settles_by_run next read laws past old new before.nodes mid.nodes before.runs.items k (stored (record_at old k) v (groups_of o.node) old.version) t version sets was refl h.reached refl
+      → (next : Key → List Value → Reply Key Value) → next k answers ≡ Done v → (read : Key → Option Value) (laws : IsNext next) (past : Past read) (cs : List (Choice Key))
+      → IsTrueOf next read past cs old before.nodes before.runs.items → IsTrueOf next read past (Back k ∷ cs) new later.nodes later.runs.items
+  ended_true now count keeps next ended read laws past cs t =
+      subst (λ (x : Nodes). IsTrueOf next read past (Back k ∷ cs) new x later.runs.items) (sym noted.nodes) (subst (λ (x : List Run). IsTrueOf next read past (Back k ∷ cs) new mid.nodes x) (sym (noted.runs ∙ ap (λ (xs : List Run). xs ++ record { key = k; version = at; turns = turns } ∷ []) left.runs))
+      (settles_by_run next read laws past cs (Back k ∷ cs) g old new before.nodes mid.nodes before.runs.items k (stored (record_at old k) v (groups_of o.node) old.version) (λ j d. alike_back (λ e. d (sym e))) t version sets was refl h.reached refl
       (keeps next past.reads past.edits t.after.lawful (subst (λ f. Settles next f cycle k (groups_of o.node) v) (sym present_now) (run h.no_leaf its_turns)))
-      left.gone others_stay (record { key = k; version = at; turns = turns }) refl now (inr (h.no_leaf, does.justified, inl (has_run h.no_leaf its_turns, count)))
+      left.gone others_stay truly (record { key = k; version = at; turns = turns }) refl now (inr (h.no_leaf, does.justified, inl (has_run h.no_leaf its_turns, count)))
       (λ j m. let p = its_members j m in (p.0, p.1, p.2)) (has_run h.no_leaf its_turns)))
     where
       its_members : (j : Key) → IsMember j (groups_of o.node) → IsPlain (record_at old) j
       its_members = subst (λ (p : Phase). Stands (record_at old) k (groups_of o.node) p) o.out (w.holds k o.node o.there).1
 
-      h : IsOpenTruly next read past old k o.node
+      g : Grows next read past cs (Back k ∷ cs)
+      g = grows_one next read past (Back k) cs
+
+      h : IsOpenTruly next read past cs old k o.node
       h = t.opened k o.node o.there
 
-      does : IsRun next read past k (groups_of o.node)
-      does = subst (λ (p : Phase). IsDoing next read past k (groups_of o.node) p) o.out h.doing
+      does : IsRun next read past cs old k (groups_of o.node)
+      does = subst (λ (p : Phase). IsDoing next read past cs old k (groups_of o.node) p) o.out h.doing
+
+      its_way : choices.Comes next cycle read k [] (groups_of o.node) answers
+      its_way = asks_come next read past (record_at old) (plain_values next read laws past old t.after) does.asks answers o.answered
+
+      truly : ((j : Key) → IsClean (record_at old) j → IsClean (record_at new) j) → IsSettledTruly next read past (Back k ∷ cs) new k
+      truly clean_still = record {
+        settled = choices.ended (g.runs k does.runs) its_way (has_back does.taken).taken ended;
+        not_out = not_out_back;
+        how = by_turns (record {
+          no_leaf = h.no_leaf;
+          begun = begun_on next read past old new clean_still k does.begun;
+          groups = groups_of o.node;
+          answers = answers;
+          value = v;
+          comes = its_way;
+          ends = ended;
+          members = λ j m. let p = its_members j m in clean_still j (p.0, p.1, p.2);
+          taken = has_back does.taken;
+        });
+        change = stored_change next read laws past cs old before.nodes before.runs.items t new k v (groups_of o.node) was sets.there;
+      }
 
       its_turns : Turns next read k [] (groups_of o.node) v
       its_turns = asks_turns next read past (record_at old) (plain_values next read laws past old t.after) does.asks answers o.answered v ended

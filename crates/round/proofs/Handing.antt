@@ -4,6 +4,10 @@ use Rattle.indexmap.specs.IndexMap.{Updates}
 use Rattle.std.specs.declared.alloc.Global.{Global}
 use Rattle.evaluation.specs.Reply.{Reply, Ask}
 use Rattle.evaluation.specs.Value.{In, first, after, IsMember}
+use Rattle.evaluation.specs.Choices.{Choice, Hand, Back, handed}
+use Rattle.evaluation.specs.States.{HasBacks}
+use Rattle.evaluation.proofs.Deciding.{length_snoc}
+use Rattle.evaluation.proofs.Moves.{alike_hand, alike_back, has_hand, has_back, not_out_back}
 use Rattle.keys.specs.Keys.{key_eq}
 use Rattle.keys.specs.declared.key.Key.{Key}
 use Rattle.keys.specs.declared.value.Value.{Value}
@@ -13,7 +17,7 @@ use Rattle.node.proofs.Lists.{some_is, decide_key, in_left, in_right}
 use Rattle.open_nodes.proofs.Lookups.{other_key}
 use Rattle.open_nodes.specs.Nodes.{node_at, groups_of, pending, IsPlain, Stands, IsWhole, AreOut}
 use Rattle.open_nodes.specs.Steps.{HasPhase, HasAsked, Pends, SameRuns}
-use Rattle.open_nodes.specs.Truths.{IsNext, Past, IsTrueOf, IsOpenTruly, IsDoing, IsRun}
+use Rattle.open_nodes.specs.Truths.{IsNext, Past, IsTrueOf, IsOpenTruly, IsDoing, IsRun, TellOut}
 use Rattle.open_nodes.specs.declared.run.Run.{Run}
 use Rattle.open_nodes.specs.declared.table.Node.{Node}
 use Rattle.open_nodes.specs.declared.table.Phase.{Phase}
@@ -24,12 +28,13 @@ use Rattle.std.specs.declared.vec.Vec.{Vec}
 use Rattle.node.specs.Kept.{items_of}
 use Rattle.open_nodes.specs.Counted.{turns_of, asked_by, MakesNone, MakesMore}
 use Rattle.open_nodes.proofs.Counting.{counts, same_asked}
+use Rattle.open_nodes.proofs.Followings.{Grows, grows_one}
 use Rattle.open_nodes.proofs.Settlings.{truth_changes}
 use Rattle.round.specs.Members.{AreAnswers, Answers}
 use Rattle.round.specs.Turning.{IsOutWith}
 use Rattle.round.proofs.Grouping.{never_none, items_length}
-use Rattle.round.specs.Moves.{KeepsWanted}
-use Rattle.round.proofs.Wanting.{StaysTrue, wanted_set}
+use Rattle.round.specs.Moves.{StaysTrueBy, KeepsWanted}
+use Rattle.round.proofs.Wanting.{wanted_set}
 use Rattle.round.proofs.Ending.{asks_more, plain_values}
 
 -- the job of a node that is ready is handed out
@@ -74,11 +79,20 @@ module _ (graph : Recorded) (before later : Table) (k : Key) (w : IsWhole (recor
     pub handed_turns : SameRuns before later → MakesNone before later
     handed_turns runs = same_asked before later k n m there (h n there) refl runs
 
-    pub handed_true : (read : Key → Option Value) → SameRuns before later → StaysTrue read graph graph before later
-    handed_true read runs = λ next laws past t. let o = t.opened k n there in
-        subst (λ (x : List Run). IsTrueOf next read past graph later.nodes x) (sym runs)
-        (truth_changes next read laws past graph before.nodes later.nodes before.runs.items k m (h n there) t o.no_leaf o.reached o.same
-        (subst (λ (p : Phase). IsDoing next read past k (groups_of n) p) (w.ready_now k ready).2 o.doing))
+    pub handed_true : (read : Key → Option Value) → SameRuns before later → StaysTrueBy (Hand k ∷ []) read graph graph before later
+    handed_true read runs = λ next laws past cs t.
+        let o = t.opened k n there in
+        let does = subst (λ (p : Phase). IsDoing next read past cs graph k (groups_of n) p) (w.ready_now k ready).2 o.doing in
+        let g = grows_one next read past (Hand k) cs in
+        subst (λ (x : List Run). IsTrueOf next read past (Hand k ∷ cs) graph later.nodes x) (sym runs)
+        (truth_changes next read laws past cs (Hand k ∷ cs) g graph before.nodes later.nodes before.runs.items k m (λ j d. alike_hand (λ e. d (sym e))) (h n there) t (record {
+          no_leaf = o.no_leaf;
+          reached = o.reached;
+          wanted = g.wanted k o.wanted;
+          same = o.same;
+          doing = record { justified = does.justified; asks = does.asks; runs = g.runs k does.runs; begun = does.begun; taken = has_hand does.taken };
+          out = handed;
+        }) (w.holds k n there).0)
 
 -- a turn that asks a group comes back
 module _ (graph : Recorded) (before later : Table) (k : Key) (answers : List Value) (o : IsOutWith graph before k answers)
@@ -134,16 +148,30 @@ module _ (graph : Recorded) (before later : Table) (k : Key) (answers : List Val
       one_more : (xs ys : List (Vec Key Global)) → items_of ys ≡ items_of xs ++ group ∷ [] → length ys ≡ length xs + 1
       one_more xs ys e = sym (items_length ys) ∙ ap (λ (zs : List (List Key)). length zs) e ∙ length-append (items_of xs) (group ∷ []) ∙ ap (λ n. n + 1) (items_length xs)
 
-  pub asked_true : (next : Key → List Value → Reply Key Value) → next k answers ≡ Ask group → (read : Key → Option Value) (laws : IsNext next) (past : Past read)
-      → IsTrueOf next read past graph before.nodes before.runs.items → IsTrueOf next read past graph later.nodes later.runs.items
-  asked_true next asks_group read laws past t =
-      subst (λ (x : List Run). IsTrueOf next read past graph later.nodes x) (sym pends.runs)
-      (truth_changes next read laws past graph before.nodes later.nodes before.runs.items k new_node u t h.no_leaf h.reached h.same
-      (subst (λ (p : Phase). IsDoing next read past k (groups_of new_node) p) (sym (asked o.node o.there).3)
-      (subst (IsRun next read past k) (sym (asked o.node o.there).2) (record { justified = does.justified; asks = asks_more next read past (record_at graph) (plain_values next read laws past graph t.after) does.asks answers o.answered group asks_group }))))
+  pub asked_true : (next : Key → List Value → Reply Key Value) → next k answers ≡ Ask group → (read : Key → Option Value) (laws : IsNext next) (past : Past read) (cs : List (Choice Key))
+      → IsTrueOf next read past cs graph before.nodes before.runs.items → IsTrueOf next read past (Back k ∷ cs) graph later.nodes later.runs.items
+  asked_true next asks_group read laws past cs t =
+      subst (λ (x : List Run). IsTrueOf next read past (Back k ∷ cs) graph later.nodes x) (sym pends.runs)
+      (truth_changes next read laws past cs (Back k ∷ cs) g graph before.nodes later.nodes before.runs.items k new_node (λ j d. alike_back (λ e. d (sym e))) u t (record {
+        no_leaf = h.no_leaf;
+        reached = h.reached;
+        wanted = g.wanted k h.wanted;
+        same = h.same;
+        doing = subst (λ (p : Phase). IsDoing next read past (Back k ∷ cs) graph k (groups_of new_node) p) (sym (asked o.node o.there).3) (subst (IsRun next read past (Back k ∷ cs) graph k) (sym (asked o.node o.there).2) (record {
+          justified = does.justified;
+          asks = asks_more next read past (record_at graph) (plain_values next read laws past graph t.after) does.asks answers o.answered group asks_group;
+          runs = g.runs k does.runs;
+          begun = does.begun;
+          taken = subst (λ n. HasBacks k n (Back k ∷ cs)) (sym (length_snoc (groups_of o.node) group)) (has_back does.taken);
+        }));
+        out = subst (λ (p : Phase). TellOut next read past (Back k ∷ cs) k p) (sym (asked o.node o.there).3) not_out_back;
+      }) (w.holds k o.node o.there).0)
     where
-      h : IsOpenTruly next read past graph k o.node
+      g : Grows next read past cs (Back k ∷ cs)
+      g = grows_one next read past (Back k) cs
+
+      h : IsOpenTruly next read past cs graph k o.node
       h = t.opened k o.node o.there
 
-      does : IsRun next read past k (groups_of o.node)
-      does = subst (λ (p : Phase). IsDoing next read past k (groups_of o.node) p) o.out h.doing
+      does : IsRun next read past cs graph k (groups_of o.node)
+      does = subst (λ (p : Phase). IsDoing next read past cs graph k (groups_of o.node) p) o.out h.doing

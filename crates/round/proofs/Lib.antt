@@ -6,6 +6,7 @@ pub mod Checking
 pub mod Ending
 pub mod Handing
 pub mod Reaching
+pub mod Seeking
 pub mod Descents
 pub mod Stalling
 pub mod Walking
@@ -18,3 +19,5 @@ pub mod Framing
 pub mod Pausing
 pub mod NoneTaken
 pub mod NextTurns
+pub mod Choosing
+pub mod Following

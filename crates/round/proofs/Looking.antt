@@ -6,6 +6,7 @@ use Rattle.std.specs.Prelude.{vec_len, length, ◌==◌}
 use Rattle.std.specs.declared.alloc.Global.{Global}
 use Rattle.std.specs.declared.vec.Vec.{Vec}
 use Rattle.evaluation.specs.Value.{In, first, after, IsMember}
+use Rattle.evaluation.proofs.Moves.{alike}
 use Rattle.keys.specs.Keys.{key_eq}
 use Rattle.keys.specs.declared.key.Key.{Key}
 use Rattle.keys.specs.declared.value.Value.{Value}
@@ -15,7 +16,7 @@ use Rattle.node.proofs.Lists.{some_is, true_false, none_of, not_in, decide_key, 
 use Rattle.open_nodes.proofs.Lookups.{other_key}
 use Rattle.open_nodes.specs.Nodes.{Nodes, node_at, Records, groups_of, pending, IsOpen, IsUnsettled, IsClean, IsPlain, Stands, IsCurrent, IsBlocked, IsWhole, AreOut}
 use Rattle.open_nodes.specs.Steps.{Pends, Readies, HasWatcher, SameRuns}
-use Rattle.open_nodes.specs.Truths.{IsTrueOf, IsDoing}
+use Rattle.open_nodes.specs.Truths.{IsTrueOf, IsDoing, TellOut}
 use Rattle.open_nodes.specs.declared.run.Run.{Run}
 use Rattle.open_nodes.specs.declared.table.Node.{Node}
 use Rattle.open_nodes.specs.declared.table.Phase.{Phase}
@@ -24,6 +25,7 @@ use Rattle.open_nodes.specs.declared.table.Table.{Table}
 use Rattle.open_nodes.proofs.Wholes.{unsettled_not_clean, node_changes, open_on, blocked_on, looked_at, more_waiting, current_on, clean_on, becomes_ready}
 use Rattle.open_nodes.specs.Counted.{turns_of, MakesNone}
 use Rattle.open_nodes.proofs.Counting.{counts_same, same_asked}
+use Rattle.open_nodes.proofs.Followings.{grows_none}
 use Rattle.open_nodes.proofs.Settlings.{truth_changes}
 use Rattle.round.specs.Members.{IsMissing, plain_value}
 use Rattle.round.proofs.Grouping.{clean_cycle}
@@ -133,10 +135,16 @@ module _ (graph : Recorded) (before later : Table) (k member : Key) (n : Node) (
   watched_turns runs = same_asked before later member m o open_member.1 u (ap (λ (gs : List (Vec Key Global)). length gs) (watches m open_member.1).2) runs
 
   pub watched_true : (read : Key → Option Value) → SameRuns before later → StaysTrue read graph graph before later
-  watched_true read runs = λ next laws past t. let h = t.opened member m open_member.1 in
-      subst (λ (x : List Run). IsTrueOf next read past graph later.nodes x) (sym runs)
-      (truth_changes next read laws past graph before.nodes later.nodes before.runs.items member o u t h.no_leaf h.reached h.same
-      (subst (λ (p : Phase). IsDoing next read past member (groups_of o) p) same_phase (subst (λ (gs : List (List Key)). IsDoing next read past member gs m.phase) same_groups h.doing)))
+  watched_true read runs = λ next laws past cs t. let h = t.opened member m open_member.1 in
+      subst (λ (x : List Run). IsTrueOf next read past cs graph later.nodes x) (sym runs)
+      (truth_changes next read laws past cs cs (grows_none next read past cs) graph before.nodes later.nodes before.runs.items member o (λ j d. alike j cs) u t (record {
+        no_leaf = h.no_leaf;
+        reached = h.reached;
+        wanted = h.wanted;
+        same = h.same;
+        doing = subst (λ (p : Phase). IsDoing next read past cs graph member (groups_of o) p) same_phase (subst (λ (gs : List (List Key)). IsDoing next read past cs graph member gs m.phase) same_groups h.doing);
+        out = subst (λ (p : Phase). TellOut next read past cs member p) same_phase h.out;
+      }) (w.holds member m open_member.1).0)
 
 -- a node is to be looked at again
 module _ (graph : Recorded) (before later : Table) (k : Key) (pends : Pends before later k) (nodes : later.nodes ≡ before.nodes) where
@@ -158,7 +166,7 @@ module _ (graph : Recorded) (before later : Table) (k : Key) (pends : Pends befo
   again_turns = counts_same before later nodes (ap turns_of pends.runs)
 
   pub again_true : (read : Key → Option Value) → StaysTrue read graph graph before later
-  again_true read = λ next laws past t. subst (λ (x : Nodes). IsTrueOf next read past graph x later.runs.items) (sym nodes) (subst (λ (x : List Run). IsTrueOf next read past graph before.nodes x) (sym pends.runs) t)
+  again_true read = λ next laws past cs t. subst (λ (x : Nodes). IsTrueOf next read past cs graph x later.runs.items) (sym nodes) (subst (λ (x : List Run). IsTrueOf next read past cs graph before.nodes x) (sym pends.runs) t)
 
 -- an unsettled key that is wanted is open
 pub wanted_open : (graph : Recorded) (table : Table) (k : Key) → IsWanted graph table k → IsUnsettled (record_at graph) k → IsOpen table.nodes k
@@ -213,7 +221,7 @@ pub ready_out : (before later : Table) → later.nodes ≡ before.nodes → (key
 ready_out before later nodes keys out j m e f = out j m (ap (λ x. node_at x j) (sym nodes) ∙ e) f
 
 pub ready_true : (graph : Recorded) (before later : Table) (k : Key) → Readies before later k → later.nodes ≡ before.nodes → (read : Key → Option Value) → StaysTrue read graph graph before later
-ready_true graph before later k readies nodes read = λ next laws past t. subst (λ (x : Nodes). IsTrueOf next read past graph x later.runs.items) (sym nodes) (subst (λ (x : List Run). IsTrueOf next read past graph before.nodes x) (sym readies.runs) t)
+ready_true graph before later k readies nodes read = λ next laws past cs t. subst (λ (x : Nodes). IsTrueOf next read past cs graph x later.runs.items) (sym nodes) (subst (λ (x : List Run). IsTrueOf next read past cs graph before.nodes x) (sym readies.runs) t)
 
 -- the members that wait of a node that makes turns
 pub running_awaits : (graph : Recorded) (before : Table) (k : Key) (group missing : List Key) → IsRunningAt before k group → IsMissing (record_at graph) group missing → (missing ≡ [] → ⊥) → IsAwaiting graph before k missing
@@ -261,7 +269,7 @@ module _ (graph : Recorded) (before later : Table) (k : Key) (next_key : IsNextK
   next_out = ready_out before later next_key.1
 
   pub next_true : (read : Key → Option Value) → StaysTrue read graph graph before later
-  next_true read = λ next laws past t. subst (λ (x : Nodes). IsTrueOf next read past graph x later.runs.items) (sym next_key.1) (subst (λ (x : List Run). IsTrueOf next read past graph before.nodes x) (sym next_key.3) t)
+  next_true read = λ next laws past cs t. subst (λ (x : Nodes). IsTrueOf next read past cs graph x later.runs.items) (sym next_key.1) (subst (λ (x : List Run). IsTrueOf next read past cs graph before.nodes x) (sym next_key.3) t)
 
 pub next_nodes : (before later : Table) (k : Option Key) → IsNextKey before later k → later.nodes ≡ before.nodes
 next_nodes before later (Some k) n = n.1

@@ -2,7 +2,7 @@
 use Rattle.std.proofs.Common.{◌≡◌, List, [], ◌∷◌, ◌++◌, Option, Some, subst}
 use Rattle.evaluation.specs.Reply.{Reply}
 use Rattle.evaluation.specs.Value.{Grounded, AllGrounded, none, one, In, first, after, IsMember}
-use Rattle.evaluation.specs.Choices.{Comes, stay, asks}
+use Rattle.evaluation.specs.Choices.{Choice, Comes, stay, asks}
 use Rattle.keys.specs.Cycles.{cycle}
 use Rattle.keys.specs.declared.key.Key.{Key}
 use Rattle.keys.specs.declared.value.Value.{Value}
@@ -18,7 +18,7 @@ use Rattle.round.specs.Call.{WantsTurn}
 use Rattle.round.specs.Moves.{IsWholeNow}
 
 module _ (next : Key → List Value → Reply Key Value) (read : Key → Option Value) where
-  abbrev HasGrounded : Key → Type 0
+  abbrev pub HasGrounded : Key → Type 0
   HasGrounded j = (v : Value) × Grounded next read j v
 
   all_grounded : (group : List Key) → ((j : Key) → In j group → HasGrounded j) → (vs : List Value) × AllGrounded next read group vs
@@ -26,13 +26,13 @@ module _ (next : Key → List Value → Reply Key Value) (read : Key → Option 
   all_grounded (j ∷ js) g = let x = g j first in let r = all_grounded js (λ i m. g i (after m)) in (x.0 ∷ r.0, one x.1 r.1)
 
   -- where all members are grounded, the key comes through its groups
-  asks_comes : (past : Past read) {k : Key} {a : List Value} {gs : List (List Key)} → Asks next read past k a gs → ((j : Key) → IsMember j gs → HasGrounded j) → (b : List Value) × Comes next cycle read k a gs b
+  pub asks_comes : (past : Past read) {k : Key} {a : List Value} {gs : List (List Key)} → Asks next read past k a gs → ((j : Key) → IsMember j gs → HasGrounded j) → (b : List Value) × Comes next cycle read k a gs b
   asks_comes past {a = a} nothing g = (a, stay)
   asks_comes past {a = a} (last {group = y} f) g = let vs = all_grounded y (λ j i. g j (y, first, i)) in (a ++ vs.0, asks f vs.1 stay)
   asks_comes past (more f all s) g = let r = asks_comes past s (λ j m. g j (m.0, after m.1, m.2)) in (r.0, asks f all r.1)
 
-  pub wants_turn : (laws : IsNext next) (past : Past read) (graph : Recorded) (table : Table) → IsWholeNow graph table → IsTrueOf next read past graph table.nodes table.runs.items → (k : Key) → In k table.ready.keys → WantsTurn next read past graph k
-  wants_turn laws past graph table w t k i = record {
+  pub wants_turn : (laws : IsNext next) (past : Past read) (cs : List (Choice Key)) (graph : Recorded) (table : Table) → IsWholeNow graph table → IsTrueOf next read past cs graph table.nodes table.runs.items → (k : Key) → In k table.ready.keys → WantsTurn next read past graph k
+  wants_turn laws past cs graph table w t k i = record {
     no_leaf = o.no_leaf;
     reached = o.reached;
     unsettled = (w.holds k y.0 y.1).0;
@@ -46,11 +46,11 @@ module _ (next : Key → List Value → Reply Key Value) (read : Key → Option 
       y : (n : Node) × (node_at table.nodes k ≡ Some n) × (n.phase ≡ phase.Running) × ((j : Key) → IsMember j (groups_of n) → IsPlain (record_at graph) j)
       y = w.ready_now k i
 
-      o : IsOpenTruly next read past graph k y.0
+      o : IsOpenTruly next read past cs graph k y.0
       o = t.opened k y.0 y.1
 
-      does : IsRun next read past k (groups_of y.0)
-      does = subst (λ (p : Phase). IsDoing next read past k (groups_of y.0) p) y.2 o.doing
+      does : IsRun next read past cs graph k (groups_of y.0)
+      does = subst (λ (p : Phase). IsDoing next read past cs graph k (groups_of y.0) p) y.2 o.doing
 
       c : (b : List Value) × Comes next cycle read k [] (groups_of y.0) b
       c = asks_comes past does.asks (λ j m. let p = y.3 j m in (p.0.value, plain_grounded next read laws past graph t.after j p.0 p.1 p.2 p.3))

@@ -9,7 +9,7 @@ use Rattle.std.specs.declared.alloc.Global.{Global}
 use Rattle.std.specs.declared.vec.Vec.{Vec}
 use Rattle.evaluation.specs.Graph.{Record}
 use Rattle.evaluation.specs.Value.{In, after, IsMember}
-use Rattle.keys.specs.Jobs.{Waits}
+use Rattle.keys.specs.Jobs.{Asked, Waits}
 use Rattle.keys.specs.Keys.{key_eq}
 use Rattle.keys.specs.declared.key.Key.{Key}
 use Rattle.keys.specs.declared.value.Value.{Value}
@@ -25,8 +25,8 @@ use Rattle.open_nodes.specs.declared.table.Table.{Table}
 use Rattle.round.specs.Frames.{KeepsSettled, KeepsRunning, KeepsFrameBut}
 use Rattle.round.specs.Members.{no_cycle, plain_value, all_values, AreAnswers, Answers}
 use Rattle.round.specs.Moves.{IsWholeNow}
-use Rattle.round.specs.Paused.{IsPaused, Kept, ArePaused, FewerKept, HasState, DropsState, Keeps}
-use Rattle.round.specs.Turning.{IsOutWith, IsOutAt}
+use Rattle.round.specs.Paused.{IsPaused, Kept, ArePaused, FewerKept, HasState, DropsState, PutsState, TakesState, Keeps}
+use Rattle.round.specs.Turning.{IsOutWith, IsOutAt, NextJob}
 use Rattle.round.proofs.Grouping.{never_none}
 use Rattle.round.proofs.Wanting.{some_there, none_there}
 
@@ -188,6 +188,15 @@ one_kept old new key w u k x e = elim (same_or_key old new key _ u k) [
 
 pub none_kept : (old new : Kept) (key : Key) → new ≡ old → Keeps old new key None
 none_kept old new key q k x e = inl (ap (λ m. get key_eq m k) (sym q) ∙ e)
+
+pub keeps_of : (old new : Kept) (key : Key) (paused : Option Waits) → PutsState old new key paused → Keeps old new key paused
+keeps_of old new key (Some w) u = one_kept old new key w u
+keeps_of old new key None e = none_kept old new key e
+
+-- the state goes with the job; a key that is ready has one
+pub takes_of : (graph : Recorded) (table : Table) (old new : Kept) (key : Key) → In key table.ready.keys → Updates key_eq old new key None → (job : Option Asked) → NextJob graph key table job → TakesState old new key job
+takes_of graph table old new key i u (Some job) n = u
+takes_of graph table old new key i u None n = absurd (n i)
 
 -- and one less
 pub one_fewer : (old new : Kept) (key : Key) → Updates key_eq old new key None → FewerKept old new

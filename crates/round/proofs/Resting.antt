@@ -1,8 +1,10 @@
 -- An evaluation on one thread, between two turns.
-use Rattle.std.proofs.Common.{◌≡◌, ◌⊎◌, inl, inr, ℕ, true, false, cond, List, [], ◌∷◌, Option, Some, None, refl, sym, ◌∙◌, ap, subst}
+use Rattle.std.proofs.Common.{◌≡◌, ◌⊎◌, inl, inr, ℕ, suc, true, false, cond, List, [], ◌∷◌, Option, Some, None, refl, sym, ◌∙◌, ap, subst}
 use Rattle.evaluation.specs.Reply.{Reply}
 use Rattle.evaluation.specs.Value.{In, first, after, AllDiffer}
 use Rattle.evaluation.specs.Graph.{Record}
+use Rattle.evaluation.specs.Choices.{Choice, Backs, nothing, back, other}
+use Rattle.evaluation.specs.Choices as choices
 use Rattle.evaluation.specs.Reached.{root, member}
 use Rattle.evaluation.proofs.Asked.{asked_recorded}
 use Rattle.keys.specs.Cycles.{cycle}
@@ -10,9 +12,10 @@ use Rattle.keys.specs.declared.key.Key.{Key}
 use Rattle.keys.specs.declared.value.Value.{Value}
 use Rattle.node.specs.Graphs.{Recorded, record_at, present}
 use Rattle.node.proofs.Lists.{none_some, true_false}
+use Rattle.node.specs.Laws.{IsLawfulFor}
 use Rattle.open_nodes.specs.Nodes.{Records, node_at, IsOpen, IsUnsettled, IsClean, AreOut}
 use Rattle.open_nodes.specs.Counted.{turns_of, HasMade}
-use Rattle.open_nodes.specs.Truths.{IsNext, Past, IsReached, AreReached, IsAfter, IsTrueOf, IsTrueAtEnd, run_keys}
+use Rattle.open_nodes.specs.Truths.{IsNext, Past, IsReached, AreSought, IsAfter, IsTrueOf, IsTrueAtEnd, run_keys}
 use Rattle.open_nodes.specs.declared.table.Table.{Table}
 use Rattle.open_nodes.proofs.Counting.{none_made, all_made}
 use Rattle.open_nodes.proofs.Orders.{none_stands}
@@ -39,8 +42,9 @@ module _ (graph : Recorded) (table : Table) (f : IsFresh table) where
   pub fresh_made : HasMade table 0
   fresh_made = none_made table none_open f.no_runs
 
-  pub fresh_true : (next : Key → List Value → Reply Key Value) (read : Key → Option Value) (roots : List Key) (past : Past read) → IsHistory next read past roots graph → IsTrueOf next read past graph table.nodes table.runs.items
+  pub fresh_true : (next : Key → List Value → Reply Key Value) (read : Key → Option Value) (roots : List Key) (past : Past read) → IsHistory next read past roots graph → IsTrueOf next read past [] graph table.nodes table.runs.items
   fresh_true next read roots past h = record {
+    before = subst (IsLawfulFor next past.reads past.edits) (sym h.at_entry) h.lawful;
     after = record {
       version = ap (λ (g : Recorded). g.version) (sym h.at_entry);
       lawful = h.lawful;
@@ -52,11 +56,17 @@ module _ (graph : Recorded) (table : Table) (f : IsFresh table) where
     told = λ k r e. inr (r, ap (λ g. record_at g k) h.at_entry ∙ e, inl refl);
     behind = λ before rest x e. absurd (none_stands table.runs.items f.no_runs before rest x e);
     grounded = λ x i. elim (subst (In x) f.no_runs i) [ ];
+    settled = λ k u c. absurd (unsettled_not_clean (record_at past.entry k) c.0 u (ap (λ g. record_at g k) h.at_entry ∙ c.1) c.2);
+    untold = λ k e same. (record { taken = nothing; no_more = λ b. none_back refl b }, λ o. elim o [ ]);
   }
+    where
+      none_back : {k : Key} {n : ℕ} {cs : List (Choice Key)} → cs ≡ [] → Backs k (suc n) cs → ⊥
+      none_back e (back b) = cc
+      none_back e (other b) = cc
 
--- the roots are reached
-pub roots_reached : (next : Key → List Value → Reply Key Value) (read : Key → Option Value) (roots : List Key) (past : Past read) (graph : Recorded) → IsHistory next read past roots graph → AreReached next read past roots
-roots_reached next read roots past graph h k i = root (subst (In k) (sym h.of_roots) i)
+-- the roots are reached, and wanted
+pub roots_reached : (next : Key → List Value → Reply Key Value) (read : Key → Option Value) (roots : List Key) (past : Past read) (graph : Recorded) → IsHistory next read past roots graph → AreSought next read past [] roots
+roots_reached next read roots past graph h k i = (root (subst (In k) (sym h.of_roots) i), choices.root (subst (In k) (sym h.of_roots) i))
 
 -- where the roots are settled, all that they reach is
 pub all_settled : (next : Key → List Value → Reply Key Value) (read : Key → Option Value) (laws : IsNext next) (past : Past read) (graph : Recorded) → IsAfter next read past graph
@@ -97,9 +107,9 @@ decide_settled records (x ∷ keys) = go (present (records x)) refl (decide_sett
     go (Some v) e (inr u) = inr (u.0, after u.1, u.2)
 
 -- where a node is open, a root is
-pub root_open : (next : Key → List Value → Reply Key Value) (read : Key → Option Value) (laws : IsNext next) (past : Past read) (graph : Recorded) (table : Table) → IsWholeNow graph table → IsTrueOf next read past graph table.nodes table.runs.items
+pub root_open : (next : Key → List Value → Reply Key Value) (read : Key → Option Value) (laws : IsNext next) (past : Past read) (cs : List (Choice Key)) (graph : Recorded) (table : Table) → IsWholeNow graph table → IsTrueOf next read past cs graph table.nodes table.runs.items
     → (k : Key) → IsOpen table.nodes k → (j : Key) × In j past.roots × IsUnsettled (record_at graph) j
-root_open next read laws past graph table w t k o = elim (decide_settled (record_at graph) past.roots) [
+root_open next read laws past cs graph table w t k o = elim (decide_settled (record_at graph) past.roots) [
   | inr u ↦ u
   | inl f ↦ let c = all_settled next read laws past graph t.after f k (t.opened k o.0 o.1).reached in
       absurd (unsettled_not_clean (record_at graph k) c.0 (w.holds k o.0 o.1).0 c.1 c.2)

@@ -12,7 +12,11 @@ use Rattle.evaluation.specs.Reply.{Reply}
 use Rattle.evaluation.specs.Value.{leaf, In, first, IsMember}
 use Rattle.evaluation.specs.Value as value
 use Rattle.evaluation.specs.Graph.{Record}
+use Rattle.evaluation.specs.Choices.{Choice}
+use Rattle.evaluation.specs.Choices as choices
+use Rattle.evaluation.specs.States.{HasBacks}
 use Rattle.evaluation.specs.Journal.{RunIsJustified, never_settled, ReadIsJustified, never_read, edited}
+use Rattle.evaluation.proofs.Moves.{alike}
 use Rattle.keys.specs.Cycles.{cycle}
 use Rattle.keys.specs.Keys.{key_eq}
 use Rattle.keys.specs.declared.key.Key.{Key}
@@ -25,7 +29,7 @@ use Rattle.open_nodes.proofs.Lookups.{other_key}
 use Rattle.open_nodes.specs.Nodes.{Nodes, Records, node_at, groups_of, pending, IsOpen, IsUnsettled, Stands, IsWhole}
 use Rattle.open_nodes.specs.Steps.{HasEntered, Pends, Readies, HasNoted, SameRuns}
 use Rattle.open_nodes.specs.Counted.{turns_of, asked_by}
-use Rattle.open_nodes.specs.Truths.{Leads, LeadsOf, LeadsToEnd, AreReached, IsNext, Past, IsAfter, IsTrueOf, IsRun, nothing, IsDoing, Leads}
+use Rattle.open_nodes.specs.Truths.{LeadsBy, LeadsOf, LeadsToEnd, AreSought, IsWantedBy, IsNext, Past, IsAfter, IsTrueOf, IsRun, nothing, IsDoing, TellOut, IsUntold, IsSettledTruly, by_read}
 use Rattle.open_nodes.specs.declared.run.Run.{Run}
 use Rattle.open_nodes.specs.declared.table.Node.{Node}
 use Rattle.open_nodes.specs.declared.table.Phase.{Phase}
@@ -33,15 +37,17 @@ use Rattle.open_nodes.specs.declared.table.Phase.TheVariants as phase
 use Rattle.open_nodes.specs.declared.table.Table.{Table}
 use Rattle.open_nodes.proofs.Wholes.{unsettled_not_clean, node_changes, node_settles, keeps_clean, widens_refl, widens_on}
 use Rattle.open_nodes.proofs.Counting.{turns_snoc, counts_same, counts_none, makes_on}
+use Rattle.open_nodes.proofs.Followings.{grows_none}
 use Rattle.open_nodes.proofs.Settlings.{same_since, truth_changes, settles_by_run}
-use Rattle.round.specs.Moves.{Wants, IsWanted, KeepsWanted}
+use Rattle.round.specs.Moves.{StaysTrueBy, Wants, IsWanted, KeepsWanted}
+use Rattle.round.proofs.Seeking.{stored_change}
 
 -- what was true of the round is true after a move
 abbrev pub StaysTrue : (Key → Option Value) → Recorded → Recorded → Table → Table → Type 0
-StaysTrue read old new before later = (next : Key → List Value → Reply Key Value) (laws : IsNext next) (past : Past read) → IsTrueOf next read past old before.nodes before.runs.items → IsTrueOf next read past new later.nodes later.runs.items
+StaysTrue read old new before later = StaysTrueBy [] read old new before later
 
 abbrev pub StaysTrueOf : List Key → (Key → Option Value) → Recorded → Recorded → Table → Table → Type 0
-StaysTrueOf keys read old new before later = (next : Key → List Value → Reply Key Value) (laws : IsNext next) (past : Past read) → AreReached next read past keys → IsTrueOf next read past old before.nodes before.runs.items → IsTrueOf next read past new later.nodes later.runs.items
+StaysTrueOf keys read old new before later = (next : Key → List Value → Reply Key Value) (laws : IsNext next) (past : Past read) (cs : List (Choice Key)) → AreSought next read past cs keys → IsTrueOf next read past cs old before.nodes before.runs.items → IsTrueOf next read past cs new later.nodes later.runs.items
 
 -- an unsettled record is dirty
 pub unsettled_dirty : (records : Records) (k : Key) (r : Record Key Value) → IsUnsettled records k → records k ≡ Some r → r.dirty ≡ true
@@ -83,7 +89,7 @@ module _ (old new : Recorded) (before after : Table) (k : Key) (v : Value) (turn
 
   module _ (next : Key → List Value → Reply Key Value) (read : Key → Option Value) (is_leaf : read k ≡ Some v)
       (lawful : SettlingKeepsLawful old new k v []) (of_k : turns.key ≡ k) (now : turns.version ≡ old.version) (no_turns : turns.turns ≡ 0)
-      (laws : IsNext next) (past : Past read) (reached : AreReached next read past (k ∷ [])) (t : IsTrueOf next read past old before.nodes before.runs.items) where
+      (laws : IsNext next) (past : Past read) (cs : List (Choice Key)) (sought : AreSought next read past cs (k ∷ [])) (t : IsTrueOf next read past cs old before.nodes before.runs.items) where
     at_now : (u : ℕ) → u ≡ past.entry.version → past.reads u k ≡ Some v
     at_now u e = ap (λ n. past.reads n k) e ∙ past.at_present k ∙ is_leaf
 
@@ -99,11 +105,15 @@ module _ (old new : Recorded) (before after : Table) (k : Key) (v : Value) (turn
             let d = t.after.lawful.leaf_dirty k r v (same ∙ e) (at_now old.version t.after.version) (unsettled_dirty (record_at old) k r was (same ∙ e)) in
             subst (ReadIsJustified next cycle past.reads (λ u j. IsTouched (past.edits u) j) k past.entry.version) (sym e) (edited d.1 (subst (λ (n : ℕ). d.0 ≤ n) t.after.version d.2) d.3)
 
-    pub read_true : IsTrueOf next read past new after.nodes after.runs.items
+    settled_truly : IsSettledTruly next read past cs new k
+    settled_truly = let u = t.untold k closed (same_since next read laws past old t.after k was) in
+        record { settled = choices.leaf (sought k first).1 is_leaf; not_out = u.1; how = by_read is_leaf u.0; change = stored_change next read laws past cs old before.nodes before.runs.items t new k v [] was sets.there }
+
+    pub read_true : IsTrueOf next read past cs new after.nodes after.runs.items
     read_true =
-        subst (λ (x : Nodes). IsTrueOf next read past new x after.runs.items) (sym noted.nodes) (subst (λ (x : List Run). IsTrueOf next read past new before.nodes x) (sym noted.runs)
-        (settles_by_run next read laws past old new before.nodes before.nodes before.runs.items k (stored (record_at old k) v [] old.version) t version sets was refl (reached k first) refl
-        (lawful next past.reads past.edits t.after.lawful (leaf (at_now old.version t.after.version))) closed other_nodes turns of_k now
+        subst (λ (x : Nodes). IsTrueOf next read past cs new x after.runs.items) (sym noted.nodes) (subst (λ (x : List Run). IsTrueOf next read past cs new before.nodes x) (sym noted.runs)
+        (settles_by_run next read laws past cs cs (grows_none next read past cs) old new before.nodes before.nodes before.runs.items k (stored (record_at old k) v [] old.version) (λ j d. alike j cs) t version sets was refl (sought k first).0 refl
+        (lawful next past.reads past.edits t.after.lawful (leaf (at_now old.version t.after.version))) closed other_nodes (λ s. settled_truly) turns of_k now
         (inl (ap read of_k ∙ is_leaf, no_turns, justified)) (λ j m. elim m.1 [ ]) (value.is_leaf is_leaf)))
 
 -- a node begins
@@ -155,21 +165,34 @@ module _ (graph : Recorded) (before after : Table) (k : Key) (p : Phase) (no_out
   begin_open = (n, entered.1.1)
 
   module _ (next : Key → List Value → Reply Key Value) (read : Key → Option Value) (no_leaf : read k ≡ None)
-      (laws : IsNext next) (past : Past read) (reached : AreReached next read past (k ∷ [])) (t : IsTrueOf next read past graph before.nodes before.runs.items) (runs : SameRuns before after)
-      (doing : record_at graph k ≡ record_at past.entry k → IsDoing next read past k [] p) where
-    pub begin_true : IsTrueOf next read past graph after.nodes after.runs.items
-    begin_true = subst (λ (x : List Run). IsTrueOf next read past graph after.nodes x) (sym runs)
-        (truth_changes next read laws past graph before.nodes after.nodes before.runs.items k n entered.1 t no_leaf (reached k first) same
-        (subst (λ (x : Phase). IsDoing next read past k (groups_of n) x) (sym entered.4) (subst (λ (x : List (List Key)). IsDoing next read past k x p) (sym no_groups) (doing same))))
+      (laws : IsNext next) (past : Past read) (cs : List (Choice Key)) (sought : AreSought next read past cs (k ∷ [])) (t : IsTrueOf next read past cs graph before.nodes before.runs.items) (runs : SameRuns before after)
+      (doing : record_at graph k ≡ record_at past.entry k → IsUntold next read past cs k → IsDoing next read past cs graph k [] p × TellOut next read past cs k p) where
+    pub begin_true : IsTrueOf next read past cs graph after.nodes after.runs.items
+    begin_true = subst (λ (x : List Run). IsTrueOf next read past cs graph after.nodes x) (sym runs)
+        (truth_changes next read laws past cs cs (grows_none next read past cs) graph before.nodes after.nodes before.runs.items k n (λ j d. alike j cs) entered.1 t (record {
+          no_leaf = no_leaf;
+          reached = (sought k first).0;
+          wanted = (sought k first).1;
+          same = same;
+          doing = subst (λ (x : Phase). IsDoing next read past cs graph k (groups_of n) x) (sym entered.4) (subst (λ (x : List (List Key)). IsDoing next read past cs graph k x p) (sym no_groups) does.0);
+          out = subst (λ (x : Phase). TellOut next read past cs k x) (sym entered.4) does.1;
+        }) was)
       where
         same : record_at graph k ≡ record_at past.entry k
         same = same_since next read laws past graph t.after k was
 
+        does : IsDoing next read past cs graph k [] p × TellOut next read past cs k p
+        does = doing same (t.untold k closed same)
+
 -- a node without a record may make turns
-pub first_run : (next : Key → List Value → Reply Key Value) (read : Key → Option Value) (past : Past read) (graph : Recorded) (k : Key) → record_at graph k ≡ None → record_at graph k ≡ record_at past.entry k → IsRun next read past k []
-first_run next read past graph k e same = record {
+pub first_run : (next : Key → List Value → Reply Key Value) (read : Key → Option Value) (past : Past read) (cs : List (Choice Key)) (graph : Recorded) (k : Key) → read k ≡ None → IsWantedBy next read past cs k → record_at graph k ≡ None
+    → record_at graph k ≡ record_at past.entry k → HasBacks k 0 cs → IsRun next read past cs graph k []
+first_run next read past cs graph k no_leaf wanted e same none = record {
   justified = subst (RunIsJustified next cycle past.reads (λ u j. IsTouched (past.edits u) j) past.entry.version) (sym e ∙ same) never_settled;
   asks = nothing;
+  runs = choices.is_new wanted no_leaf (sym same ∙ e);
+  begun = inl (sym same ∙ e);
+  taken = none;
 }
 
 -- the check of a record begins
@@ -187,7 +210,19 @@ module _ (graph : Recorded) (before after : Table) (k : Key) (closed : node_at b
       (λ j i. subst (In j) (sym pends.pends) (in_left (k ∷ []) i)) (inl (subst (In k) (sym pends.pends) (in_right (pending before) first))) pends.runs
 
   pub check_true : (read : Key → Option Value) → read k ≡ None → StaysTrueOf (k ∷ []) read graph graph before after
-  check_true read no_leaf = λ next laws past reached t. begin_true graph before after k (phase.Checking 0) not_out closed was entered stands next read no_leaf laws past reached t pends.runs (λ same. tt)
+  check_true read no_leaf = λ next laws past cs sought t. begin_true graph before after k (phase.Checking 0) not_out closed was entered stands next read no_leaf laws past cs sought t pends.runs (λ same untold. (
+    record {
+      of_entry = r;
+      recorded = sym same ∙ there;
+      marked = unsettled_dirty (record_at graph) k r was there;
+      rest = r.groups;
+      checks = choices.begins (sought k first).1 no_leaf (sym same ∙ there) (unsettled_dirty (record_at graph) k r was there);
+      split = refl;
+      unchanged = λ j m. elim m.1 [ ];
+      none_taken = untold.0;
+    },
+    untold.1,
+  ))
 
 -- the turns of a node without a record begin
 module _ (graph : Recorded) (before after : Table) (k : Key) (closed : node_at before.nodes k ≡ None) (was : IsUnsettled (record_at graph) k)
@@ -201,7 +236,8 @@ module _ (graph : Recorded) (before after : Table) (k : Key) (closed : node_at b
       (λ j i. subst (In j) (sym readies.pends) i) (inr readies.ready.has) readies.runs
 
   pub run_true : (read : Key → Option Value) → read k ≡ None → StaysTrueOf (k ∷ []) read graph graph before after
-  run_true read no_leaf = λ next laws past reached t. begin_true graph before after k phase.Running running_not_out closed was entered (inl refl) next read no_leaf laws past reached t readies.runs (λ same. first_run next read past graph k none same)
+  run_true read no_leaf = λ next laws past cs sought t. begin_true graph before after k phase.Running running_not_out closed was entered (inl refl) next read no_leaf laws past cs sought t readies.runs
+      (λ same untold. (first_run next read past cs graph k no_leaf (sought k first).1 none same untold.0, untold.1))
 
 -- what a call stores for a leaf
 pub read_sets : (old new : Recorded) (a k : Key) (v : Value) (gs : List (Vec Key Global)) → a ≡ k → gs ≡ [] → Sets (record_at old) (record_at new) a (stored (record_at old a) v (items_of gs) old.version) → Sets (record_at old) (record_at new) k (stored (record_at old k) v [] old.version)
@@ -245,18 +281,18 @@ no_leaf files (key.Module label) e = refl
 no_leaf files (key.Package name) e = refl
 
 -- after a stop
-pub leads_err : {X E : Type 0} (next : Key → List Value → Reply Key Value) (read : Key → Option Value) (old new : Recorded) (before later : Table) (r : Result X E) → IsErr r
-    → ((laws : IsNext next) (past : Past read) → IsTrueOf next read past old before.nodes before.runs.items → IsAfter next read past new) → Leads next read old new before later r
-leads_err next read old new before later (Ok x) e h = absurd (true_false e refl)
-leads_err next read old new before later (Err x) e h = h
+pub leads_err : {X E : Type 0} (added : List (Choice Key)) (next : Key → List Value → Reply Key Value) (read : Key → Option Value) (old new : Recorded) (before later : Table) (r : Result X E) → IsErr r
+    → ((laws : IsNext next) (past : Past read) (cs : List (Choice Key)) → IsTrueOf next read past cs old before.nodes before.runs.items → IsAfter next read past new) → LeadsBy added next read old new before later r
+leads_err added next read old new before later (Ok x) e h = absurd (true_false e refl)
+leads_err added next read old new before later (Err x) e h = h
 
 pub leads_of_err : {X E : Type 0} (next : Key → List Value → Reply Key Value) (read : Key → Option Value) (keys : List Key) (old new : Recorded) (before later : Table) (r : Result X E) → IsErr r
-    → ((laws : IsNext next) (past : Past read) → AreReached next read past keys → IsTrueOf next read past old before.nodes before.runs.items → IsAfter next read past new) → LeadsOf next read keys old new before later r
+    → ((laws : IsNext next) (past : Past read) (cs : List (Choice Key)) → AreSought next read past cs keys → IsTrueOf next read past cs old before.nodes before.runs.items → IsAfter next read past new) → LeadsOf next read keys old new before later r
 leads_of_err next read keys old new before later (Ok x) e h = absurd (true_false e refl)
 leads_of_err next read keys old new before later (Err x) e h = h
 
 pub leads_to_end_err : {X E : Type 0} (next : Key → List Value → Reply Key Value) (read : Key → Option Value) (old new : Recorded) (before later : Table) (r : Result X E) → IsErr r
-    → ((laws : IsNext next) (past : Past read) → IsTrueOf next read past old before.nodes before.runs.items → IsAfter next read past new) → LeadsToEnd next read old new before later r
+    → ((laws : IsNext next) (past : Past read) (cs : List (Choice Key)) → IsTrueOf next read past cs old before.nodes before.runs.items → IsAfter next read past new) → LeadsToEnd next read old new before later r
 leads_to_end_err next read old new before later (Ok x) e h = absurd (true_false e refl)
 leads_to_end_err next read old new before later (Err x) e h = h
 

@@ -1,6 +1,7 @@
 -- How an evaluation on one thread goes on.
 use Rattle.std.specs.Prelude.{◌≡◌, ℕ, ◌+◌, List, [], Option, Result, Ok, Err}
 use Rattle.evaluation.specs.Reply.{Reply}
+use Rattle.evaluation.specs.Choices.{Choice}
 use Rattle.keys.specs.declared.key.Key.{Key}
 use Rattle.keys.specs.declared.value.Value.{Value}
 use Rattle.node.specs.Graphs.{Recorded}
@@ -24,5 +25,5 @@ TurnsOnce old new before after = (roots : List Key) (turns : ℕ) → IsResting 
 
 -- where the roots are those of the round, the evaluation ends well by closing what is open
 abbrev pub Finishes : {E : Type 0} → (Key → List Value → Reply Key Value) → (Key → Option Value) → Recorded → Recorded → Standing → Result (List Run) E → Type 0
-Finishes next read old new s (Ok runs) = (laws : IsNext next) (past : Past read) → past.roots ≡ s.roots → IsTrueOf next read past old s.table.nodes s.table.runs.items → IsCall next read past new runs
-Finishes next read old new s (Err e) = (laws : IsNext next) (past : Past read) → IsTrueOf next read past old s.table.nodes s.table.runs.items → IsAfter next read past new
+Finishes next read old new s (Ok runs) = (laws : IsNext next) (past : Past read) (cs : List (Choice Key)) → past.roots ≡ s.roots → IsTrueOf next read past cs old s.table.nodes s.table.runs.items → IsCall next read past new runs
+Finishes next read old new s (Err e) = (laws : IsNext next) (past : Past read) (cs : List (Choice Key)) → IsTrueOf next read past cs old s.table.nodes s.table.runs.items → IsAfter next read past new

@@ -9,5 +9,6 @@ pub mod Showing
 pub mod Since
 pub mod Here
 pub mod Rounds
+pub mod Choosing
 pub mod Frames
 pub mod Paused

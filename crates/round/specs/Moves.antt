@@ -1,19 +1,25 @@
 -- What a move of a round does to the graph and the open nodes.
 use Rattle.std.specs.Prelude.{◌≡◌, ◌⊎◌, List, ◌∷◌, ◌++◌, Option, Result}
 use Rattle.evaluation.specs.Reply.{Reply}
+use Rattle.evaluation.specs.Choices.{Choice}
 use Rattle.keys.specs.declared.key.Key.{Key}
 use Rattle.keys.specs.declared.value.Value.{Value}
 use Rattle.node.specs.Graphs.{Recorded, record_at}
 use Rattle.open_nodes.specs.Nodes.{IsOpen, IsClean, IsWhole, Widens, pending, AreOut}
 use Rattle.open_nodes.specs.Counted.{MakesNone}
-use Rattle.open_nodes.specs.Truths.{Leads, LeadsOf, LeadsToEnd}
+use Rattle.open_nodes.specs.Truths.{IsNext, Past, IsTrueOf, Leads, LeadsOf, LeadsToEnd}
 use Rattle.open_nodes.specs.declared.table.Table.{Table}
 
 -- whichever the node functions are, what was true of the round stays true
 abbrev pub KeepsTrue : {X E : Type 0} → (Key → Option Value) → Recorded → Recorded → Table → Table → Result X E → Type 0
 KeepsTrue read old new before after result = (next : Key → List Value → Reply Key Value) → Leads next read old new before after result
 
--- the same where an evaluation of the roots reaches these keys
+-- whichever the node functions are, what was true of the round is true after these choices, the newest first
+abbrev pub StaysTrueBy : List (Choice Key) → (Key → Option Value) → Recorded → Recorded → Table → Table → Type 0
+StaysTrueBy added read old new before later = (next : Key → List Value → Reply Key Value) (laws : IsNext next) (past : Past read) (cs : List (Choice Key))
+    → IsTrueOf next read past cs old before.nodes before.runs.items → IsTrueOf next read past (added ++ cs) new later.nodes later.runs.items
+
+-- what was true stays true where an evaluation of the roots reaches these keys, and the choices made them wanted
 abbrev pub KeepsTrueOf : {X E : Type 0} → List Key → (Key → Option Value) → Recorded → Recorded → Table → Table → Result X E → Type 0
 KeepsTrueOf keys read old new before after result = (next : Key → List Value → Reply Key Value) → LeadsOf next read keys old new before after result
 

@@ -1,7 +1,7 @@
 -- The states of node functions that a round keeps between turns.
 use Rattle.std.specs.Prelude.{◌≡◌, ◌⊎◌, List, [], ◌∷◌, ◌++◌, Bool, true, false, Option, Some, None}
 use Rattle.indexmap.specs.IndexMap.{get, Updates}
-use Rattle.keys.specs.Jobs.{Waits}
+use Rattle.keys.specs.Jobs.{Asked, Waits}
 use Rattle.keys.specs.Keys.{key_eq}
 use Rattle.keys.specs.declared.key.Key.{Key}
 use Rattle.node.specs.Graphs.{Recorded, record_at}
@@ -40,6 +40,16 @@ HasState kept key = (w : Waits) × (get key_eq kept key ≡ Some w)
 abbrev pub DropsState : Kept → Kept → Key → Bool → Type 0
 DropsState old new key true = Updates key_eq old new key None
 DropsState old new key false = (k : Key) → get key_eq new k ≡ get key_eq old k
+
+-- the state was put in, if there is one, and nothing else
+abbrev pub PutsState : Kept → Kept → Key → Option Waits → Type 0
+PutsState old new key (Some w) = Updates key_eq old new key (Some w)
+PutsState old new key None = new ≡ old
+
+-- the state of the key was taken out with its job; without a job all states stay
+abbrev pub TakesState : Kept → Kept → Key → Option Asked → Type 0
+TakesState old new key (Some job) = Updates key_eq old new key None
+TakesState old new key None = (k : Key) → get key_eq new k ≡ get key_eq old k
 
 -- the state came in, if there is one, and the others stay
 abbrev pub Keeps : Kept → Kept → Key → Option Waits → Type 0

@@ -1,6 +1,7 @@
 -- What is true since the entry of a call.
 use Rattle.std.specs.Prelude.{◌≡◌, List, [], Option, None}
 use Rattle.evaluation.specs.Reply.{Reply}
+use Rattle.evaluation.specs.Choices.{Choice}
 use Rattle.keys.specs.declared.key.Key.{Key}
 use Rattle.keys.specs.declared.value.Value.{Value}
 use Rattle.node.specs.Graphs.{Recorded}
@@ -16,9 +17,13 @@ pub record IsFresh (table : Table) : Type 0 where
   pub none_pending : pending table ≡ []
   pub no_runs : table.runs.items ≡ []
 
--- what is true of it since the entry, for each history
-abbrev pub IsTrueSince : (Key → List Value → Reply Key Value) → (Key → Option Value) → List Key → Recorded → Recorded → Table → Type 0
-IsTrueSince next read roots old graph table = (laws : IsNext next) (past : Past read) → IsHistory next read past roots old → IsTrueOf next read past graph table.nodes table.runs.items
+-- what is true of it after these choices since the entry, for each history
+abbrev pub IsTrueSince : List (Choice Key) → (Key → List Value → Reply Key Value) → (Key → Option Value) → List Key → Recorded → Recorded → Table → Type 0
+IsTrueSince cs next read roots old graph table = (laws : IsNext next) (past : Past read) → IsHistory next read past roots old → IsTrueOf next read past cs graph table.nodes table.runs.items
+
+-- the same after some choices
+abbrev pub IsTrueSinceSome : (Key → List Value → Reply Key Value) → (Key → Option Value) → List Key → Recorded → Recorded → Table → Type 0
+IsTrueSinceSome next read roots old graph table = (laws : IsNext next) (past : Past read) → IsHistory next read past roots old → (cs : List (Choice Key)) × IsTrueOf next read past cs graph table.nodes table.runs.items
 
 abbrev pub IsAfterSince : (Key → List Value → Reply Key Value) → (Key → Option Value) → List Key → Recorded → Recorded → Type 0
 IsAfterSince next read roots old graph = (laws : IsNext next) (past : Past read) → IsHistory next read past roots old → IsAfter next read past graph

@@ -1,13 +1,14 @@
 //! An evaluation on one thread.
-ghost use Rattle.std.specs.Prelude.{◌≡◌, ◌+◌, ◌≤◌, ℕ, List, [], false, Option, IfOk, IfErr, IfSome, IfNone, OnOk, IsErrOf, IsTrue, Ok, Err};
+ghost use Rattle.std.specs.Prelude.{◌≡◌, ◌+◌, ◌≤◌, ℕ, List, [], ◌∷◌, false, Option, IfOk, IfErr, IfSome, IfNone, OnOk, IsErrOf, IsTrue, Ok, Err};
 ghost use Rattle.evaluation.specs.Reply.{Reply};
+ghost use Rattle.evaluation.specs.Choices.{Hand, Back};
 ghost use Rattle.evaluation.specs.Value.{In};
 ghost use Rattle.leaves.specs.Leaves as leaves;
 ghost use Rattle.keys.specs.declared.key.Key.{Key};
 ghost use Rattle.keys.specs.declared.value.Value.{Value};
 ghost use Rattle.texts.specs.declared.memory.Memory.{Memory};
 ghost use Rattle.open_nodes.specs.Counted.{HasMade, turns_of};
-ghost use Rattle.open_nodes.specs.Truths.{Leads};
+ghost use Rattle.open_nodes.specs.Truths.{LeadsBy};
 ghost use Rattle.round.specs.Call.{Calls, HasOpenRoot, HasTurnToMake};
 ghost use Rattle.round.specs.Here.{TurnsOnce, Finishes};
 ghost use Rattle.round.specs.Rounds.{standing, StandsBeside, IsStalled};
@@ -55,7 +56,7 @@ fn turn<R: Rules>(
     ensures turns { OnOk result (TurnsOnce graph.old graph.new round.old round.new) }
     ensures counted { OnOk result (R.turns rules.new ≡ R.turns rules.old + 1) }
     ensures at_most { (R.turns rules.old ≤ R.turns rules.new) × (R.turns rules.new ≤ R.turns rules.old + 1) }
-    ensures truth { Leads R.next (leaves.read tree.now) graph.old graph.new round.old.table round.new.table result }
+    ensures truth { LeadsBy (Back key.now ∷ Hand key.now ∷ []) R.next (leaves.read tree.now) graph.old graph.new round.old.table round.new.table result }
 {
     match round.hand_out(graph, key)? {
         None => unreachable!(),
@@ -67,8 +68,9 @@ fn turn<R: Rules>(
     }
 }
 
-// The runs of an evaluation in which no turn can be made any more: what is open is closed.
-fn close<R: Rules>(mut round: Round<R>, graph: &mut Graph) -> Result<Vec<Run>, Memory>
+/// Gives the runs of a round at a stall, after it has closed what is open. That the round is at a stall is the caller's
+/// condition. `Memory` where a growth was refused: the graph is then as after a stop.
+pub fn close_stall<R: Rules>(mut round: Round<R>, graph: &mut Graph) -> Result<Vec<Run>, Memory>
     requires beside { StandsBeside graph.old round }
     requires stalled { IsStalled (standing round) }
     ensures made { IfOk result (λ runs. (made : ℕ) → HasMade round.table made → made ≡ turns_of runs.items) }
@@ -111,12 +113,12 @@ pub fn evaluate_here<R: Rules>(
     let mut round: Round<R> = Round::open(alloc, graph, tree, roots)?;
     for _made in 0..budget {
         match next_key(&round)? {
-            None => return Ok(close(round, graph)?),
+            None => return Ok(close_stall(round, graph)?),
             Some(key) => turn(&mut round, graph, tree, rules, &key)?,
         }
     }
     if has_ready(&round) {
         return Err(Stop::Budget);
     }
-    Ok(close(round, graph)?)
+    Ok(close_stall(round, graph)?)
 }

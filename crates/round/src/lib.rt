@@ -12,7 +12,7 @@ mod settle;
 mod stop;
 mod turns;
 
-pub use here::evaluate_here;
+pub use here::{close_stall, evaluate_here};
 pub use open_nodes::Run;
 pub use rounds::{NotTaken, Round};
 pub use stop::Stop;

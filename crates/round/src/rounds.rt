@@ -1,12 +1,13 @@
 //! A round: one evaluation, turn by turn.
-ghost use Rattle.std.specs.Prelude.{◌≡◌, List, Option, Some, None, Ok, Err, true, false, [], IfOk, IfErr, OnOk, OnErr, IfSome, IfNone, IsTrue};
+ghost use Rattle.std.specs.Prelude.{◌≡◌, ◌∷◌, List, Option, Some, None, Ok, Err, true, false, [], IfOk, IfErr, OnOk, OnErr, IfSome, IfNone, IsTrue};
 ghost use Rattle.std.specs.Bool.{Decides};
 ghost use Rattle.std.specs.List.{All};
 ghost use Rattle.std.specs.Option.{is_some};
 ghost use Rattle.std.specs.BTreeMap.Range.{IsLeBy};
 ghost use Rattle.node.specs.Graphs.{Recorded};
-ghost use Rattle.round.specs.Paused.{Keeps, HasState, DropsState};
+ghost use Rattle.round.specs.Paused.{PutsState, HasState, DropsState};
 ghost use Rattle.evaluation.specs.Reply.{Reply};
+ghost use Rattle.evaluation.specs.Choices.{Choice, Hand, Back, Drop};
 ghost use Rattle.evaluation.specs.Value.{In};
 ghost use Rattle.leaves.specs.Leaves as leaves;
 ghost use Rattle.keys.specs.Jobs.{Made};
@@ -16,9 +17,10 @@ ghost use Rattle.keys.specs.declared.value.Value.{Value};
 ghost use Rattle.node.specs.Edges.{IsAdded, IsRemoved};
 ghost use Rattle.open_nodes.specs.Counted.{HasMade, MakesNone, MakesMore};
 ghost use Rattle.open_nodes.specs.Nodes.{IsOpen};
-ghost use Rattle.open_nodes.specs.Truths.{Leads};
+ghost use Rattle.open_nodes.specs.Truths.{LeadsBy};
+ghost use Rattle.round.specs.Choosing.{IsPossibleAfter, ForChoices, HandsWherePossible, TakesJobOut, StrangerWhereNotOut, Follows, FollowsHand};
 ghost use Rattle.round.specs.Since.{IsTrueSince, IsAfterSince};
-ghost use Rattle.round.specs.Moves.{KeepsTrue, Ends, IsWanted};
+ghost use Rattle.round.specs.Moves.{StaysTrueBy, Ends, IsWanted};
 ghost use Rattle.round.specs.Rounds.{standing, StandsBeside, IsStalled, CanDrop, HandsOut, IsOfJobOut, NoneOpen, EndsWith, Refuses, TakesBack, KeepsJobs, KeepsAllJobs};
 ghost use Rattle.round.specs.Turning.{IsOutWith, IsOutAt};
 
@@ -89,7 +91,7 @@ fn keep<R: Rules>(
     key: Key,
     paused: Option<Waiting<R>>,
 ) -> Result<(), Memory>
-    ensures { OnOk result (Keeps kept.old kept.new key paused) }
+    ensures { OnOk result (PutsState kept.old kept.new key paused) }
 {
     if let Some(waiting) = paused {
         let _before = kept.insert(key, waiting)?;
@@ -130,7 +132,8 @@ impl<R: Rules> Round<R> {
         ensures beside { IfOk result (λ round. StandsBeside graph.new round) }
         ensures begins { IfOk result (λ round. ((standing round).roots ≡ roots.items) × ((standing round).out ≡ [])) }
         ensures made { IfOk result (λ round. HasMade round.table 0) }
-        ensures truth { IfOk result (λ round. (next : Key → List Value → Reply Key Value) → IsTrueSince next (leaves.read tree.now) roots.items graph.old graph.new round.table) }
+        ensures follows { IfOk result (λ round. Follows [] (standing round) round.kept) }
+        ensures truth { IfOk result (λ round. (next : Key → List Value → Reply Key Value) → IsTrueSince [] next (leaves.read tree.now) roots.items graph.old graph.new round.table) }
         ensures stopped { OnErr result ((next : Key → List Value → Reply Key Value) → IsAfterSince next (leaves.read tree.now) roots.items graph.old graph.new) }
     {
         let mut table = Table::new(alloc);
@@ -164,7 +167,9 @@ impl<R: Rules> Round<R> {
         requires { StandsBeside graph.now self.old }
         ensures beside { StandsBeside graph.now self.new }
         ensures hands { IfOk result (HandsOut graph.now key.now (standing self.old) (standing self.new)) }
-        ensures truth { (read : Key → Option Value) → KeepsTrue read graph.now graph.now self.old.table self.new.table result }
+        ensures truth { (read : Key → Option Value) → IfOk result (λ job. IfSome job (λ j. StaysTrueBy (Hand key.now ∷ []) read graph.now graph.now self.old.table self.new.table)) }
+        ensures follows { IfOk result (FollowsHand key.now (standing self.old) self.old.kept (standing self.new) self.new.kept) }
+        ensures possible { (read : Key → Option Value) → IfOk result (HandsWherePossible read graph.now (standing self.old) key.now) }
         ensures refused { OnErr result (standing self.new ≡ standing self.old) }
         ensures others { OnOk result (KeepsAllJobs graph.now (standing self.old) (standing self.new)) }
     {
@@ -189,8 +194,10 @@ impl<R: Rules> Round<R> {
         requires { StandsBeside graph.old self.old }
         ensures beside { OnOk result (StandsBeside graph.new self.new) }
         ensures back { OnOk result (IsOfJobOut graph.old (standing self.old) turned.asked × TakesBack (standing self.old) (standing self.new) turned.asked.key × (turned.ending ≡ Made)) }
-        ensures truth { Leads R.next (leaves.read tree.now) graph.old graph.new self.old.table self.new.table result }
+        ensures truth { LeadsBy (Back turned.asked.key ∷ []) R.next (leaves.read tree.now) graph.old graph.new self.old.table self.new.table result }
         ensures others { OnOk result (KeepsJobs turned.asked.key graph.old graph.new (standing self.old) (standing self.new)) }
+        ensures possible { (read : Key → Option Value) → OnOk result (TakesJobOut read graph.old (standing self.old) turned.asked) }
+        ensures strange { (read : Key → Option Value) → IfErr result (StrangerWhereNotOut read graph.old (standing self.old) turned.asked) }
         ensures refused { IfErr result (Refuses graph.old graph.new (standing self.old) (standing self.new) turned) }
     {
         if !is_out_with(self.alloc, graph, &self.table, &turned)? {
@@ -213,8 +220,9 @@ impl<R: Rules> Round<R> {
         ensures beside { OnOk result (StandsBeside graph.new self.new) }
         ensures back { OnOk result (TakesBack (standing self.old) (standing self.new) turned.asked.key) }
         ensures made { OnOk result (turned.ending ≡ Made) }
+        ensures follows { (read : Key → Option Value) → OnOk result (ForChoices read graph.old (standing self.old) (λ next past cs. Follows cs (standing self.old) self.old.kept → Follows (Back turned.asked.key ∷ cs) (standing self.new) self.new.kept)) }
         ensures others { OnOk result (KeepsJobs turned.asked.key graph.old graph.new (standing self.old) (standing self.new)) }
-        ensures truth { Leads R.next (leaves.read tree.now) graph.old graph.new self.old.table self.new.table result }
+        ensures truth { LeadsBy (Back turned.asked.key ∷ []) R.next (leaves.read tree.now) graph.old graph.new self.old.table self.new.table result }
     {
         let key = turned.key().share()?;
         let paused = take(self.alloc, graph, &mut self.table, turned)?;
@@ -230,6 +238,9 @@ impl<R: Rules> Round<R> {
         ensures dropped { Decides result (CanDrop (standing self.old) self.old.kept key.now) }
         ensures not_out { (graph : Recorded) → StandsBeside graph self.old → IsTrue result → IsOutAt self.old.table key.now → ⊥ }
         ensures kept { DropsState self.old.kept self.new.kept key.now result }
+        ensures possible { (read : Key → Option Value) (graph : Recorded) → StandsBeside graph self.old → ForChoices read graph (standing self.old) (λ next past cs. Follows cs (standing self.old) self.old.kept → Decides result (IsPossibleAfter next read past cs (Drop key.now))) }
+        ensures follows { IsTrue result → (cs : List (Choice Key)) → Follows cs (standing self.old) self.old.kept → Follows (Drop key.now ∷ cs) (standing self.new) self.new.kept }
+        ensures truth { (read : Key → Option Value) (graph : Recorded) → StaysTrueBy (Drop key.now ∷ []) read graph graph self.old.table self.new.table }
         ensures same { standing self.new ≡ standing self.old }
         ensures beside { (graph : Recorded) → StandsBeside graph self.old → StandsBeside graph self.new }
     {

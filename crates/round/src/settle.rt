@@ -9,9 +9,10 @@ ghost use Rattle.leaves.specs.Leaves as leaves;
 ghost use Rattle.open_nodes.specs.Nodes.{node_at, IsUnsettled, IsClean, IsWhole, pending};
 ghost use Rattle.std.specs.Prelude.{Option};
 ghost use Rattle.keys.specs.declared.value.Value.{Value};
-ghost use Rattle.std.specs.Prelude.{List};
+ghost use Rattle.std.specs.Prelude.{List, [], ◌∷◌};
 ghost use Rattle.evaluation.specs.Reply.{Reply, Done};
-ghost use Rattle.open_nodes.specs.Truths.{Leads};
+ghost use Rattle.open_nodes.specs.Truths.{LeadsBy};
+ghost use Rattle.evaluation.specs.Choices.{Back};
 ghost use Rattle.round.specs.Frames.{KeepsFrame, KeepsFrameBut};
 ghost use Rattle.round.specs.Looks.{HasPassed};
 ghost use Rattle.round.specs.Turning.{IsOutWith, ComesBack};
@@ -156,9 +157,10 @@ pub fn end(
     requires out { (answers : List Value) × IsOutWith graph.old table.old key answers }
     ensures whole { OnOk result (IsWholeNow graph.new table.new) }
     ensures back { OnOk result (ComesBack table.old table.new key) }
+    ensures settled { OnOk result (IsClean (record_at graph.new) key) }
     ensures keeps { OnOk result (KeepsWanted graph.old graph.new table.old table.new) }
     ensures frame { OnOk result (KeepsFrameBut key graph.old graph.new table.old table.new) }
-    ensures truth { (read : Key → Option Value) (next : Key → List Value → Reply Key Value) (answers : List Value) → IsOutWith graph.old table.old key answers → next key answers ≡ Done value → Leads next read graph.old graph.new table.old table.new result }
+    ensures truth { (read : Key → Option Value) (next : Key → List Value → Reply Key Value) (answers : List Value) → IsOutWith graph.old table.old key answers → next key answers ≡ Done value → LeadsBy (Back key ∷ []) next read graph.old graph.new table.old table.new result }
 {
     let shared = Arc::new(alloc, value)?;
     let groups = leave(alloc, table, &key)?;

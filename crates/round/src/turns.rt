@@ -1,11 +1,11 @@
 //! Turns handed out and taken back.
-ghost use Rattle.std.specs.Prelude.{◌≡◌, ◌++◌, ◌∷◌, [], List, IfOk, IfSome, OnOk, Option, Some, None, IsTrue};
+ghost use Rattle.std.specs.Prelude.{◌≡◌, ◌++◌, ◌∷◌, [], List, IfOk, IfSome, IfNone, OnOk, Option, Some, None, IsTrue};
 ghost use Rattle.indexmap.specs.IndexMap.{get};
 ghost use Rattle.std.specs.Option.{option_map};
 ghost use Rattle.evaluation.specs.Value.{In};
 ghost use Rattle.node.specs.Graphs.{record_at};
 ghost use Rattle.round.specs.Members.{Answers};
-ghost use Rattle.round.specs.Paused.{IsPaused, ArePaused, FewerKept};
+ghost use Rattle.round.specs.Paused.{IsPaused, ArePaused, FewerKept, TakesState};
 ghost use Rattle.std.specs.Bool.{Decides};
 ghost use Rattle.keys.specs.Turns.{values};
 ghost use Rattle.std.specs.BTreeSet.{contains};
@@ -15,8 +15,9 @@ ghost use Rattle.keys.specs.declared.key.Key.{Key};
 ghost use Rattle.keys.specs.declared.value.Value.{Value};
 ghost use Rattle.keys.specs.Jobs.{Made};
 ghost use Rattle.node.specs.Kept.{items_of};
-ghost use Rattle.open_nodes.specs.Nodes.{node_at, groups_of};
-ghost use Rattle.open_nodes.specs.Truths.{Leads};
+ghost use Rattle.open_nodes.specs.Nodes.{node_at, groups_of, IsClean};
+ghost use Rattle.open_nodes.specs.Truths.{LeadsBy};
+ghost use Rattle.evaluation.specs.Choices.{Back};
 ghost use Rattle.open_nodes.specs.declared.table.Node.{Node};
 ghost use Rattle.open_nodes.specs.declared.table.Phase.TheVariants as phase;
 ghost use Rattle.round.specs.Frames.{KeepsFrameBut};
@@ -116,6 +117,7 @@ pub fn next_job<R: Rules>(
     requires paused { ArePaused graph.now table.now kept.old }
     ensures job { IfOk result (NextJob graph.now key.now table.now) }
     ensures gone { IfOk result (λ job. IfSome job (λ j. get key_eq kept.new key.now ≡ None)) }
+    ensures taken { IfOk result (TakesState kept.old kept.new key.now) }
     ensures fewer { FewerKept kept.old kept.new }
 {
     if !is_among(&table.ready, key) {
@@ -180,9 +182,10 @@ pub fn take<R: Rules>(
     ensures back { OnOk result (ComesBack table.old table.new turned.asked.key) }
     ensures keeps { OnOk result (KeepsWanted graph.old graph.new table.old table.new) }
     ensures frame { OnOk result (KeepsFrameBut turned.asked.key graph.old graph.new table.old table.new) }
-    ensures truth { (read : Key → Option Value) → Leads R.next read graph.old graph.new table.old table.new result }
+    ensures truth { (read : Key → Option Value) → LeadsBy (Back turned.asked.key ∷ []) R.next read graph.old graph.new table.old table.new result }
     ensures made { OnOk result (turned.ending ≡ Made) }
     ensures paused { IfOk result (λ paused. IfSome paused (λ w. IsPaused graph.new table.new turned.asked.key w)) }
+    ensures ended { IfOk result (λ paused. IfNone paused (IsClean (record_at graph.new) turned.asked.key)) }
 {
     match turned.settle()? {
         Step::End(key, value) => {

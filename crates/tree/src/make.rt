@@ -1,13 +1,24 @@
 //! The nodes of expressions.
 ghost use Rattle.std.specs.Prelude.{◌≡◌, IfOk, pos};
 ghost use Rattle.tree.specs.Tree.{name, int, str, literal, tuple, list, dict, list_of, dict_of, unary, binary, choice, index, slice, call, method, for_in, only_if};
-ghost use Rattle.tree.specs.View.{tree_of, trees_of, clause_of, clause_trees, bound_tree};
+ghost use Rattle.tree.specs.View.{tree_of, trees_of, clause_of, clause_trees, bound_tree, shared_tree};
 
 use crate::expr::{BinaryOp, Clause, Expr, Literal, UnaryOp};
 use std::alloc::Global;
 use std::sync::Arc;
 use std::sync::atomic::AtomicUsize;
 use texts::{Memory, Text};
+
+// Two expressions, each of which can be shared. What fails here has no third value to drop.
+pub(crate) fn both(
+    alloc: Global,
+    first: Expr,
+    second: Expr,
+) -> Result<(Arc<Expr, Global>, Arc<Expr, Global>), Memory>
+    ensures { IfOk result (λ p. (shared_tree p.0 ≡ tree_of first) × (shared_tree p.1 ≡ tree_of second)) }
+{
+    Ok((Arc::new(alloc, first)?, Arc::new(alloc, second)?))
+}
 
 impl Expr {
     /// A name, which was not looked for yet.
@@ -75,11 +86,8 @@ impl Expr {
     ) -> Result<Expr, Memory>
         ensures { IfOk result (λ e. tree_of e ≡ dict_of (tree_of key) (tree_of value) (clause_trees clauses.items)) }
     {
-        Ok(Expr::DictOf(
-            Arc::new(alloc, key)?,
-            Arc::new(alloc, value)?,
-            Arc::new(alloc, clauses)?,
-        ))
+        let (key, value) = both(alloc, key, value)?;
+        Ok(Expr::DictOf(key, value, Arc::new(alloc, clauses)?))
     }
 
     /// An operator before an operand.
@@ -93,25 +101,24 @@ impl Expr {
     pub fn binary(alloc: Global, op: BinaryOp, left: Expr, right: Expr) -> Result<Expr, Memory>
         ensures { IfOk result (λ e. tree_of e ≡ binary op (tree_of left) (tree_of right)) }
     {
-        Ok(Expr::Binary(op, Arc::new(alloc, left)?, Arc::new(alloc, right)?))
+        let (left, right) = both(alloc, left, right)?;
+        Ok(Expr::Binary(op, left, right))
     }
 
     /// What it is if the condition holds, and what it is else.
     pub fn choice(alloc: Global, then: Expr, condition: Expr, other: Expr) -> Result<Expr, Memory>
         ensures { IfOk result (λ e. tree_of e ≡ choice (tree_of «then») (tree_of condition) (tree_of other)) }
     {
-        Ok(Expr::Choice(
-            Arc::new(alloc, then)?,
-            Arc::new(alloc, condition)?,
-            Arc::new(alloc, other)?,
-        ))
+        let (then, condition) = both(alloc, then, condition)?;
+        Ok(Expr::Choice(then, condition, Arc::new(alloc, other)?))
     }
 
     /// What is at an index.
     pub fn index(alloc: Global, value: Expr, at: Expr) -> Result<Expr, Memory>
         ensures { IfOk result (λ e. tree_of e ≡ index (tree_of value) (tree_of at)) }
     {
-        Ok(Expr::Index(Arc::new(alloc, value)?, Arc::new(alloc, at)?))
+        let (value, at) = both(alloc, value, at)?;
+        Ok(Expr::Index(value, at))
     }
 
     /// What is between two bounds.
@@ -166,7 +173,8 @@ impl Clause {
     pub fn for_in(alloc: Global, target: Expr, sequence: Expr) -> Result<Clause, Memory>
         ensures { IfOk result (λ c. clause_of c ≡ for_in (tree_of target) (tree_of sequence)) }
     {
-        Ok(Clause::For(Arc::new(alloc, target)?, Arc::new(alloc, sequence)?))
+        let (target, sequence) = both(alloc, target, sequence)?;
+        Ok(Clause::For(target, sequence))
     }
 
     /// A turn only where a condition holds.

@@ -5,6 +5,7 @@ ghost use Rattle.tree.specs.View.{tree_of, bound_tree};
 ghost use Rattle.tree.specs.Statements.{stmt_of, stmts_of, branch_of, branch_trees, fn_of, top_of, load_of, file_of};
 
 use crate::expr::{BinaryOp, Expr};
+use crate::make::both;
 use crate::stmt::{Branch, Def, File, LoadStmt, Stmt, Top};
 use std::alloc::Global;
 use std::sync::Arc;
@@ -50,8 +51,7 @@ impl Stmt {
     pub fn assign(alloc: Global, line: usize, target: Expr, value: Expr) -> Result<Stmt, Memory>
         ensures { IfOk result (λ s. stmt_of s ≡ assign line (tree_of target) (tree_of value)) }
     {
-        let target = Arc::new(alloc, target)?;
-        let value = Arc::new(alloc, value)?;
+        let (target, value) = both(alloc, target, value)?;
         Ok(Stmt::Assign(line, target, value))
     }
 
@@ -65,8 +65,7 @@ impl Stmt {
     ) -> Result<Stmt, Memory>
         ensures { IfOk result (λ s. stmt_of s ≡ augment line (tree_of target) op (tree_of value)) }
     {
-        let target = Arc::new(alloc, target)?;
-        let value = Arc::new(alloc, value)?;
+        let (target, value) = both(alloc, target, value)?;
         Ok(Stmt::Augment(line, target, op, value))
     }
 
@@ -99,8 +98,7 @@ impl Stmt {
     ) -> Result<Stmt, Memory>
         ensures { IfOk result (λ s. stmt_of s ≡ for_each line (tree_of target) (tree_of sequence) (stmts_of body.items)) }
     {
-        let target = Arc::new(alloc, target)?;
-        let sequence = Arc::new(alloc, sequence)?;
+        let (target, sequence) = both(alloc, target, sequence)?;
         Ok(Stmt::For(line, target, sequence, Arc::new(alloc, body)?))
     }
 }

@@ -1,24 +1,94 @@
-use Rattle.std.proofs.Common.{◌≡◌, ◌∙◌, arith, slice_index_or, ◌<◌, length}
-use Rattle.node.proofs.Reaching.{spread_more, passed_more, within_more, all_passed, in_at_is}
+use Rattle.std.proofs.Common.{◌<◌, ◌∙◌, All, arith, length, sym, ap, subst, List}
+use Rattle.std.specs.List.{IsDistinct}
+use Rattle.keys.specs.Keys.{key_eq}
+use Rattle.keys.specs.declared.key.Key.{Key}
+use Rattle.numbered.specs.Flats.{members_in}
+use Rattle.node.specs.Kept.{numbers_at, users_in}
+use Rattle.node.specs.Marks.{HasReachedAll, HasReachedSome}
+use Rattle.node.proofs.Reaching.{spread_more, passed_more, within_more, all_passed}
+use Rattle.node.proofs.Numbering.{all_from_in, in_at_is, key_there, in_members, lists_more, lists_within, members_same, same_length, within_at, within_same}
 use Rattle.node.proofs.marks.spread.Goals as goal
 
-pub returns-in_err-reached-clause-spread : goal.returns-in_err-reached-clause-spread
-returns-in_err-reached-clause-spread c =
-    let h : c.loop-at.at < length c.loop-at.marked.items = omega (arith, c.len.ensures, c.loop-at-test.true) in
-    spread_more c.args.users.now c.args.records.now c.loop-at.records c.reach_users-reached.new.records c.args.marked.now.items c.loop-at.marked.items c.reach_users-reached.new.marked.items c.in_ok-key.key
-    c.loop-at.invariant.spread c.reach_users-reached.ensures.some (in_at_is _ c.loop-at.at _ _ (c.in_ok-key.ensures ∙ c.index.ensures) h)
+pub users_of-requires : goal.users_of-requires
+users_of-requires c =
+    let i = c.loop-at.invariant in
+    let start = c.args.records.now in
+    let lists = c.args.users.now in
+    let old = c.loop-at.records in
+    let marked = c.loop-at.marked.items in
+    let n = c.index-number.result.now in
+    let h : c.loop-at.at < length marked = omega (arith, c.len.ensures, c.loop-at-test.true) in
+    let all = within_same start old marked i.spread.same_keys (lists_within start c.args.marked.now.items marked c.requires.within i.lists) in
+    let low = within_at old marked c.loop-at.at n all c.index-number.ensures h in
+    low
+
+pub reach_users-requires-clause-within : goal.reach_users-requires-clause-within
+reach_users-requires-clause-within c =
+    let i = c.loop-at.invariant in
+    let start = c.args.records.now in
+    let lists = c.args.users.now in
+    let old = c.loop-at.records in
+    let marked = c.loop-at.marked.items in
+    let n = c.index-number.result.now in
+    let h : c.loop-at.at < length marked = omega (arith, c.len.ensures, c.loop-at-test.true) in
+    let all = within_same start old marked i.spread.same_keys (lists_within start c.args.marked.now.items marked c.requires.within i.lists) in
+    let low = within_at old marked c.loop-at.at n all c.index-number.ensures h in
+    let k = key_there old n low in
+    subst (All (λ x. x < length old)) (sym (c.users_of.ensures k.0 k.1))
+    (all_from_in (numbers_at lists k.0) (length old) (λ x u. subst (λ l. x < l) (sym (same_length start old i.spread.same_keys)) (c.requires.numbers k.0 x u)))
+
+pub reach_users-requires-clause-distinct : goal.reach_users-requires-clause-distinct
+reach_users-requires-clause-distinct c = subst (λ ks. IsDistinct key_eq ks) (sym c.loop-at.invariant.spread.same_keys) c.requires.distinct
+
+pub returns-in_err-reach_users-clause-spread : goal.returns-in_err-reach_users-clause-spread
+returns-in_err-reach_users-clause-spread c =
+    let i = c.loop-at.invariant in
+    let start = c.args.records.now in
+    let lists = c.args.users.now in
+    let old = c.loop-at.records in
+    let marked = c.loop-at.marked.items in
+    let n = c.index-number.result.now in
+    let h : c.loop-at.at < length marked = omega (arith, c.len.ensures, c.loop-at-test.true) in
+    let all = within_same start old marked i.spread.same_keys (lists_within start c.args.marked.now.items marked c.requires.within i.lists) in
+    let low = within_at old marked c.loop-at.at n all c.index-number.ensures h in
+    let k = key_there old n low in
+    let new = c.reach_users.new.records in
+    let now = c.reach_users.new.marked.items in
+    let these = ap (members_in old) (c.users_of.ensures k.0 k.1) ∙ members_same start old i.spread.same_keys (numbers_at lists k.0) in
+    let some = subst (HasReachedSome old new (members_in old marked) (members_in new now)) these c.reach_users.ensures.some in
+    spread_more (users_in start lists) start old new (members_in start c.args.marked.now.items) (members_in old marked) (members_in new now) k.0
+    i.spread some (in_members old marked n k.0 (in_at_is marked c.loop-at.at n n c.index-number.ensures h) k.1)
+
+pub returns-in_err-reach_users-clause-lists : goal.returns-in_err-reach_users-clause-lists
+returns-in_err-reach_users-clause-lists c =
+    let i = c.loop-at.invariant in
+    lists_more c.args.records.now c.loop-at.records c.args.marked.now.items c.loop-at.marked.items c.reach_users.new.marked.items i.spread.same_keys i.lists c.reach_users.ensures.lists
 
 pub loop-at-preserved : goal.loop-at-preserved
 loop-at-preserved c =
-    let j : c.in_ok-key.key ≡ slice_index_or c.loop-at.marked.items c.loop-at.at c.index.result.now = c.in_ok-key.ensures ∙ c.index.ensures in
-    let h : c.loop-at.at < length c.loop-at.marked.items = omega (arith, c.len.ensures, c.loop-at-test.true) in
+    let i = c.loop-at.invariant in
+    let start = c.args.records.now in
+    let lists = c.args.users.now in
+    let old = c.loop-at.records in
+    let marked = c.loop-at.marked.items in
+    let n = c.index-number.result.now in
+    let h : c.loop-at.at < length marked = omega (arith, c.len.ensures, c.loop-at-test.true) in
+    let all = within_same start old marked i.spread.same_keys (lists_within start c.args.marked.now.items marked c.requires.within i.lists) in
+    let low = within_at old marked c.loop-at.at n all c.index-number.ensures h in
+    let k = key_there old n low in
+    let new = c.reach_users.new.records in
+    let now = c.reach_users.new.marked.items in
+    let these = ap (members_in old) (c.users_of.ensures k.0 k.1) ∙ members_same start old i.spread.same_keys (numbers_at lists k.0) in
+    let some = subst (HasReachedSome old new (members_in old marked) (members_in new now)) these c.reach_users.ensures.some in
+    let each = subst (λ (ks : List Key). HasReachedAll new ks) these c.in_ok-reach_users.ensures.all in
     record {
-      spread = spread_more c.args.users.now c.args.records.now c.loop-at.records c.reach_users-reached.new.records c.args.marked.now.items c.loop-at.marked.items c.reach_users-reached.new.marked.items c.in_ok-key.key
-          c.loop-at.invariant.spread c.reach_users-reached.ensures.some (in_at_is _ c.loop-at.at _ _ j h);
-      passed = passed_more c.args.users.now c.loop-at.records c.reach_users-reached.new.records c.loop-at.marked.items c.reach_users-reached.new.marked.items c.loop-at.at c.index.result.now c.in_ok-key.key j h
-          c.loop-at.invariant.passed c.reach_users-reached.ensures.some c.in_ok-reached.ensures.all;
-      within = within_more c.args.users.now c.loop-at.records c.reach_users-reached.new.records c.loop-at.marked.items c.reach_users-reached.new.marked.items c.loop-at.at c.index.result.now _ h c.reach_users-reached.ensures.some;
+      spread = spread_more (users_in start lists) start old new (members_in start c.args.marked.now.items) (members_in old marked) (members_in new now) k.0
+          i.spread some (in_members old marked n k.0 (in_at_is marked c.loop-at.at n n c.index-number.ensures h) k.1);
+      passed = passed_more (users_in start lists) old new marked now c.loop-at.at n k.0 k.1 c.index-number.ensures h i.passed some c.reach_users.ensures.lists each;
+      within = within_more (users_in start lists) old new marked now c.loop-at.at n h c.reach_users.ensures.lists;
+      lists = lists_more start old c.args.marked.now.items marked now i.spread.same_keys i.lists c.reach_users.ensures.lists;
     }
 
 pub returns-clause-passed : goal.returns-clause-passed
-returns-clause-passed c = all_passed c.args.users.now c.loop-at.records c.loop-at.marked.items c.loop-at.at c.loop-at.invariant.passed (omega (arith, c.len.ensures, c.loop-at-test.false))
+returns-clause-passed c =
+    all_passed (users_in c.args.records.now c.args.users.now) c.loop-at.records c.loop-at.marked.items c.loop-at.at c.loop-at.invariant.passed (omega (arith, c.len.ensures, c.loop-at-test.false))

@@ -16,11 +16,11 @@ record_all-requires-clause-ready c =
     (c.in_ok-entries.ensures s (its_stop c.args.graph.now c.args.table.now c.close_all.new.table c.in_ok-stall.stall c.args.graph.now.version c.requires.whole c.requires.idle t c.in_ok-stall.ensures.none) t.differ)
 
 pub returns-clause-truth : goal.returns-clause-truth
-returns-clause-truth c = λ read next laws past h.
+returns-clause-truth c = λ read next laws past cs h.
     let t = c.in_ok-stall.ensures.taken c.requires.whole.holds in
     let s = is_stall c.args.graph.now c.args.table.now c.close_all.new.table c.in_ok-stall.stall c.args.graph.now.version c.requires.whole c.requires.idle t c.in_ok-stall.ensures.none in
     let a = c.in_ok-entries.ensures s (its_stop c.args.graph.now c.args.table.now c.close_all.new.table c.in_ok-stall.stall c.args.graph.now.version c.requires.whole c.requires.idle t c.in_ok-stall.ensures.none) t.differ in
-    closed_end c.args.graph.now c.args.table.now c.close_all.new.table c.in_ok-stall.stall c.requires.whole c.requires.idle t c.in_ok-stall.ensures.none next read laws past h
+    closed_end c.args.graph.now c.args.table.now c.close_all.new.table c.in_ok-stall.stall c.requires.whole c.requires.idle t c.in_ok-stall.ensures.none next read laws past cs h
     c.record_all.new.self c.in_ok-entries.entries.items a c.record_all.ensures.version c.in_ok-record_all.ensures.recorded c.in_ok-record_all.ensures.lawful
 
 pub returns-clause-keeps : goal.returns-clause-keeps

@@ -1,7 +1,8 @@
 use Rattle.round.proofs.Framing.{frame_phase, checks_no_turn, checks_not_out}
 use Rattle.std.proofs.Common.{subst}
 use Rattle.leaves.specs.Leaves as leaves
-use Rattle.std.proofs.Common.{ℕ}
+use Rattle.std.proofs.Common.{ℕ, []}
+use Rattle.round.proofs.Wanting.{leads_err}
 use Rattle.open_nodes.specs.Steps.{HasPhase}
 use Rattle.open_nodes.specs.declared.table.Phase.TheVariants as phase
 use Rattle.round.proofs.Checking.{passes_all, awaits_found, differs_found, passes_found, set_keeps, passed_whole, passed_out, passed_turns, passed_true, rerun_whole, rerun_out, rerun_turns, rerun_true, next_is}
@@ -63,3 +64,7 @@ returns-in_ok-run_anew-in-Differs-clause-frame c = let k = c.requires.checking i
 pub returns-in_ok-pass-in-Passes-clause-frame : goal.returns-in_ok-pass-in-Passes-clause-frame
 returns-in_ok-pass-in-Passes-clause-frame c = let k = c.requires.checking in
     frame_phase c.args.graph.now c.args.table.now c.pass.new.table c.args.key.now k.0 k.1 (checks_no_turn k.0 c.args.passed k.2) (checks_not_out k.0 c.args.passed k.2) _ c.in_ok-pass-in-Passes.ensures.phase
+
+pub returns-in_err-wait_for-in-Waits-clause-truth : goal.returns-in_err-wait_for-in-Waits-clause-truth
+returns-in_err-wait_for-in-Waits-clause-truth c = λ next. leads_err [] next (leaves.read c.args.tree.now) c.args.graph.now c.wait_for.new.graph c.args.table.now c.wait_for.new.table c.from_residual-in_err-wait_for-in-Waits.result
+    c.from_residual-in_err-wait_for-in-Waits.ensures.0 (λ laws past cs t. c.in_err-wait_for-in-Waits.ensures.truth next laws past cs t)

@@ -9,12 +9,12 @@ use Rattle.round.proofs.Looking.{next_true, next_nodes}
 use Rattle.round.proofs.look.look_next.Goals as goal
 
 pub returns-in-Ok-clause-truth : goal.returns-in-Ok-clause-truth
-returns-in-Ok-clause-truth c = λ next laws past t. c.in-Ok.ensures.truth next laws past
-    (next_true c.args.graph.now c.args.table.now c.next_key.new.table c.in-Some.key (subst (IsNextKey c.args.table.now c.next_key.new.table) c.in-Some.is c.in_ok-key.ensures) (leaves.read c.args.tree.now) next laws past t)
+returns-in-Ok-clause-truth c = λ next laws past cs t. c.in-Ok.ensures.truth next laws past cs
+    (next_true c.args.graph.now c.args.table.now c.next_key.new.table c.in-Some.key (subst (IsNextKey c.args.table.now c.next_key.new.table) c.in-Some.is c.in_ok-key.ensures) (leaves.read c.args.tree.now) next laws past cs t)
 
 pub returns-in-Err-clause-truth : goal.returns-in-Err-clause-truth
-returns-in-Err-clause-truth c = λ next laws past t. c.in-Err.ensures.truth next laws past
-    (next_true c.args.graph.now c.args.table.now c.next_key.new.table c.in-Some.key (subst (IsNextKey c.args.table.now c.next_key.new.table) c.in-Some.is c.in_ok-key.ensures) (leaves.read c.args.tree.now) next laws past t)
+returns-in-Err-clause-truth c = λ next laws past cs t. c.in-Err.ensures.truth next laws past cs
+    (next_true c.args.graph.now c.args.table.now c.next_key.new.table c.in-Some.key (subst (IsNextKey c.args.table.now c.next_key.new.table) c.in-Some.is c.in_ok-key.ensures) (leaves.read c.args.tree.now) next laws past cs t)
 
 pub returns-in-Ok-clause-turns : goal.returns-in-Ok-clause-turns
 returns-in-Ok-clause-turns c =

@@ -63,8 +63,8 @@ returns-in_ok-look_again-in-None-clause-keeps c = λ j i.
     wanted_same c.want_all.new.graph c.want_all.new.table c.look_again.new.table c.look_again.ensures.nodes j (wanted_on c.args.graph.now c.want_all.new.graph c.args.table.now c.want_all.new.table j c.in_ok-want_all.ensures.wants i)
 
 pub returns-in_ok-watch-in-Some-clause-truth : goal.returns-in_ok-watch-in-Some-clause-truth
-returns-in_ok-watch-in-Some-clause-truth c = λ next laws past t.
-    let reached = missing_reached next (leaves.read c.args.tree.now) laws past c.args.graph.now c.args.table.now c.args.key.now c.args.missing.now t c.requires.whole c.requires.awaiting in
+returns-in_ok-watch-in-Some-clause-truth c = λ next laws past cs t.
+    let sought = missing_reached next (leaves.read c.args.tree.now) laws past cs c.args.graph.now c.args.table.now c.args.key.now c.args.missing.now t c.requires.whole c.requires.awaiting in
     let a = c.requires.awaiting in
     let w = c.in_ok-want_all.ensures.wants in
     let all = c.in_ok-want_all.ensures.wanted in
@@ -75,12 +75,12 @@ returns-in_ok-watch-in-Some-clause-truth c = λ next laws past t.
     (all_wanted c.args.graph.now c.want_all.new.graph c.args.table.now c.want_all.new.table c.args.key.now c.args.missing.now a w all)
     (a.of_group.among c.in-Some.member.now c.in-Some.ensures.0) (wanted_open c.want_all.new.graph c.want_all.new.table c.in-Some.member.now (all c.in-Some.member.now c.in-Some.ensures.0) c.in-Some.ensures.1)
     c.in_ok-watch-in-Some.ensures.watches c.in_ok-watch-in-Some.ensures.pends c.in_ok-watch-in-Some.ensures.ready (leaves.read c.args.tree.now) c.in_ok-watch-in-Some.ensures.runs
-    next laws past (c.in_ok-want_all.ensures.truth next laws past reached t)
+    next laws past cs (c.in_ok-want_all.ensures.truth next laws past cs sought t)
 
 pub returns-in_err-want_all-clause-truth : goal.returns-in_err-want_all-clause-truth
-returns-in_err-want_all-clause-truth c = λ next. leads_err next (leaves.read c.args.tree.now) c.args.graph.now c.want_all.new.graph c.args.table.now c.want_all.new.table c.from_residual.result c.from_residual.ensures.0
-    (λ laws past t. c.in_err-want_all.ensures.truth next laws past
-    (missing_reached next (leaves.read c.args.tree.now) laws past c.args.graph.now c.args.table.now c.args.key.now c.args.missing.now t c.requires.whole c.requires.awaiting) t)
+returns-in_err-want_all-clause-truth c = λ next. leads_err [] next (leaves.read c.args.tree.now) c.args.graph.now c.want_all.new.graph c.args.table.now c.want_all.new.table c.from_residual.result c.from_residual.ensures.0
+    (λ laws past cs t. c.in_err-want_all.ensures.truth next laws past cs
+    (missing_reached next (leaves.read c.args.tree.now) laws past cs c.args.graph.now c.args.table.now c.args.key.now c.args.missing.now t c.requires.whole c.requires.awaiting) t)
 
 pub returns-in_ok-look_again-in-None-clause-turns : goal.returns-in_ok-look_again-in-None-clause-turns
 returns-in_ok-look_again-in-None-clause-turns c = λ made h.
@@ -92,20 +92,20 @@ returns-in_ok-look_again-in-None-clause-whole c =
     (c.in_ok-want_all.ensures.wants.whole (c.args.key.now ∷ []) c.requires.whole)
 
 pub returns-in_ok-look_again-in-None-clause-truth : goal.returns-in_ok-look_again-in-None-clause-truth
-returns-in_ok-look_again-in-None-clause-truth c = λ next laws past t.
+returns-in_ok-look_again-in-None-clause-truth c = λ next laws past cs t.
     again_true c.want_all.new.graph c.want_all.new.table c.look_again.new.table c.args.key.now c.in_ok-look_again-in-None.ensures.pends c.look_again.ensures.nodes (leaves.read c.args.tree.now)
-    next laws past (c.in_ok-want_all.ensures.truth next laws past
-    (missing_reached next (leaves.read c.args.tree.now) laws past c.args.graph.now c.args.table.now c.args.key.now c.args.missing.now t c.requires.whole c.requires.awaiting) t)
+    next laws past cs (c.in_ok-want_all.ensures.truth next laws past cs
+    (missing_reached next (leaves.read c.args.tree.now) laws past cs c.args.graph.now c.args.table.now c.args.key.now c.args.missing.now t c.requires.whole c.requires.awaiting) t)
 
 pub returns-in_err-watch-in-Some-clause-truth : goal.returns-in_err-watch-in-Some-clause-truth
-returns-in_err-watch-in-Some-clause-truth c = λ next. leads_err next (leaves.read c.args.tree.now) c.args.graph.now c.want_all.new.graph c.args.table.now c.watch.new.table c.from_residual-in_err-watch-in-Some.result c.from_residual-in_err-watch-in-Some.ensures.0
-    (λ laws past t. (c.in_ok-want_all.ensures.truth next laws past
-    (missing_reached next (leaves.read c.args.tree.now) laws past c.args.graph.now c.args.table.now c.args.key.now c.args.missing.now t c.requires.whole c.requires.awaiting) t).after)
+returns-in_err-watch-in-Some-clause-truth c = λ next. leads_err [] next (leaves.read c.args.tree.now) c.args.graph.now c.want_all.new.graph c.args.table.now c.watch.new.table c.from_residual-in_err-watch-in-Some.result c.from_residual-in_err-watch-in-Some.ensures.0
+    (λ laws past cs t. (c.in_ok-want_all.ensures.truth next laws past cs
+    (missing_reached next (leaves.read c.args.tree.now) laws past cs c.args.graph.now c.args.table.now c.args.key.now c.args.missing.now t c.requires.whole c.requires.awaiting) t).after)
 
 pub returns-in_err-look_again-in-None-clause-truth : goal.returns-in_err-look_again-in-None-clause-truth
-returns-in_err-look_again-in-None-clause-truth c = λ next. leads_err next (leaves.read c.args.tree.now) c.args.graph.now c.want_all.new.graph c.args.table.now c.look_again.new.table c.from_residual-in_err-look_again-in-None.result c.from_residual-in_err-look_again-in-None.ensures.0
-    (λ laws past t. (c.in_ok-want_all.ensures.truth next laws past
-    (missing_reached next (leaves.read c.args.tree.now) laws past c.args.graph.now c.args.table.now c.args.key.now c.args.missing.now t c.requires.whole c.requires.awaiting) t).after)
+returns-in_err-look_again-in-None-clause-truth c = λ next. leads_err [] next (leaves.read c.args.tree.now) c.args.graph.now c.want_all.new.graph c.args.table.now c.look_again.new.table c.from_residual-in_err-look_again-in-None.result c.from_residual-in_err-look_again-in-None.ensures.0
+    (λ laws past cs t. (c.in_ok-want_all.ensures.truth next laws past cs
+    (missing_reached next (leaves.read c.args.tree.now) laws past cs c.args.graph.now c.args.table.now c.args.key.now c.args.missing.now t c.requires.whole c.requires.awaiting) t).after)
 
 pub returns-in_ok-watch-in-Some-clause-frame : goal.returns-in_ok-watch-in-Some-clause-frame
 returns-in_ok-watch-in-Some-clause-frame c =

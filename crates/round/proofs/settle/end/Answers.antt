@@ -40,13 +40,13 @@ returns-clause-back c =
     )
 
 pub returns-clause-truth : goal.returns-clause-truth
-returns-clause-truth c = λ read next answers o ended laws past t.
+returns-clause-truth c = λ read next answers o ended laws past cs t.
     ended_true c.args.graph.now c.record.new.self c.args.table.now c.leave.new.table c.note.new.table c.args.key (arc_value c.in_ok-shared.shared) answers o c.requires.whole
     (c.in_ok-groups.ensures.left o.node o.there) c.version.result (c.len.result + 1) c.in_ok-note.ensures c.record.ensures.version
     (end_sets c.args.graph.now c.record.new.self c.args.key (arc_value c.in_ok-shared.shared) c.in_ok-groups.groups.items (groups_of o.node) (c.in_ok-groups.ensures.groups o.node o.there) c.in_ok-record.ensures.recorded)
     c.version.ensures (count_is c.in_ok-groups.groups (groups_of o.node) c.len.result c.len.ensures (c.in_ok-groups.ensures.groups o.node o.there))
     (end_keeps c.args.graph.now c.record.new.self c.args.key (arc_value c.in_ok-shared.shared) c.in_ok-groups.groups.items (groups_of o.node) (c.in_ok-groups.ensures.groups o.node o.there) c.in_ok-record.ensures.lawful)
-    next (ended ∙ ap (λ v. Done v) (sym c.in_ok-shared.ensures.ok)) read laws past t
+    next (ended ∙ ap (λ v. Done v) (sym c.in_ok-shared.ensures.ok)) read laws past cs t
 
 pub returns-clause-frame : goal.returns-clause-frame
 returns-clause-frame c =

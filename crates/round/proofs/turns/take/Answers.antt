@@ -3,7 +3,9 @@ use Rattle.round.specs.Paused.{IsPaused}
 use Rattle.round.proofs.Pausing.{asked_paused}
 use Rattle.round.proofs.Wanting.{leads_err}
 use Rattle.round.proofs.Framing.{frame_asked, out_no_turn}
-use Rattle.std.proofs.Common.{◌∙◌, sym, ap, subst}
+use Rattle.std.proofs.Common.{[], ◌∷◌, ◌∙◌, sym, ap, subst}
+use Rattle.evaluation.specs.Choices.{Back}
+use Rattle.open_nodes.specs.Truths.{IsTrueOf}
 use Rattle.keys.specs.declared.key.Key.{Key}
 use Rattle.evaluation.specs.Reply.{Ask}
 use Rattle.round.specs.Turning.{IsOutWith, ComesBack}
@@ -13,17 +15,18 @@ use Rattle.round.proofs.turns.take.Goals as goal
 pub returns-in_ok-end-in-End-clause-truth : goal.returns-in_ok-end-in-End-clause-truth
 returns-in_ok-end-in-End-clause-truth g c = λ read.
     let step = rw c.in-End.is at c.in_ok-key.ensures.step in
-    c.in_ok-end-in-End.ensures.truth read g.R.Rules.next c.args.turned.asked.answers
+    λ laws past cs t. subst (λ (k : Key). IsTrueOf g.R.Rules.next read past (Back k ∷ cs) c.end.new.graph c.end.new.table.nodes c.end.new.table.runs.items) step.0
+    (c.in_ok-end-in-End.ensures.truth read g.R.Rules.next c.args.turned.asked.answers
     (subst (λ (k : Key). IsOutWith c.args.graph.now c.args.table.now k c.args.turned.asked.answers) (sym step.0) c.requires.out)
-    (ap (λ (k : Key). g.R.Rules.next k c.args.turned.asked.answers) step.0 ∙ step.1)
+    (ap (λ (k : Key). g.R.Rules.next k c.args.turned.asked.answers) step.0 ∙ step.1) laws past cs t)
 
 pub returns-in_err-end-in-End-clause-truth : goal.returns-in_err-end-in-End-clause-truth
 returns-in_err-end-in-End-clause-truth g c = λ read.
     let step = rw c.in-End.is at c.in_ok-key.ensures.step in
-    leads_err g.R.Rules.next read c.args.graph.now c.end.new.graph c.args.table.now c.end.new.table c.from_residual-in_err-end-in-End.result c.from_residual-in_err-end-in-End.ensures.0
-    (λ laws past t. c.in_err-end-in-End.ensures.truth read g.R.Rules.next c.args.turned.asked.answers
+    leads_err (Back c.args.turned.asked.key ∷ []) g.R.Rules.next read c.args.graph.now c.end.new.graph c.args.table.now c.end.new.table c.from_residual-in_err-end-in-End.result c.from_residual-in_err-end-in-End.ensures.0
+    (λ laws past cs t. c.in_err-end-in-End.ensures.truth read g.R.Rules.next c.args.turned.asked.answers
     (subst (λ (k : Key). IsOutWith c.args.graph.now c.args.table.now k c.args.turned.asked.answers) (sym step.0) c.requires.out)
-    (ap (λ (k : Key). g.R.Rules.next k c.args.turned.asked.answers) step.0 ∙ step.1) laws past t)
+    (ap (λ (k : Key). g.R.Rules.next k c.args.turned.asked.answers) step.0 ∙ step.1) laws past cs t)
 
 pub returns-in_ok-ask-in-Wait-clause-whole : goal.returns-in_ok-ask-in-Wait-clause-whole
 returns-in_ok-ask-in-Wait-clause-whole g c =
@@ -50,12 +53,13 @@ returns-in_ok-ask-in-Wait-clause-back g c =
     )
 
 pub returns-in_ok-ask-in-Wait-clause-truth : goal.returns-in_ok-ask-in-Wait-clause-truth
-returns-in_ok-ask-in-Wait-clause-truth g c = λ read laws past t.
+returns-in_ok-ask-in-Wait-clause-truth g c = λ read laws past cs t.
     let step = rw c.in-Wait.is at c.in_ok-key.ensures.step in
     let same = c.key.ensures ∙ step.0 in
     let o = subst (λ (k : Key). IsOutWith c.args.graph.now c.args.table.now k c.args.turned.asked.answers) (sym same) c.requires.out in
-    asked_true c.args.graph.now c.args.table.now c.ask.new.table c.key.result.now c.args.turned.asked.answers o c.requires.whole c.in_ok-group-in-Wait.group.items c.in_ok-ask-in-Wait.ensures.asked c.in_ok-ask-in-Wait.ensures.pends
-    g.R.Rules.next (ap (λ (k : Key). g.R.Rules.next k c.args.turned.asked.answers) same ∙ step.2 ∙ ap (λ group. Ask group) (sym (c.in_ok-group-in-Wait.ensures ∙ c.group.ensures))) read laws past t
+    subst (λ (k : Key). IsTrueOf g.R.Rules.next read past (Back k ∷ cs) c.args.graph.now c.ask.new.table.nodes c.ask.new.table.runs.items) same
+    (asked_true c.args.graph.now c.args.table.now c.ask.new.table c.key.result.now c.args.turned.asked.answers o c.requires.whole c.in_ok-group-in-Wait.group.items c.in_ok-ask-in-Wait.ensures.asked c.in_ok-ask-in-Wait.ensures.pends
+    g.R.Rules.next (ap (λ (k : Key). g.R.Rules.next k c.args.turned.asked.answers) same ∙ step.2 ∙ ap (λ group. Ask group) (sym (c.in_ok-group-in-Wait.ensures ∙ c.group.ensures))) read laws past cs t)
 
 pub returns-in_ok-ask-in-Wait-clause-frame : goal.returns-in_ok-ask-in-Wait-clause-frame
 returns-in_ok-ask-in-Wait-clause-frame g c =

@@ -3,6 +3,6 @@ use Rattle.json.specs.Print.{print}
 use Rattle.serde_json.proofs.Texts.{print-outline}
 use Rattle.answers.proofs.draft.Draft.into_text.Goals as goal
 
-pub returns-in-Ok-clause-value : goal.returns-in-Ok-clause-value
-returns-in-Ok-clause-value c = λ d is.
+pub returns-clause-value : goal.returns-clause-value
+returns-clause-value c = λ d is.
     ap vec_items c.in-Ok.ensures.ok ∙ c.into_inner.ensures.items ∙ ap (λ bytes. bytes ++ print c.self.inside.writer.tokens) c.self.invariant ∙ ap print (c.self.view_is ∙ is) ∙ print-outline d

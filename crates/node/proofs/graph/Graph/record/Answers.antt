@@ -1,5 +1,5 @@
 use Rattle.std.proofs.Common.{◌∙◌, ap}
-use Rattle.node.specs.Kept.{items_of}
+use Rattle.node.specs.Kept.{items_of, users_in}
 use Rattle.node.proofs.Lists.{on_err}
 use Rattle.node.proofs.Storing.{unstored_linked, ready_seen, stored_seen}
 use Rattle.std.specs.Arc.{arc_value}
@@ -13,7 +13,13 @@ store-requires-clause-ready c = ready_seen c.self.inside.records c.self.inside.v
 pub invariant_of-self : goal.invariant_of-self
 invariant_of-self c =
     let e = c.in_err-store.ensures.err in
-    unstored_linked c.self.inside.records c.store.new.records c.self.inside.users c.store.new.users e.0 e.1 c.self.invariant
+    record {
+      linked = unstored_linked c.self.inside.records c.store.new.records (users_in c.self.inside.records c.self.inside.users) (users_in c.store.new.records c.store.new.users) e.0 e.1 c.self.invariant.linked;
+      numbers = c.store.ensures.numbers;
+    }
+
+pub invariant_of-self-2 : goal.invariant_of-self-2
+invariant_of-self-2 c = record { linked = c.in_ok-store.ensures.ok.linked; numbers = c.store.ensures.numbers }
 
 pub returns-in_err-store-clause-refused : goal.returns-in_err-store-clause-refused
 returns-in_err-store-clause-refused c =

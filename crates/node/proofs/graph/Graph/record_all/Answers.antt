@@ -1,3 +1,4 @@
+use Rattle.node.specs.Kept.{users_in}
 use Rattle.std.proofs.Common.{◌∙◌, ap}
 use Rattle.node.proofs.Lists.{on_err}
 use Rattle.node.proofs.Storing.{unstored_linked}
@@ -12,7 +13,13 @@ store_all-requires-clause-ready c = ready_entries c.self.inside.records c.self.i
 pub invariant_of-self : goal.invariant_of-self
 invariant_of-self c =
     let e = c.in_err-store_all.ensures.err in
-    unstored_linked c.self.inside.records c.store_all.new.records c.self.inside.users c.store_all.new.users e.0 e.1 c.self.invariant
+    record {
+      linked = unstored_linked c.self.inside.records c.store_all.new.records (users_in c.self.inside.records c.self.inside.users) (users_in c.store_all.new.records c.store_all.new.users) e.0 e.1 c.self.invariant.linked;
+      numbers = c.store_all.ensures.numbers;
+    }
+
+pub invariant_of-self-2 : goal.invariant_of-self-2
+invariant_of-self-2 c = record { linked = c.in_ok-store_all.ensures.ok.linked; numbers = c.store_all.ensures.numbers }
 
 pub returns-in_err-store_all-clause-refused : goal.returns-in_err-store_all-clause-refused
 returns-in_err-store_all-clause-refused c =

@@ -1,4 +1,5 @@
 use Rattle.round.proofs.Pausing.{none_paused}
+use Rattle.round.proofs.Following.{follows_none}
 use Rattle.std.proofs.Common.{[], sym, subst}
 use Rattle.leaves.specs.Leaves as leaves
 use Rattle.evaluation.specs.Value.{In}
@@ -12,7 +13,7 @@ pub returns-in_err-want_all-clause-stopped : goal.returns-in_err-want_all-clause
 returns-in_err-want_all-clause-stopped g c =
     let n = c.new-table.ensures in
     let f : IsFresh c.new-table.result = is_fresh c.new-table.result n.nodes n.ready n.work n.runs in
-    on_err c.from_residual.result (λ next laws past h. c.in_err-want_all.ensures.truth next laws past
+    on_err c.from_residual.result (λ next laws past h. c.in_err-want_all.ensures.truth next laws past []
     (λ k i. roots_reached next (leaves.read c.args.tree.now) c.args.roots.items past c.args.graph.now h k (subst (In k) c.as_slice.ensures.value i))
     (fresh_true c.args.graph.now c.new-table.result f next (leaves.read c.args.tree.now) c.args.roots.items past h))
 
@@ -26,7 +27,7 @@ pub returns-in_err-look_at_all-clause-stopped : goal.returns-in_err-look_at_all-
 returns-in_err-look_at_all-clause-stopped g c =
     let n = c.new-table.ensures in
     let f : IsFresh c.new-table.result = is_fresh c.new-table.result n.nodes n.ready n.work n.runs in
-    on_err c.from_residual-in_err-look_at_all.result (λ next laws past h. c.in_err-look_at_all.ensures.truth next laws past (c.in_ok-want_all.ensures.truth next laws past
+    on_err c.from_residual-in_err-look_at_all.result (λ next laws past h. c.in_err-look_at_all.ensures.truth next laws past [] (c.in_ok-want_all.ensures.truth next laws past []
     (λ k i. roots_reached next (leaves.read c.args.tree.now) c.args.roots.items past c.args.graph.now h k (subst (In k) c.as_slice.ensures.value i))
     (fresh_true c.args.graph.now c.new-table.result f next (leaves.read c.args.tree.now) c.args.roots.items past h)))
 
@@ -55,6 +56,9 @@ pub returns-clause-truth : goal.returns-clause-truth
 returns-clause-truth g c = λ next laws past h.
     let n = c.new-table.ensures in
     let f : IsFresh c.new-table.result = is_fresh c.new-table.result n.nodes n.ready n.work n.runs in
-    c.in_ok-look_at_all.ensures.truth next laws past (c.in_ok-want_all.ensures.truth next laws past
+    c.in_ok-look_at_all.ensures.truth next laws past [] (c.in_ok-want_all.ensures.truth next laws past []
     (λ k i. roots_reached next (leaves.read c.args.tree.now) c.args.roots.items past c.args.graph.now h k (subst (In k) c.as_slice.ensures.value i))
     (fresh_true c.args.graph.now c.new-table.result f next (leaves.read c.args.tree.now) c.args.roots.items past h))
+
+pub returns-clause-follows : goal.returns-clause-follows
+returns-clause-follows g c = follows_none (record { roots = c.args.roots.items; table = c.look_at_all.new.table; out = c.new.result.keys }) c.new-2.result c.new-2.ensures.empty c.new.ensures.empty

@@ -1,0 +1,100 @@
+-- Keys by the numbers of their records.
+use Rattle.std.proofs.Common.{drop, add-one, take, ◌+◌, ◌≡◌, ◌∙◌, ℕ, zero, suc, ◌<◌, List, [], ◌∷◌, ◌++◌, Option, Some, None, refl, sym, ap, subst, length, arith, append-nil, append_assoc, slice_index_or}
+use Rattle.std.specs.Prelude.{slice_get, All}
+use Rattle.std.specs.List.{flat_map}
+use Rattle.std.specs.Option.{option_to_list, IsSome, is_some}
+use Rattle.std.proofs.lemmas.Option.{slice_get_within}
+use Rattle.std.specs.Map.{keys_of}
+use Rattle.std.proofs.lemmas.List.Elements.{All-append, All-nil}
+use Rattle.std.proofs.lemmas.Map.Entries.{length-keys_of}
+use Rattle.evaluation.specs.Value.{In, first, after}
+use Rattle.numbered.specs.Tables.{key_at, value_at, value_of, number_of, AreDistinct}
+use Rattle.numbered.specs.Flats.{members_in}
+use Rattle.numbered.proofs.Numbers.{value_by_number, none_without_number}
+use Rattle.keys.specs.declared.key.Key.{Key}
+use Rattle.node.specs.Kept.{Records}
+use Rattle.node.specs.Marks.{Lists}
+use Rattle.std.proofs.Math.ListN.{take-append-drop}
+use Rattle.std.proofs.Math.Seq.{take-suc}
+use Rattle.node.proofs.Lists.{in_left, in_right, none_some, true_false}
+
+module _ {X : Type 0} where
+  pub in_take : {x : X} (n : ℕ) (xs : List X) → In x (take n xs) → In x xs
+  in_take {x} n xs i = subst (In x) (take-append-drop n xs) (in_left (drop n xs) i)
+
+  pub one_more : (xs : List X) (n : ℕ) (d : X) → n < length xs → take (n + 1) xs ≡ take n xs ++ slice_index_or xs n d ∷ []
+  one_more xs n d h = rw add-one (take-suc xs n d h)
+
+  pub in_at : (xs : List X) (n : ℕ) (d : X) → n < length xs → In (slice_index_or xs n d) xs
+  in_at xs n d h = in_take (n + 1) xs (subst (In (slice_index_or xs n d)) (sym (one_more xs n d h)) (in_right (take n xs) first))
+
+pub in_at_is : {X : Type 0} (xs : List X) (n : ℕ) (d x : X) → x ≡ slice_index_or xs n d → n < length xs → In x xs
+in_at_is xs n d x e h = subst (λ y. In y xs) (sym e) (in_at xs n d h)
+
+module _ {V : Type 0} where
+  -- a number below the length is of a key
+  pub key_there : (es : List (Key × V)) (n : ℕ) → n < length es → (k : Key) × (key_at es n ≡ Some k)
+  key_there [] n h = absurd (omega arith)
+  key_there (e ∷ es) zero h = (e.0, refl)
+  key_there (e ∷ es) (suc n) h = key_there es n (omega arith)
+
+  pub key_within : (es : List (Key × V)) (n : ℕ) (k : Key) → key_at es n ≡ Some k → n < length es
+  key_within es n k h = subst (λ l. n < l) (length-keys_of es) (slice_get_within (keys_of es) n k h)
+
+  -- a key with a value has a number
+  pub numbered_key : (es : List (Key × V)) (k : Key) (r : Option ℕ) → r ≡ number_of es k → IsSome (value_of es k) → IsSome r
+  numbered_key es k None q s = absurd (true_false s (ap is_some (none_without_number es k (sym q))))
+  numbered_key es k (Some n) q s = refl
+
+  pub value_there : (es : List (Key × V)) (n : ℕ) → n < length es → (v : V) × (value_at es n ≡ Some v)
+  value_there [] n h = absurd (omega arith)
+  value_there (e ∷ es) zero h = (e.1, refl)
+  value_there (e ∷ es) (suc n) h = value_there es n (omega arith)
+
+  pub has_value : (es : List (Key × V)) → AreDistinct es → (n : ℕ) (k : Key) → n < length es → key_at es n ≡ Some k → value_of es k ≡ None → ⊥
+  has_value es d n k l h e = let v = value_there es n l in none_some (sym e ∙ value_by_number es d k n h ∙ v.1)
+
+  pub key_same : (es fs : List (Key × V)) → keys_of fs ≡ keys_of es → (n : ℕ) → key_at fs n ≡ key_at es n
+  key_same es fs e n = ap (λ (ks : List Key). slice_get ks n) e
+
+  pub members_same : (es fs : List (Key × V)) → keys_of fs ≡ keys_of es → (ns : List ℕ) → members_in fs ns ≡ members_in es ns
+  members_same es fs e ns = ap (λ (ks : List Key). flat_map (λ n. option_to_list (slice_get ks n)) ns) e
+
+  pub same_length : (es fs : List (Key × V)) → keys_of fs ≡ keys_of es → length fs ≡ length es
+  same_length es fs e = sym (length-keys_of fs) ∙ ap length e ∙ length-keys_of es
+
+  -- one more number
+  pub members_pushed : (es : List (Key × V)) (ns : List ℕ) (n : ℕ) (k : Key) → key_at es n ≡ Some k → members_in es (ns ++ n ∷ []) ≡ members_in es ns ++ k ∷ []
+  members_pushed es [] n k h = ap (λ o. option_to_list o ++ []) h
+  members_pushed es (x ∷ ns) n k h = ap (λ l. option_to_list (key_at es x) ++ l) (members_pushed es ns n k h) ∙ sym (append_assoc (option_to_list (key_at es x)) (members_in es ns) (k ∷ []))
+
+  -- a number's key is among the numbers' keys
+  pub in_members : (es : List (Key × V)) (ns : List ℕ) (n : ℕ) (k : Key) → In n ns → key_at es n ≡ Some k → In k (members_in es ns)
+  in_members es _ n k (first {xs = ns}) h = subst (λ o. In k (option_to_list o ++ members_in es ns)) (sym h) first
+  in_members es _ n k (after {y = y} {xs = ns} i) h = in_right (option_to_list (key_at es y)) (in_members es ns n k i h)
+
+pub lists_none : (records : Records) (ns : List ℕ) → Lists records ns ns
+lists_none records ns = ([], sym (append-nil ns), All-nil (λ n. n < length records))
+
+pub lists_more : (start old : Records) (begun before now : List ℕ) → keys_of old ≡ keys_of start → Lists start begun before → Lists old before now → Lists start begun now
+lists_more start old begun before now e s t = (
+  s.0 ++ t.0,
+  t.1 ∙ ap (λ l. l ++ t.0) s.1 ∙ append_assoc begun s.0 t.0,
+  All-append (λ n. n < length start) s.0 t.0 s.2 (subst (λ l. All (λ n. n < l) t.0) (same_length start old e) t.2),
+)
+
+pub lists_within : (records : Records) (before now : List ℕ) → All (λ n. n < length records) before → Lists records before now → All (λ n. n < length records) now
+lists_within records before now a s = subst (All (λ n. n < length records)) (sym s.1) (All-append (λ n. n < length records) before s.0 a s.2)
+
+-- the numbers of the records of this table are below the length of that one, which has the same keys
+pub within_same : (old new : Records) (ns : List ℕ) → keys_of new ≡ keys_of old → All (λ n. n < length old) ns → All (λ n. n < length new) ns
+within_same old new ns e a = subst (λ l. All (λ n. n < l) ns) (sym (same_length old new e)) a
+
+pub within_at : (records : Records) (ns : List ℕ) (at n : ℕ) → All (λ n. n < length records) ns → n ≡ slice_index_or ns at n → at < length ns → n < length records
+within_at records ns at n a q h = subst (λ x. x < length records) (sym q) (a at n h)
+
+pub taken_members : (es : Records) (ns : List ℕ) (at n : ℕ) (k : Key) → n ≡ slice_index_or ns at n → at < length ns → key_at es n ≡ Some k → members_in es (take (at + 1) ns) ≡ members_in es (take at ns) ++ k ∷ []
+taken_members es ns at n k q h e = ap (members_in es) (one_more ns at n h ∙ ap (λ x. take at ns ++ x ∷ []) (sym q)) ∙ members_pushed es (take at ns) n k e
+
+pub all_from_in : (ns : List ℕ) (bound : ℕ) → ((n : ℕ) → In n ns → n < bound) → All (λ n. n < bound) ns
+all_from_in ns bound f = λ i d h. f (slice_index_or ns i d) (in_at ns i d h)

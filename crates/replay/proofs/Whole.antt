@@ -1,0 +1,59 @@
+-- A list of choices, one more.
+use Rattle.std.proofs.Common.{◌≡◌, ◌⊎◌, inl, inr, ℕ, ◌+◌, ◌-◌, ◌≤◌, List, [], ◌∷◌, ◌++◌, take, drop, Err, refl, sym, ◌∙◌, ap, subst, arith, length, slice_index_or}
+use Rattle.std.specs.Result.{IsErrOf}
+use Rattle.evaluation.specs.Reply.{Reply}
+use Rattle.evaluation.specs.Value.{In, first, AllDiffer}
+use Rattle.evaluation.specs.Choices as choices
+use Rattle.keys.specs.Jobs.{Outcome}
+use Rattle.keys.specs.declared.key.Key.{Key}
+use Rattle.node.specs.Graphs.{Recorded}
+use Rattle.open_nodes.proofs.Settlings.{in_map}
+use Rattle.open_nodes.specs.Nodes.{IsOpen}
+use Rattle.replay.specs.Playing.{turn_keys, AreOutTurns, IsPlaying}
+use Rattle.replay.specs.Replays.{chosen, newest_after, hands, hand_of}
+use Rattle.replay.specs.declared.choice.Choice.{Choice}
+use Rattle.round.specs.Rounds.{Standing, standing, IsStalled}
+use Rattle.round.specs.declared.rounds.Round.{Round}
+
+pub newest_snoc : (earlier : List (choices.Choice Key)) (made : List Choice) (c : Choice) → newest_after earlier (made ++ c ∷ []) ≡ chosen c ∷ newest_after earlier made
+newest_snoc earlier [] c = refl
+newest_snoc earlier (x ∷ made) c = newest_snoc (chosen x ∷ earlier) made c
+
+pub hands_snoc : (made : List Choice) (c : Choice) → hands (made ++ c ∷ []) ≡ hands made + hand_of c
+hands_snoc [] c = let z : hand_of c + 0 ≡ 0 + hand_of c = omega arith in z
+hands_snoc (x ∷ made) c = let h = hands_snoc made c in omega (arith, h)
+
+-- no turn is out where no job is
+pub none_out : (graph : Recorded) (s : Standing) (turns : List Outcome) → turns ≡ [] → s.out ≡ [] → AreOutTurns graph s turns
+none_out graph s turns e o = record {
+  each = λ t i. elim (subst (λ (xs : List Outcome). In t xs) e i) [ ];
+  all = λ k i. elim (subst (λ (xs : List Key). In k xs) o i) [ ];
+  differ = subst (λ (xs : List Outcome). AllDiffer (turn_keys xs)) (sym e) tt;
+}
+
+-- where a round is not at a stall, a node is open
+pub one_open : {R S : Type 0} (graph : Recorded) (round : Round R S) (turns : List Outcome) → IsPlaying graph round turns → (IsStalled (standing round) → ⊥) → (k : Key) × IsOpen round.table.nodes k
+one_open graph round turns p n = go round.table.ready.keys refl round.out.keys refl
+  where
+    go : (ready : List Key) → round.table.ready.keys ≡ ready → (out : List Key) → round.out.keys ≡ out → (k : Key) × IsOpen round.table.nodes k
+    go [] e [] f = absurd (n (e, f))
+    go (k ∷ ks) e out f = let y = p.0.0.whole.ready_now k (subst (λ (xs : List Key). In k xs) (sym e) first) in (k, (y.0, y.1))
+    go [] e (k ∷ ks) f =
+        let x = in_map (λ (t : Outcome). t.asked.key) turns (p.1.all k (subst (λ (xs : List Key). In k xs) (sym f) first)) in
+        let o = p.1.each x.0 x.1 in
+        (x.0.asked.key, (o.node, o.there))
+
+-- where nothing is left, the budget is spent
+pub none_left : (left made budget : ℕ) → left ≡ 0 → left + made ≡ budget → made ≡ budget
+none_left left made budget e s = omega (arith, e, s)
+
+-- one choice more
+pub one_spent : (left hand before later more budget : ℕ) → hand ≡ more → more ≤ left → later ≡ before + more → left + before ≡ budget → left - hand + later ≡ budget
+one_spent left hand before later more budget h l e s = omega (arith, h, l, e, s)
+
+-- an error is the same whatever else the answer could be
+pub err_of : {T U E : Type 0} (stop e : E) → IsErrOf {T = T} (Err stop) e → IsErrOf {T = U} (Err stop) e
+err_of {T} {U} {E} stop e q = let same : stop ≡ e = of_path q in subst (λ (x : E). IsErrOf {T = U} (Err x) e) (sym same) refl
+  where
+    of_path : IsErrOf {T = T} (Err stop) e → stop ≡ e
+    of_path h = cc
