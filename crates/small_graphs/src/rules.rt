@@ -55,7 +55,7 @@ fn asking(group: Vec<Key>) -> Reply
 }
 
 // What a look-up asks or ends with.
-fn reply(alloc: Global, name: &Text, answers: &[Arc<Value>]) -> Result<Reply, Memory>
+fn lookup_reply(alloc: Global, name: &Text, answers: &[Arc<Value>]) -> Result<Reply, Memory>
     ensures { IfOk result (specs.IsReply (specs.lookup name.now (values answers.now))) }
 {
     match answers {
@@ -106,7 +106,7 @@ impl Rules for SmallGraphs {
     fn turn(&mut self, state: Kept, answers: &[Arc<Value>]) -> Result<Turn<Kept>, Memory> {
         self.made.add_one();
         let reply = match &state.key {
-            Key::Lookup(name) => reply(self.alloc, name, answers)?,
+            Key::Lookup(name) => lookup_reply(self.alloc, name, answers)?,
             _ => Reply::Done(Value::File(None)),
         };
         match reply {
