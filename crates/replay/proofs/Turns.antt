@@ -1,7 +1,8 @@
 -- Turns that did not come back.
-use Rattle.std.proofs.Common.{◌≡◌, ◌≢◌, ◌⊎◌, inl, inr, ℕ, ◌≤◌, ◌+◌, List, [], ◌∷◌, ◌++◌, map, length, take, drop, Some, refl, sym, ◌∙◌, ap, subst, slice_index_or}
+use Rattle.std.proofs.Common.{◌≡◌, ◌≢◌, ◌⊎◌, inl, inr, ℕ, suc, ◌≤◌, ◌+◌, List, [], ◌∷◌, ◌++◌, map, length, take, drop, Some, refl, sym, ◌∙◌, ap, subst, arith, slice_index_or}
 use Rattle.std.specs.List.{AllByRecursion}
 use Rattle.evaluation.specs.Value.{In, first, after, AllDiffer}
+use Rattle.evaluation.proofs.Deciding.{length_snoc}
 use Rattle.keys.specs.Jobs.{Asked, Outcome}
 use Rattle.keys.specs.declared.key.Key.{Key}
 use Rattle.node.specs.Edges.{IsAdded, IsRemoved}
@@ -34,6 +35,23 @@ one_more graph before later turns new turn a e stays own added apart = record {
   where
     keys : turn_keys new ≡ turn_keys turns ++ turn.asked.key ∷ []
     keys = ap turn_keys e ∙ map_snoc (λ (t : Outcome). t.asked.key) turns turn
+
+-- one turn more was handed out
+pub one_handed : (back handed : ℕ) (turns new : List Outcome) (turn : Outcome) → new ≡ turns ++ turn ∷ [] → back + length turns ≡ handed → back + length new ≡ handed + 1
+one_handed back handed turns new turn e s =
+    let l : length new ≡ suc (length turns) = ap length e ∙ length_snoc turns turn in
+    omega (arith, l, s)
+
+-- a turn that came back is counted by the round
+pub one_came_back : (back handed at : ℕ) (turns new : List Outcome) (turn : Outcome) → turns ≡ take at turns ++ turn ∷ drop (at + 1) turns → new ≡ take at turns ++ drop (at + 1) turns → back + length turns ≡ handed → back + 1 + length new ≡ handed + 0
+one_came_back back handed at turns new turn e n s =
+    let a : length turns ≡ length (take at turns) + suc (length (drop (at + 1) turns)) = ap length e ∙ length_join (take at turns) (turn ∷ drop (at + 1) turns) in
+    let b : length new ≡ length (take at turns) + length (drop (at + 1) turns) = ap length n ∙ length_join (take at turns) (drop (at + 1) turns) in
+    omega (arith, a, b, s)
+  where
+    length_join : (xs ys : List Outcome) → length (xs ++ ys) ≡ length xs + length ys
+    length_join [] ys = refl
+    length_join (x ∷ xs) ys = let h = length_join xs ys in omega (arith, h)
 
 map_join : {X Y : Type 0} (f : X → Y) (xs ys : List X) → map f (xs ++ ys) ≡ map f xs ++ map f ys
 map_join f [] ys = refl

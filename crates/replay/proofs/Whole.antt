@@ -1,5 +1,5 @@
 -- A list of choices, one more.
-use Rattle.std.proofs.Common.{◌≡◌, ◌⊎◌, inl, inr, ℕ, ◌+◌, ◌-◌, ◌≤◌, List, [], ◌∷◌, ◌++◌, take, drop, Err, refl, sym, ◌∙◌, ap, subst, arith, length, slice_index_or}
+use Rattle.std.proofs.Common.{◌≡◌, ◌⊎◌, inl, inr, ℕ, ◌+◌, ◌-◌, ◌≤◌, List, [], ◌∷◌, ◌++◌, take, drop, Bool, true, false, Err, refl, sym, ◌∙◌, ap, subst, arith, length, slice_index_or}
 use Rattle.std.specs.Result.{IsErrOf}
 use Rattle.evaluation.specs.Reply.{Reply}
 use Rattle.evaluation.specs.Value.{In, first, AllDiffer}
@@ -9,7 +9,8 @@ use Rattle.keys.specs.declared.key.Key.{Key}
 use Rattle.node.specs.Graphs.{Recorded}
 use Rattle.open_nodes.proofs.Settlings.{in_map}
 use Rattle.open_nodes.specs.Nodes.{IsOpen}
-use Rattle.replay.specs.Playing.{turn_keys, AreOutTurns, IsPlaying}
+use Rattle.open_nodes.specs.Counted.{HasMade}
+use Rattle.replay.specs.Playing.{turn_keys, AreOutTurns, IsPlaying, HasHanded, CountsIf}
 use Rattle.replay.specs.Replays.{chosen, newest_after, hands, hand_of}
 use Rattle.replay.specs.declared.choice.Choice.{Choice}
 use Rattle.round.specs.Rounds.{Standing, standing, IsStalled}
@@ -42,6 +43,45 @@ one_open graph round turns p n = go round.table.ready.keys refl round.out.keys r
         let x = in_map (λ (t : Outcome). t.asked.key) turns (p.1.all k (subst (λ (xs : List Key). In k xs) (sym f) first)) in
         let o = p.1.each x.0 x.1 in
         (x.0.asked.key, (o.node, o.there))
+
+-- where no job is out, no turn is
+pub no_turns : {R S : Type 0} (graph : Recorded) (round : Round R S) (turns : List Outcome) → IsPlaying graph round turns → (standing round).out ≡ [] → turns ≡ []
+no_turns graph round turns p none = go turns refl
+  where
+    go : (ts : List Outcome) → turns ≡ ts → turns ≡ []
+    go [] e = e
+    go (t ∷ ts) e =
+        let o = p.1.each t (subst (λ (xs : List Outcome). In t xs) (sym e) first) in
+        elim (subst (λ (xs : List Key). In t.asked.key xs) none (p.0.0.only_out t.asked.key o.node o.there o.out)) [ ]
+
+-- where no turn is out, the round has counted all that were handed out
+pub all_back : {R S : Type 0} (round : Round R S) (turns : List Outcome) (handed : ℕ) → turns ≡ [] → HasHanded round turns handed → HasMade round.table handed
+all_back round turns handed e h =
+    let l : length turns ≡ 0 = ap length e in
+    let s = h.2 in
+    let same : h.0 ≡ handed = omega (arith, s, l) in
+    subst (HasMade round.table) same h.1
+
+-- before the first choice
+pub none_handed : {R S : Type 0} (round : Round R S) (turns : List Outcome) → turns ≡ [] → HasMade round.table 0 → HasHanded round turns 0
+none_handed round turns e m = let l : length turns ≡ 0 = ap length e in let s : 0 + length turns ≡ 0 = omega (arith, l) in (0, m, s)
+
+-- the count of turns, one choice more
+pub counted_on : (went : Bool) (more old new before now base : ℕ) → went ≡ true → CountsIf went more old new → old ≡ base + before → now ≡ before + more → new ≡ base + now
+counted_on true more old new before now base t c o n = let d : new ≡ old + more = c in omega (arith, d, o, n)
+counted_on false more old new before now base t c o n = cc
+
+counted_here : (went : Bool) (more old new : ℕ) → went ≡ false → CountsIf went more old new → new ≡ old
+counted_here true more old new f c = cc
+counted_here false more old new f c = c
+
+-- no choice more
+pub counted_still : (went : Bool) (more old new before base : ℕ) → went ≡ false → CountsIf went more old new → old ≡ base + before → new ≡ base + before
+counted_still went more old new before base f c o = counted_here went more old new f c ∙ o
+
+-- no more turns than the budget were made
+pub within_budget : (old now new left handed budget : ℕ) → now ≡ old + handed → left + handed ≡ budget → (now ≤ new) × (new ≤ now + left) → (old ≤ new) × (new ≤ old + budget)
+within_budget old now new left handed budget c s b = let x = b.0 in let y = b.1 in (omega (arith, c, s, x, y), omega (arith, c, s, x, y))
 
 -- where nothing is left, the budget is spent
 pub none_left : (left made budget : ℕ) → left ≡ 0 → left + made ≡ budget → made ≡ budget

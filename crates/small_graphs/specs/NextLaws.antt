@@ -23,23 +23,23 @@ either false xs ys p q = q
 
 trees_differ : (name : List ℕ) → AllDiffer (first_of_trees name)
 trees_differ name =
-    either (bytes_eq name (codes "chain")) _ _ (one_differs _) (
-    either (bytes_eq name (codes "link")) _ _ (one_differs _) (
+    either (bytes_eq name (codes "chain")) _ _ (one_differs (key.Lookup (codes "link"))) (
+    either (bytes_eq name (codes "link")) _ _ (one_differs (key.Lookup (codes "end"))) (
     either (bytes_eq name (codes "diamond")) _ _ (two_differ (codes "left") (codes "right") (λ e. cc)) (
-    either (bytes_eq name (codes "left") || bytes_eq name (codes "right")) _ _ (one_differs _) (
+    either (bytes_eq name (codes "left") || bytes_eq name (codes "right")) _ _ (one_differs (key.Lookup (codes "bottom"))) (
     either (bytes_eq name (codes "roof")) _ _ (two_differ (codes "west") (codes "north") (λ e. cc)) (
-    either (bytes_eq name (codes "west") || bytes_eq name (codes "north")) _ _ (one_differs _) tt)))))
+    either (bytes_eq name (codes "west") || bytes_eq name (codes "north")) _ _ (one_differs (key.File (codes "ground"))) tt)))))
 
 first_differs : (name : List ℕ) → AllDiffer (first_group name)
 first_differs name =
     either (bytes_eq name (codes "waiting")) _ _ (two_differ (codes "loop") (codes "circle") (λ e. cc)) (
-    either (bytes_eq name (codes "loop")) _ _ (one_differs _) (
-    either (bytes_eq name (codes "circle")) _ _ (one_differs _) (
-    either (bytes_eq name (codes "chooser")) _ _ (one_differs _) (trees_differ name))))
+    either (bytes_eq name (codes "loop")) _ _ (one_differs (key.Lookup (codes "loop"))) (
+    either (bytes_eq name (codes "circle")) _ _ (one_differs (key.Lookup (codes "circle"))) (
+    either (bytes_eq name (codes "chooser")) _ _ (one_differs (key.File (codes "choice"))) (trees_differ name))))
 
 second_differs : (text : Option (List ℕ)) → AllDiffer (second_group text)
-second_differs (Some t) = one_differs _
-second_differs None = one_differs _
+second_differs (Some t) = one_differs (key.Lookup (codes "end"))
+second_differs None = one_differs (key.Lookup (codes "bottom"))
 
 abbrev ask : List Key → Reply Key Value
 ask g = Ask g

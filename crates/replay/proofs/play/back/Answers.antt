@@ -10,7 +10,7 @@ use Rattle.open_nodes.specs.Truths.{IsTrueOf}
 use Rattle.round.specs.Choosing.{IsFollowing}
 use Rattle.round.specs.Rounds.{standing, IsOfJobOut}
 use Rattle.replay.specs.Playing.{HasPlace, AreOutTurns}
-use Rattle.replay.proofs.Turns.{one_less, placed, placed_in, placed_key}
+use Rattle.replay.proofs.Turns.{one_less, one_came_back, placed, placed_in, placed_key}
 use Rattle.replay.proofs.Steps.{not_out, is_out}
 use Rattle.replay.proofs.play.back.Goals as goal
 
@@ -53,3 +53,9 @@ returns-in_ok-take_known-in-Some-clause-plays g c = λ laws past cs h.
         follows = subst (λ (k : Key). IsFollowing (Back k ∷ cs) c.take_known.new.self) same (t.follows (leaves.read c.args.tree.now) g.R.Rules.next laws past cs h.roots h.truth h.follows);
       },
     )
+
+pub returns-in_ok-take_known-in-Some-clause-hands : goal.returns-in_ok-take_known-in-Some-clause-hands
+returns-in_ok-take_known-in-Some-clause-hands g c = λ went handed h.
+    let p = subst (λ (ts : List Outcome). HasPlace ts c.args.key.now (Some c.in-Some.at)) c.as_slice.ensures.value c.in-Some.ensures in
+    let e = placed c.args.turns.now.items c.args.key.now c.in-Some.at p c.remove-turned.result c.remove-turned.ensures.value in
+    (h.0 + 1, c.in_ok-take_known-in-Some.ensures.back.2 h.0 h.1, one_came_back h.0 handed c.in-Some.at c.args.turns.now.items c.remove-turned.new.self.items c.remove-turned.result e c.remove-turned.ensures.by_index.2 h.2)

@@ -1,5 +1,6 @@
-use Rattle.std.proofs.Common.{◌≡◌, List, Option, Bool, true, false, refl, sym, ◌∙◌, ap, subst}
+use Rattle.std.proofs.Common.{◌≡◌, List, Option, Bool, true, false, refl, sym, ◌∙◌, ap, subst, arith}
 use Rattle.evaluation.specs.Choices.{Drop}
+use Rattle.open_nodes.specs.Counted.{HasMade}
 use Rattle.open_nodes.specs.Truths.{IsTrueOf}
 use Rattle.node.proofs.Lists.{true_false}
 use Rattle.round.specs.Rounds.{Standing, standing}
@@ -39,3 +40,6 @@ returns-clause-plays g c = λ read graph turns p. go read graph turns p c.drop_s
       },
       refl,
     )
+
+pub returns-clause-hands : goal.returns-clause-hands
+returns-clause-hands g c = λ turns handed h. (h.0, subst (λ (s : Standing). HasMade s.table h.0) (sym c.drop_state.ensures.same) h.1, omega (arith, h.2))

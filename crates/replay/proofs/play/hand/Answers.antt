@@ -1,11 +1,11 @@
-use Rattle.std.proofs.Common.{◌≡◌, refl, ◌∷◌, ◌∙◌, sym, ap, subst}
+use Rattle.std.proofs.Common.{◌≡◌, ◌+◌, refl, ◌∷◌, ◌∙◌, sym, ap, subst}
 use Rattle.evaluation.specs.Choices.{Hand}
-use Rattle.keys.specs.Jobs.{Asked}
+use Rattle.keys.specs.Jobs.{Asked, turns_made}
 use Rattle.keys.specs.declared.key.Key.{Key}
 use Rattle.node.specs.Edges.{IsAdded}
 use Rattle.open_nodes.specs.Truths.{IsTrueOf}
 use Rattle.round.specs.Rounds.{Standing, standing, IsOfJobOut}
-use Rattle.replay.proofs.Turns.{one_more}
+use Rattle.replay.proofs.Turns.{one_more, one_handed}
 use Rattle.replay.proofs.Steps.{ready_apart}
 use Rattle.replay.proofs.play.hand.Goals as goal
 
@@ -49,3 +49,11 @@ returns-in_ok-put_turn-in-Some-clause-plays g c = λ read laws past cs h.
       p g.R.Rules.next laws past cs h.roots h.truth,
       record { roots = h.roots ∙ sym s.4; truth = t g.R.Rules.next laws past cs h.truth; follows = f cs h.follows },
     )
+
+pub returns-in_ok-put_turn-in-Some-clause-hands : goal.returns-in_ok-put_turn-in-Some-clause-hands
+returns-in_ok-put_turn-in-Some-clause-hands g c = λ went handed h.
+    let s = rw c.in-Some.is at c.in_ok-hand_out.ensures.hands in
+    (h.0, s.5 h.0 h.1, one_handed h.0 handed c.args.turns.now.items c.put_turn.new.turns.items c.make.result c.in_ok-put_turn-in-Some.ensures h.2)
+
+pub returns-in_ok-put_turn-in-Some-clause-counted : goal.returns-in_ok-put_turn-in-Some-clause-counted
+returns-in_ok-put_turn-in-Some-clause-counted g c = c.make.ensures.counted ∙ ap (λ n. g.R.Rules.turns c.args.rules.now + n) (ap turns_made (c.is_made.ensures.0 c.if-is_made.true))

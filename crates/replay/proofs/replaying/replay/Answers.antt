@@ -14,10 +14,11 @@ use Rattle.round.specs.declared.stop.Stop.TheVariants as Stop
 use Rattle.round.proofs.Confirming.{take_whole}
 use Rattle.round.proofs.Grouping.{split_at, taken_next}
 use Rattle.round.proofs.Resting.{root_open}
-use Rattle.replay.specs.Playing.{HasCome}
+use Rattle.round.proofs.Following.{stalled_is}
+use Rattle.replay.specs.Playing.{HasCome, HasHanded}
 use Rattle.replay.specs.Replays.{AreLegal, newest, hands, hand_of}
 use Rattle.replay.specs.declared.choice.Choice.{Choice}
-use Rattle.replay.proofs.Whole.{newest_snoc, hands_snoc, none_out, one_open, none_left, one_spent, err_of}
+use Rattle.replay.proofs.Whole.{newest_snoc, hands_snoc, none_out, one_open, none_left, one_spent, err_of, no_turns, all_back, none_handed, counted_on, counted_still, within_budget}
 use Rattle.replay.proofs.replaying.replay.Goals as goal
 
 pub loop-n-init : goal.loop-n-init
@@ -26,19 +27,38 @@ loop-n-init g c =
     record {
       playing = (o.beside, none_out c.open.new.graph (standing c.in_ok-round.round) c.new-turns.result.items c.new-turns.ensures.items o.begins.1);
       came = λ laws past h. (record { roots = h.of_roots ∙ sym o.begins.0; truth = o.truth g.R.Rules.next laws past h; follows = o.follows }, none);
+      handed = none_handed c.in_ok-round.round c.new-turns.result.items c.new-turns.ensures.items o.made;
+      counted = omega (arith);
       spent = omega (arith);
     }
 
-pub returns-in_err-close-clause-stopped : goal.returns-in_err-close-clause-stopped
-returns-in_err-close-clause-stopped g c =
+pub returns-in_err-close_stall-clause-stopped : goal.returns-in_err-close_stall-clause-stopped
+returns-in_err-close_stall-clause-stopped g c =
     let laws : IsNext g.R.Rules.next = record { groups_differ = g.met.R.Rules.groups_differ; ends_plain = g.met.R.Rules.ends_plain } in
-    on_err c.from_residual-in_err-close.result (λ past h. c.in_err-close.ensures.stopped (leaves.read c.args.tree.now) g.R.Rules.next laws past _ (c.loop-n.invariant.came laws past h).0.truth)
+    on_err c.from_residual-in_err-close_stall.result (λ past h. c.in_err-close_stall.ensures.stopped (leaves.read c.args.tree.now) g.R.Rules.next laws past _ (c.loop-n.invariant.came laws past h).0.truth)
 
 pub returns-then-stalled-clause-replays : goal.returns-then-stalled-clause-replays
 returns-then-stalled-clause-replays g c = λ past h.
     let laws : IsNext g.R.Rules.next = record { groups_differ = g.met.R.Rules.groups_differ; ends_plain = g.met.R.Rules.ends_plain } in
-    let w = c.loop-n.invariant.came laws past h in
-    (c.in_ok-close.ensures.law (leaves.read c.args.tree.now) g.R.Rules.next laws past _ w.0.roots w.0.truth, c.loop-n.n, w.1)
+    let i = c.loop-n.invariant in
+    let w = i.came laws past h in
+    let stall = c.stalled.ensures.0 c.if-stalled.true in
+    let back = all_back c.loop-n.round c.loop-n.turns.items _ (no_turns c.loop-n.graph c.loop-n.round c.loop-n.turns.items i.playing stall.1) i.handed in (
+      c.in_ok-close_stall.ensures.law (leaves.read c.args.tree.now) g.R.Rules.next laws past _ w.0.roots w.0.truth,
+      record {
+        number = c.loop-n.n;
+        legal = w.1;
+        at_stall = stalled_is g.R.Rules.next (leaves.read c.args.tree.now) laws past _ c.loop-n.graph (standing c.loop-n.round) i.playing.0.0 w.0.roots w.0.truth stall;
+        turns = sym (c.in_ok-close_stall.ensures.made (hands (take c.loop-n.n c.args.choices.now)) back);
+      },
+    )
+
+pub returns-then-stalled-clause-turns : goal.returns-then-stalled-clause-turns
+returns-then-stalled-clause-turns g c =
+    let i = c.loop-n.invariant in
+    let stall = c.stalled.ensures.0 c.if-stalled.true in
+    let back = all_back c.loop-n.round c.loop-n.turns.items _ (no_turns c.loop-n.graph c.loop-n.round c.loop-n.turns.items i.playing stall.1) i.handed in
+    i.counted ∙ ap (λ n. g.R.Rules.turns c.args.rules.now + n) (c.in_ok-close_stall.ensures.made (hands (take c.loop-n.n c.args.choices.now)) back)
 
 pub returns-in-Err-clause-stopped : goal.returns-in-Err-clause-stopped
 returns-in-Err-clause-stopped g c =
@@ -50,7 +70,11 @@ returns-in-Err-clause-budget g c = λ e past h.
     let laws : IsNext g.R.Rules.next = record { groups_differ = g.met.R.Rules.groups_differ; ends_plain = g.met.R.Rules.ends_plain } in
     let w = c.loop-n.invariant.came laws past h in
     let b = c.in-Err.ensures.budget (err_of c.in-Err.stop Stop.Budget e) in
-    let spent = c.loop-n.invariant.spent in (
+    let spent = c.loop-n.invariant.spent in
+    let u = c.in-Err.ensures.unspent (err_of c.in-Err.stop Stop.Budget e) in
+    let k = one_open c.loop-n.graph c.loop-n.round c.loop-n.turns.items c.loop-n.invariant.playing (λ s. true_false (c.stalled.ensures.1 s) c.if-stalled.false) in
+    let r = root_open g.R.Rules.next (leaves.read c.args.tree.now) laws past _ c.loop-n.graph c.loop-n.round.table c.loop-n.invariant.playing.0.0.whole w.0.truth k.0 k.1 in (
+      (r.0, subst (In r.0) h.of_roots r.1, subst (λ (x : Recorded). IsUnsettled (record_at x) r.0) (sym u.0) r.2),
       c.loop-n.n,
       c.index-choices-n.result,
       split_at c.args.choices.now c.loop-n.n c.index-choices-n.result c.index-choices-n.is c.loop-n-test.true,
@@ -59,6 +83,16 @@ returns-in-Err-clause-budget g c = λ e past h.
       w.1,
       b.2 laws past _ w.0,
     )
+
+pub returns-in-Err-clause-spent : goal.returns-in-Err-clause-spent
+returns-in-Err-clause-spent g c = λ e.
+    let b = c.in-Err.ensures.budget (err_of c.in-Err.stop Stop.Budget e) in
+    let u = c.in-Err.ensures.unspent (err_of c.in-Err.stop Stop.Budget e) in
+    u.1 ∙ c.loop-n.invariant.counted ∙ ap (λ n. g.R.Rules.turns c.args.rules.now + n) (none_left c.loop-n.left (hands (take c.loop-n.n c.args.choices.now)) c.args.budget b.0 c.loop-n.invariant.spent)
+
+pub returns-in-Ok-false-clause-turns : goal.returns-in-Ok-false-clause-turns
+returns-in-Ok-false-clause-turns g c =
+    counted_still c.in-Ok-false.field-0 (hand_of c.index-choices-n.result) (g.R.Rules.turns c.loop-n.rules) (g.R.Rules.turns c.choose.new.rules) (hands (take c.loop-n.n c.args.choices.now)) (g.R.Rules.turns c.args.rules.now) c.in-Ok-false.field-0-test c.in-Ok-false.ensures.counted c.loop-n.invariant.counted
 
 pub returns-in-Ok-false-clause-replays : goal.returns-in-Ok-false-clause-replays
 returns-in-Ok-false-clause-replays g c = λ past h.
@@ -93,19 +127,38 @@ loop-n-preserved g c =
             subst (λ (cs : List (choices.Choice Key)). HasCome g.R.Rules.next (leaves.read c.args.tree.now) past cs c.choose.new.graph c.choose.new.round) (sym newest_is) p.1,
             subst (λ (cs : List (choices.Choice Key)). choices.Legal g.R.Rules.next cycle (leaves.read c.args.tree.now) (record_at past.entry) past.roots cs) (sym newest_is) (one p.0 w.1),
           );
+      handed = subst (HasHanded c.choose.new.round c.choose.new.turns.items) (sym hands_are) (c.in-Ok-true.ensures.hands c.in-Ok-true.field-0-test _ c.loop-n.invariant.handed);
+      counted = counted_on c.in-Ok-true.field-0 (hand_of c.index-choices-n.result) (g.R.Rules.turns c.loop-n.rules) (g.R.Rules.turns c.choose.new.rules) (hands (take c.loop-n.n c.args.choices.now)) (hands (take (c.loop-n.n + 1) c.args.choices.now)) (g.R.Rules.turns c.args.rules.now) c.in-Ok-true.field-0-test c.in-Ok-true.ensures.counted c.loop-n.invariant.counted hands_are;
       spent = one_spent c.loop-n.left c.hands_in.result (hands (take c.loop-n.n c.args.choices.now)) (hands (take (c.loop-n.n + 1) c.args.choices.now)) (hand_of c.index-choices-n.result) c.args.budget c.hands_in.ensures (c.in-Ok-true.ensures.left c.in-Ok-true.field-0-test) hands_are c.loop-n.invariant.spent;
     }
 
-pub returns-in_err-close-2-clause-stopped : goal.returns-in_err-close-2-clause-stopped
-returns-in_err-close-2-clause-stopped g c =
+pub returns-in_err-close_stall-2-clause-stopped : goal.returns-in_err-close_stall-2-clause-stopped
+returns-in_err-close_stall-2-clause-stopped g c =
     let laws : IsNext g.R.Rules.next = record { groups_differ = g.met.R.Rules.groups_differ; ends_plain = g.met.R.Rules.ends_plain } in
-    on_err c.from_residual-in_err-close-2.result (λ past h. c.in_err-close-2.ensures.stopped (leaves.read c.args.tree.now) g.R.Rules.next laws past _ (c.loop-n.invariant.came laws past h).0.truth)
+    on_err c.from_residual-in_err-close_stall-2.result (λ past h. c.in_err-close_stall-2.ensures.stopped (leaves.read c.args.tree.now) g.R.Rules.next laws past _ (c.loop-n.invariant.came laws past h).0.truth)
 
 pub returns-then-stalled-2-clause-replays : goal.returns-then-stalled-2-clause-replays
 returns-then-stalled-2-clause-replays g c = λ past h.
     let laws : IsNext g.R.Rules.next = record { groups_differ = g.met.R.Rules.groups_differ; ends_plain = g.met.R.Rules.ends_plain } in
-    let w = c.loop-n.invariant.came laws past h in
-    (c.in_ok-close-2.ensures.law (leaves.read c.args.tree.now) g.R.Rules.next laws past _ w.0.roots w.0.truth, c.loop-n.n, w.1)
+    let i = c.loop-n.invariant in
+    let w = i.came laws past h in
+    let stall = c.stalled-2.ensures.0 c.if-stalled-2.true in
+    let back = all_back c.loop-n.round c.loop-n.turns.items _ (no_turns c.loop-n.graph c.loop-n.round c.loop-n.turns.items i.playing stall.1) i.handed in (
+      c.in_ok-close_stall-2.ensures.law (leaves.read c.args.tree.now) g.R.Rules.next laws past _ w.0.roots w.0.truth,
+      record {
+        number = c.loop-n.n;
+        legal = w.1;
+        at_stall = stalled_is g.R.Rules.next (leaves.read c.args.tree.now) laws past _ c.loop-n.graph (standing c.loop-n.round) i.playing.0.0 w.0.roots w.0.truth stall;
+        turns = sym (c.in_ok-close_stall-2.ensures.made (hands (take c.loop-n.n c.args.choices.now)) back);
+      },
+    )
+
+pub returns-then-stalled-2-clause-turns : goal.returns-then-stalled-2-clause-turns
+returns-then-stalled-2-clause-turns g c =
+    let i = c.loop-n.invariant in
+    let stall = c.stalled-2.ensures.0 c.if-stalled-2.true in
+    let back = all_back c.loop-n.round c.loop-n.turns.items _ (no_turns c.loop-n.graph c.loop-n.round c.loop-n.turns.items i.playing stall.1) i.handed in
+    i.counted ∙ ap (λ n. g.R.Rules.turns c.args.rules.now + n) (c.in_ok-close_stall-2.ensures.made (hands (take c.loop-n.n c.args.choices.now)) back)
 
 pub returns-clause-replays : goal.returns-clause-replays
 returns-clause-replays g c = λ past h.
@@ -118,3 +171,6 @@ returns-clause-replays g c = λ past h.
       (r.0, subst (In r.0) h.of_roots r.1, r.2),
       subst (λ (made : List Choice). AreLegal g.R.Rules.next (leaves.read c.args.tree.now) past made) whole w.1,
     )
+
+pub returns-clause-turns : goal.returns-clause-turns
+returns-clause-turns g c = c.loop-n.invariant.counted ∙ ap (λ (made : List Choice). g.R.Rules.turns c.args.rules.now + hands made) (take_whole c.args.choices.now c.loop-n.n c.loop-n-test.false)
