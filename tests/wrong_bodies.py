@@ -11,7 +11,7 @@ one check, over the work that `rt check` kept, and each has to be refused in its
     wrong_bodies.py --digests tries nothing: compares the digests, as the gate does
 
 A digest covers what the outcome hangs on: the crate's sources, definitions, proofs and edits, the definitions and
-contracts of the crates below, and the kit's version. It is written where all edits of the crate were refused. The
+contracts of the crates below, and the kit's logic. It is written where all edits of the crate were refused. The
 status is 1 where one is not refused, where an edit cannot be tried, or where a crate with contracts has none."""
 import argparse
 import collections
@@ -100,9 +100,9 @@ def imports_of(lines, shown):
     return sorted(found)
 
 
-def digest(name, uses, version):
+def digest(name, uses, logic):
     """The digest of all texts on which it hangs whether the crate's wrong bodies are refused."""
-    made = hashlib.sha256(version.encode())
+    made = hashlib.sha256(logic.encode())
     own = files_of(name, PARTS, ".rt") + files_of(name, PARTS, ".antt") + edits_of(name)
     texts = [(file, read(file)) for file in own]
     for it in below(name, uses):
@@ -114,8 +114,10 @@ def digest(name, uses, version):
     return made.hexdigest()[:32]
 
 
-def kit_version():
-    return subprocess.run(["rt", "version"], capture_output=True, text=True, check=True).stdout.strip()
+def kit_logic():
+    """The sum of the kit's rules and definitions. Whether a body meets its contract hangs on these alone. How well the
+    prover searches, which differs from kit to kit, decides only whether that is found."""
+    return subprocess.run(["rt", "version"], capture_output=True, text=True, check=True).stdout.partition("logic ")[2].strip()
 
 
 def written():
@@ -389,8 +391,8 @@ def try_edits(name, uses, room, say):
 class Trials:
     """The trials of several crates side by side, and what came of them."""
 
-    def __init__(self, names, uses, version):
-        self.names, self.uses, self.version = list(names), uses, version
+    def __init__(self, names, uses, logic):
+        self.names, self.uses, self.logic = list(names), uses, logic
         self.lock, self.refused, self.wrong, self.start = threading.Lock(), 0, [], time.time()
 
     def say(self, text):
@@ -398,13 +400,13 @@ class Trials:
             print(f"{time.time() - self.start:6.0f} s  {text}", flush=True)
 
     def one(self, name):
-        before, edits = digest(name, self.uses, self.version), edits_of(name)
+        before, edits = digest(name, self.uses, self.logic), edits_of(name)
         with tempfile.TemporaryDirectory(prefix="wrong-bodies-") as room:
             wrong = try_edits(name, self.uses, room, self.say)
         with self.lock:
             self.refused += len(edits) - len(wrong)
             self.wrong += wrong
-            is_same = digest(name, self.uses, self.version) == before
+            is_same = digest(name, self.uses, self.logic) == before
             write_line(name, (str(len(edits)), before) if is_same and not wrong else None, self.uses)
 
     def lane(self):
@@ -452,10 +454,10 @@ def keep_work(names, uses):
     return True
 
 
-def stale(uses, version):
+def stale(uses, logic):
     """The crates whose wrong bodies were not all refused at the present texts. What the gate itself tries needs no line."""
     table, tried = written(), {name: [it for it in edits_of(name) if f"/{FOLDERS[0]}/" in it] for name in uses}
-    return [name for name in uses if tried[name] and table.get(name) != (str(len(edits_of(name))), digest(name, uses, version))]
+    return [name for name in uses if tried[name] and table.get(name) != (str(len(edits_of(name))), digest(name, uses, logic))]
 
 
 def weight(name):
@@ -469,11 +471,11 @@ def main():
     words.add_argument("--jobs", type=int, default=len(os.sched_getaffinity(0)))
     words.add_argument("names", nargs="*")
     asked = words.parse_args()
-    uses, version = crates(), kit_version()
+    uses, logic = crates(), kit_logic()
     bare = [name for name in uses if has_contracts(name) and not edits_of(name)]
     for name in bare:
         print(f"crates/{name} has contracts and no wrong body")
-    names = stale(uses, version)
+    names = stale(uses, logic)
     if asked.digests:
         for name in names:
             print(f"crates/{name} has changed since its wrong bodies were refused: run make wrong-bodies")
@@ -483,7 +485,7 @@ def main():
     names = asked.names or ([name for name in uses if edits_of(name)] if asked.all else names)
     if not keep_work(names, uses):
         return 1
-    trials = Trials(sorted(names, key=weight, reverse=True), uses, version)
+    trials = Trials(sorted(names, key=weight, reverse=True), uses, logic)
     trials.run(asked.jobs)
     for file, why in trials.wrong:
         print(f"NOT REFUSED: {os.path.relpath(file, ROOT)}: {why}")
