@@ -50,7 +50,7 @@ one_came_back back handed at turns new turn e n s =
     omega (arith, a, b, s)
   where
     length_join : (xs ys : List Outcome) → length (xs ++ ys) ≡ length xs + length ys
-    length_join [] ys = refl
+    length_join [] ys = omega arith
     length_join (x ∷ xs) ys = let h = length_join xs ys in omega (arith, h)
 
 map_join : {X Y : Type 0} (f : X → Y) (xs ys : List X) → map f (xs ++ ys) ≡ map f xs ++ map f ys

@@ -32,10 +32,10 @@ returns-in-None-clause-plays g c = λ read laws past cs h.
 pub returns-in_ok-put_turn-in-Some-clause-playing : goal.returns-in_ok-put_turn-in-Some-clause-playing
 returns-in_ok-put_turn-in-Some-clause-playing g c =
     let s = rw c.in-Some.is at c.in_ok-hand_out.ensures.hands in
-    let same = ap (λ (a : Asked). a.key) c.make.ensures.same ∙ s.1 in (
+    let same = ap (λ (a : Asked). a.key) c.make-turned.ensures.same ∙ s.1 in (
       c.hand_out.ensures.beside,
-      one_more c.args.graph.now (standing c.args.round.now) (standing c.hand_out.new.self) c.args.turns.now.items c.put_turn.new.turns.items c.make.result c.requires.1 c.in_ok-put_turn-in-Some.ensures c.in_ok-hand_out.ensures.others
-          (subst (λ (a : Asked). IsOfJobOut c.args.graph.now (standing c.hand_out.new.self) a) (sym c.make.ensures.same) (subst (λ (k : Key). IsOfJobOut c.args.graph.now (standing c.hand_out.new.self) (record { key = k; answers = c.in-Some.job.answers })) (sym s.1) s.2))
+      one_more c.args.graph.now (standing c.args.round.now) (standing c.hand_out.new.self) c.args.turns.now.items c.put_turn.new.turns.items c.make-turned.result c.requires.1 c.in_ok-put_turn-in-Some.ensures c.in_ok-hand_out.ensures.others
+          (subst (λ (a : Asked). IsOfJobOut c.args.graph.now (standing c.hand_out.new.self) a) (sym c.make-turned.ensures.same) (subst (λ (k : Key). IsOfJobOut c.args.graph.now (standing c.hand_out.new.self) (record { key = k; answers = c.in-Some.job.answers })) (sym s.1) s.2))
           (subst (IsAdded c.args.round.now.out.keys c.hand_out.new.self.out.keys) (sym same) s.3)
           (λ job o q. ready_apart c.args.graph.now c.args.round.now c.args.key.now c.requires.0 s.0 job o (q ∙ same)),
     )
@@ -53,7 +53,7 @@ returns-in_ok-put_turn-in-Some-clause-plays g c = λ read laws past cs h.
 pub returns-in_ok-put_turn-in-Some-clause-hands : goal.returns-in_ok-put_turn-in-Some-clause-hands
 returns-in_ok-put_turn-in-Some-clause-hands g c = λ went handed h.
     let s = rw c.in-Some.is at c.in_ok-hand_out.ensures.hands in
-    (h.0, s.5 h.0 h.1, one_handed h.0 handed c.args.turns.now.items c.put_turn.new.turns.items c.make.result c.in_ok-put_turn-in-Some.ensures h.2)
+    (h.0, s.5 h.0 h.1, one_handed h.0 handed c.args.turns.now.items c.put_turn.new.turns.items c.make-turned.result c.in_ok-put_turn-in-Some.ensures h.2)
 
 pub returns-in_ok-put_turn-in-Some-clause-counted : goal.returns-in_ok-put_turn-in-Some-clause-counted
-returns-in_ok-put_turn-in-Some-clause-counted g c = c.make.ensures.counted ∙ ap (λ n. g.R.Rules.turns c.args.rules.now + n) (ap turns_made (c.is_made.ensures.0 c.if-is_made.true))
+returns-in_ok-put_turn-in-Some-clause-counted g c = c.make-turned.ensures.counted ∙ ap (λ n. g.R.Rules.turns c.args.rules.now + n) (ap turns_made (c.is_made.ensures.0 c.if-not-is_made.false))
