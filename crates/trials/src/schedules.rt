@@ -187,7 +187,10 @@ impl Trial {
 
 // Goes on to the next list that does not begin with this one; false behind the last.
 fn advance(list: &mut Vec<usize>, width: usize) -> Result<bool> {
-    while let Some(digit) = list.pop() {
+    for _place in 0..list.len() {
+        let Some(digit) = list.pop() else {
+            return Ok(false);
+        };
         let next = digit.saturating_add(1);
         if next < width {
             list.push(next)?;
