@@ -57,7 +57,10 @@ impl Reader {
 fn look(
     entrance: Entrance,
     asked: (&Text, u64),
-) -> (Entrance, Result<(Beginning, Option<(u64, Text)>), ReadError>)
+) -> (
+    Entrance,
+    Result<(Beginning, Option<(u64, Text)>), ReadError>,
+)
     ensures view { view result.0.place ≡ view entrance.place }
     ensures list { IfOk result.1 (λ r. (t : BookId) → view entrance.place ≡ Some t → t ≡ book_id r.0.known.book) }
     ensures entry { IfOk result.1 (λ r. r.1 ≡ entry r.0.known.log asked.entry.0.now) }

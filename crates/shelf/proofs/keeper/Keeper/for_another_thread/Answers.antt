@@ -1,4 +1,3 @@
-use denote.Param.Send.{sendable}
 use Rattle.shelf.proofs.Crossing.{keeper_crosses}
 use Rattle.shelf.proofs.keeper.Keeper.for_another_thread.Goals as goal
 

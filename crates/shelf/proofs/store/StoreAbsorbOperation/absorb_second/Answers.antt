@@ -1,6 +1,5 @@
-use Rattle.std.proofs.Common.{rules, ◌≡◌, ◌++◌, ◌∷◌, ℕ, List, [], sym, ap, ◌∙◌}
-use Rattle.std.specs.HashMap.{get}
-use Rattle.shelf.specs.Lists.{same_text, entry, or_else, published}
+use Rattle.std.proofs.Common.{rules, ◌≡◌, ◌++◌, ◌∷◌, [], sym, ap, ◌∙◌}
+use Rattle.shelf.specs.Lists.{entry, or_else, published}
 use Rattle.shelf.specs.Rules.{publish_of, publishes_of}
 use Rattle.shelf.proofs.Entries.{entry_snoc, publishes_snoc}
 use Rattle.shelf.proofs.store.StoreAbsorbOperation.absorb_second.Goals as goal
@@ -14,7 +13,7 @@ invariant_of-self-2 c =
     record {
       fits = λ q.
           c.put_all.ensures q
-              ∙ (ap (or_else (published batch.version batch.entries.items q)) (c.reserve.ensures.entries.2 q ∙ was.fits q)
-              ∙ (sym (entry_snoc (publishes_of before) (publish_of batch) q)
-              ∙ (ap (λ ps. entry ps q) (sym (publishes_snoc before batch)) ∙ ap (λ items. entry (publishes_of items) q) (sym log))));
+          ∙ (ap (or_else (published batch.version batch.entries.items q)) (c.reserve.ensures.entries.2 q ∙ was.fits q)
+          ∙ (sym (entry_snoc (publishes_of before) (publish_of batch) q)
+          ∙ (ap (λ ps. entry ps q) (sym (publishes_snoc before batch)) ∙ ap (λ items. entry (publishes_of items) q) (sym log))));
     }
