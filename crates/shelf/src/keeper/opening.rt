@@ -52,14 +52,12 @@ impl Shelf {
         let Ok(mut keeper) = Keeper::new(alloc, rt, readers) else {
             return Err(OpenError::Memory);
         };
-        match keeper.readers(alloc, readers) {
-            Ok(all) => Ok((keeper, all)),
-            Err(true) => Err(OpenError::NoPlace),
-            Err(false) => Err(OpenError::Memory),
-        }
+        let all = keeper.readers(alloc, readers)?;
+        Ok((keeper, all))
     }
 }
 
+// Returns whether a shelf may have so many readers.
 fn is_number(readers: usize) -> bool
     ensures { result ≡ is_number_of_readers readers }
 {
@@ -67,7 +65,7 @@ fn is_number(readers: usize) -> bool
 }
 
 impl<R: Wait + Drop> Keeper<R> {
-    // A keeper of an empty list, with room for so many readers.
+    // Makes a keeper of an empty list, with room for so many readers.
     fn new(alloc: Global, rt: R, readers: usize) -> Result<Keeper<R>, Memory>
         requires { (0 < readers) × (readers ≤ 16) }
         ensures list { IfOk result (λ keeper. published_by keeper ≡ []) }
@@ -92,7 +90,7 @@ impl<R: Wait + Drop> Keeper<R> {
         })
     }
 
-    // A reader that knows what the keeper knows.
+    // Makes a reader that knows what the keeper knows.
     fn reader(&mut self) -> Result<Reader, AllocError>
         ensures list { self.new.list ≡ self.old.list }
         ensures shown { shown_by self.new ≡ shown_by self.old }
@@ -106,21 +104,22 @@ impl<R: Wait + Drop> Keeper<R> {
         })
     }
 
-    // So many readers, or whether there was no place.
-    fn readers(&mut self, alloc: Global, count: usize) -> Result<Vec<Reader>, bool>
+    // Makes so many readers.
+    fn readers(&mut self, alloc: Global, count: usize) -> Result<Vec<Reader>, OpenError>
         ensures list { self.new.list ≡ self.old.list }
         ensures shown { shown_by self.new ≡ shown_by self.old }
         ensures readers { IfOk result (λ all. (vec_len all ≡ count) × All (λ reader. reader.list ≡ self.old.list) all.items) }
+        ensures range { IsErrOf result Range → ⊥ }
     {
         let Ok(mut all) = Vec::with_capacity(alloc, count) else {
-            return Err(false);
+            return Err(OpenError::Memory);
         };
         for _ in 0..count {
             let Ok(reader) = self.reader() else {
-                return Err(true);
+                return Err(OpenError::NoPlace);
             };
             if all.push(reader).is_err() {
-                return Err(false);
+                return Err(OpenError::Memory);
             }
         }
         Ok(all)

@@ -76,6 +76,7 @@ fn look(
     }
 }
 
+// Looks for a name in a copy of a list of at least so many publishes.
 fn look_in(
     store: &Store,
     name: &Text,
