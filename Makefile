@@ -32,6 +32,7 @@ shelf-trials:
 	@cd crates/shelf && rt lib > build.log 2>&1 || { tail -n 30 build.log; exit 1; }
 	@python3 bench/build_measures.py shelf_trials
 	@for word in rows threads; do bench/out/shelf_trials $$word || exit 1; done | diff bench/shelf_trials/stdout -
+	@python3 tests/shelf_allocations.py
 	@for names in 1000 100000; do bench/out/shelf_trials times $$names || exit 1; done
 
 # The gate: the house's rules of style, each crate's wrong bodies refused at its present text, everything proved from
