@@ -4,7 +4,7 @@
 PROGRAM := crates/cli/out/cli
 EXAMPLE := examples/session.jsonl
 
-.PHONY: quick run build trials measures shelf-trials test lint digests wrong-bodies limits allocations bench
+.PHONY: quick run build trials measures test lint digests wrong-bodies limits allocations bench
 
 # Shows each line of an example with its answer. It proves nothing: the kit interprets the program.
 quick:
@@ -26,14 +26,6 @@ trials:
 # The program that measures, proved and built over the libraries of `build`. The gate does not build it.
 measures: build
 	@python3 bench/build_measures.py
-
-# The program that tries the shelf, built as `measures` is. Compares what readers find, and prints times.
-shelf-trials:
-	@cd crates/shelf && rt lib > build.log 2>&1 || { tail -n 30 build.log; exit 1; }
-	@python3 bench/build_measures.py shelf_trials
-	@for word in rows threads; do bench/out/shelf_trials $$word || exit 1; done | diff bench/shelf_trials/stdout -
-	@python3 tests/shelf_allocations.py
-	@for names in 1000 100000; do bench/out/shelf_trials times $$names || exit 1; done
 
 # The gate: the house's rules of style, each crate's wrong bodies refused at its present text, everything proved from
 # nothing, and the programs run. The first two come first, since they take a second. A proof gets one job, since two

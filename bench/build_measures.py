@@ -1,9 +1,8 @@
 #!/usr/bin/env python3
-"""Proves and builds a program beside the gate, as `bench/out/measures`, the one that measures. Run it by `make measures`,
-or by `make shelf-trials` for the program whose name is passed there.
+"""Proves and builds `bench/out/measures`, the program that measures. Run it by `make measures`.
 
-The gate does not build these programs, and it stops at each source outside the crates of crates.txt. So the sources end
-in `.rattle`, and the proofs in `.proof`. The kit builds only crates that are proved, in a repository. So this script makes
+The gate does not build this program, and it stops at each source outside the crates of crates.txt. So the sources end in
+`.rattle`, and the proofs in `.proof`. The kit builds only crates that are proved, in a repository. So this script makes
 a room outside this repository, with the program as a crate over the libraries that are built here.
 
 The room is among the temporary files. Where they are on another disk, the copied libraries take some 6 GB there.
@@ -17,12 +16,9 @@ import time
 
 HERE = os.path.dirname(os.path.abspath(__file__))
 TOP = os.path.dirname(HERE)
-# Each program with the word that it is run with once it is built.
-PROGRAMS = {"measures": "lines", "shelf_trials": "rows"}
-NAME = sys.argv[1] if len(sys.argv) > 1 else "measures"
-SOURCES = os.path.join(HERE, NAME)
-PROGRAM = os.path.join(HERE, "out", NAME)
-LOG = os.path.join(HERE, f"out/build-{NAME}.log")
+SOURCES = os.path.join(HERE, "measures")
+PROGRAM = os.path.join(HERE, "out/measures")
+LOG = os.path.join(HERE, "out/build.log")
 ENDINGS = {".rattle": ".rt", ".proof": ".antt"}
 
 
@@ -79,36 +75,36 @@ def make_room(room, crates, uses):
     os.mkdir(os.path.join(room, ".git"))
     shutil.copy(os.path.join(TOP, "HANDLES"), room)
     with open(os.path.join(room, "crates.txt"), "w") as out:
-        out.writelines(f"{it}: {' '.join(uses[it])}\n" for it in [*crates, NAME])
+        out.writelines(f"{it}: {' '.join(uses[it])}\n" for it in [*crates, "measures"])
     for it in crates:
         place_library(room, it)
-    place_sources(os.path.join(room, "crates", NAME))
+    place_sources(os.path.join(room, "crates/measures"))
 
 
 def build(crate):
-    """Proves the program, builds it, and runs it with its word. Returns whether all went well."""
+    """Proves the program, builds it, and runs it on no lines. Returns whether all went well."""
     with open(LOG, "w") as log:
         how = {"cwd": crate, "stdin": subprocess.DEVNULL, "stdout": log, "stderr": subprocess.STDOUT}
-        return subprocess.run(["rt", "run", "--", PROGRAMS[NAME]], **how).returncode == 0
+        return subprocess.run(["rt", "run", "--", "lines"], **how).returncode == 0
 
 
 def main():
     uses = {**uses_in(os.path.join(TOP, "crates.txt")), **uses_in(os.path.join(SOURCES, "uses"))}
     crates = []
-    add_below(crates, NAME, uses)
+    add_below(crates, "measures", uses)
     if is_new(crates):
         return 0
     os.makedirs(os.path.dirname(PROGRAM), exist_ok=True)
     started = time.time()
-    with tempfile.TemporaryDirectory(prefix=f"{NAME}-") as room:
+    with tempfile.TemporaryDirectory(prefix="measures-") as room:
         make_room(room, crates, uses)
-        crate = os.path.join(room, "crates", NAME)
+        crate = os.path.join(room, "crates/measures")
         if not build(crate):
             with open(LOG) as log:
                 sys.stderr.writelines(log.readlines()[-30:])
-            print(f"{NAME} is not built; all that was said is in {os.path.relpath(LOG)}", file=sys.stderr)
+            print(f"measures is not built; all that was said is in {os.path.relpath(LOG)}", file=sys.stderr)
             return 1
-        shutil.copy(os.path.join(crate, "out", NAME), PROGRAM)
+        shutil.copy(os.path.join(crate, "out/measures"), PROGRAM)
     # An edit during the build counts as one after it.
     os.utime(PROGRAM, (started, started))
     return 0
