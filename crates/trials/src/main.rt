@@ -4,13 +4,16 @@
 #![tactic(auto)]
 
 mod devices;
+mod played;
 mod replays;
+mod schedules;
 mod serving;
 mod sessions;
 mod turn_order;
 
 use anyhow::{Result, bail};
 use replays::tell_replays;
+use schedules::tell_schedules;
 use serving::{tell_budgets, tell_failures, tell_journal, tell_words};
 use sessions::tell_sessions;
 use std::io;
@@ -35,7 +38,8 @@ fn compare(rt: &HostRuntime, table: &str) -> Result<()> {
     tell_words(rt, words)?;
     tell_budgets(rt)?;
     tell_turns(rt)?;
-    tell_replays(rt)
+    tell_replays(rt)?;
+    tell_schedules(rt)
 }
 
 fn main(rt: HostRuntime) -> Result<()> {

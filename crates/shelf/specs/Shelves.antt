@@ -1,0 +1,40 @@
+-- What readers know, what the keeper has published, and what it tells.
+use Rattle.std.specs.Prelude.{◌≡◌, List}
+use Rattle.logbook.specs.Pages.{Book}
+use Rattle.shelf.specs.declared.publish.Publish.{Publish}
+use Rattle.shelf.specs.declared.reader.Reader.{Reader}
+use Rattle.shelf.specs.declared.reader.Told.{Told}
+use Rattle.shelf.specs.declared.keeper.Keeper.{Keeper}
+use Rattle.shelf.specs.Rules.{publishes_of}
+
+-- the beginning of the list that the reader has seen or learnt
+abbrev pub known_to : Reader → List Publish
+known_to reader = reader.list.known.log
+
+-- the list that ends with the publish of which the keeper tells
+abbrev pub told_in : Told → List Publish
+told_in told = told.list.known.log
+
+-- the shelf that the reader reads. A book has no two lists
+abbrev pub shelf_read_by : Reader → Book
+shelf_read_by reader = reader.list.known.book
+
+-- the shelf of which the keeper tells
+abbrev pub shelf_told_of : Told → Book
+shelf_told_of told = told.list.known.book
+
+module _ {R : Type 0} where
+  -- what was published, and what was refused but taken up, in order
+  abbrev pub published_by : Keeper R → List Publish
+  published_by keeper = keeper.list.known.log
+
+  -- the list after which readers find what names have, that enter before the keeper's next call
+  abbrev pub shown_by : Keeper R → List Publish
+  shown_by keeper = publishes_of keeper.writer.desk.shown.value.contents.log.items
+
+  abbrev pub shelf_of : Keeper R → Book
+  shelf_of keeper = keeper.list.known.book
+
+  -- a reader of the keeper's shelf that knows what the keeper has published
+  abbrev pub IsUpToDate : Reader → Keeper R → Type 0
+  IsUpToDate reader keeper = (shelf_read_by reader ≡ shelf_of keeper) × (known_to reader ≡ published_by keeper)

@@ -1,0 +1,142 @@
+//! How a shelf is opened.
+ghost use Rattle.std.specs.Prelude.{◌≡◌, ◌↔◌, ◌<◌, ◌≤◌, [], Some, IfOk, OnOk, IsErrOf, All, drop, fold, false};
+ghost use Rattle.std.specs.Vec.{vec_len};
+ghost use Rattle.left_right.specs.Sides.{view};
+ghost use Rattle.shelf.specs.Lists.{is_number_of_readers};
+ghost use Rattle.shelf.specs.Shared.{after, state_of, id_of, IsReady};
+ghost use Rattle.shelf.specs.Shelves.{published_by, shown_by, IsUpToDate};
+ghost use Rattle.shelf.specs.declared.keeper.opening.OpenError.TheVariants.{Range};
+
+use super::Keeper;
+use crate::history::Beginning;
+use crate::reader::Reader;
+use crate::rule::{Begins, Publisher, Takes, Twice};
+use crate::store::Store;
+use std::alloc::{AllocError, Global};
+use std::sync::Wait;
+use texts::Memory;
+use thiserror::Error;
+
+/// Why there is no shelf.
+#[derive(Debug, Drop, Error)]
+pub enum OpenError {
+    /// Not 1 to 16 readers.
+    #[error("not 1 to 16 readers")]
+    Range,
+    /// A growth was refused.
+    #[error("out of memory")]
+    Memory,
+    /// `left_right` had no place for a reader.
+    #[error("no place for a reader")]
+    NoPlace,
+}
+
+/// A shelf that is to be opened.
+pub struct Shelf;
+
+impl Shelf {
+    /// Opens a shelf with an empty list, with so many readers.
+    pub fn open<R: Wait + Drop>(
+        alloc: Global,
+        rt: R,
+        readers: usize,
+    ) -> Result<(Keeper<R>, Vec<Reader>), OpenError>
+        ensures keeper { IfOk result (λ r. (published_by r.0 ≡ []) × (shown_by r.0 ≡ [])) }
+        ensures count { IfOk result (λ r. vec_len r.1 ≡ readers) }
+        ensures readers { IfOk result (λ r. All (λ reader. IsUpToDate reader r.0) r.1.items) }
+        ensures range { IsErrOf result Range ↔ (is_number_of_readers readers ≡ false) }
+    {
+        if !is_number(readers) {
+            return Err(OpenError::Range);
+        }
+        let Ok(mut keeper) = Keeper::new(alloc, rt, readers) else {
+            return Err(OpenError::Memory);
+        };
+        let all = keeper.readers(alloc, readers)?;
+        Ok((keeper, all))
+    }
+}
+
+// Returns whether a shelf may have so many readers.
+fn is_number(readers: usize) -> bool
+    ensures { result ≡ is_number_of_readers readers }
+{
+    readers > 0 && readers <= 16
+}
+
+impl<R: Wait + Drop> Keeper<R> {
+    // Makes a keeper of an empty list, with room for so many readers.
+    fn new(alloc: Global, rt: R, readers: usize) -> Result<Keeper<R>, Memory>
+        requires { (0 < readers) × (readers ≤ 16) }
+        ensures list { IfOk result (λ keeper. published_by keeper ≡ []) }
+        ensures shown { IfOk result (λ keeper. shown_by keeper ≡ []) }
+    {
+        let (end, list) = Beginning::new();
+        let first = Store::new(alloc, list.again());
+        let second = Store::new(alloc, list.again());
+        let writer = Publisher::new(alloc, first, second, readers)?;
+        let (writer, begun) = begin(writer, &rt);
+        let Ok(()) = begun else {
+            writer.take(&rt);
+            return Err(Memory);
+        };
+        Ok(Keeper {
+            writer,
+            rt,
+            end,
+            list,
+            version: 0,
+            waiting: None,
+        })
+    }
+
+    // Makes a reader that knows what the keeper knows.
+    fn reader(&mut self) -> Result<Reader, AllocError>
+        ensures list { self.new.list ≡ self.old.list }
+        ensures shown { shown_by self.new ≡ shown_by self.old }
+        ensures reader { IfOk result (λ reader. reader.list ≡ self.old.list) }
+    {
+        let mut entrance = self.writer.factory().reader()?;
+        entrance.learn::<Takes>(self.writer.tell::<Twice>());
+        Ok(Reader {
+            entrance,
+            list: self.list.again(),
+        })
+    }
+
+    // Makes so many readers.
+    fn readers(&mut self, alloc: Global, count: usize) -> Result<Vec<Reader>, OpenError>
+        ensures list { self.new.list ≡ self.old.list }
+        ensures shown { shown_by self.new ≡ shown_by self.old }
+        ensures readers { IfOk result (λ all. (vec_len all ≡ count) × All (λ reader. reader.list ≡ self.old.list) all.items) }
+        ensures range { IsErrOf result Range → ⊥ }
+    {
+        let Ok(mut all) = Vec::with_capacity(alloc, count) else {
+            return Err(OpenError::Memory);
+        };
+        for _ in 0..count {
+            let Ok(reader) = self.reader() else {
+                return Err(OpenError::NoPlace);
+            };
+            if all.push(reader).is_err() {
+                return Err(OpenError::Memory);
+            }
+        }
+        Ok(all)
+    }
+}
+
+// Publishes nothing, by which the keeper knows its own shelf.
+fn begin<R: Wait>(writer: Publisher, rt: &R) -> (Publisher, Result<(), AllocError>)
+    requires { IsReady writer.desk.shown.value (drop writer.behind writer.log.items) }
+    ensures view { OnOk result.1 (view result.0.desk.place ≡ Some (id_of result.0.desk.shown.value)) }
+    ensures shelf { id_of result.0.desk.shown.value ≡ id_of writer.desk.shown.value }
+    ensures reaches { fold after (state_of result.0.desk.shown.value) (drop result.0.behind result.0.log.items) ≡ fold after (state_of writer.desk.shown.value) (drop writer.behind writer.log.items) }
+    ensures all { OnOk result.1 (drop result.0.behind result.0.log.items ≡ []) }
+{
+    let (shown, published) = writer.publish_as::<Begins, R>(rt);
+    match published {
+        Ok(()) => (shown, Ok(())),
+        Err(error) => (shown, Err(error)),
+    }
+}

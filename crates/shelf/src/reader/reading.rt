@@ -1,0 +1,97 @@
+//! What a reader reads and learns.
+ghost use Rattle.std.specs.Prelude.{◌≡◌, ◌⊎◌, ◌≤◌, length, Some, IfOk, OnErr};
+ghost use Rattle.left_right.specs.Sides.{view};
+ghost use mathlib.Core.List.{IsPrefix};
+ghost use Rattle.shelf.specs.Lists.{entry, NotBefore};
+ghost use Rattle.shelf.specs.Rules.{BookId, book_id, publishes_of};
+ghost use Rattle.shelf.specs.Shelves.{known_to, shelf_read_by, told_in, shelf_told_of};
+
+use super::{Reader, Told};
+use crate::history::Beginning;
+use crate::rule::{Entrance, Reads};
+use crate::store::Store;
+use core::mem::replace_with;
+use texts::Text;
+use thiserror::Error;
+
+/// Why a read gives nothing.
+#[derive(Debug, Drop, Error)]
+pub enum ReadError {
+    /// A growth was refused.
+    #[error("out of memory")]
+    Memory,
+    /// `left_right` refused the entry, as where the keeper is gone.
+    #[error("no read")]
+    NoRead,
+}
+
+impl Reader {
+    /// Returns what the name has after a list that begins with all that this reader knows. From then on it knows that list.
+    pub fn read(&mut self, name: &Text) -> Result<Option<(u64, Text)>, ReadError>
+        ensures shelf { shelf_read_by self.new ≡ shelf_read_by self.old }
+        ensures later { IfOk result (λ _. IsPrefix (known_to self.old) (known_to self.new)) }
+        ensures entry { IfOk result (λ found. found ≡ entry (known_to self.new) name.now) }
+        ensures rises { IfOk result (λ found. NotBefore (entry (known_to self.old) name.now) found) }
+        ensures err { OnErr result (known_to self.new ≡ known_to self.old) }
+    {
+        let least = self.list.len();
+        let (list, found) = replace_with(&mut self.entrance, (name, least), look)?;
+        let _one_list = self.list.longer(&list);
+        self.list = list;
+        Ok(found)
+    }
+
+    /// Takes in what the keeper told: what it told and what this reader knew begin one list, the longer of the two.
+    pub fn learn(&mut self, told: &Told)
+        requires shelf { shelf_told_of told.now ≡ shelf_read_by self.old }
+        ensures shelf { shelf_read_by self.new ≡ shelf_read_by self.old }
+        ensures known { IsPrefix (known_to self.old) (known_to self.new) }
+        ensures told { IsPrefix (told_in told.now) (known_to self.new) }
+        ensures one { (known_to self.new ≡ known_to self.old) ⊎ (known_to self.new ≡ told_in told.now) }
+    {
+        self.list = self.list.longer(&told.list);
+    }
+}
+
+// Enters, and looks for a name in a list of at least so many publishes.
+fn look(
+    entrance: Entrance,
+    asked: (&Text, u64),
+) -> (
+    Entrance,
+    Result<(Beginning, Option<(u64, Text)>), ReadError>,
+)
+    ensures view { view result.0.place ≡ view entrance.place }
+    ensures list { IfOk result.1 (λ r. (t : BookId) → view entrance.place ≡ Some t → t ≡ book_id r.0.known.book) }
+    ensures entry { IfOk result.1 (λ r. r.1 ≡ entry r.0.known.log asked.entry.0.now) }
+    ensures long { IfOk result.1 (λ r. asked.entry.1 ≤ length r.0.known.log) }
+{
+    let (name, least) = asked;
+    match entrance.enter_as::<Reads>() {
+        Ok(reading) => {
+            let found = look_in(reading.get(), name, least);
+            (reading.leave(), found)
+        }
+        Err(entrance) => (entrance, Err(ReadError::NoRead)),
+    }
+}
+
+// Looks for a name in a copy of a list of at least so many publishes.
+fn look_in(
+    store: &Store,
+    name: &Text,
+    least: u64,
+) -> Result<(Beginning, Option<(u64, Text)>), ReadError>
+    ensures list { IfOk result (λ r. r.0 ≡ store.now.list) }
+    ensures entry { IfOk result (λ r. r.1 ≡ entry (publishes_of store.now.contents.log.items) name.now) }
+    ensures long { IfOk result (λ r. least ≤ length store.now.list.known.log) }
+{
+    // The keeper tells of nothing that readers do not get.
+    if store.list.len() < least {
+        return Err(ReadError::NoRead);
+    }
+    match store.find(name) {
+        Ok(found) => Ok((store.list.again(), found)),
+        Err(_) => Err(ReadError::Memory),
+    }
+}
