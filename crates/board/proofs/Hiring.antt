@@ -1,24 +1,20 @@
 -- The rule holds of a new board, and as hands are given out and taken back.
-use Rattle.std.proofs.Common.{Bool, true, false, ◌≡◌, ℕ, zero, suc, ◌+◌, ◌<◌, ◌≤◌, ◌≢◌, eqb, List, [], ◌∷◌, ◌++◌, map, replicate, ◌&&◌, ◌||◌, not, length, ◌-◌, get_or, set, sym, refl, ap, ◌∙◌, subst, ⊎_elim, inl, inr, arith, suc-ne-zero, length-set, get_or-set_other, get_or-set_same}
+use Rattle.std.proofs.Common.{false, ◌≡◌, ℕ, zero, suc, ◌+◌, ◌<◌, List, [], ◌∷◌, ◌++◌, map, replicate, length, get_or, set, sym, refl, ap, ◌∙◌, subst, ⊎_elim, arith, suc-ne-zero}
 use mathlib.Core.Option.{none, some, some-injective, some-ne-none}
 use mathlib.Core.Option as maybe
 use mathlib.Core.Logic.{dite}
 use native.Mathlib.Decide.{ℕ_discrete}
 use lib.ListN.{get_elem?}
-use lib.Seq.{set-get_or}
-use prog.Atomic.{either}
-use Rattle.std.specs.Prelude.{Option, Some, None}
-use Rattle.atomic_table.specs.Table.{State, Me, Step, step, Act, keeps, takes, gives, Allows, Valid, stepped, carried_after, rest, opening, Splits, Joins}
-use Rattle.atomic_table.proofs.Lists.{at_set, at_snoc, at_longer, at_last, at_map, set_here, set_else}
-use Rattle.board.specs.declared.view.Paper.{Paper}
-use Rattle.board.specs.declared.view.Paper.TheVariants.{Job, Turn}
-use Rattle.board.specs.declared.view.Stage.{Stage}
-use Rattle.board.specs.declared.view.Stage.TheVariants.{Empty, Ready, Held, Answered}
+use Rattle.std.specs.Prelude.{Option, None}
+use Rattle.atomic_table.specs.Table.{opening, Splits}
+use Rattle.atomic_table.proofs.Lists.{at_set, at_snoc, at_longer, at_map, set_here, set_else}
+use Rattle.board.specs.declared.view.Entry.{Entry}
+use Rattle.board.specs.declared.view.Stage.TheVariants.{Empty}
 use Rattle.board.specs.declared.view.View.{View}
-use Rattle.board.specs.Rule.{bit, face, weight_at, Cell, IsInside, Suits, Lies, job_at, first, total, IsPlace, IsSeat, IsOrderly}
-use Rattle.board.specs.Plays.{Mine, job_given, looked, uses, outs, collects, filled, posted, claimed, answered, found, cleared, fresh, enlists, retired, retires, checked}
-use Rattle.board.proofs.Moves.{below, stays, reseats, total_set, total_snoc}
-use Rattle.board.proofs.Taking.{S, Goes, no_host, own, host_shut, looks, true-ne-false, none_some}
+use Rattle.board.specs.Rule.{bit, weight_at, Cell, first, total, IsPlace, IsSeat, IsOrderly}
+use Rattle.board.specs.Plays.{fresh, enlists}
+use Rattle.board.proofs.Moves.{below, reseats, total_set, total_snoc}
+use Rattle.board.proofs.Taking.{no_host, own, true-ne-false, none_some}
 
 rep_at : {X : Type 0} (n p : ℕ) (x : X) → p < n → get_elem? (replicate n x) p ≡ some x
 rep_at zero p x h = absurd (omega arith)
@@ -49,7 +45,7 @@ map_long f (x ∷ xs) = ap suc (map_long f xs)
 
 module _ {J A : Type 0} (of : A → J) where
   pub starts : (n : ℕ) (words : List ℕ) → words ≡ replicate (n + 1) 0 → IsOrderly of (opening words (replicate n None) (first n))
-  starts n words is = let hs : length (map {B = maybe.Option (Option (Paper J A))} some (replicate n None)) ≡ n = map_long some (replicate n None) ∙ rep_long n None in
+  starts n words is = let hs : length (map {B = maybe.Option (Option (Entry J A))} some (replicate n None)) ≡ n = map_long some (replicate n None) ∙ rep_long n None in
       subst (λ (ws : List ℕ). IsOrderly of (opening ws (replicate n None) (first n))) (sym is) record {
         cells = replicate n (0, Empty);
         host = first n;

@@ -1,25 +1,21 @@
 -- Hands come back, and what is left of a board.
-use Rattle.std.proofs.Common.{Bool, true, false, ◌≡◌, ℕ, zero, suc, ◌+◌, ◌<◌, ◌≤◌, ◌≢◌, eqb, List, [], ◌∷◌, ◌++◌, map, replicate, ◌&&◌, ◌||◌, not, length, ◌-◌, get_or, set, sym, refl, ap, ◌∙◌, subst, ⊎_elim, inl, inr, arith, suc-ne-zero, length-set, get_or-set_other, get_or-set_same}
+use Rattle.std.proofs.Common.{Bool, true, false, ◌≡◌, ℕ, zero, suc, ◌+◌, List, [], ◌∷◌, ◌&&◌, ◌||◌, not, length, get_or, set, sym, refl, ap, ◌∙◌, subst, ⊎_elim, inl, inr, arith, suc-ne-zero}
 use mathlib.Core.Option.{none, some, some-injective, some-ne-none}
-use mathlib.Core.Option as maybe
 use mathlib.Core.Logic.{dite}
 use native.Mathlib.Decide.{ℕ_discrete}
 use lib.ListN.{get_elem?}
-use lib.Seq.{set-get_or}
-use prog.Atomic.{either}
-use Rattle.std.specs.Prelude.{Option, Some, None}
-use Rattle.atomic_table.specs.Table.{State, Me, Step, step, Act, keeps, takes, gives, Allows, Valid, stepped, carried_after, rest, opening, Splits, Joins, Final, Seen}
-use Rattle.atomic_table.proofs.Lists.{at_set, at_snoc, at_longer, at_last, at_map, set_here, set_else}
-use Rattle.board.specs.declared.view.Paper.{Paper}
-use Rattle.board.specs.declared.view.Paper.TheVariants.{Job, Turn}
+use Rattle.std.specs.Prelude.{Option, None}
+use Rattle.atomic_table.specs.Table.{step, keeps, Allows, Joins, Final, Seen}
+use Rattle.atomic_table.proofs.Lists.{at_set, set_here, set_else}
+use Rattle.board.specs.declared.view.Entry.{Entry}
 use Rattle.board.specs.declared.view.Stage.{Stage}
 use Rattle.board.specs.declared.view.Stage.TheVariants.{Empty, Ready, Held, Answered}
 use Rattle.board.specs.declared.view.View.{View}
-use Rattle.board.specs.Rule.{bit, face, weight_at, Cell, IsInside, Suits, Lies, job_at, first, total, IsPlace, IsSeat, IsOrderly}
-use Rattle.board.specs.Plays.{Mine, job_given, looked, uses, outs, collects, filled, posted, claimed, answered, found, cleared, fresh, enlists, retired, retires, checked}
+use Rattle.board.specs.Rule.{bit, weight_at, Cell, IsInside, Lies, job_at, total, IsSeat, IsOrderly}
+use Rattle.board.specs.Plays.{Mine, looked, retired, retires, checked}
 use Rattle.board.specs.Places.{Leaves, IsLeft, weight_in}
-use Rattle.board.proofs.Moves.{below, stays, reseats, total_set, total_join}
-use Rattle.board.proofs.Taking.{S, Goes, no_host, own, host_shut, looks, true-ne-false, none_some, there}
+use Rattle.board.proofs.Moves.{below, reseats, total_set, total_join}
+use Rattle.board.proofs.Taking.{S, own, looks, true-ne-false, none_some, there}
 
 only_first : {X : Type 0} (f : X → ℕ) (l : List X) (v : X) → get_elem? l 0 ≡ some v → ((k : ℕ) (u : X) → get_elem? l (suc k) ≡ some u → f u ≡ 0) → total f l ≡ f v
 only_first f [] v e z = absurd (some-ne-none v (sym e))
@@ -99,23 +95,23 @@ module _ {J A : Type 0} (of : A → J) where
       let gone = total_zero (λ (z : View J A). z.live) s.views (suc j) k.0 (r.handed ∙ (f ∙ none_out)) k.1 in
       absurd (none_some (p, st) (sym ((r.seats (suc j) k.0 k.1).lives hand gone).1 ∙ k.2))
 
-  leaves : (h : ℕ) (st : Stage J A) (x : Option (Paper J A)) → IsInside st x → Leaves of (job_at of st) x
+  leaves : (h : ℕ) (st : Stage J A) (x : Option (Entry J A)) → IsInside st x → Leaves of (job_at of st) x
   leaves h Empty x e = e
   leaves h (Ready job) x e = inl e
   leaves h (Held job) x e = absurd e
   leaves h (Answered turn) x e = inr (turn, refl, e)
 
-  turns : (wt : A → ℕ) (st : Stage J A) (x : Option (Paper J A)) → IsInside st x → weight_at wt st ≡ weight_in wt x
+  turns : (wt : A → ℕ) (st : Stage J A) (x : Option (Entry J A)) → IsInside st x → weight_at wt st ≡ weight_in wt x
   turns wt Empty x e = ap (weight_in wt) (sym e)
   turns wt (Ready job) x e = ap (weight_in wt) (sym e)
   turns wt (Held job) x e = absurd e
   turns wt (Answered turn) x e = ap (weight_in wt) (sym e)
 
   inside : (s : S of) (r : IsOrderly of s) (v : View J A) → get_elem? s.views 0 ≡ some v → v.using ≡ None → v.hands ≡ 0 → (p : ℕ) (c : Cell J A) → get_elem? r.cells p ≡ some c
-      → (x : Option (Paper J A)) × (get_elem? s.homes p ≡ some (some x)) × IsInside c.1 x
+      → (x : Option (Entry J A)) × (get_elem? s.homes p ≡ some (some x)) × IsInside c.1 x
   inside s r v at rests none_out p c cell = subst (λ (h : ℕ). Lies s.homes s.views p h c.1) (at_home s r v at rests none_out p c.0 c.1 cell) (r.places p c cell).lies
 
-  pub left_over : (ws : List ℕ) (xs : List (Option (Paper J A))) (id : ℕ) (v : View J A) → id ≡ 0 → v.using ≡ None → v.hands ≡ 0 → Final (Seen (IsOrderly of) id v) ws xs
+  pub left_over : (ws : List ℕ) (xs : List (Option (Entry J A))) (id : ℕ) (v : View J A) → id ≡ 0 → v.using ≡ None → v.hands ≡ 0 → Final (Seen (IsOrderly of) id v) ws xs
       → IsLeft of v xs × ((wt : A → ℕ) → total wt v.answers ≡ total wt v.collected + total (weight_in wt) xs)
   left_over ws xs id v is rests none_out fin =
       let s = fin.0 in let r = fin.1.0 in let at : get_elem? s.views 0 ≡ some v = ap (get_elem? s.views) (sym is) ∙ fin.1.1 in let same = own of s r v at in (

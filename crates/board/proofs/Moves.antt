@@ -1,5 +1,5 @@
 -- What stays of the board's rule when a place or a seat moves.
-use Rattle.std.proofs.Common.{Bool, true, false, ◌≡◌, ℕ, zero, suc, ◌+◌, ◌<◌, ◌≤◌, ◌≢◌, List, [], ◌∷◌, ◌++◌, length, get_or, set, sym, refl, ap, ◌∙◌, subst, ⊎_elim, inl, inr, arith, length-set, get_or-set_other, get_or-set_same}
+use Rattle.std.proofs.Common.{Bool, true, false, ◌≡◌, ℕ, zero, suc, ◌+◌, ◌<◌, ◌≢◌, List, [], ◌∷◌, ◌++◌, length, get_or, set, sym, ap, ◌∙◌, subst, ⊎_elim, arith, length-set, get_or-set_other, get_or-set_same}
 use mathlib.Core.Option.{none, some, some-injective, some-ne-none}
 use mathlib.Core.Option as maybe
 use mathlib.Core.Logic.{dite}
@@ -8,7 +8,7 @@ use lib.ListN.{get_elem?}
 use Rattle.std.specs.Prelude.{Option, Some, None}
 use Rattle.atomic_table.specs.Table.{State}
 use Rattle.atomic_table.proofs.Lists.{at_set, set_here, set_else}
-use Rattle.board.specs.declared.view.Paper.{Paper}
+use Rattle.board.specs.declared.view.Entry.{Entry}
 use Rattle.board.specs.declared.view.Stage.{Stage}
 use Rattle.board.specs.declared.view.View.{View}
 use Rattle.board.specs.Rule.{total, bit, face, weight_at, Cell, Lies, Suits, job_at, IsPlace, IsSeat, IsOrderly}
@@ -32,7 +32,7 @@ below (x ∷ xs) zero a e = omega arith
 below (x ∷ xs) (suc i) a e = let more = below xs i a e in omega arith
 
 abbrev pub Homes : Type 0 → Type 0 → Type 0
-Homes J A = List (maybe.Option (Option (Paper J A)))
+Homes J A = List (maybe.Option (Option (Entry J A)))
 
 module _ {J A : Type 0} (of : A → J) where
   -- another place stays, where the seat id had no slot but that of p
@@ -64,7 +64,7 @@ module _ {J A : Type 0} (of : A → J) where
   }
 
   -- one place and one seat change
-  pub moved : (s : State (Option (Paper J A)) (View J A)) (r : IsOrderly of s) (id p : ℕ) (v w host' : View J A) (h h' : ℕ) (st st' : Stage J A) (homes' : Homes J A)
+  pub moved : (s : State (Option (Entry J A)) (View J A)) (r : IsOrderly of s) (id p : ℕ) (v w host' : View J A) (h h' : ℕ) (st st' : Stage J A) (homes' : Homes J A)
       → get_elem? s.views id ≡ some v → get_elem? r.cells p ≡ some (h, st) → ((k : ℕ) → k ≢ id → h ≢ suc k)
       → ((q : ℕ) (x : Stage J A) → v.using ≡ Some (q, x) → q ≡ p)
       → ((q : ℕ) (x : Stage J A) → w.using ≡ Some (q, x) → (q ≡ p) × (x ≡ st') × (h' ≡ suc id))
@@ -108,7 +108,7 @@ module _ {J A : Type 0} (of : A → J) where
       }
 
   -- seats change and no place does; the word after the places may
-  pub reseats : (s : State (Option (Paper J A)) (View J A)) (r : IsOrderly of s) (host' : View J A) (words' : List ℕ) (views' : List (View J A))
+  pub reseats : (s : State (Option (Entry J A)) (View J A)) (r : IsOrderly of s) (host' : View J A) (words' : List ℕ) (views' : List (View J A))
       → length words' ≡ length s.words → ((q : ℕ) → q < length s.homes → get_or words' q 0 ≡ get_or s.words q 0) → get_or words' (length s.homes) 0 ≡ bit host'.shut
       → get_elem? views' 0 ≡ some host' → host'.is_host ≡ true → host'.live ≡ 0 → host'.out ≡ r.host.out
       → ((k : ℕ) (u : View J A) → get_elem? s.views k ≡ some u → (x : ℕ × Stage J A) → u.using ≡ Some x → (u' : View J A) × (get_elem? views' k ≡ some u') × (u'.using ≡ Some x))
@@ -141,7 +141,7 @@ module _ {J A : Type 0} (of : A → J) where
       lies_stay q zero st k = k
       lies_stay q (suc j) st k = stay j k.0 k.1 (q, st) k.2
 
-  pub stays : (s : State (Option (Paper J A)) (View J A)) (r : IsOrderly of s) (id : ℕ) (v w host' : View J A) (words' : List ℕ)
+  pub stays : (s : State (Option (Entry J A)) (View J A)) (r : IsOrderly of s) (id : ℕ) (v w host' : View J A) (words' : List ℕ)
       → get_elem? s.views id ≡ some v → length words' ≡ length s.words → ((q : ℕ) → q < length s.homes → get_or words' q 0 ≡ get_or s.words q 0) → get_or words' (length s.homes) 0 ≡ bit host'.shut
       → get_elem? (set s.views id w) 0 ≡ some host' → host'.is_host ≡ true → host'.live ≡ 0 → (r.host.shut ≡ true → host'.shut ≡ true) → host'.out ≡ r.host.out
       → w.using ≡ v.using → (w.shut ≡ true → host'.shut ≡ true)

@@ -1,21 +1,21 @@
 -- Each kind of step keeps the board's rule.
-use Rattle.std.proofs.Common.{Bool, true, false, ◌≡◌, ℕ, zero, suc, ◌+◌, ◌<◌, ◌≤◌, ◌≢◌, eqb, List, [], ◌∷◌, length, get_or, set, sym, refl, ap, ◌∙◌, subst, ⊎_elim, inl, inr, arith, suc-ne-zero, length-set, get_or-set_other, get_or-set_same}
-use mathlib.Core.Option.{none, some, some-injective, some-ne-none}
+use Rattle.std.proofs.Common.{Bool, true, false, ◌≡◌, ℕ, zero, suc, ◌+◌, ◌<◌, ◌≤◌, ◌≢◌, eqb, List, [], ◌∷◌, length, get_or, set, sym, refl, ap, ◌∙◌, subst, arith, suc-ne-zero, length-set}
+use mathlib.Core.Option.{none, some, some-injective}
 use mathlib.Core.Logic.{dite}
 use native.Mathlib.Decide.{ℕ_discrete}
 use lib.ListN.{get_elem?}
 use lib.Seq.{set-get_or}
 use prog.Atomic.{either}
 use Rattle.std.specs.Prelude.{Option, Some, None}
-use Rattle.atomic_table.specs.Table.{State, Me, Step, step, Act, keeps, takes, gives, Allows, Valid, stepped, carried_after, rest}
+use Rattle.atomic_table.specs.Table.{State, step, Act, keeps, takes, gives, Allows, Valid, stepped, carried_after, rest}
 use Rattle.atomic_table.proofs.Lists.{set_here, set_else, exchanged}
-use Rattle.board.specs.declared.view.Paper.{Paper}
-use Rattle.board.specs.declared.view.Paper.TheVariants.{Job, Turn}
+use Rattle.board.specs.declared.view.Entry.{Entry}
+use Rattle.board.specs.declared.view.Entry.TheVariants.{Job, Turn}
 use Rattle.board.specs.declared.view.Stage.{Stage}
 use Rattle.board.specs.declared.view.Stage.TheVariants.{Empty, Ready, Held, Answered}
 use Rattle.board.specs.declared.view.View.{View}
 use Rattle.board.specs.Rule.{bit, face, weight_at, total, Cell, IsInside, Suits, Lies, job_at, IsOrderly}
-use Rattle.board.specs.Plays.{Mine, job_given, looked, uses, outs, collects, answers_with, turns_given, turns_used, filled, posted, claimed, answered, found, cleared}
+use Rattle.board.specs.Plays.{Mine, looked, uses, outs, collects, answers_with, turns_used, filled, posted, claimed, answered, found, cleared}
 use Rattle.board.proofs.Moves.{below, moved, stays, total_snoc}
 
 pub there : {X : Type 0} (l : List X) (i : ℕ) → i < length l → (a : X) × (get_elem? l i ≡ some a)
@@ -45,10 +45,10 @@ front_is k x cs more e = e ∙ (λ i. (k, x) ∷ sym (ap rest e) i)
 
 module _ {J A : Type 0} (of : A → J) where
   abbrev pub S : Type 0
-  S = State (Option (Paper J A)) (View J A)
+  S = State (Option (Entry J A)) (View J A)
 
   abbrev pub Goes : S → ℕ → ℕ → Mine J A → (ℕ → Mine J A → Type 0) → ℕ → Type 0
-  Goes s i id me told new = (w : View J A) × (a : Act (Option (Paper J A))) × Valid s.homes me.1 a × IsOrderly of (stepped s i new id me.1 w a) × told (get_or s.words i 0) (w, carried_after me.1 a)
+  Goes s i id me told new = (w : View J A) × (a : Act (Option (Entry J A))) × Valid s.homes me.1 a × IsOrderly of (stepped s i new id me.1 w a) × told (get_or s.words i 0) (w, carried_after me.1 a)
 
   abbrev pub IsHost : (s : S) → IsOrderly of s → List (View J A) → View J A → Type 0
   IsHost s r views h = (get_elem? views 0 ≡ some h) × (h.is_host ≡ true) × (h.live ≡ 0) × (h.shut ≡ r.host.shut) × (h.out ≡ r.host.out)
@@ -96,7 +96,7 @@ module _ {J A : Type 0} (of : A → J) where
       refl refl refl refl (λ no gone. absurd (omega (arith, alive no, gone))) (λ no. (seat.hand no).0) (λ wt. ap (λ (z : ℕ). total wt v.answers + total wt v.collected + z) (sym (same_count wt)))
 
   -- a seat gives the slot of a place back
-  lays : (s : S) (r : IsOrderly of s) (id p : ℕ) (v w h : View J A) (st st' : Stage J A) (x : Option (Paper J A)) → get_elem? s.views id ≡ some v → v.using ≡ Some (p, st) → w.using ≡ None
+  lays : (s : S) (r : IsOrderly of s) (id p : ℕ) (v w h : View J A) (st st' : Stage J A) (x : Option (Entry J A)) → get_elem? s.views id ≡ some v → v.using ≡ Some (p, st) → w.using ≡ None
       → IsInside st' x → Suits 0 st' → Lies (set s.homes p (some x)) (set s.views id w) p 0 st'
       → get_elem? (set s.views id w) 0 ≡ some h → h.is_host ≡ true → h.live ≡ 0 → h.shut ≡ r.host.shut
       → length h.out ≡ length r.host.out → get_elem? h.out p ≡ some (job_at of st') → ((q : ℕ) → q ≢ p → get_elem? h.out q ≡ get_elem? r.host.out q)
@@ -126,7 +126,7 @@ module _ {J A : Type 0} (of : A → J) where
   fill s r p me at rests zero Empty cell = let k = r.places p (0, Empty) cell in let y : ℕ = get_or s.words p 0 in (
     uses (looked me.0 p y) p Empty,
     takes p None,
-    k.lies.1 ∙ ap (λ (z : Option (Paper J A)). some (some z)) k.lies.2,
+    k.lies.1 ∙ ap (λ (z : Option (Entry J A)). some (some z)) k.lies.2,
     subst (λ (z : ℕ). IsOrderly of record { words = set s.words p z; homes = set s.homes p none; views = set s.views 0 (uses (looked me.0 p y) p Empty) }) (sym k.shows)
         (grabs s r 0 p y me.0 Empty Empty at rests cell refl (λ _. refl) (omega arith) (λ no. absurd (no_host s r 0 me.0 at no refl))),
     ((λ _. (known_out s r p 0 Empty me.0 at cell, refl)), λ ne. absurd (ne k.shows)),
@@ -151,7 +151,7 @@ module _ {J A : Type 0} (of : A → J) where
   find s r p me at rests zero (Answered turn) cell = let k = r.places p (0, Answered turn) cell in let y : ℕ = get_or s.words p 0 in (
     uses (looked me.0 p y) p (Answered turn),
     takes p (Some (Turn turn)),
-    k.lies.1 ∙ ap (λ (z : Option (Paper J A)). some (some z)) k.lies.2,
+    k.lies.1 ∙ ap (λ (z : Option (Entry J A)). some (some z)) k.lies.2,
     subst (λ (z : ℕ). IsOrderly of record { words = set s.words p z; homes = set s.homes p none; views = set s.views 0 (uses (looked me.0 p y) p (Answered turn)) }) (sym k.shows)
         (grabs s r 0 p y me.0 (Answered turn) (Answered turn) at rests cell refl (λ _. refl) (omega arith) (λ no. absurd (no_host s r 0 me.0 at no refl))),
     ((λ _. (turn, known_out s r p 0 (Answered turn) me.0 at cell, refl)), λ ne. absurd (ne k.shows)),
@@ -173,7 +173,7 @@ module _ {J A : Type 0} (of : A → J) where
   claim s r id p me at hand live rests hit zero (Ready job) cell = let k = r.places p (0, Ready job) cell in let y : ℕ = get_or s.words p 0 in (
     uses (looked me.0 p y) p (Held job),
     takes p (Some (Job job)),
-    k.lies.1 ∙ ap (λ (z : Option (Paper J A)). some (some z)) k.lies.2,
+    k.lies.1 ∙ ap (λ (z : Option (Entry J A)). some (some z)) k.lies.2,
     grabs s r id p y me.0 (Ready job) (Held job) at rests cell refl (λ _. refl) (let ne = no_host s r id me.0 at hand in let pos : 0 ≢ id = ne in omega (arith, pos)) (λ _. live),
     ((λ _. (job, refl)), λ ne. absurd (ne hit)),
   )
@@ -188,14 +188,14 @@ module _ {J A : Type 0} (of : A → J) where
       (λ hit. claim s r id p me at hand live rests hit c.0.0 c.0.1 c.1)
       (λ miss. (looked me.0 p y, keeps, tt, looks s r id p y me.0 at, ((λ e. absurd (miss e)), λ _. refl)))
 
-  abbrev Gives : S → ℕ → ℕ → View J A → (Mine J A → Mine J A → Type 0) → ℕ → List (ℕ × Option (Paper J A)) → Type 0
+  abbrev Gives : S → ℕ → ℕ → View J A → (Mine J A → Mine J A → Type 0) → ℕ → List (ℕ × Option (Entry J A)) → Type 0
   Gives s p id v told new cs = Goes s p id (v, cs) (λ _. told (v, cs)) new
 
   -- the host's own view
   pub own : (s : S) (r : IsOrderly of s) (v : View J A) → get_elem? s.views 0 ≡ some v → v ≡ r.host
   own s r v at = some-injective v r.host (sym at ∙ r.hosts.0)
 
-  pub posts : (n p : ℕ) (me : Mine J A) (job : J) (more : List (ℕ × Option (Paper J A))) → me.0.using ≡ Some (p, Empty) → me.1 ≡ (p, Some (Job job)) ∷ more
+  pub posts : (n p : ℕ) (me : Mine J A) (job : J) (more : List (ℕ × Option (Entry J A))) → me.0.using ≡ Some (p, Empty) → me.1 ≡ (p, Some (Job job)) ∷ more
       → Allows (IsOrderly of) n 0 me p (λ _. 1) (λ _. posted (step n p 1 0 none) me 1)
   posts n p me job more has carries s r long at _ =
       let v = me.0 in let w = outs v p (Some job) in let is = own s r v at in let seat = r.seats 0 v at in let cell = seat.used p Empty has in let k = r.places p (1, Empty) cell in
@@ -211,7 +211,7 @@ module _ {J A : Type 0} (of : A → J) where
         refl,
       )
 
-  pub clears : (n p : ℕ) (me : Mine J A) (turn : A) (more : List (ℕ × Option (Paper J A))) → me.0.using ≡ Some (p, Answered turn) → me.1 ≡ (p, None) ∷ more
+  pub clears : (n p : ℕ) (me : Mine J A) (turn : A) (more : List (ℕ × Option (Entry J A))) → me.0.using ≡ Some (p, Answered turn) → me.1 ≡ (p, None) ∷ more
       → Allows (IsOrderly of) n 0 me p (λ _. 0) (λ _. cleared (step n p 0 0 none) me 0)
   clears n p me turn more has carries s r long at _ =
       let v = me.0 in let w = collects (outs v p None) (turn ∷ []) in let is = own s r v at in let seat = r.seats 0 v at in let cell = seat.used p (Answered turn) has in
@@ -228,7 +228,7 @@ module _ {J A : Type 0} (of : A → J) where
         (λ i. (collects (outs v p None) (turns_used (sym has i)), more)),
       )
 
-  pub answers : (n id p : ℕ) (me : Mine J A) (job : J) (turn : A) (more : List (ℕ × Option (Paper J A))) → of turn ≡ job → me.0.live ≡ 1 → me.0.is_host ≡ false → me.0.using ≡ Some (p, Held job) → me.1 ≡ (p, Some (Turn turn)) ∷ more
+  pub answers : (n id p : ℕ) (me : Mine J A) (job : J) (turn : A) (more : List (ℕ × Option (Entry J A))) → of turn ≡ job → me.0.live ≡ 1 → me.0.is_host ≡ false → me.0.using ≡ Some (p, Held job) → me.1 ≡ (p, Some (Turn turn)) ∷ more
       → Allows (IsOrderly of) n id me p (λ _. 3) (λ _. answered (step n p 3 0 none) me 3)
   answers n id p me job turn more same live hand has carries s r long at _ =
       let v = me.0 in let w = answers_with v (turn ∷ []) in let seat = r.seats id v at in let cell = seat.used p (Held job) has in let k = r.places p (suc id, Held job) cell in
@@ -250,10 +250,10 @@ module _ {J A : Type 0} (of : A → J) where
   pub host_finds : (n id p : ℕ) (me : Mine J A) → id ≡ 0 → p < n → me.0.using ≡ None → Allows (IsOrderly of) n id me p (λ y. y) (found of (step n p 0 0 none) me)
   host_finds n id p me is near rests = subst (λ (z : ℕ). Allows (IsOrderly of) n z me p (λ y. y) (found of (step n p 0 0 none) me)) (sym is) (finds n p me near rests)
 
-  pub host_posts : (n id p : ℕ) (me : Mine J A) (job : J) (more : List (ℕ × Option (Paper J A))) → id ≡ 0 → me.0.using ≡ Some (p, Empty) → me.1 ≡ (p, Some (Job job)) ∷ more
+  pub host_posts : (n id p : ℕ) (me : Mine J A) (job : J) (more : List (ℕ × Option (Entry J A))) → id ≡ 0 → me.0.using ≡ Some (p, Empty) → me.1 ≡ (p, Some (Job job)) ∷ more
       → Allows (IsOrderly of) n id me p (λ _. 1) (λ _. posted (step n p 1 0 none) me 1)
   host_posts n id p me job more is has carries = subst (λ (z : ℕ). Allows (IsOrderly of) n z me p (λ _. 1) (λ _. posted (step n p 1 0 none) me 1)) (sym is) (posts n p me job more has carries)
 
-  pub host_clears : (n id p : ℕ) (me : Mine J A) (turn : A) (more : List (ℕ × Option (Paper J A))) → id ≡ 0 → me.0.using ≡ Some (p, Answered turn) → me.1 ≡ (p, None) ∷ more
+  pub host_clears : (n id p : ℕ) (me : Mine J A) (turn : A) (more : List (ℕ × Option (Entry J A))) → id ≡ 0 → me.0.using ≡ Some (p, Answered turn) → me.1 ≡ (p, None) ∷ more
       → Allows (IsOrderly of) n id me p (λ _. 0) (λ _. cleared (step n p 0 0 none) me 0)
   host_clears n id p me turn more is has carries = subst (λ (z : ℕ). Allows (IsOrderly of) n z me p (λ _. 0) (λ _. cleared (step n p 0 0 none) me 0)) (sym is) (clears n p me turn more has carries)

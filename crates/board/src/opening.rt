@@ -1,11 +1,10 @@
 //! How a board is opened.
-ghost use Rattle.std.specs.Prelude.{◌≡◌, ◌⊎◌, ◌+◌, ◌<◌, ◌≤◌, [], All, length, IfOk, IsErrOf};
+ghost use Rattle.std.specs.Prelude.{◌≡◌, All, length, IfOk, IsErrOf};
 ghost use Rattle.board.specs.declared.opening.OpenError.TheVariants as open_error;
-ghost use Rattle.board.specs.Places.{IsAtRest, IsHostSeat, IsHandSeat, opened};
-ghost use Rattle.board.specs.Plays.{fresh};
+ghost use Rattle.board.specs.Places.{IsNewHost, IsNewHand, IsOutOfRange, IsInRange};
 
 use crate::board::{Board, Hand, Host};
-use crate::order::Enlist;
+use crate::table_rule::Enlist;
 use atomic_table::Table;
 use keys::Rules;
 use std::alloc::{AllocError, Global};
@@ -13,7 +12,9 @@ use std::alloc::{AllocError, Global};
 /// Why no board was opened.
 #[derive(Drop)]
 pub enum OpenError {
+    /// There are 1 to 64 places, and 1 to 16 hands.
     Range,
+    /// A growth was refused.
     Memory,
 }
 
@@ -29,16 +30,18 @@ impl From<AllocError> for OpenError {
 }
 
 impl<R: Rules> Board<R> {
-    /// A board with this many places, its host and its hands.
+    /// Opens a board with this many places, and gives its host and so many hands. `Range` exactly where there are not 1 to
+    /// 64 places and 1 to 16 hands; `Memory` where a growth was refused.
     pub fn open(
         alloc: Global,
         capacity: usize,
         hands: usize,
     ) -> Result<(Board<R>, Host<R>, Vec<Hand<R>>), OpenError>
-        ensures refused { IsErrOf result open_error.Range → ((capacity ≡ 0) ⊎ (64 < capacity)) ⊎ ((hands ≡ 0) ⊎ (16 < hands)) }
-        ensures board { IfOk result (λ made. (made.0.capacity ≡ capacity) × (0 < capacity) × (capacity ≤ 64)) }
-        ensures host { IfOk result (λ made. IsHostSeat made.0.table.shared.table_id made.1.seat × (made.1.seat.me ≡ (opened capacity hands, []))) }
-        ensures hands { IfOk result (λ made. (length made.2.items ≡ hands) × All (λ h. IsHandSeat made.0.table.shared.table_id h.seat × (h.seat.me ≡ (fresh, []))) made.2.items) }
+        ensures range { IsErrOf result open_error.Range → IsOutOfRange capacity hands }
+        ensures memory { IsErrOf result open_error.Memory → IsInRange capacity hands }
+        ensures board { IfOk result (λ made. (made.0.capacity ≡ capacity) × IsInRange capacity hands) }
+        ensures host { IfOk result (λ made. IsNewHost made.0.table.shared.table_id capacity hands made.1.seat) }
+        ensures hands { IfOk result (λ made. (length made.2.items ≡ hands) × All (λ h. IsNewHand made.0.table.shared.table_id h.seat) made.2.items) }
     {
         if capacity == 0 || capacity > 64 || hands == 0 || hands > 16 {
             return Err(OpenError::Range);

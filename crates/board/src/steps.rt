@@ -4,9 +4,9 @@ ghost use Rattle.board.specs.declared.view.Stage.TheVariants.{Held};
 ghost use Rattle.board.specs.Places.{IsAtRest, IsSame, IsPosted, IsFull, IsCollected};
 ghost use Rattle.board.specs.Plays.{looked, uses, answers_with};
 
-use crate::board::{Board, Knows, Slot};
-use crate::order::{Answer, Claim, Clear, Fill, Find, Post};
-use crate::view::Paper;
+use crate::board::{Board, SeatView, Slot};
+use crate::table_rule::{Answer, Claim, Clear, Fill, Find, Post};
+use crate::view::Entry;
 use atomic_table::Seat;
 use keys::{Job, Rules, Turned};
 
@@ -22,7 +22,7 @@ impl<R: Rules> Board<R> {
     // Posts the job at the place, where it is empty.
     pub(crate) fn post_at(
         &self,
-        seat: &mut Seat<Slot<R>, Knows<R>>,
+        seat: &mut Seat<Slot<R>, SeatView<R>>,
         place: usize,
         job: Job<R>,
     ) -> Result<(), Job<R>>
@@ -34,16 +34,20 @@ impl<R: Rules> Board<R> {
         if words.load::<Fill>(seat, place) != EMPTY {
             return Err(job);
         }
-        match words.exchange(seat, place, Some(Paper::Job(job))) {
+        match words.exchange(seat, place, Some(Entry::Job(job))) {
             None => {}
-            Some(_paper) => unreachable!(),
+            Some(_entry) => unreachable!(),
         }
         words.store::<Post>(seat, place, READY);
         Ok(())
     }
 
     // Takes the job at the place, where it is ready.
-    pub(crate) fn take_at(&self, seat: &mut Seat<Slot<R>, Knows<R>>, place: usize) -> Option<Job<R>>
+    pub(crate) fn take_at(
+        &self,
+        seat: &mut Seat<Slot<R>, SeatView<R>>,
+        place: usize,
+    ) -> Option<Job<R>>
         requires { (seat.old.table_id ≡ self.now.table.shared.table_id) × (seat.old.me.0.is_host ≡ false) × (seat.old.me.0.live ≡ 1) × IsAtRest seat.old.me × (place < self.now.capacity) }
         ensures same { IsSame seat.old seat.new }
         ensures taken { MatchOption result ((n : _) × (n ≢ 1) × (seat.new.me ≡ (looked seat.old.me.0 place n, []))) (λ job. seat.new.me ≡ (uses (looked seat.old.me.0 place 1) place (Held job), (place, None) ∷ [])) }
@@ -53,8 +57,8 @@ impl<R: Rules> Board<R> {
             return None;
         }
         match words.exchange(seat, place, None) {
-            Some(Paper::Job(job)) => Some(job),
-            Some(Paper::Turn(_turn)) => unreachable!(),
+            Some(Entry::Job(job)) => Some(job),
+            Some(Entry::Turn(_turn)) => unreachable!(),
             None => unreachable!(),
         }
     }
@@ -62,7 +66,7 @@ impl<R: Rules> Board<R> {
     // Answers the job that the hand took at the place.
     pub(crate) fn answer_at(
         &self,
-        seat: &mut Seat<Slot<R>, Knows<R>>,
+        seat: &mut Seat<Slot<R>, SeatView<R>>,
         place: usize,
         turn: Turned<R>,
     )
@@ -71,9 +75,9 @@ impl<R: Rules> Board<R> {
         ensures answered { seat.new.me ≡ (answers_with seat.old.me.0 (turn ∷ []), []) }
     {
         let words = &self.table.shared;
-        match words.exchange(seat, place, Some(Paper::Turn(turn))) {
+        match words.exchange(seat, place, Some(Entry::Turn(turn))) {
             None => {}
-            Some(_paper) => unreachable!(),
+            Some(_entry) => unreachable!(),
         }
         words.store::<Answer>(seat, place, ANSWERED);
     }
@@ -81,7 +85,7 @@ impl<R: Rules> Board<R> {
     // Collects the turn at the place, where it is answered.
     pub(crate) fn collect_at(
         &self,
-        seat: &mut Seat<Slot<R>, Knows<R>>,
+        seat: &mut Seat<Slot<R>, SeatView<R>>,
         place: usize,
     ) -> Option<Turned<R>>
         requires { (seat.old.table_id ≡ self.now.table.shared.table_id) × (seat.old.id ≡ 0) × IsAtRest seat.old.me × (place < self.now.capacity) }
@@ -95,8 +99,8 @@ impl<R: Rules> Board<R> {
         let found = words.exchange(seat, place, None);
         words.store::<Clear>(seat, place, EMPTY);
         match found {
-            Some(Paper::Turn(turn)) => Some(turn),
-            Some(Paper::Job(_job)) => unreachable!(),
+            Some(Entry::Turn(turn)) => Some(turn),
+            Some(Entry::Job(_job)) => unreachable!(),
             None => unreachable!(),
         }
     }

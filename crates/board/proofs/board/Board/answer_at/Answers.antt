@@ -1,4 +1,4 @@
-use Rattle.std.proofs.Common.{rules, arith, refl, sym, ap, ◌∙◌, subst}
+use Rattle.std.proofs.Common.{rules, arith, refl, ap, ◌∙◌}
 use Rattle.board.proofs.Taking.{answers}
 use Rattle.board.proofs.board.Board.answer_at.Goals as goal
 

@@ -1,4 +1,4 @@
-use Rattle.std.proofs.Common.{rules, arith, refl, sym, ap, subst, ◌≡◌, ◌∙◌, ◌+◌, [], true, All, length, length-append}
+use Rattle.std.proofs.Common.{rules, arith, sym, ap, ◌≡◌, ◌∙◌, [], true, length}
 use lib.ListN.{get_elem?}
 use Rattle.board.specs.Rule.{total}
 use Rattle.board.specs.Places.{IsAtRest, IsHandSeat}

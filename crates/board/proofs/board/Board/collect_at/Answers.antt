@@ -1,4 +1,4 @@
-use Rattle.std.proofs.Common.{rules, arith, refl, sym, ap, ◌∙◌, subst}
+use Rattle.std.proofs.Common.{rules, arith, ap, ◌∙◌}
 use Rattle.board.proofs.Taking.{front_is, host_finds, host_clears}
 use Rattle.board.proofs.board.Board.collect_at.Goals as goal
 

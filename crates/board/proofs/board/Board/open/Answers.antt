@@ -1,4 +1,4 @@
-use Rattle.std.proofs.Common.{rules, arith, refl, sym, ◌∙◌, ◌≡◌, []}
+use Rattle.std.proofs.Common.{rules, arith, ◌∙◌, ◌≡◌, []}
 use Rattle.board.specs.Places.{IsHandSeat}
 use Rattle.board.specs.Plays.{fresh}
 use Rattle.board.proofs.Looks.{all_snoc}

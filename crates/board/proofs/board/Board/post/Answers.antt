@@ -1,4 +1,4 @@
-use Rattle.std.proofs.Common.{rules, arith, refl, sym, ap, ◌∙◌}
+use Rattle.std.proofs.Common.{rules, sym, ap, ◌∙◌}
 use lib.ListN.{get_elem?}
 use Rattle.board.proofs.Looks.{looked_out, all_out}
 use Rattle.board.proofs.board.Board.post.Goals as goal

@@ -1,4 +1,4 @@
-use Rattle.std.proofs.Common.{rules, arith, refl, sym, ap, ◌∙◌, subst}
+use Rattle.std.proofs.Common.{rules, arith, ap, ◌∙◌}
 use Rattle.board.proofs.Taking.{host_fills, host_posts}
 use Rattle.board.proofs.board.Board.post_at.Goals as goal
 
