@@ -1,0 +1,91 @@
+//! How a board is closed, and what is left of it.
+ghost use Rattle.std.specs.Prelude.{◌≡◌, ℕ, ◌+◌, ◌≤◌, true, All, length, drop, Some, MatchOption};
+ghost use Rattle.core.specs.Mem.Slots.{slots_items, slots_filled, slots_len};
+ghost use Rattle.keys.specs.Jobs.{Outcome};
+ghost use Rattle.board.specs.Rule.{total};
+ghost use Rattle.board.specs.Places.{IsHostAtRest, IsHandAtRest, IsLeft, AllNone, HasRest, count_in, weight_in};
+ghost use mathlib.Core.Option.{some};
+ghost use lib.ListN.{get_elem?};
+
+use crate::board::{Board, Hand, Host, Slot};
+use crate::table_rule::{Check, Retire};
+use crate::view::Entry;
+use atomic_table::Closed;
+use keys::{Job, Rules, Turned};
+use std::alloc::Global;
+
+/// What was not collected, in the order of places. It has no `Drop`, so it ends in `free`.
+pub struct Left<R: Rules> {
+    closed: Closed<Slot<R>, Global>,
+    next: usize,
+}
+
+// How much was left at a place. It is given up.
+fn count_of<R: Rules>(entry: Slot<R>) -> usize
+    ensures count { result ≡ count_in entry }
+    ensures few { result ≤ 1 }
+{
+    match entry {
+        None => 0,
+        Some(_entry) => 1,
+    }
+}
+
+impl<R: Rules> Board<R> {
+    /// Closes the board: gives what was not collected, each job once, as job or as its turn, in the order of places. The
+    /// host and all hands are back, and none of them holds a job, which is the caller's condition. It never waits and takes
+    /// no memory.
+    pub fn close(self, host: Host<R>, mut hands: Vec<Hand<R>>) -> Left<R>
+        requires host { IsHostAtRest self.table.shared.table_id host.seat }
+        requires hands { (host.seat.me.0.hands ≡ length hands.items) × All (λ h. IsHandAtRest self.table.shared.table_id h.seat) hands.items }
+        ensures all { (result.next ≡ 0) × (slots_len result.closed.slots ≡ self.capacity) × HasRest (slots_filled result.closed.slots) 0 (slots_len result.closed.slots) }
+        ensures left { IsLeft (λ turn. turn.asked) host.seat.me.0 (slots_items result.closed.slots) }
+        ensures answers { (wt : Outcome → ℕ) → total wt host.seat.me.0.answers + total (λ h. total wt h.seat.me.0.answers) hands.items ≡ total wt host.seat.me.0.collected + total (weight_in wt) (slots_items result.closed.slots) }
+        ensures shut { All (λ h. h.seat.me.0.shut ≡ true → host.seat.me.0.shut ≡ true) hands.items }
+    {
+        let Host { mut seat } = host;
+        while let Some(hand) = hands.pop() {
+            let Hand { seat: other } = hand;
+            self.table.shared.join_seat::<Retire>(&mut seat, other);
+        }
+        hands.destroy_empty();
+        self.table.shared.load::<Check>(&mut seat, self.capacity);
+        let Board { table, capacity: _ } = self;
+        Left {
+            closed: table.close_with(seat),
+            next: 0,
+        }
+    }
+}
+
+impl<R: Rules> Left<R> {
+    /// Takes what is left at the next place that has something: a job, or its turn.
+    pub fn next(&mut self) -> Option<(usize, Entry<Job<R>, Turned<R>>)>
+        requires { HasRest (slots_filled self.old.closed.slots) self.old.next (slots_len self.old.closed.slots) }
+        ensures same { (slots_items self.new.closed.slots ≡ slots_items self.old.closed.slots) × (slots_len self.new.closed.slots ≡ slots_len self.old.closed.slots) × (self.old.next ≤ self.new.next) }
+        ensures rest { HasRest (slots_filled self.new.closed.slots) self.new.next (slots_len self.new.closed.slots) }
+        ensures found { MatchOption result (AllNone (slots_items self.old.closed.slots) self.old.next (slots_len self.old.closed.slots)) (λ left. (self.new.next ≡ left.0 + 1) × (get_elem? (slots_items self.old.closed.slots) left.0 ≡ some (Some left.1)) × AllNone (slots_items self.old.closed.slots) self.old.next left.0) }
+    {
+        for place in self.next..self.closed.slot_count() {
+            self.next = place + 1;
+            if let Some(entry) = self.closed.take(place) {
+                return Some((place, entry));
+            }
+        }
+        None
+    }
+
+    /// Gives up what has not been taken from it yet, and returns how much that was.
+    pub fn free(self) -> usize
+        requires { HasRest (slots_filled self.closed.slots) self.next (slots_len self.closed.slots) }
+        ensures { result ≡ total count_in (drop self.next (slots_items self.closed.slots)) }
+    {
+        let Left { mut closed, next } = self;
+        let mut count = 0;
+        for place in next..closed.slot_count() {
+            count += count_of::<R>(closed.take(place));
+        }
+        closed.free();
+        count
+    }
+}

@@ -1,0 +1,69 @@
+//! How a board is opened.
+ghost use Rattle.std.specs.Prelude.{◌≡◌, All, length, IfOk, IsErrOf};
+ghost use Rattle.board.specs.declared.opening.OpenError.TheVariants as open_error;
+ghost use Rattle.board.specs.Places.{IsNewHost, IsNewHand, IsOutOfRange, IsInRange};
+
+use crate::board::{Board, Hand, Host};
+use crate::table_rule::Enlist;
+use atomic_table::Table;
+use keys::Rules;
+use std::alloc::{AllocError, Global};
+
+/// Why no board was opened.
+#[derive(Drop)]
+pub enum OpenError {
+    /// There are 1 to 64 places, and 1 to 16 hands.
+    Range,
+    /// A growth was refused.
+    Memory,
+}
+
+impl From<AllocError> for OpenError {
+    ghost use Rattle.std.specs.Prelude.{◌≡◌};
+    ghost use Rattle.board.specs.declared.opening.OpenError.TheVariants.{Memory};
+
+    ghost from_gives = { λ _ e. e ≡ Memory };
+
+    fn from(_error: AllocError) -> OpenError {
+        OpenError::Memory
+    }
+}
+
+impl<R: Rules> Board<R> {
+    /// Opens a board with this many places, and gives its host and so many hands. `Range` exactly where there are not 1 to
+    /// 64 places and 1 to 16 hands; `Memory` where a growth was refused.
+    pub fn open(
+        alloc: Global,
+        capacity: usize,
+        hands: usize,
+    ) -> Result<(Board<R>, Host<R>, Vec<Hand<R>>), OpenError>
+        ensures range { IsErrOf result open_error.Range → IsOutOfRange capacity hands }
+        ensures memory { IsErrOf result open_error.Memory → IsInRange capacity hands }
+        ensures board { IfOk result (λ made. (made.0.capacity ≡ capacity) × IsInRange capacity hands) }
+        ensures host { IfOk result (λ made. IsNewHost made.0.table.shared.table_id capacity hands made.1.seat) }
+        ensures hands { IfOk result (λ made. (length made.2.items ≡ hands) × All (λ h. IsNewHand made.0.table.shared.table_id h.seat) made.2.items) }
+    {
+        if capacity == 0 || capacity > 64 || hands == 0 || hands > 16 {
+            return Err(OpenError::Range);
+        }
+        let words = Vec::from_elem(alloc, 0u64, capacity + 1)?;
+        let mut list = Vec::with_capacity(alloc, hands)?;
+        let (table, mut seat) = match Table::vacant(
+            alloc,
+            words.as_slice(),
+            capacity,
+            &(capacity as u64),
+        ) {
+            Ok(made) => made,
+            Err(_) => {
+                list.destroy_empty();
+                return Err(OpenError::Memory);
+            }
+        };
+        for _ in 0..hands {
+            let hand = table.shared.split_seat::<Enlist>(&mut seat);
+            list.push_reserved(Hand { seat: hand });
+        }
+        Ok((Board { table, capacity }, Host { seat }, list))
+    }
+}
