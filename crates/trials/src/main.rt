@@ -1,19 +1,14 @@
 //! What is compared beside the product. The program reads a table on standard input and writes what it saw, which has
-//! to be the file `stdout`. The table has a journal, sessions, devices that fail, and words. Budgets, turns in
-//! another order and lists of choices are compared without it.
+//! to be the file `stdout`. The table has a journal, sessions, devices that fail, and words. Budgets and turns in
+//! another order are compared without it.
 #![tactic(auto)]
 
 mod devices;
-mod played;
-mod replays;
-mod schedules;
 mod serving;
 mod sessions;
 mod turn_order;
 
 use anyhow::{Result, bail};
-use replays::tell_replays;
-use schedules::tell_schedules;
 use serving::{tell_budgets, tell_failures, tell_journal, tell_words};
 use sessions::tell_sessions;
 use std::io;
@@ -37,9 +32,7 @@ fn compare(rt: &HostRuntime, table: &str) -> Result<()> {
     tell_failures(rt, lines)?;
     tell_words(rt, words)?;
     tell_budgets(rt)?;
-    tell_turns(rt)?;
-    tell_replays(rt)?;
-    tell_schedules(rt)
+    tell_turns(rt)
 }
 
 fn main(rt: HostRuntime) -> Result<()> {
