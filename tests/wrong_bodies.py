@@ -218,10 +218,12 @@ def module_of(path):
 
 
 def own_folders(name, path, owner, function):
-    """The folders of proofs that are the function's own. A `+` marks those of functions that call themselves."""
-    base = "/".join([f"{ROOT}/crates/{name}/proofs", *module_of(path), f"{owner}*" if owner else ""]).rstrip("/")
+    """The folders of proofs that are the function's own. Those of a type's functions stand below the module of the type,
+    wherever the functions are written. A `+` marks those of functions that call themselves."""
+    below = ["**", f"{owner}*"] if owner else module_of(path)
+    base = "/".join([f"{ROOT}/crates/{name}/proofs", *below])
     found = [f"{base}/{mark}{function}" for mark in ("", "+")]
-    return [os.path.relpath(it, f"{ROOT}/crates/{name}") for pattern in found for it in glob.glob(pattern)]
+    return [os.path.relpath(it, f"{ROOT}/crates/{name}") for pattern in found for it in glob.glob(pattern, recursive=True)]
 
 
 def at_source(line, edit):
