@@ -8,9 +8,9 @@ use replay::{Choice, Replayed, replay};
 use round::Run;
 use std::alloc::Global;
 
-// The choices of a list. Of each node the first is that its turn is handed out, the second that it comes back, and the
-// third that its state is dropped.
-fn choices_of(alloc: Global, nodes: &[Key], list: &[usize]) -> Result<Vec<Choice>> {
+/// Returns the choices of a list. Of each node the first is that its turn is handed out, the second that it comes back,
+/// and the third that its state is dropped.
+pub fn choices_of(alloc: Global, nodes: &[Key], list: &[usize]) -> Result<Vec<Choice>> {
     let mut choices = Vec::new(alloc);
     for digit in list {
         let Some(node) = nodes.get(digit / 3) else {
@@ -59,6 +59,19 @@ pub fn are_same(one: &Graph, other: &Graph, nodes: &[Key]) -> bool {
             return false;
         };
         if **a != **b {
+            return false;
+        }
+    }
+    true
+}
+
+/// Whether two lists of runs are one: the same nodes in the same order, with as many turns, at the same versions.
+pub fn are_same_runs(one: &[Run], other: &[Run]) -> bool {
+    if one.len() != other.len() {
+        return false;
+    }
+    for (a, b) in one.iter().zip(other.iter()) {
+        if a.key != b.key || a.turns != b.turns || a.version != b.version {
             return false;
         }
     }
