@@ -1,11 +1,12 @@
 #!/usr/bin/env python3
-"""Refuses each allocation of two scripts in turn. Run it by `make allocations`.
+"""Refuses each allocation of three scripts in turn. Run it by `make allocations`.
 
 The script of values touches each kind of object. It writes what it always writes, or the program says that memory ran
 out. What the script only reads stays as it was.
 
 The script of edits and look-ups makes each call a second time where memory was refused. So it writes what it always
-writes, but for a few allocations outside the calls.
+writes, but for a few allocations outside the calls. The script of a list of choices evaluates its graph once more, on
+one thread, where memory was refused. So it too writes what it always writes.
 """
 import os
 import sys
@@ -16,7 +17,7 @@ import refusing
 HERE = os.path.dirname(os.path.abspath(__file__))
 MEASURES = os.path.join(HERE, "../bench/out/measures")
 # The word of each script, and how many refusals may stop it, where that is limited.
-SCRIPTS = {"values": None, "graph": 20}
+SCRIPTS = {"values": None, "graph": 20, "replay": 20}
 
 
 def is_right(word, limit, folder, library):

@@ -1,9 +1,8 @@
 //! A request of a row, and the lists of choices by which one thread answers it.
 
-use crate::played::{are_same, are_same_runs, play, turning};
-use crate::state::{State, begin, evaluate};
+use crate::played::{are_same, are_same_runs, turning};
+use crate::state::{State, begin, evaluate, play_list};
 use anyhow::{Result, bail};
-use functions::Loading;
 use keys::Key;
 use node::Graph;
 use replay::Replayed;
@@ -64,17 +63,8 @@ impl<'a> Asked<'a> {
 
     // Plays a list of choices over what stands before the request.
     fn play(&self, alloc: Global, state: &mut State, list: &[usize]) -> Result<Replayed> {
-        let mut rules = Loading::new(alloc);
         let nodes = self.wanted.nodes.as_slice();
-        play(
-            alloc,
-            &mut state.graph,
-            &state.tree,
-            &self.root,
-            &mut rules,
-            nodes,
-            list,
-        )
+        play_list(alloc, state, &self.root, nodes, list)
     }
 
     // Whether what a list leaves is what one thread leaves: the values of all nodes, and the runs.

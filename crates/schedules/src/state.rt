@@ -1,11 +1,13 @@
 //! The files and the graph that the lines of a row lead to.
 
+use crate::played::play;
 use anyhow::{Result, bail};
 use commands::{Command, Edit, Request, command_of, data_of};
 use filetree::Tree;
 use functions::Loading;
 use keys::Key;
 use node::Graph;
+use replay::Replayed;
 use round::{Run, evaluate_here};
 use std::alloc::Global;
 use texts::Text;
@@ -89,6 +91,26 @@ pub fn evaluate(alloc: Global, state: &mut State, root: &Key) -> Result<Vec<Run>
         &mut rules,
         1000,
     )?)
+}
+
+/// Plays a list of choices of nodes, for a node that is asked for.
+pub fn play_list(
+    alloc: Global,
+    state: &mut State,
+    root: &Key,
+    nodes: &[Key],
+    list: &[usize],
+) -> Result<Replayed> {
+    let mut rules = Loading::new(alloc);
+    play(
+        alloc,
+        &mut state.graph,
+        &state.tree,
+        root,
+        &mut rules,
+        nodes,
+        list,
+    )
 }
 
 // Does what a line says.
