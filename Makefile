@@ -51,7 +51,7 @@ limits: build
 	python3 tests/limits.py
 
 # Each allocation of the program fails in turn, over examples and scripts, each of the parser over two files, and each
-# of a script of values and of one of edits and look-ups. Needs cc.
+# of a script of values, of one of edits and look-ups, and of one of a list of choices. Needs cc.
 allocations: build measures
 	python3 tests/allocations.py
 	python3 tests/parse_allocations.py
