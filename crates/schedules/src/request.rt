@@ -73,19 +73,26 @@ impl<'a> Asked<'a> {
             && are_same(&self.wanted.graph, graph, self.wanted.nodes.as_slice())
     }
 
+    // Plays a list of choices. Returns what it leads to, with the graph.
+    fn replay(&self, alloc: Global, list: &[usize]) -> Result<(Replayed, Graph)> {
+        let mut state = begin(alloc, self.lines)?;
+        let end = self.play(alloc, &mut state, list)?;
+        Ok((end, state.graph))
+    }
+
     /// Plays a list of choices to its end. Returns none where it has no end, and else whether it is that of one thread.
     pub fn end(&self, alloc: Global, list: &[usize]) -> Result<Option<bool>> {
-        let mut state = begin(alloc, self.lines)?;
-        match self.play(alloc, &mut state, list)? {
-            Replayed::Done(runs) => Ok(Some(self.is_same(&state.graph, runs.as_slice()))),
+        let (end, graph) = self.replay(alloc, list)?;
+        match &end {
+            Replayed::Done(runs) => Ok(Some(self.is_same(&graph, runs.as_slice()))),
             _ => Ok(None),
         }
     }
 
     // Whether all choices of a list are possible.
     fn is_possible(&self, alloc: Global, list: &[usize]) -> Result<bool> {
-        let mut state = begin(alloc, self.lines)?;
-        Ok(!matches!(self.play(alloc, &mut state, list)?, Replayed::NotLegal(_)))
+        let (end, _graph) = self.replay(alloc, list)?;
+        Ok(!matches!(&end, Replayed::NotLegal(_)))
     }
 
     // Puts a choice behind a list, if it is possible there.

@@ -42,12 +42,17 @@ fn tell_choices(rt: &HostRuntime, asked: &Asked<'_>, drops: bool) -> Result<()> 
     Ok(())
 }
 
+// Tells the answer to a request, and the choices of one thread.
+fn tell_asked(rt: &HostRuntime, asked: &Asked<'_>) -> Result<()> {
+    tell_wanted(rt, &asked.wanted, &asked.root)?;
+    tell_choices(rt, asked, false)?;
+    tell_choices(rt, asked, true)
+}
+
 // Tells of a request.
 fn tell_request(rt: &HostRuntime, lines: &[&str], root: Key) -> Result<()> {
     let asked = Asked::new(rt.alloc(), lines, root)?;
-    tell_wanted(rt, &asked.wanted, &asked.root)?;
-    tell_choices(rt, &asked, false)?;
-    tell_choices(rt, &asked, true)
+    tell_asked(rt, &asked)
 }
 
 // Tells of a command, and puts it behind the lines of its row.

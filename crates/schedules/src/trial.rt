@@ -148,39 +148,56 @@ impl Trial {
         Ok(())
     }
 
+    // Makes what stands before the evaluation, from no files on.
+    fn prepare(&self, alloc: Global, start: &mut Start) -> Result<()> {
+        if !self.file.is_empty() {
+            self.put(start, "1")?;
+        }
+        if self.is_dirty {
+            let _runs = self.evaluate(alloc, start)?;
+            self.put(start, "2")?;
+        }
+        Ok(())
+    }
+
     // The graph and the files before the evaluation.
     fn begin(&self, alloc: Global) -> Result<Start> {
         let mut start = Start {
             graph: Graph::new(alloc),
             tree: Tree::new(alloc),
         };
-        if !self.file.is_empty() {
-            self.put(&mut start, "1")?;
-        }
-        if self.is_dirty {
-            self.evaluate(alloc, &mut start)?;
-            self.put(&mut start, "2")?;
-        }
+        self.prepare(alloc, &mut start)?;
         Ok(start)
     }
 
+    // The files before the evaluation, with a graph of which nothing was evaluated.
+    fn begin_anew(&self, alloc: Global) -> Result<Start> {
+        let start = self.begin(alloc)?;
+        Ok(Start {
+            graph: Graph::new(alloc),
+            tree: start.tree,
+        })
+    }
+
     // The nodes that make turns where nothing was evaluated before.
-    fn nodes(&self, alloc: Global, tree: Tree) -> Result<Vec<Key>> {
-        let graph = Graph::new(alloc);
-        let mut start = Start { graph, tree };
+    fn nodes(&self, alloc: Global) -> Result<Vec<Key>> {
+        let mut start = self.begin_anew(alloc)?;
         let runs = self.evaluate(alloc, &mut start)?;
         turning(alloc, runs.as_slice())
     }
 
+    // The graph that one thread leaves.
+    fn graph(&self, alloc: Global) -> Result<Graph> {
+        let mut start = self.begin(alloc)?;
+        let _runs = self.evaluate(alloc, &mut start)?;
+        Ok(start.graph)
+    }
+
     // What one thread leaves.
     fn wanted(&self, alloc: Global) -> Result<Wanted> {
-        let mut start = self.begin(alloc)?;
-        let nodes = self.nodes(alloc, start.tree.copy()?)?;
-        let _runs = self.evaluate(alloc, &mut start)?;
-        Ok(Wanted {
-            graph: start.graph,
-            nodes,
-        })
+        let nodes = self.nodes(alloc)?;
+        let graph = self.graph(alloc)?;
+        Ok(Wanted { graph, nodes })
     }
 
     // Plays a list of choices over what stands before the evaluation.
@@ -238,17 +255,29 @@ impl Trial {
         advance(list, wanted.nodes.len().saturating_mul(3))
     }
 
-    // Plays all lists.
-    fn play_all(&self, alloc: Global) -> Result<Count> {
-        let wanted = self.wanted(alloc)?;
-        let mut list = Vec::new(alloc);
-        let mut count = Count { lists: 0, wrong: 0 };
+    // Plays a list and all behind it.
+    fn play_from(
+        &self,
+        alloc: Global,
+        wanted: &Wanted,
+        list: &mut Vec<usize>,
+        count: &mut Count,
+    ) -> Result<()> {
         for _step in 0..STEPS {
-            if !self.step(alloc, &wanted, &mut list, &mut count)? {
-                return Ok(count);
+            if !self.step(alloc, wanted, list, count)? {
+                return Ok(());
             }
         }
         bail!("more lists than were thought")
+    }
+
+    // Plays all lists.
+    fn play_all(&self, alloc: Global) -> Result<Count> {
+        let mut count = Count { lists: 0, wrong: 0 };
+        let mut list = Vec::new(alloc);
+        let wanted = self.wanted(alloc)?;
+        self.play_from(alloc, &wanted, &mut list, &mut count)?;
+        Ok(count)
     }
 }
 
