@@ -8,7 +8,7 @@ ghost use Rattle.grammar.specs.declared.kind.Kind.TheVariants as k;
 ghost use Rattle.tokens.specs.declared.symbol.Symbol.TheVariants as s;
 ghost use Rattle.tree.specs.Tree as tree;
 ghost use Rattle.expressions.specs.Nests.{Nests};
-ghost use Rattle.expressions.specs.Parts.{pairs_of, arguments_of, Compares};
+ghost use Rattle.expressions.specs.Parts.{pairs_of, with_value, arguments_of, Compares};
 ghost use Rattle.expressions.specs.View.{left, Reads};
 ghost use Rattle.tree.specs.View.{tree_of, clause_of, bound_tree, clauses_of, exs_of, trees_of, clause_trees};
 ghost use Rattle.expressions.specs.declared.front.Stop.TheVariants.{Memory};
@@ -27,6 +27,20 @@ use tree::{BinaryOp, Clause, Expr, Literal, UnaryOp};
 pub(crate) struct EntriesSoFar {
     keys: Vec<Expr>,
     values: Vec<Expr>,
+}
+
+/// A key of a dictionary, and its value.
+#[derive(Drop)]
+pub(crate) struct Entry {
+    key: Expr,
+    value: Expr,
+}
+
+/// What a method is called on, and the method's name.
+#[derive(Drop)]
+pub(crate) struct Receiver {
+    value: Expr,
+    name: Text,
 }
 
 /// The arguments of a call so far, and the names of the last ones.
@@ -214,7 +228,7 @@ impl<F: Fn(Global, &mut Tokens<'_, '_>, usize, Kind) -> Result<Expr, Stop>> Gram
     /// Reads an entry of a dictionary behind its key, which is among the keys already.
     fn entry_value(&self, t: &mut Tokens<'_, '_>, entries: &mut EntriesSoFar) -> Result<(), Stop>
         requires { Nests self.now.depth (F.pre self.now.expr) (F.post self.now.expr) }
-        ensures { Reads (λ _. pairs_of entries.new) (and_then (expect s.Colon (left t.old)) (λ _ us. and_then (spec.expr self.now.depth k.Test us) (λ value. gives (record { keys = map tree_of entries.old.keys.items; values = map tree_of entries.old.values.items ++ value ∷ [] })))) result (left t.new) }
+        ensures { Reads (λ _. pairs_of entries.new) (and_then (expect s.Colon (left t.old)) (λ _ us. and_then (spec.expr self.now.depth k.Test us) (λ value. gives (with_value (pairs_of entries.old) value)))) result (left t.new) }
     {
         let value = self.behind(t, Symbol::Colon, Kind::Test)?;
         entries.values.push(value)?;
@@ -252,9 +266,9 @@ impl<F: Fn(Global, &mut Tokens<'_, '_>, usize, Kind) -> Result<Expr, Stop>> Gram
     }
 
     /// Reads the clauses of a dictionary, and its closing brace.
-    fn dict_of(&self, t: &mut Tokens<'_, '_>, entry: (Expr, Expr)) -> Result<Expr, Stop>
+    fn dict_of(&self, t: &mut Tokens<'_, '_>, entry: Entry) -> Result<Expr, Stop>
         requires { Nests self.now.depth (F.pre self.now.expr) (F.post self.now.expr) }
-        ensures { Reads tree_of (and_then (spec.clauses (spec.expr self.now.depth) (left t.old)) (λ cs us. and_then (expect s.RightBrace us) (λ _. gives (tree.dict_of (tree_of entry.0) (tree_of entry.1) (clauses_of cs))))) result (left t.new) }
+        ensures { Reads tree_of (and_then (spec.clauses (spec.expr self.now.depth) (left t.old)) (λ cs us. and_then (expect s.RightBrace us) (λ _. gives (tree.dict_of (tree_of entry.key) (tree_of entry.value) (clauses_of cs))))) result (left t.new) }
     {
         let clauses = self.clauses(t)?;
         let whole = dict_by_clauses(self.alloc, entry, clauses)?;
@@ -273,9 +287,9 @@ impl<F: Fn(Global, &mut Tokens<'_, '_>, usize, Kind) -> Result<Expr, Stop>> Gram
 
     /// Reads a dictionary behind its first entry.
     #[tactic(auto, unfolding(grammar::specs::Expressions::dict_after))]
-    fn dict_after(&self, t: &mut Tokens<'_, '_>, entry: (Expr, Expr)) -> Result<Expr, Stop>
+    fn dict_after(&self, t: &mut Tokens<'_, '_>, entry: Entry) -> Result<Expr, Stop>
         requires { Nests self.now.depth (F.pre self.now.expr) (F.post self.now.expr) }
-        ensures { Reads tree_of (spec.dict_after (spec.expr self.now.depth) (tree_of entry.0) (tree_of entry.1) (left t.old)) result (left t.new) }
+        ensures { Reads tree_of (spec.dict_after (spec.expr self.now.depth) (tree_of entry.key) (tree_of entry.value) (left t.old)) result (left t.new) }
     {
         if t.is_at(Symbol::For) {
             return self.dict_of(t, entry);
@@ -290,7 +304,7 @@ impl<F: Fn(Global, &mut Tokens<'_, '_>, usize, Kind) -> Result<Expr, Stop>> Gram
         ensures { Reads tree_of (and_then (expect s.Colon (left t.old)) (λ _ us. and_then (spec.expr self.now.depth k.Test us) (λ value. spec.dict_after (spec.expr self.now.depth) (tree_of key) value))) result (left t.new) }
     {
         let value = self.behind(t, Symbol::Colon, Kind::Test)?;
-        self.dict_after(t, (key, value))
+        self.dict_after(t, Entry { key, value })
     }
 
     /// Reads what stands behind an opening brace.
@@ -435,9 +449,9 @@ impl<F: Fn(Global, &mut Tokens<'_, '_>, usize, Kind) -> Result<Expr, Stop>> Gram
     }
 
     /// Reads a call of a method behind the method's name.
-    fn method_behind(&self, t: &mut Tokens<'_, '_>, receiver: (Expr, Text)) -> Result<Expr, Stop>
+    fn method_behind(&self, t: &mut Tokens<'_, '_>, receiver: Receiver) -> Result<Expr, Stop>
         requires { Nests self.now.depth (F.pre self.now.expr) (F.post self.now.expr) }
-        ensures { Reads tree_of (and_then (expect s.LeftParen (left t.old)) (λ _ us. and_then (spec.arguments (spec.expr self.now.depth) us) (λ found. gives (tree.method (tree_of receiver.0) receiver.1 (exs_of found.values) found.names)))) result (left t.new) }
+        ensures { Reads tree_of (and_then (expect s.LeftParen (left t.old)) (λ _ us. and_then (spec.arguments (spec.expr self.now.depth) us) (λ found. gives (tree.method (tree_of receiver.value) receiver.name (exs_of found.values) found.names)))) result (left t.new) }
     {
         let found = self.arguments_behind(t)?;
         method(self.alloc, receiver, found)
@@ -450,7 +464,7 @@ impl<F: Fn(Global, &mut Tokens<'_, '_>, usize, Kind) -> Result<Expr, Stop>> Gram
         ensures { Reads tree_of (spec.method_call (spec.expr self.now.depth) (tree_of value) (left t.old)) result (left t.new) }
     {
         let name = t.take_name(self.alloc)?;
-        self.method_behind(t, (value, name))
+        self.method_behind(t, Receiver { value, name })
     }
 
     /// Reads a call behind its opening bracket.
@@ -709,11 +723,11 @@ fn alone(alloc: Global, item: Expr) -> Result<Vec<Expr>, Stop>
 }
 
 /// The first entry of a dictionary.
-fn one_entry(alloc: Global, entry: (Expr, Expr)) -> Result<EntriesSoFar, Stop>
-    ensures ok { IfOk result (λ e. pairs_of e ≡ record { keys = tree_of entry.0 ∷ []; values = tree_of entry.1 ∷ [] }) }
+fn one_entry(alloc: Global, entry: Entry) -> Result<EntriesSoFar, Stop>
+    ensures ok { IfOk result (λ e. pairs_of e ≡ record { keys = tree_of entry.key ∷ []; values = tree_of entry.value ∷ [] }) }
     ensures err { IsOkUnless result Memory }
 {
-    let (key, value) = entry;
+    let Entry { key, value } = entry;
     let keys = alone(alloc, key)?;
     let values = alone(alloc, value)?;
     Ok(EntriesSoFar { keys, values })
@@ -729,20 +743,20 @@ fn dict(alloc: Global, entries: EntriesSoFar) -> Result<Expr, Stop>
 }
 
 /// A dictionary of the entries that clauses give.
-fn dict_by_clauses(alloc: Global, entry: (Expr, Expr), clauses: Vec<Clause>) -> Result<Expr, Stop>
-    ensures ok { IfOk result (λ e. tree_of e ≡ tree.dict_of (tree_of entry.0) (tree_of entry.1) (clause_trees clauses.items)) }
+fn dict_by_clauses(alloc: Global, entry: Entry, clauses: Vec<Clause>) -> Result<Expr, Stop>
+    ensures ok { IfOk result (λ e. tree_of e ≡ tree.dict_of (tree_of entry.key) (tree_of entry.value) (clause_trees clauses.items)) }
     ensures err { IsOkUnless result Memory }
 {
-    let (key, value) = entry;
+    let Entry { key, value } = entry;
     Ok(Expr::dict_of(alloc, key, value, clauses)?)
 }
 
 /// A call of a method with its arguments.
-fn method(alloc: Global, receiver: (Expr, Text), found: ArgumentsSoFar) -> Result<Expr, Stop>
-    ensures ok { IfOk result (λ e. tree_of e ≡ tree.method (tree_of receiver.0) receiver.1 (trees_of found.values.items) found.names.items) }
+fn method(alloc: Global, receiver: Receiver, found: ArgumentsSoFar) -> Result<Expr, Stop>
+    ensures ok { IfOk result (λ e. tree_of e ≡ tree.method (tree_of receiver.value) receiver.name (trees_of found.values.items) found.names.items) }
     ensures err { IsOkUnless result Memory }
 {
-    let (value, name) = receiver;
+    let Receiver { value, name } = receiver;
     let ArgumentsSoFar { values, names } = found;
     Ok(Expr::method(alloc, value, name, values, names)?)
 }
