@@ -1,8 +1,7 @@
 -- The entries of a dictionary and the arguments of a call, so far.
-use Rattle.std.specs.Prelude.{◌≡◌, List, Option, Some, None, [], ◌∷◌, ◌++◌, map}
+use Rattle.std.specs.Prelude.{◌≡◌, List, Option, Some, None, map}
 use Rattle.tokens.specs.Token.{Lex}
 use Rattle.tree.specs.declared.expr.BinaryOp.{BinaryOp}
-use Rattle.tree.specs.Tree.{Ex}
 use Rattle.tree.specs.View.{tree_of}
 use Rattle.expressions.specs.declared.expression.EntriesSoFar.{EntriesSoFar}
 use Rattle.expressions.specs.declared.expression.ArgumentsSoFar.{ArgumentsSoFar}
@@ -10,10 +9,6 @@ use Rattle.grammar.specs.Expressions.{Pairs, Arguments, Comparison}
 
 abbrev pub pairs_of : EntriesSoFar → Pairs
 pairs_of e = record { keys = map tree_of e.keys.items; values = map tree_of e.values.items }
-
--- a value more, of the last key
-abbrev pub with_value : Pairs → Ex → Pairs
-with_value ps value = record ps { values = ps.values ++ value ∷ [] }
 
 abbrev pub arguments_of : ArgumentsSoFar → Arguments
 arguments_of a = record { values = map tree_of a.values.items; names = a.names.items }

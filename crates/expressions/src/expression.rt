@@ -1,16 +1,16 @@
 //! Expressions. What holds an expression one level down takes the parser of those as a parameter, so that each
 //! function is proved by itself.
-ghost use Rattle.std.specs.Prelude.{◌≡◌, ◌∷◌, ◌++◌, [], length, map, if◌then◌else◌, IfOk, IsOkUnless};
+ghost use Rattle.std.specs.Prelude.{◌≡◌, ◌∷◌, ◌++◌, [], length, map, IfOk, IsOkUnless};
 ghost use Rattle.std.specs.Option.{option_map};
 ghost use Rattle.grammar.specs.Expressions as spec;
-ghost use Rattle.grammar.specs.Front.{and_then, gives, expect, is_at, tail};
+ghost use Rattle.grammar.specs.Front.{and_then, gives, expect};
 ghost use Rattle.grammar.specs.declared.kind.Kind.TheVariants as k;
 ghost use Rattle.tokens.specs.declared.symbol.Symbol.TheVariants as s;
 ghost use Rattle.tree.specs.Tree as tree;
 ghost use Rattle.expressions.specs.Nests.{Nests};
-ghost use Rattle.expressions.specs.Parts.{pairs_of, with_value, arguments_of, Compares};
+ghost use Rattle.expressions.specs.Parts.{pairs_of, arguments_of, Compares};
 ghost use Rattle.expressions.specs.View.{left, Reads};
-ghost use Rattle.tree.specs.View.{tree_of, clause_of, bound_tree, clauses_of, exs_of, trees_of, clause_trees};
+ghost use Rattle.tree.specs.View.{tree_of, clause_of, bound_tree, clauses_of};
 ghost use Rattle.expressions.specs.declared.front.Stop.TheVariants.{Memory};
 
 use crate::front::{Stop, Tokens};
@@ -27,20 +27,6 @@ use tree::{BinaryOp, Clause, Expr, Literal, UnaryOp};
 pub(crate) struct EntriesSoFar {
     keys: Vec<Expr>,
     values: Vec<Expr>,
-}
-
-/// A key of a dictionary, and its value.
-#[derive(Drop)]
-pub(crate) struct Entry {
-    key: Expr,
-    value: Expr,
-}
-
-/// What a method is called on, and the method's name.
-#[derive(Drop)]
-pub(crate) struct Receiver {
-    value: Expr,
-    name: Text,
 }
 
 /// The arguments of a call so far, and the names of the last ones.
@@ -225,12 +211,18 @@ impl<F: Fn(Global, &mut Tokens<'_, '_>, usize, Kind) -> Result<Expr, Stop>> Gram
         closed(t, Symbol::RightBracket, whole)
     }
 
-    /// Reads an entry of a dictionary behind its key, which is among the keys already.
-    fn entry_value(&self, t: &mut Tokens<'_, '_>, entries: &mut EntriesSoFar) -> Result<(), Stop>
+    /// Reads an entry of a dictionary behind its key.
+    fn entry_value(
+        &self,
+        t: &mut Tokens<'_, '_>,
+        entries: &mut EntriesSoFar,
+        key: Expr,
+    ) -> Result<(), Stop>
         requires { Nests self.now.depth (F.pre self.now.expr) (F.post self.now.expr) }
-        ensures { Reads (λ _. pairs_of entries.new) (and_then (expect s.Colon (left t.old)) (λ _ us. and_then (spec.expr self.now.depth k.Test us) (λ value. gives (with_value (pairs_of entries.old) value)))) result (left t.new) }
+        ensures { Reads (λ _. pairs_of entries.new) (and_then (expect s.Colon (left t.old)) (λ _ us. and_then (spec.expr self.now.depth k.Test us) (λ value. gives (spec.with_pair (pairs_of entries.old) (tree_of key) value)))) result (left t.new) }
     {
         let value = self.behind(t, Symbol::Colon, Kind::Test)?;
+        entries.keys.push(key)?;
         entries.values.push(value)?;
         Ok(())
     }
@@ -242,8 +234,7 @@ impl<F: Fn(Global, &mut Tokens<'_, '_>, usize, Kind) -> Result<Expr, Stop>> Gram
         ensures { Reads (λ _. pairs_of entries.new) (spec.entry (spec.expr self.now.depth) (pairs_of entries.old) (left t.old)) result (left t.new) }
     {
         let key = self.expr(t, Kind::Test)?;
-        entries.keys.push(key)?;
-        self.entry_value(t, entries)
+        self.entry_value(t, entries, key)
     }
 
     /// Reads the rest of the entries of a dictionary.
@@ -266,45 +257,28 @@ impl<F: Fn(Global, &mut Tokens<'_, '_>, usize, Kind) -> Result<Expr, Stop>> Gram
     }
 
     /// Reads the clauses of a dictionary, and its closing brace.
-    fn dict_of(&self, t: &mut Tokens<'_, '_>, entry: Entry) -> Result<Expr, Stop>
+    fn dict_of(&self, t: &mut Tokens<'_, '_>, key: Expr, value: Expr) -> Result<Expr, Stop>
         requires { Nests self.now.depth (F.pre self.now.expr) (F.post self.now.expr) }
-        ensures { Reads tree_of (and_then (spec.clauses (spec.expr self.now.depth) (left t.old)) (λ cs us. and_then (expect s.RightBrace us) (λ _. gives (tree.dict_of (tree_of entry.key) (tree_of entry.value) (clauses_of cs))))) result (left t.new) }
+        ensures { Reads tree_of (and_then (spec.clauses (spec.expr self.now.depth) (left t.old)) (λ cs us. and_then (expect s.RightBrace us) (λ _. gives (tree.dict_of (tree_of key) (tree_of value) (clauses_of cs))))) result (left t.new) }
     {
         let clauses = self.clauses(t)?;
-        let whole = dict_by_clauses(self.alloc, entry, clauses)?;
-        closed(t, Symbol::RightBrace, whole)
-    }
-
-    /// Reads the rest of the entries of a dictionary, and its closing brace.
-    fn dict_with(&self, t: &mut Tokens<'_, '_>, first: EntriesSoFar) -> Result<Expr, Stop>
-        requires { Nests self.now.depth (F.pre self.now.expr) (F.post self.now.expr) }
-        ensures { Reads tree_of (and_then (spec.entries (spec.expr self.now.depth) (pairs_of first) (left t.old)) (λ ps us. and_then (expect s.RightBrace us) (λ _. gives (tree.dict (exs_of ps.keys) (exs_of ps.values))))) result (left t.new) }
-    {
-        let found = self.entries(t, first)?;
-        let whole = dict(self.alloc, found)?;
+        let whole = Expr::dict_of(self.alloc, key, value, clauses)?;
         closed(t, Symbol::RightBrace, whole)
     }
 
     /// Reads a dictionary behind its first entry.
     #[tactic(auto, unfolding(grammar::specs::Expressions::dict_after))]
-    fn dict_after(&self, t: &mut Tokens<'_, '_>, entry: Entry) -> Result<Expr, Stop>
+    fn dict_after(&self, t: &mut Tokens<'_, '_>, key: Expr, value: Expr) -> Result<Expr, Stop>
         requires { Nests self.now.depth (F.pre self.now.expr) (F.post self.now.expr) }
-        ensures { Reads tree_of (spec.dict_after (spec.expr self.now.depth) (tree_of entry.key) (tree_of entry.value) (left t.old)) result (left t.new) }
+        ensures { Reads tree_of (spec.dict_after (spec.expr self.now.depth) (tree_of key) (tree_of value) (left t.old)) result (left t.new) }
     {
         if t.is_at(Symbol::For) {
-            return self.dict_of(t, entry);
+            return self.dict_of(t, key, value);
         }
-        let first = one_entry(self.alloc, entry)?;
-        self.dict_with(t, first)
-    }
-
-    /// Reads a dictionary behind its first key.
-    fn dict_behind(&self, t: &mut Tokens<'_, '_>, key: Expr) -> Result<Expr, Stop>
-        requires { Nests self.now.depth (F.pre self.now.expr) (F.post self.now.expr) }
-        ensures { Reads tree_of (and_then (expect s.Colon (left t.old)) (λ _ us. and_then (spec.expr self.now.depth k.Test us) (λ value. spec.dict_after (spec.expr self.now.depth) (tree_of key) value))) result (left t.new) }
-    {
-        let value = self.behind(t, Symbol::Colon, Kind::Test)?;
-        self.dict_after(t, Entry { key, value })
+        let first = one_entry(self.alloc, key, value)?;
+        let EntriesSoFar { keys, values } = self.entries(t, first)?;
+        let whole = Expr::dict(self.alloc, keys, values)?;
+        closed(t, Symbol::RightBrace, whole)
     }
 
     /// Reads what stands behind an opening brace.
@@ -317,7 +291,8 @@ impl<F: Fn(Global, &mut Tokens<'_, '_>, usize, Kind) -> Result<Expr, Stop>> Gram
             return Ok(Expr::dict(self.alloc, Vec::new(self.alloc), Vec::new(self.alloc))?);
         }
         let key = self.expr(t, Kind::Test)?;
-        self.dict_behind(t, key)
+        let value = self.behind(t, Symbol::Colon, Kind::Test)?;
+        self.dict_after(t, key, value)
     }
 
     /// Reads an argument of a call.
@@ -328,10 +303,10 @@ impl<F: Fn(Global, &mut Tokens<'_, '_>, usize, Kind) -> Result<Expr, Stop>> Gram
     {
         if t.is_name_before(Symbol::Equal) {
             let name = t.take_name(self.alloc)?;
-            found.names.push(name)?;
             t.skip();
             let value = self.expr(t, Kind::Test)?;
             found.values.push(value)?;
+            found.names.push(name)?;
             return Ok(());
         }
         if !found.names.is_empty() {
@@ -414,27 +389,6 @@ impl<F: Fn(Global, &mut Tokens<'_, '_>, usize, Kind) -> Result<Expr, Stop>> Gram
         closed(t, Symbol::RightBracket, whole)
     }
 
-    /// Reads a slice behind its colon, from a lower bound.
-    fn slice_at(&self, t: &mut Tokens<'_, '_>, value: Expr, at: Expr) -> Result<Expr, Stop>
-        requires { Nests self.now.depth (F.pre self.now.expr) (F.post self.now.expr) }
-        ensures { Reads tree_of (spec.slice_from (spec.expr self.now.depth) (tree_of value) (tree.bound (tree_of at)) (left t.old)) result (left t.new) }
-    {
-        let from = Arc::new(self.alloc, at)?;
-        self.slice_from(t, value, Some(from))
-    }
-
-    /// Reads an index or a slice behind its first expression.
-    fn subscript_at(&self, t: &mut Tokens<'_, '_>, value: Expr, at: Expr) -> Result<Expr, Stop>
-        requires { Nests self.now.depth (F.pre self.now.expr) (F.post self.now.expr) }
-        ensures { Reads tree_of (if is_at s.Colon (left t.old) then spec.slice_from (spec.expr self.now.depth) (tree_of value) (tree.bound (tree_of at)) (tail (left t.old)) else and_then (expect s.RightBracket (left t.old)) (λ _. gives (tree.index (tree_of value) (tree_of at)))) result (left t.new) }
-    {
-        if t.eat(Symbol::Colon) {
-            return self.slice_at(t, value, at);
-        }
-        let whole = Expr::index(self.alloc, value, at)?;
-        closed(t, Symbol::RightBracket, whole)
-    }
-
     /// Reads an index or a slice behind its opening bracket.
     #[tactic(auto, unfolding(grammar::specs::Expressions::subscript))]
     fn subscript(&self, t: &mut Tokens<'_, '_>, value: Expr) -> Result<Expr, Stop>
@@ -445,16 +399,12 @@ impl<F: Fn(Global, &mut Tokens<'_, '_>, usize, Kind) -> Result<Expr, Stop>> Gram
             return self.slice_from(t, value, None);
         }
         let at = self.expr(t, Kind::Test)?;
-        self.subscript_at(t, value, at)
-    }
-
-    /// Reads a call of a method behind the method's name.
-    fn method_behind(&self, t: &mut Tokens<'_, '_>, receiver: Receiver) -> Result<Expr, Stop>
-        requires { Nests self.now.depth (F.pre self.now.expr) (F.post self.now.expr) }
-        ensures { Reads tree_of (and_then (expect s.LeftParen (left t.old)) (λ _ us. and_then (spec.arguments (spec.expr self.now.depth) us) (λ found. gives (tree.method (tree_of receiver.value) receiver.name (exs_of found.values) found.names)))) result (left t.new) }
-    {
-        let found = self.arguments_behind(t)?;
-        method(self.alloc, receiver, found)
+        if t.eat(Symbol::Colon) {
+            let from = Arc::new(self.alloc, at)?;
+            return self.slice_from(t, value, Some(from));
+        }
+        let whole = Expr::index(self.alloc, value, at)?;
+        closed(t, Symbol::RightBracket, whole)
     }
 
     /// Reads a call of a method behind its dot.
@@ -464,7 +414,8 @@ impl<F: Fn(Global, &mut Tokens<'_, '_>, usize, Kind) -> Result<Expr, Stop>> Gram
         ensures { Reads tree_of (spec.method_call (spec.expr self.now.depth) (tree_of value) (left t.old)) result (left t.new) }
     {
         let name = t.take_name(self.alloc)?;
-        self.method_behind(t, Receiver { value, name })
+        let ArgumentsSoFar { values, names } = self.arguments_behind(t)?;
+        Ok(Expr::method(self.alloc, value, name, values, names)?)
     }
 
     /// Reads a call behind its opening bracket.
@@ -712,53 +663,16 @@ fn closed(t: &mut Tokens<'_, '_>, closer: Symbol, whole: Expr) -> Result<Expr, S
     Ok(whole)
 }
 
-/// A list of one expression.
-fn alone(alloc: Global, item: Expr) -> Result<Vec<Expr>, Stop>
-    ensures ok { IfOk result (λ v. v.items ≡ item ∷ []) }
-    ensures err { IsOkUnless result Memory }
-{
-    let mut found = Vec::new(alloc);
-    found.push(item)?;
-    Ok(found)
-}
-
 /// The first entry of a dictionary.
-fn one_entry(alloc: Global, entry: Entry) -> Result<EntriesSoFar, Stop>
-    ensures ok { IfOk result (λ e. pairs_of e ≡ record { keys = tree_of entry.key ∷ []; values = tree_of entry.value ∷ [] }) }
+fn one_entry(alloc: Global, key: Expr, value: Expr) -> Result<EntriesSoFar, Stop>
+    ensures ok { IfOk result (λ e. pairs_of e ≡ record { keys = tree_of key ∷ []; values = tree_of value ∷ [] }) }
     ensures err { IsOkUnless result Memory }
 {
-    let Entry { key, value } = entry;
-    let keys = alone(alloc, key)?;
-    let values = alone(alloc, value)?;
+    let mut keys = Vec::new(alloc);
+    keys.push(key)?;
+    let mut values = Vec::new(alloc);
+    values.push(value)?;
     Ok(EntriesSoFar { keys, values })
-}
-
-/// A dictionary of its entries.
-fn dict(alloc: Global, entries: EntriesSoFar) -> Result<Expr, Stop>
-    ensures ok { IfOk result (λ e. tree_of e ≡ tree.dict (trees_of entries.keys.items) (trees_of entries.values.items)) }
-    ensures err { IsOkUnless result Memory }
-{
-    let EntriesSoFar { keys, values } = entries;
-    Ok(Expr::dict(alloc, keys, values)?)
-}
-
-/// A dictionary of the entries that clauses give.
-fn dict_by_clauses(alloc: Global, entry: Entry, clauses: Vec<Clause>) -> Result<Expr, Stop>
-    ensures ok { IfOk result (λ e. tree_of e ≡ tree.dict_of (tree_of entry.key) (tree_of entry.value) (clause_trees clauses.items)) }
-    ensures err { IsOkUnless result Memory }
-{
-    let Entry { key, value } = entry;
-    Ok(Expr::dict_of(alloc, key, value, clauses)?)
-}
-
-/// A call of a method with its arguments.
-fn method(alloc: Global, receiver: Receiver, found: ArgumentsSoFar) -> Result<Expr, Stop>
-    ensures ok { IfOk result (λ e. tree_of e ≡ tree.method (tree_of receiver.value) receiver.name (trees_of found.values.items) found.names.items) }
-    ensures err { IsOkUnless result Memory }
-{
-    let Receiver { value, name } = receiver;
-    let ArgumentsSoFar { values, names } = found;
-    Ok(Expr::method(alloc, value, name, values, names)?)
 }
 
 /// The operator of a rank that the next token is.
