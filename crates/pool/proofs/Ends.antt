@@ -1,0 +1,47 @@
+-- How an evaluation by workers ends.
+use Rattle.std.proofs.Common.{◌≡◌, inl, suc, List, [], ◌∷◌, All, Option, Result, Ok, Err, sym, ap, refl, arith}
+use Rattle.std.specs.Prelude.{IfOk, IsErrOf}
+use Rattle.atomic_table.specs.Seated.{TableId}
+use Rattle.board.specs.Places.{IsHandAtRest, IsNewHand}
+use Rattle.board.specs.Rule.{total}
+use Rattle.board.specs.declared.board.Hand.{Hand}
+use Rattle.evaluation.specs.Reply.{Reply}
+use Rattle.keys.specs.declared.key.Key.{Key}
+use Rattle.keys.specs.declared.value.Value.{Value}
+use Rattle.node.specs.Graphs.{Recorded, record_at}
+use Rattle.pool.specs.Serving.{made_in}
+use Rattle.round.specs.Call.{Calls}
+use Rattle.round.specs.declared.stop.Stop.{Stop}
+use Rattle.round.specs.declared.stop.Stop.TheVariants as stop
+
+-- the stop of what ended with one
+abbrev stop_of : {T : Type 0} → Result T Stop → Stop
+stop_of (Ok x) = stop.Memory
+stop_of (Err e) = e
+
+differ : stop.Memory ≡ stop.Budget → ⊥
+differ e = cc
+
+pub memory_is_not_budget : {T : Type 0} → IsErrOf {T = T} (Err stop.Memory) stop.Budget → ⊥
+memory_is_not_budget e = differ (ap stop_of e)
+
+pub same_stop : {T U : Type 0} (e s : Stop) → IsErrOf {T = T} (Err e) s → IsErrOf {T = U} (Err e) s
+same_stop e s p = ap Err (ap stop_of p)
+
+-- where nothing was done, the graph is as after a stop
+pub nothing_done : (next : Key → List Value → Reply Key Value) (read : Key → Option Value) (roots : List Key) (graph : Recorded) (e : Stop) → Calls next read roots graph graph (Err e)
+nothing_done next read roots graph e = λ past h. record { version = ap (λ r. r.version) (sym h.at_entry); lawful = h.lawful; since = λ k. inl (ap (λ r. record_at r k) (sym h.at_entry)) }
+
+pub if_ok : {T E : Type 0} {P Q : T → Type 0} (r : Result T E) → ((x : T) → P x → Q x) → IfOk r P → IfOk r Q
+if_ok (Ok x) f p = f x p
+if_ok (Err e) f p = tt
+
+module _ {R S : Type 0} (id : TableId) where
+  -- hands that have done nothing yet are at rest, and have answered no turn
+  pub all_rest : (hands : List (Hand R S)) → All (λ h. IsNewHand id h.seat) hands → All (λ h. IsHandAtRest id h.seat) hands
+  all_rest hands new = λ k d l. let n = new k d l in (n.0, (ap (λ m. m.0.using) n.1, ap (λ m. m.1) n.1))
+
+  pub none_made : (hands : List (Hand R S)) → All (λ h. IsNewHand id h.seat) hands → total (λ h. made_in h.seat.me.0.answers) hands ≡ 0
+  none_made [] new = refl
+  none_made (x ∷ xs) new = let here : made_in x.seat.me.0.answers ≡ 0 = ap (λ m. made_in m.0.answers) (new 0 x (omega arith)).1 in
+      let more = none_made xs (λ k d l. new (suc k) d (omega (arith, l))) in omega (arith, here, more)

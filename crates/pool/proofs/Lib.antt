@@ -1,0 +1,4 @@
+mod Crossing
+mod Ends
+mod Keeping
+mod Staffing

@@ -1,0 +1,49 @@
+use Rattle.std.proofs.Common.{length, ap, refl, ◌∙◌, arith}
+use Rattle.leaves.specs.Leaves as leaves
+use Rattle.board.specs.Rule.{total}
+use Rattle.board.specs.declared.view.View.{View}
+use Rattle.keys.specs.Jobs.{Asked, Outcome}
+use Rattle.pool.specs.Serving.{made_in, jobs_out}
+use Rattle.pool.proofs.Ends.{memory_is_not_budget, nothing_done, if_ok, all_rest, none_made}
+use Rattle.pool.proofs.Keeping.{rep_long}
+use Rattle.round.specs.declared.stop.Stop.TheVariants as stop
+use Rattle.pool.proofs.evaluations.run.Goals as goal
+
+pub returns-in-Err : goal.returns-in-Err
+returns-in-Err g c = let host = c.requires.host in let id = c.args.board.now.table.shared.table_id in let none = none_made id c.args.hands.items c.requires.hands.0 in record {
+  law = tt;
+  within = tt;
+  stopped = nothing_done g.R.Rules.next (leaves.read c.args.tree.now) c.args.roots.items c.args.graph stop.Memory;
+  open_root = λ e. absurd (memory_is_not_budget e);
+  spent = λ e. absurd (memory_is_not_budget e);
+  made_all = λ e. absurd (memory_is_not_budget e);
+  host_rests = (host.0, (ap (λ m. m.0.using) host.1, ap (λ m. m.1) host.1));
+  hands_rest = all_rest id c.args.hands.items c.requires.hands.0;
+  staffed = (c.requires.hands.1, ap (λ m. m.0.hands) host.1, refl);
+  sized = (ap (λ m. length m.0.out) host.1 ∙ rep_long c.args.board.now.capacity _, ap (λ m. m.0.answers) host.1);
+  done = tt;
+  made = omega (arith, none);
+}
+
+pub returns : goal.returns
+returns g c = let e = c.serve-ended.ensures in let host = c.requires.host in let shut = c.shut.ensures.shut in let joined = c.join_all-rules.ensures in
+    let id = c.args.board.now.table.shared.table_id in let none = none_made id c.args.hands.items c.requires.hands.0 in
+    let many = joined.as_many.0 in let same = joined.as_many.1 in let sized = e.crew.1.sized in let no_worker = ap length c.in-Ok.ensures.0 in
+    let turned = joined.turns in let counted = e.crew.1.counted in let no_turn = ap (total (λ w. g.R.Rules.turns w.promise.given.value)) c.in-Ok.ensures.0 in
+    record {
+      law = e.law;
+      within = e.within;
+      stopped = e.stopped;
+      open_root = e.budget;
+      spent = e.spent;
+      made_all = λ x. let m = e.made x in (ap (λ (v : View Asked Outcome). jobs_out v) shut ∙ m.0, ap (λ (v : View Asked Outcome). made_in v.collected) shut ∙ m.1);
+      host_rests = c.shut.ensures.host;
+      hands_rest = joined.hands;
+      staffed = (omega (arith, many, same, sized, no_worker), ap (λ (v : View Asked Outcome). v.hands) shut ∙ (e.host.1.1 ∙ ap (λ m. m.0.hands) host.1), omega (arith, many, sized, no_worker));
+      sized = (
+        ap (λ (v : View Asked Outcome). length v.out) shut ∙ (e.host.1.0 ∙ (ap (λ m. length m.0.out) host.1 ∙ rep_long c.args.board.now.capacity _)),
+        ap (λ (v : View Asked Outcome). v.answers) shut ∙ (e.host.1.2 ∙ ap (λ m. m.0.answers) host.1),
+      );
+      done = if_ok c.serve-ended.result (λ runs b. (ap (λ (v : View Asked Outcome). jobs_out v) shut ∙ b.0, ap (λ (v : View Asked Outcome). made_in v.collected) shut ∙ b.1)) e.back;
+      made = omega (arith, turned, counted, no_turn, none);
+    }

@@ -1,0 +1,62 @@
+//! A worker: a thread that takes jobs and answers with their turns until the board is shut.
+ghost use Rattle.std.specs.Prelude.{◌≡◌, ◌+◌};
+ghost use Rattle.board.specs.Places.{IsHandAtRest, IsNewHand};
+ghost use Rattle.pool.specs.Serving.{made_in};
+
+use crate::bell::Bells;
+use board::{Board, Hand};
+use keys::Rules;
+use std::snapshot::Snapshot;
+use std::sync::Wait;
+use std::thread::Promise;
+
+// What a worker gives back.
+#[derive(Drop)]
+pub(crate) struct Back<R: Rules> {
+    pub(crate) rules: R,
+    pub(crate) hand: Hand<R>,
+}
+
+// The hand comes back at rest to its board, and the rules have made one turn more for each turn that was answered.
+#[derive(Drop)]
+pub(crate) struct Keeps<'a, R: Rules> {
+    pub(crate) board: &'a Board<R>,
+    pub(crate) given: Snapshot<R>,
+}
+
+impl<'a, R: Rules> Promise<Back<R>> for Keeps<'a, R> {
+    ghost use Rattle.std.specs.Prelude.{◌≡◌, ◌+◌};
+    ghost use Rattle.board.specs.Places.{IsHandAtRest};
+    ghost use Rattle.pool.specs.Serving.{made_in};
+
+    ghost kept_by = { λ p b. IsHandAtRest p.board.now.table.shared.table_id b.hand.seat × (R.turns b.rules ≡ R.turns p.given.value + made_in b.hand.seat.me.0.answers) };
+}
+
+// Takes jobs and answers with their turns, until the board is shut. It sleeps where it finds none.
+pub(crate) fn work_on<R: Rules, W: Wait>(
+    rt: &W,
+    board: &Board<R>,
+    bells: &Bells,
+    mut hand: Hand<R>,
+    mut rules: R,
+) -> Back<R>
+    requires { IsNewHand board.now.table.shared.table_id hand.seat }
+    ensures seat { IsHandAtRest board.now.table.shared.table_id result.hand.seat }
+    ensures counted { R.turns result.rules ≡ R.turns rules + made_in result.hand.seat.me.0.answers }
+{
+    for _ in rt.forever() {
+        let heard = bells.jobs.heard();
+        if board.is_shut(&mut hand) {
+            return Back { rules, hand };
+        }
+        match board.take(&mut hand) {
+            Some(held) => {
+                let made = held.make(&mut rules);
+                board.answer(&mut hand, made);
+                bells.turns.ring();
+            }
+            None => bells.jobs.wait(rt, heard),
+        }
+    }
+    unreachable!()
+}
