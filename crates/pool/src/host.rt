@@ -40,7 +40,7 @@ fn staff<'s, E, R: Rules + Send + Drop + 's, T: Wait + Sync>(
     ensures new { OnOk result (All (λ h. IsNewHand board.now.table.shared.table_id h.seat) crew.new.hands.items) }
     ensures few { (length crew.new.workers.items ≤ length crew.old.workers.items) ⊎ (length crew.new.workers.items ≤ out) }
 {
-    if crew.workers.len() < out {
+    if crew.workers.len() < out && !crew.rules.is_empty() {
         return hire(scope, rt, board, bells, host, crew);
     }
     bells.jobs.ring();
