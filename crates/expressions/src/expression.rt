@@ -1,26 +1,25 @@
 //! Expressions. What holds an expression one level down takes the parser of those as a parameter, so that each
 //! function is proved by itself.
-ghost use Rattle.std.specs.Prelude.{◌≡◌, ◌∷◌, ◌++◌, [], length, map, IfOk, IsOkUnless};
-ghost use Rattle.std.specs.Option.{option_map};
+ghost use Rattle.std.specs.Prelude.{◌≡◌, ◌∷◌, ◌++◌, [], length, map, if◌then◌else◌, IfOk, IsOkUnless};
 ghost use Rattle.grammar.specs.Expressions as spec;
-ghost use Rattle.grammar.specs.Front.{and_then, gives, expect};
+ghost use Rattle.grammar.specs.Front.{and_then, gives, expect, is_at, tail};
 ghost use Rattle.grammar.specs.declared.kind.Kind.TheVariants as k;
 ghost use Rattle.tokens.specs.declared.symbol.Symbol.TheVariants as s;
 ghost use Rattle.tree.specs.Tree as tree;
 ghost use Rattle.expressions.specs.Nests.{Nests};
-ghost use Rattle.expressions.specs.Parts.{pairs_of, arguments_of, Compares};
+ghost use Rattle.expressions.specs.Parts.{pairs_of, arguments_of};
 ghost use Rattle.expressions.specs.View.{left, Reads};
-ghost use Rattle.tree.specs.View.{tree_of, clause_of, bound_tree, clauses_of};
+ghost use Rattle.tree.specs.View.{tree_of, clause_of, bound_tree, clauses_of, exs_of, trees_of, clause_trees};
 ghost use Rattle.expressions.specs.declared.front.Stop.TheVariants.{Memory};
 
-use crate::front::{Stop, Tokens};
+use crate::front::{Stop, Tokens, operator_at, take_comparison};
 use crate::target::is_target;
 use grammar::{Kind, Rank};
 use std::alloc::Global;
 use std::sync::Arc;
 use texts::Text;
 use tokens::{Symbol, Token, string_text};
-use tree::{BinaryOp, Clause, Expr, Literal, UnaryOp};
+use tree::{Clause, Expr, Literal, UnaryOp};
 
 /// The entries of a dictionary so far: keys, and as many values.
 #[derive(Drop)]
@@ -211,18 +210,12 @@ impl<F: Fn(Global, &mut Tokens<'_, '_>, usize, Kind) -> Result<Expr, Stop>> Gram
         closed(t, Symbol::RightBracket, whole)
     }
 
-    /// Reads an entry of a dictionary behind its key.
-    fn entry_value(
-        &self,
-        t: &mut Tokens<'_, '_>,
-        entries: &mut EntriesSoFar,
-        key: Expr,
-    ) -> Result<(), Stop>
+    /// Reads an entry of a dictionary behind its key, which is among the keys already.
+    fn entry_value(&self, t: &mut Tokens<'_, '_>, entries: &mut EntriesSoFar) -> Result<(), Stop>
         requires { Nests self.now.depth (F.pre self.now.expr) (F.post self.now.expr) }
-        ensures { Reads (λ _. pairs_of entries.new) (and_then (expect s.Colon (left t.old)) (λ _ us. and_then (spec.expr self.now.depth k.Test us) (λ value. gives (spec.with_pair (pairs_of entries.old) (tree_of key) value)))) result (left t.new) }
+        ensures { Reads (λ _. pairs_of entries.new) (and_then (expect s.Colon (left t.old)) (λ _ us. and_then (spec.expr self.now.depth k.Test us) (λ value. gives (record { keys = map tree_of entries.old.keys.items; values = map tree_of entries.old.values.items ++ value ∷ [] })))) result (left t.new) }
     {
         let value = self.behind(t, Symbol::Colon, Kind::Test)?;
-        entries.keys.push(key)?;
         entries.values.push(value)?;
         Ok(())
     }
@@ -234,7 +227,8 @@ impl<F: Fn(Global, &mut Tokens<'_, '_>, usize, Kind) -> Result<Expr, Stop>> Gram
         ensures { Reads (λ _. pairs_of entries.new) (spec.entry (spec.expr self.now.depth) (pairs_of entries.old) (left t.old)) result (left t.new) }
     {
         let key = self.expr(t, Kind::Test)?;
-        self.entry_value(t, entries, key)
+        entries.keys.push(key)?;
+        self.entry_value(t, entries)
     }
 
     /// Reads the rest of the entries of a dictionary.
@@ -257,28 +251,45 @@ impl<F: Fn(Global, &mut Tokens<'_, '_>, usize, Kind) -> Result<Expr, Stop>> Gram
     }
 
     /// Reads the clauses of a dictionary, and its closing brace.
-    fn dict_of(&self, t: &mut Tokens<'_, '_>, key: Expr, value: Expr) -> Result<Expr, Stop>
+    fn dict_of(&self, t: &mut Tokens<'_, '_>, entry: (Expr, Expr)) -> Result<Expr, Stop>
         requires { Nests self.now.depth (F.pre self.now.expr) (F.post self.now.expr) }
-        ensures { Reads tree_of (and_then (spec.clauses (spec.expr self.now.depth) (left t.old)) (λ cs us. and_then (expect s.RightBrace us) (λ _. gives (tree.dict_of (tree_of key) (tree_of value) (clauses_of cs))))) result (left t.new) }
+        ensures { Reads tree_of (and_then (spec.clauses (spec.expr self.now.depth) (left t.old)) (λ cs us. and_then (expect s.RightBrace us) (λ _. gives (tree.dict_of (tree_of entry.0) (tree_of entry.1) (clauses_of cs))))) result (left t.new) }
     {
         let clauses = self.clauses(t)?;
-        let whole = Expr::dict_of(self.alloc, key, value, clauses)?;
+        let whole = dict_by_clauses(self.alloc, entry, clauses)?;
+        closed(t, Symbol::RightBrace, whole)
+    }
+
+    /// Reads the rest of the entries of a dictionary, and its closing brace.
+    fn dict_with(&self, t: &mut Tokens<'_, '_>, first: EntriesSoFar) -> Result<Expr, Stop>
+        requires { Nests self.now.depth (F.pre self.now.expr) (F.post self.now.expr) }
+        ensures { Reads tree_of (and_then (spec.entries (spec.expr self.now.depth) (pairs_of first) (left t.old)) (λ ps us. and_then (expect s.RightBrace us) (λ _. gives (tree.dict (exs_of ps.keys) (exs_of ps.values))))) result (left t.new) }
+    {
+        let found = self.entries(t, first)?;
+        let whole = dict(self.alloc, found)?;
         closed(t, Symbol::RightBrace, whole)
     }
 
     /// Reads a dictionary behind its first entry.
     #[tactic(auto, unfolding(grammar::specs::Expressions::dict_after))]
-    fn dict_after(&self, t: &mut Tokens<'_, '_>, key: Expr, value: Expr) -> Result<Expr, Stop>
+    fn dict_after(&self, t: &mut Tokens<'_, '_>, entry: (Expr, Expr)) -> Result<Expr, Stop>
         requires { Nests self.now.depth (F.pre self.now.expr) (F.post self.now.expr) }
-        ensures { Reads tree_of (spec.dict_after (spec.expr self.now.depth) (tree_of key) (tree_of value) (left t.old)) result (left t.new) }
+        ensures { Reads tree_of (spec.dict_after (spec.expr self.now.depth) (tree_of entry.0) (tree_of entry.1) (left t.old)) result (left t.new) }
     {
         if t.is_at(Symbol::For) {
-            return self.dict_of(t, key, value);
+            return self.dict_of(t, entry);
         }
-        let first = one_entry(self.alloc, key, value)?;
-        let EntriesSoFar { keys, values } = self.entries(t, first)?;
-        let whole = Expr::dict(self.alloc, keys, values)?;
-        closed(t, Symbol::RightBrace, whole)
+        let first = one_entry(self.alloc, entry)?;
+        self.dict_with(t, first)
+    }
+
+    /// Reads a dictionary behind its first key.
+    fn dict_behind(&self, t: &mut Tokens<'_, '_>, key: Expr) -> Result<Expr, Stop>
+        requires { Nests self.now.depth (F.pre self.now.expr) (F.post self.now.expr) }
+        ensures { Reads tree_of (and_then (expect s.Colon (left t.old)) (λ _ us. and_then (spec.expr self.now.depth k.Test us) (λ value. spec.dict_after (spec.expr self.now.depth) (tree_of key) value))) result (left t.new) }
+    {
+        let value = self.behind(t, Symbol::Colon, Kind::Test)?;
+        self.dict_after(t, (key, value))
     }
 
     /// Reads what stands behind an opening brace.
@@ -291,8 +302,7 @@ impl<F: Fn(Global, &mut Tokens<'_, '_>, usize, Kind) -> Result<Expr, Stop>> Gram
             return Ok(Expr::dict(self.alloc, Vec::new(self.alloc), Vec::new(self.alloc))?);
         }
         let key = self.expr(t, Kind::Test)?;
-        let value = self.behind(t, Symbol::Colon, Kind::Test)?;
-        self.dict_after(t, key, value)
+        self.dict_behind(t, key)
     }
 
     /// Reads an argument of a call.
@@ -303,10 +313,10 @@ impl<F: Fn(Global, &mut Tokens<'_, '_>, usize, Kind) -> Result<Expr, Stop>> Gram
     {
         if t.is_name_before(Symbol::Equal) {
             let name = t.take_name(self.alloc)?;
+            found.names.push(name)?;
             t.skip();
             let value = self.expr(t, Kind::Test)?;
             found.values.push(value)?;
-            found.names.push(name)?;
             return Ok(());
         }
         if !found.names.is_empty() {
@@ -389,6 +399,27 @@ impl<F: Fn(Global, &mut Tokens<'_, '_>, usize, Kind) -> Result<Expr, Stop>> Gram
         closed(t, Symbol::RightBracket, whole)
     }
 
+    /// Reads a slice behind its colon, from a lower bound.
+    fn slice_at(&self, t: &mut Tokens<'_, '_>, value: Expr, at: Expr) -> Result<Expr, Stop>
+        requires { Nests self.now.depth (F.pre self.now.expr) (F.post self.now.expr) }
+        ensures { Reads tree_of (spec.slice_from (spec.expr self.now.depth) (tree_of value) (tree.bound (tree_of at)) (left t.old)) result (left t.new) }
+    {
+        let from = Arc::new(self.alloc, at)?;
+        self.slice_from(t, value, Some(from))
+    }
+
+    /// Reads an index or a slice behind its first expression.
+    fn subscript_at(&self, t: &mut Tokens<'_, '_>, value: Expr, at: Expr) -> Result<Expr, Stop>
+        requires { Nests self.now.depth (F.pre self.now.expr) (F.post self.now.expr) }
+        ensures { Reads tree_of (if is_at s.Colon (left t.old) then spec.slice_from (spec.expr self.now.depth) (tree_of value) (tree.bound (tree_of at)) (tail (left t.old)) else and_then (expect s.RightBracket (left t.old)) (λ _. gives (tree.index (tree_of value) (tree_of at)))) result (left t.new) }
+    {
+        if t.eat(Symbol::Colon) {
+            return self.slice_at(t, value, at);
+        }
+        let whole = Expr::index(self.alloc, value, at)?;
+        closed(t, Symbol::RightBracket, whole)
+    }
+
     /// Reads an index or a slice behind its opening bracket.
     #[tactic(auto, unfolding(grammar::specs::Expressions::subscript))]
     fn subscript(&self, t: &mut Tokens<'_, '_>, value: Expr) -> Result<Expr, Stop>
@@ -399,12 +430,16 @@ impl<F: Fn(Global, &mut Tokens<'_, '_>, usize, Kind) -> Result<Expr, Stop>> Gram
             return self.slice_from(t, value, None);
         }
         let at = self.expr(t, Kind::Test)?;
-        if t.eat(Symbol::Colon) {
-            let from = Arc::new(self.alloc, at)?;
-            return self.slice_from(t, value, Some(from));
-        }
-        let whole = Expr::index(self.alloc, value, at)?;
-        closed(t, Symbol::RightBracket, whole)
+        self.subscript_at(t, value, at)
+    }
+
+    /// Reads a call of a method behind the method's name.
+    fn method_behind(&self, t: &mut Tokens<'_, '_>, receiver: (Expr, Text)) -> Result<Expr, Stop>
+        requires { Nests self.now.depth (F.pre self.now.expr) (F.post self.now.expr) }
+        ensures { Reads tree_of (and_then (expect s.LeftParen (left t.old)) (λ _ us. and_then (spec.arguments (spec.expr self.now.depth) us) (λ found. gives (tree.method (tree_of receiver.0) receiver.1 (exs_of found.values) found.names)))) result (left t.new) }
+    {
+        let found = self.arguments_behind(t)?;
+        method(self.alloc, receiver, found)
     }
 
     /// Reads a call of a method behind its dot.
@@ -414,8 +449,7 @@ impl<F: Fn(Global, &mut Tokens<'_, '_>, usize, Kind) -> Result<Expr, Stop>> Gram
         ensures { Reads tree_of (spec.method_call (spec.expr self.now.depth) (tree_of value) (left t.old)) result (left t.new) }
     {
         let name = t.take_name(self.alloc)?;
-        let ArgumentsSoFar { values, names } = self.arguments_behind(t)?;
-        Ok(Expr::method(self.alloc, value, name, values, names)?)
+        self.method_behind(t, (value, name))
     }
 
     /// Reads a call behind its opening bracket.
@@ -663,93 +697,53 @@ fn closed(t: &mut Tokens<'_, '_>, closer: Symbol, whole: Expr) -> Result<Expr, S
     Ok(whole)
 }
 
-/// The first entry of a dictionary.
-fn one_entry(alloc: Global, key: Expr, value: Expr) -> Result<EntriesSoFar, Stop>
-    ensures ok { IfOk result (λ e. pairs_of e ≡ record { keys = tree_of key ∷ []; values = tree_of value ∷ [] }) }
+/// A list of one expression.
+fn alone(alloc: Global, item: Expr) -> Result<Vec<Expr>, Stop>
+    ensures ok { IfOk result (λ v. v.items ≡ item ∷ []) }
     ensures err { IsOkUnless result Memory }
 {
-    let mut keys = Vec::new(alloc);
-    keys.push(key)?;
-    let mut values = Vec::new(alloc);
-    values.push(value)?;
+    let mut found = Vec::new(alloc);
+    found.push(item)?;
+    Ok(found)
+}
+
+/// The first entry of a dictionary.
+fn one_entry(alloc: Global, entry: (Expr, Expr)) -> Result<EntriesSoFar, Stop>
+    ensures ok { IfOk result (λ e. pairs_of e ≡ record { keys = tree_of entry.0 ∷ []; values = tree_of entry.1 ∷ [] }) }
+    ensures err { IsOkUnless result Memory }
+{
+    let (key, value) = entry;
+    let keys = alone(alloc, key)?;
+    let values = alone(alloc, value)?;
     Ok(EntriesSoFar { keys, values })
 }
 
-/// The operator of a rank that the next token is.
-#[tactic(auto, unfolding(grammar::specs::Expressions::operator_at))]
-fn operator_at(t: &Tokens<'_, '_>, rank: Rank) -> Option<BinaryOp>
-    ensures { result ≡ spec.operator_at rank (left t.now) }
+/// A dictionary of its entries.
+fn dict(alloc: Global, entries: EntriesSoFar) -> Result<Expr, Stop>
+    ensures ok { IfOk result (λ e. tree_of e ≡ tree.dict (trees_of entries.keys.items) (trees_of entries.values.items)) }
+    ensures err { IsOkUnless result Memory }
 {
-    match rank {
-        Rank::Or => {
-            if t.is_at(Symbol::Or) {
-                Some(BinaryOp::Or)
-            } else {
-                None
-            }
-        }
-        Rank::And => {
-            if t.is_at(Symbol::And) {
-                Some(BinaryOp::And)
-            } else {
-                None
-            }
-        }
-        Rank::Sum => {
-            if t.is_at(Symbol::Plus) {
-                Some(BinaryOp::Add)
-            } else if t.is_at(Symbol::Minus) {
-                Some(BinaryOp::Subtract)
-            } else {
-                None
-            }
-        }
-        Rank::Term => {
-            if t.is_at(Symbol::Star) {
-                Some(BinaryOp::Multiply)
-            } else if t.is_at(Symbol::SlashSlash) {
-                Some(BinaryOp::Divide)
-            } else if t.is_at(Symbol::Percent) {
-                Some(BinaryOp::Remainder)
-            } else {
-                None
-            }
-        }
-    }
+    let EntriesSoFar { keys, values } = entries;
+    Ok(Expr::dict(alloc, keys, values)?)
 }
 
-/// Takes the operator of a comparison.
-#[tactic(auto, unfolding(grammar::specs::Expressions::comparison_at))]
-fn take_comparison(t: &mut Tokens<'_, '_>) -> Option<BinaryOp>
-    ensures { Compares (spec.comparison_at (left t.old)) result (left t.old) (left t.new) }
+/// A dictionary of the entries that clauses give.
+fn dict_by_clauses(alloc: Global, entry: (Expr, Expr), clauses: Vec<Clause>) -> Result<Expr, Stop>
+    ensures ok { IfOk result (λ e. tree_of e ≡ tree.dict_of (tree_of entry.0) (tree_of entry.1) (clause_trees clauses.items)) }
+    ensures err { IsOkUnless result Memory }
 {
-    if t.eat(Symbol::EqualEqual) {
-        return Some(BinaryOp::Equal);
-    }
-    if t.eat(Symbol::NotEqual) {
-        return Some(BinaryOp::NotEqual);
-    }
-    if t.eat(Symbol::Less) {
-        return Some(BinaryOp::Less);
-    }
-    if t.eat(Symbol::LessEqual) {
-        return Some(BinaryOp::LessEqual);
-    }
-    if t.eat(Symbol::Greater) {
-        return Some(BinaryOp::Greater);
-    }
-    if t.eat(Symbol::GreaterEqual) {
-        return Some(BinaryOp::GreaterEqual);
-    }
-    if t.eat(Symbol::In) {
-        return Some(BinaryOp::In);
-    }
-    if t.are_at(Symbol::Not, Symbol::In) {
-        t.skip();
-        t.skip();
-        return Some(BinaryOp::NotIn);
-    }
-    None
+    let (key, value) = entry;
+    Ok(Expr::dict_of(alloc, key, value, clauses)?)
+}
+
+/// A call of a method with its arguments.
+fn method(alloc: Global, receiver: (Expr, Text), found: ArgumentsSoFar) -> Result<Expr, Stop>
+    ensures ok { IfOk result (λ e. tree_of e ≡ tree.method (tree_of receiver.0) receiver.1 (trees_of found.values.items) found.names.items) }
+    ensures err { IsOkUnless result Memory }
+{
+    let (value, name) = receiver;
+    let ArgumentsSoFar { values, names } = found;
+    Ok(Expr::method(alloc, value, name, values, names)?)
 }
 
 /// Reads an expression of a kind, with so many levels. Memory is answered only where a growth was refused.

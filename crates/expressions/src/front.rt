@@ -2,12 +2,16 @@
 ghost use Rattle.std.specs.Prelude.{◌≡◌, ◌&&◌, length, if◌then◌else◌};
 ghost use Rattle.std.specs.Option.{option_map};
 ghost use Rattle.grammar.specs.Front.{code, same, is_at, tail, line_at, name_at, is_name_before, text_at, is_end, expect, a_name};
+ghost use Rattle.grammar.specs.Expressions.{operator_at, comparison_at};
+ghost use Rattle.expressions.specs.Parts.{Compares};
 ghost use Rattle.expressions.specs.View.{left, Reads, Takes};
 ghost use Rattle.expressions.specs.declared.front.Stop.TheVariants.{Memory};
 
+use grammar::Rank;
 use std::alloc::{AllocError, AllocFailed, Global};
 use texts::Text;
 use tokens::{Ascii, Lexed, Symbol, Token};
+use tree::BinaryOp;
 
 /// Why nothing was read.
 #[derive(Clone, Copy, Drop)]
@@ -285,4 +289,81 @@ impl<'a, 't> Tokens<'a, 't> {
         behind.skip();
         behind.is_at(wanted)
     }
+}
+
+/// The operator of a rank that the next token is.
+#[tactic(auto, unfolding(grammar::specs::Expressions::operator_at))]
+pub(crate) fn operator_at(t: &Tokens<'_, '_>, rank: Rank) -> Option<BinaryOp>
+    ensures { result ≡ operator_at rank (left t.now) }
+{
+    match rank {
+        Rank::Or => {
+            if t.is_at(Symbol::Or) {
+                Some(BinaryOp::Or)
+            } else {
+                None
+            }
+        }
+        Rank::And => {
+            if t.is_at(Symbol::And) {
+                Some(BinaryOp::And)
+            } else {
+                None
+            }
+        }
+        Rank::Sum => {
+            if t.is_at(Symbol::Plus) {
+                Some(BinaryOp::Add)
+            } else if t.is_at(Symbol::Minus) {
+                Some(BinaryOp::Subtract)
+            } else {
+                None
+            }
+        }
+        Rank::Term => {
+            if t.is_at(Symbol::Star) {
+                Some(BinaryOp::Multiply)
+            } else if t.is_at(Symbol::SlashSlash) {
+                Some(BinaryOp::Divide)
+            } else if t.is_at(Symbol::Percent) {
+                Some(BinaryOp::Remainder)
+            } else {
+                None
+            }
+        }
+    }
+}
+
+/// Takes the operator of a comparison.
+#[tactic(auto, unfolding(grammar::specs::Expressions::comparison_at))]
+pub(crate) fn take_comparison(t: &mut Tokens<'_, '_>) -> Option<BinaryOp>
+    ensures { Compares (comparison_at (left t.old)) result (left t.old) (left t.new) }
+{
+    if t.eat(Symbol::EqualEqual) {
+        return Some(BinaryOp::Equal);
+    }
+    if t.eat(Symbol::NotEqual) {
+        return Some(BinaryOp::NotEqual);
+    }
+    if t.eat(Symbol::Less) {
+        return Some(BinaryOp::Less);
+    }
+    if t.eat(Symbol::LessEqual) {
+        return Some(BinaryOp::LessEqual);
+    }
+    if t.eat(Symbol::Greater) {
+        return Some(BinaryOp::Greater);
+    }
+    if t.eat(Symbol::GreaterEqual) {
+        return Some(BinaryOp::GreaterEqual);
+    }
+    if t.eat(Symbol::In) {
+        return Some(BinaryOp::In);
+    }
+    if t.are_at(Symbol::Not, Symbol::In) {
+        t.skip();
+        t.skip();
+        return Some(BinaryOp::NotIn);
+    }
+    None
 }
