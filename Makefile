@@ -4,7 +4,7 @@
 PROGRAM := crates/cli/out/cli
 EXAMPLE := examples/session.jsonl
 
-.PHONY: quick run build trials measures test lint digests wrong-bodies limits allocations bench
+.PHONY: quick run build trials measures shelf-trials readers overlaps test lint digests wrong-bodies limits allocations workers hostile bench
 
 # Shows each line of an example with its answer. It proves nothing: the kit interprets the program.
 quick:
@@ -26,6 +26,18 @@ trials:
 # The program that measures, proved and built over the libraries of `build`. The gate does not build it.
 measures: build
 	@python3 bench/build_measures.py
+
+# The program that tries the shelf, built as `measures` is. Compares what readers find, and prints times.
+shelf-trials: build
+	@python3 bench/build_measures.py shelf_trials
+	@for word in rows threads loads; do bench/out/shelf_trials $$word || exit 1; done | diff bench/shelf_trials/stdout -
+	@python3 tests/shelf_allocations.py
+	@for names in 1000 100000; do bench/out/shelf_trials times $$names || exit 1; done
+
+# The example of an editor that embeds the loader, built as `measures` is. Compares what its readers find.
+readers: build
+	@python3 bench/build_measures.py readers
+	@bench/out/readers | diff examples/readers/stdout -
 
 # The gate: the house's rules of style, each crate's wrong bodies refused at its present text, everything proved from
 # nothing, and the programs run. The first two come first, since they take a second. A proof gets one job, since two
@@ -56,6 +68,19 @@ allocations: build measures
 	python3 tests/allocations.py
 	python3 tests/parse_allocations.py
 	python3 tests/script_allocations.py
+
+# Turns that are under way at once, the rows of the board, and a thousand jobs; built as `measures` is.
+overlaps: build
+	@python3 bench/build_measures.py overlaps
+	@bench/out/overlaps | diff tests/overlaps/stdout -
+
+# The same answers with 1 to 16 workers, over the gate's commands, scripts and 10,000 random scripts.
+workers: build
+	python3 tests/workers.py
+
+# Deep and wide sources by 1 and 16 workers, the stack that they take, and the costs of lines at their limits.
+hostile: build
+	python3 tests/hostile.py --stack --costs
 
 # Times of the program; prints a table.
 bench: build measures

@@ -1,8 +1,9 @@
 #!/usr/bin/env python3
-"""Proves and builds `bench/out/measures`, the program that measures. Run it by `make measures`.
+"""Proves and builds a program beside the gate, as `bench/out/measures`, the one that measures. Run it by `make measures`,
+or by `make shelf-trials`, `make readers` or `make overlaps` for the programs whose names are passed there.
 
-The gate does not build this program, and it stops at each source outside the crates of crates.txt. So the sources end in
-`.rattle`, and the proofs in `.proof`. The kit builds only crates that are proved, in a repository. So this script makes
+The gate does not build these programs, and it stops at each source outside the crates of crates.txt. So the sources end
+in `.rattle`, and the proofs in `.proof`. The kit builds only crates that are proved, in a repository. So this script makes
 a room outside this repository, with the program as a crate over the libraries that are built here.
 
 The room is among the temporary files. Where they are on another disk, the copied libraries take some 6 GB there.
@@ -16,17 +17,26 @@ import time
 
 HERE = os.path.dirname(os.path.abspath(__file__))
 TOP = os.path.dirname(HERE)
-SOURCES = os.path.join(HERE, "measures")
-PROGRAM = os.path.join(HERE, "out/measures")
-LOG = os.path.join(HERE, "out/build.log")
+# Each program with the folder of its sources, and the words that it is run with once it is built.
+PROGRAMS = {
+    "measures": ("bench/measures", ["lines"]),
+    "shelf_trials": ("bench/shelf_trials", ["rows"]),
+    "readers": ("examples/readers", []),
+    "overlaps": ("tests/overlaps", []),
+}
+NAME = sys.argv[1] if len(sys.argv) > 1 else "measures"
+FOLDER, WORDS = PROGRAMS[NAME]
+SOURCES = os.path.join(TOP, FOLDER)
+PROGRAM = os.path.join(HERE, "out", NAME)
+LOG = os.path.join(HERE, f"out/build-{NAME}.log")
 ENDINGS = {".rattle": ".rt", ".proof": ".antt"}
 
 
-def uses_in(file):
-    """Reads what each crate of a list uses."""
+def lines_in(file):
+    """Reads the line of each crate of a list, with the counts beside its name."""
     with open(file) as text:
-        lines = [line.partition("#")[0].partition(":") for line in text]
-    return {name.strip(): below.split() for name, colon, below in lines if colon}
+        lines = [line.partition("#")[0].strip() for line in text]
+    return {line.partition(":")[0].split()[0]: line for line in lines if line}
 
 
 def add_below(found, name, uses):
@@ -70,41 +80,42 @@ def place_sources(crate):
             shutil.copy(file, stem + ENDINGS[ending])
 
 
-def make_room(room, crates, uses):
+def make_room(room, crates, lines):
     """Fills the room. Its empty folder .git makes it a repository of its own."""
     os.mkdir(os.path.join(room, ".git"))
     shutil.copy(os.path.join(TOP, "HANDLES"), room)
     with open(os.path.join(room, "crates.txt"), "w") as out:
-        out.writelines(f"{it}: {' '.join(uses[it])}\n" for it in [*crates, "measures"])
+        out.writelines(f"{lines[it]}\n" for it in [*crates, NAME])
     for it in crates:
         place_library(room, it)
-    place_sources(os.path.join(room, "crates/measures"))
+    place_sources(os.path.join(room, "crates", NAME))
 
 
 def build(crate):
-    """Proves the program, builds it, and runs it on no lines. Returns whether all went well."""
+    """Proves the program, builds it, and runs it with its words. Returns whether all went well."""
     with open(LOG, "w") as log:
         how = {"cwd": crate, "stdin": subprocess.DEVNULL, "stdout": log, "stderr": subprocess.STDOUT}
-        return subprocess.run(["rt", "run", "--", "lines"], **how).returncode == 0
+        return subprocess.run(["rt", "run", "--", *WORDS], **how).returncode == 0
 
 
 def main():
-    uses = {**uses_in(os.path.join(TOP, "crates.txt")), **uses_in(os.path.join(SOURCES, "uses"))}
+    lines = {**lines_in(os.path.join(TOP, "crates.txt")), **lines_in(os.path.join(SOURCES, "uses"))}
+    uses = {name: line.partition(":")[2].split() for name, line in lines.items()}
     crates = []
-    add_below(crates, "measures", uses)
+    add_below(crates, NAME, uses)
     if is_new(crates):
         return 0
     os.makedirs(os.path.dirname(PROGRAM), exist_ok=True)
     started = time.time()
-    with tempfile.TemporaryDirectory(prefix="measures-") as room:
-        make_room(room, crates, uses)
-        crate = os.path.join(room, "crates/measures")
+    with tempfile.TemporaryDirectory(prefix=f"{NAME}-") as room:
+        make_room(room, crates, lines)
+        crate = os.path.join(room, "crates", NAME)
         if not build(crate):
             with open(LOG) as log:
                 sys.stderr.writelines(log.readlines()[-30:])
-            print(f"measures is not built; all that was said is in {os.path.relpath(LOG)}", file=sys.stderr)
+            print(f"{NAME} is not built; all that was said is in {os.path.relpath(LOG)}", file=sys.stderr)
             return 1
-        shutil.copy(os.path.join(crate, "out/measures"), PROGRAM)
+        shutil.copy(os.path.join(crate, "out", NAME), PROGRAM)
     # An edit during the build counts as one after it.
     os.utime(PROGRAM, (started, started))
     return 0

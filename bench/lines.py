@@ -4,7 +4,9 @@
     lines.py [--runs R] N [COMMAND ..]      N packages; without a command, the built program
 
 A line is written and its answer read before the next one is written: these are wall times as a client sees them, in
-milliseconds, the least and the median of R. Times are noisy, so what counts is the ratio of two programs in one run.
+milliseconds, the least and the median of R. The last column is the least of what the program's threads took of a
+processor, without the client and the pipe; it counts in steps of ten. Times are noisy, so what counts is the ratio of
+two programs in one run.
 """
 import argparse
 import os
@@ -38,6 +40,17 @@ class Client:
             self.ask(line)
         return (time.perf_counter() - begun) * 1000
 
+    def cost(self, lines):
+        """Returns the time by the clock, and the program's of a processor."""
+        before = self.processor()
+        wall = self.time(lines)
+        return wall, self.processor() - before
+
+    def processor(self):
+        with open(f"/proc/{self.process.pid}/stat") as stat:
+            fields = stat.read().rsplit(")", 1)[1].split()
+        return (int(fields[11]) + int(fields[12])) * 1000 / os.sysconf("SC_CLK_TCK")
+
     def megabytes(self):
         with open(f"/proc/{self.process.pid}/status") as status:
             return next(int(line.split()[1]) for line in status if line.startswith("VmHWM")) / 1024
@@ -47,15 +60,23 @@ class Client:
         self.process.wait()
 
 
-def measure(n, command, runs):
-    """Returns {name of a scenario: its times in milliseconds}, and the most memory in megabytes."""
+def measure(n, command, runs, processor=None):
+    """Returns {name of a scenario: its times in milliseconds}, and the most memory in megabytes. A dictionary for times of
+    the processor gets those of each scenario."""
     client, times = Client(command), {}
-    times["all puts"] = [client.time(workload.puts(workload.files(n)))]
-    times["cold, all packages"] = [client.time(workload.loads(n))]
+
+    def take(name, lines):
+        wall, cost = client.cost(lines)
+        times.setdefault(name, []).append(wall)
+        if processor is not None:
+            processor.setdefault(name, []).append(cost)
+
+    take("all puts", workload.puts(workload.files(n)))
+    take("cold, all packages", workload.loads(n))
     for turn in range(1, runs + 1):
         for name, edits, package in workload.scenarios(n, turn):
             asked = workload.loads(n) if package is None else [workload.line(op="load", names=[package])]
-            times.setdefault(name, []).append(client.time(workload.puts(edits) + asked))
+            take(name, workload.puts(edits) + asked)
     most = client.megabytes()
     client.close()
     return times, most
@@ -67,11 +88,11 @@ def main():
     words.add_argument("n", type=int)
     words.add_argument("command", nargs="*")
     given = words.parse_args()
-    command = given.command or LOADER
-    times, most = measure(given.n, command, given.runs)
-    print(f"{given.n} packages, {os.path.basename(command[0])}: milliseconds, least and median")
+    command, processor = given.command or LOADER, {}
+    times, most = measure(given.n, command, given.runs, processor)
+    print(f"{given.n} packages, {os.path.basename(command[0])}: milliseconds, least and median, and of a processor")
     for name, took in times.items():
-        print(f"  {name:46s} {min(took):9.2f} {statistics.median(took):9.2f}")
+        print(f"  {name:46s} {min(took):9.2f} {statistics.median(took):9.2f} {min(processor[name]):7.0f}")
     print(f"  {'most memory, MB':46s} {most:9.1f}")
 
 

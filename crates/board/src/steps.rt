@@ -1,8 +1,11 @@
 //! What the host and a hand do at one place.
-ghost use Rattle.std.specs.Prelude.{◌≡◌, ◌≢◌, ◌<◌, [], ◌∷◌, Some, None, MatchOption, MatchResult, false};
-ghost use Rattle.board.specs.declared.view.Stage.TheVariants.{Held};
-ghost use Rattle.board.specs.Places.{IsAtRest, IsSame, IsPosted, IsFull, IsCollected};
-ghost use Rattle.board.specs.Plays.{looked, uses, answers_with};
+ghost use Rattle.std.specs.Prelude.{◌≡◌, ◌≢◌, ◌<◌, [], ◌∷◌, Some, None, true, false};
+ghost use mathlib.Core.Option.{some};
+ghost use lib.ListN.{get_elem?};
+ghost use Rattle.board.specs.declared.view.Entry.TheVariants as entry;
+ghost use Rattle.board.specs.declared.view.Stage.TheVariants.{Empty, Held, Answered};
+ghost use Rattle.board.specs.Places.{IsAtRest, IsSame, IsFull};
+ghost use Rattle.board.specs.Plays.{looked, uses, outs, collects, answers_with};
 
 use crate::board::{Board, SeatView, Slot};
 use crate::table_rule::{Answer, Claim, Clear, Fill, Find, Post};
@@ -19,45 +22,51 @@ const HELD: u64 = 2;
 const ANSWERED: u64 = 3;
 
 impl<R: Rules> Board<R> {
-    // Posts the job at the place, where it is empty.
-    pub(crate) fn post_at(
-        &self,
-        seat: &mut Seat<Slot<R>, SeatView<R>>,
-        place: usize,
-        job: Job<R>,
-    ) -> Result<(), Job<R>>
+    // Whether the place is empty, by one look. The host has its slot then. Neither a job nor a turn is moved for a look.
+    pub(crate) fn finds_empty(&self, seat: &mut Seat<Slot<R>, SeatView<R>>, place: usize) -> bool
         requires { (seat.old.table_id ≡ self.now.table.shared.table_id) × (seat.old.id ≡ 0) × IsAtRest seat.old.me × (place < self.now.capacity) }
         ensures same { IsSame seat.old seat.new }
-        ensures posted { MatchResult result (λ _. IsPosted seat.old.me place job seat.new.me) (λ back. (back ≡ job) × IsFull seat.old.me place seat.new.me) }
+        ensures empty { result ≡ true → (get_elem? seat.old.me.0.out place ≡ some None) × (seat.new.me ≡ (uses (looked seat.old.me.0 place 0) place Empty, (place, None) ∷ [])) }
+        ensures full { result ≡ false → IsFull seat.old.me place seat.new.me }
+    {
+        self.table.shared.load::<Fill>(seat, place) == EMPTY
+    }
+
+    // Posts the job at the empty place whose slot the host has.
+    pub(crate) fn fill(&self, seat: &mut Seat<Slot<R>, SeatView<R>>, place: usize, job: Job<R>)
+        requires { (seat.old.table_id ≡ self.now.table.shared.table_id) × (seat.old.id ≡ 0) × (place < self.now.capacity) × (seat.old.me.0.using ≡ Some (place, Empty)) × (seat.old.me.1 ≡ (place, None) ∷ []) }
+        ensures same { IsSame seat.old seat.new }
+        ensures posted { seat.new.me ≡ (outs seat.old.me.0 place (Some job), []) }
     {
         let words = &self.table.shared;
-        if words.load::<Fill>(seat, place) != EMPTY {
-            return Err(job);
-        }
         match words.exchange(seat, place, Some(Entry::Job(job))) {
             None => {}
             Some(_entry) => unreachable!(),
         }
         words.store::<Post>(seat, place, READY);
-        Ok(())
     }
 
-    // Takes the job at the place, where it is ready.
-    pub(crate) fn take_at(
-        &self,
-        seat: &mut Seat<Slot<R>, SeatView<R>>,
-        place: usize,
-    ) -> Option<Job<R>>
+    // Claims the place, where it is ready. The hand has its slot then.
+    pub(crate) fn claims(&self, seat: &mut Seat<Slot<R>, SeatView<R>>, place: usize) -> bool
         requires { (seat.old.table_id ≡ self.now.table.shared.table_id) × (seat.old.me.0.is_host ≡ false) × (seat.old.me.0.live ≡ 1) × IsAtRest seat.old.me × (place < self.now.capacity) }
         ensures same { IsSame seat.old seat.new }
-        ensures taken { MatchOption result ((n : _) × (n ≢ 1) × (seat.new.me ≡ (looked seat.old.me.0 place n, []))) (λ job. seat.new.me ≡ (uses (looked seat.old.me.0 place 1) place (Held job), (place, None) ∷ [])) }
+        ensures claimed { result ≡ true → (job : _) × (seat.new.me ≡ (uses (looked seat.old.me.0 place 1) place (Held job), (place, Some (entry.Job job)) ∷ [])) }
+        ensures none { result ≡ false → (n : _) × (n ≢ 1) × (seat.new.me ≡ (looked seat.old.me.0 place n, [])) }
     {
-        let words = &self.table.shared;
-        if words.compare_exchange::<Claim>(seat, place, READY, HELD) != READY {
-            return None;
-        }
-        match words.exchange(seat, place, None) {
-            Some(Entry::Job(job)) => Some(job),
+        self.table
+            .shared
+            .compare_exchange::<Claim>(seat, place, READY, HELD)
+            == READY
+    }
+
+    // Takes the job out of the slot of the place, which the hand has claimed.
+    pub(crate) fn take_out(&self, seat: &mut Seat<Slot<R>, SeatView<R>>, place: usize) -> Job<R>
+        requires { (seat.old.table_id ≡ self.now.table.shared.table_id) × (place < self.now.capacity) × ((job : _) × (seat.old.me.1 ≡ (place, Some (entry.Job job)) ∷ [])) }
+        ensures same { IsSame seat.old seat.new }
+        ensures taken { (job : _) → seat.old.me.1 ≡ (place, Some (entry.Job job)) ∷ [] → (result ≡ job) × (seat.new.me ≡ (seat.old.me.0, (place, None) ∷ [])) }
+    {
+        match self.table.shared.exchange(seat, place, None) {
+            Some(Entry::Job(job)) => job,
             Some(Entry::Turn(_turn)) => unreachable!(),
             None => unreachable!(),
         }
@@ -82,24 +91,27 @@ impl<R: Rules> Board<R> {
         words.store::<Answer>(seat, place, ANSWERED);
     }
 
-    // Collects the turn at the place, where it is answered.
-    pub(crate) fn collect_at(
-        &self,
-        seat: &mut Seat<Slot<R>, SeatView<R>>,
-        place: usize,
-    ) -> Option<Turned<R>>
+    // Whether the place is answered, by one look. The host has its slot then.
+    pub(crate) fn finds_turn(&self, seat: &mut Seat<Slot<R>, SeatView<R>>, place: usize) -> bool
         requires { (seat.old.table_id ≡ self.now.table.shared.table_id) × (seat.old.id ≡ 0) × IsAtRest seat.old.me × (place < self.now.capacity) }
         ensures same { IsSame seat.old seat.new }
-        ensures collected { MatchOption result ((n : _) × (n ≢ 3) × (seat.new.me ≡ (looked seat.old.me.0 place n, []))) (λ turn. IsCollected (λ turn. turn.asked) seat.old.me place turn seat.new.me) }
+        ensures found { result ≡ true → (turn : _) × (get_elem? seat.old.me.0.out place ≡ some (Some turn.asked)) × (seat.new.me ≡ (uses (looked seat.old.me.0 place 3) place (Answered turn), (place, Some (entry.Turn turn)) ∷ [])) }
+        ensures none { result ≡ false → (n : _) × (n ≢ 3) × (seat.new.me ≡ (looked seat.old.me.0 place n, [])) }
+    {
+        self.table.shared.load::<Find<Turned<R>>>(seat, place) == ANSWERED
+    }
+
+    // Takes the turn out of the slot of the place, which the host has. The place is empty then.
+    pub(crate) fn clear(&self, seat: &mut Seat<Slot<R>, SeatView<R>>, place: usize) -> Turned<R>
+        requires { (seat.old.table_id ≡ self.now.table.shared.table_id) × (seat.old.id ≡ 0) × (place < self.now.capacity) × ((turn : _) × (seat.old.me.0.using ≡ Some (place, Answered turn)) × (seat.old.me.1 ≡ (place, Some (entry.Turn turn)) ∷ [])) }
+        ensures same { IsSame seat.old seat.new }
+        ensures cleared { (turn : _) → seat.old.me.0.using ≡ Some (place, Answered turn) → seat.old.me.1 ≡ (place, Some (entry.Turn turn)) ∷ [] → (result ≡ turn) × (seat.new.me ≡ (collects (outs seat.old.me.0 place None) (turn ∷ []), [])) }
     {
         let words = &self.table.shared;
-        if words.load::<Find<Turned<R>>>(seat, place) != ANSWERED {
-            return None;
-        }
         let found = words.exchange(seat, place, None);
         words.store::<Clear>(seat, place, EMPTY);
         match found {
-            Some(Entry::Turn(turn)) => Some(turn),
+            Some(Entry::Turn(turn)) => turn,
             Some(Entry::Job(_job)) => unreachable!(),
             None => unreachable!(),
         }

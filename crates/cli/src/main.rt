@@ -31,6 +31,7 @@ fn main(rt: HostRuntime) -> ExitCode {
     let mut writer = WriterOutput::new(io::writer(&rt));
     let mut errors = rt.stderr();
     let status = command(
+        &rt,
         rt.alloc(),
         words.as_slice(),
         &mut reader,

@@ -9,12 +9,10 @@ ghost use Rattle.frames.specs.Frames.{Goes, on, an_aim, an_exit, a_gathered, exi
 ghost use Rattle.frames.specs.Weight.{Lighter, frames_weight, frame_weight, control_weight};
 
 use crate::frame::{Control, Exit, Frame, Signal};
-use crate::items::begin_above;
-use crate::stack::push;
+use crate::handed::{aim_done, augment, begin_body, begin_clause, store_value};
 use heap::{Halt, Val};
 use names::{Standing, State};
-use pieces::{Aim, Gathered, make_dict, make_list, present, store, unlock};
-use std::sync::Arc;
+use pieces::{Aim, Gathered, make_dict, make_list, unlock};
 
 /// Hands a frame how a statement has ended.
 pub fn deliver_exit(
@@ -118,43 +116,11 @@ pub fn deliver_aim(
     ensures lighter { IfOk result (λ control. Lighter state.old.heap.steps (frames_weight frames.old.items + frame_weight frame) state.new.heap.steps (frames_weight frames.new.items + control_weight control)) }
 {
     match frame {
-        Frame::Aims(line, es, done) => {
-            let mut done = done;
-            done.push(aim)?;
-            Ok(Control::Aims(line, es, done))
-        }
-        Frame::Store(_, x) => {
-            if let Err(halt) = store(state, at, &aim, x) {
-                return Err(halt);
-            }
-            Ok(Control::Signal(Signal::Exit(Exit::GoesOn)))
-        }
-        Frame::Augment(line, op, e) => {
-            let x = match present(state, at, &aim) {
-                Ok(x) => x,
-                Err(halt) => return Err(halt),
-            };
-            let aim = Box::new(state.heap.alloc, aim)?;
-            begin_above(state, frames, at, Frame::Change(line, op, aim, x), line, &e)
-        }
-        Frame::Turn(turns, x) => {
-            if let Err(halt) = store(state, at, &aim, x) {
-                return Err(halt);
-            }
-            let body = Arc::try_clone(&turns.body)?;
-            push(frames, Frame::Turns(turns))?;
-            Ok(Control::Suite(body, 0))
-        }
-        Frame::Aimed(turns, x, got) => {
-            if let Err(halt) = store(state, at, &aim, x) {
-                return Err(halt);
-            }
-            let of = Arc::try_clone(&turns.of)?;
-            let line = turns.line;
-            let inner = turns.inner;
-            push(frames, Frame::Gather(turns))?;
-            Ok(Control::Clauses(line, of, inner, got))
-        }
+        Frame::Aims(line, es, done) => aim_done(line, es, done, aim),
+        Frame::Store(line, x) => store_value(state, at, line, x, aim),
+        Frame::Augment(line, op, e) => augment(state, frames, at, line, op, e, aim),
+        Frame::Turn(turns, x) => begin_body(state, frames, at, turns, x, aim),
+        Frame::Aimed(turns, x, got) => begin_clause(state, frames, at, turns, x, got, aim),
         frame => {
             drop(frame);
             drop(aim);

@@ -1,21 +1,24 @@
-//! What a frame does with the value that it waits for, where nothing is begun.
+//! What a frame does with the value that it waits for, where nothing is begun, and with what a target aims at.
 ghost use Rattle.std.specs.Prelude.{◌≡◌, ◌≤◌, ◌+◌, ℕ, List, length, IfOk, IsOkUnless};
 ghost use Rattle.heap.specs.declared.halt.Halt.TheVariants.{Memory};
 ghost use Rattle.language.specs.World.{World, Here};
 ghost use Rattle.language.specs.Environment.{Env};
-ghost use Rattle.names.specs.View.{world_of};
+ghost use Rattle.names.specs.View.{world_of, here_of};
+ghost use Rattle.pieces.specs.View.{aim_of};
 ghost use Rattle.frames.specs.declared.frame.Frame.{Frame};
 ghost use Rattle.frames.specs.declared.frame.Frame.TheVariants as f;
-ghost use Rattle.frames.specs.Frames.{Goes, a_value, on, frame_does, params_at, above, machine_does};
-ghost use Rattle.frames.specs.Weight.{control_weight};
+ghost use Rattle.frames.specs.Frames.{Goes, a_value, an_aim, on, frame_does, params_at, above, machine_does};
+ghost use Rattle.frames.specs.Weight.{Lighter, frames_weight, frame_weight, control_weight};
 
-use crate::frame::{Comprehension, Control, Pairs, Signal};
+use crate::frame::{Comprehension, Control, Exit, Frame, Gathering, Pairs, Signal, Turns};
+use crate::items::begin_above;
+use crate::stack::push;
 use heap::{Halt, Val};
-use names::State;
-use pieces::{Gathered, fresh, index, is_true, one_entry, one_more, slice};
+use names::{Standing, State};
+use pieces::{Aim, Gathered, fresh, index, is_true, one_entry, one_more, present, slice, store};
 use std::alloc::Global;
 use std::sync::Arc;
-use tree::{Branch, Def, Stmt};
+use tree::{BinaryOp, Branch, Def, Expr, Stmt};
 
 /// The value of a key.
 pub fn entry_done(
@@ -131,4 +134,101 @@ pub fn default_done(
     let mut done = done;
     done.push(x)?;
     Ok(Control::Defaults(line, def, next, done))
+}
+
+/// Adds what one of several targets aims at.
+pub(crate) fn aim_done(
+    line: usize,
+    es: Arc<Vec<Expr>, Global>,
+    done: Vec<Aim>,
+    aim: Aim,
+) -> Result<Control, Halt>
+    ensures ok { IfOk result (λ control. (env : Env) (n : ℕ) (here : Here) (frames : List Frame) (w : World) → above env n here (frame_does env n here (f.Aims line es done) (an_aim (aim_of aim))) frames w ≡ machine_does env n here control frames w) }
+    ensures err { IsOkUnless result Memory }
+    ensures light { IfOk result (λ control. control_weight control + 1 ≡ frame_weight (f.Aims line es done)) }
+{
+    let mut done = done;
+    done.push(aim)?;
+    Ok(Control::Aims(line, es, done))
+}
+
+/// Stores a value in a target.
+pub(crate) fn store_value(
+    state: &mut State,
+    at: &Standing,
+    line: usize,
+    x: Val,
+    aim: Aim,
+) -> Result<Control, Halt>
+    ensures goes { (env : Env) (n : ℕ) (running : List (List ℕ × List ℕ)) (frames : List Frame) → let here = here_of at.now at.now.line running in Goes (on env n here line).site (above env n here (frame_does env n here (f.Store line x) (an_aim (aim_of aim))) frames (world_of state.old)) result (λ control. machine_does env n here control frames (world_of state.new)) }
+    ensures light { IfOk result (λ control. (state.new.heap.steps ≤ state.old.heap.steps) × (control_weight control ≡ 0)) }
+{
+    if let Err(halt) = store(state, at, &aim, x) {
+        return Err(halt);
+    }
+    Ok(Control::Signal(Signal::Exit(Exit::GoesOn)))
+}
+
+/// Takes the present value of a target, and begins the right side.
+pub(crate) fn augment(
+    state: &mut State,
+    frames: &mut Vec<Frame>,
+    at: &Standing,
+    line: usize,
+    op: BinaryOp,
+    e: Arc<Expr, Global>,
+    aim: Aim,
+) -> Result<Control, Halt>
+    ensures goes { (env : Env) (n : ℕ) (running : List (List ℕ × List ℕ)) → let here = here_of at.now at.now.line running in Goes (on env n here line).site (above env n here (frame_does env n here (f.Augment line op e) (an_aim (aim_of aim))) frames.old.items (world_of state.old)) result (λ control. machine_does env n here control frames.new.items (world_of state.new)) }
+    ensures lighter { IfOk result (λ control. Lighter state.old.heap.steps (frames_weight frames.old.items + 2) state.new.heap.steps (frames_weight frames.new.items + control_weight control)) }
+{
+    let x = match present(state, at, &aim) {
+        Ok(x) => x,
+        Err(halt) => return Err(halt),
+    };
+    let aim = Box::new(state.heap.alloc, aim)?;
+    begin_above(state, frames, at, Frame::Change(line, op, aim, x), line, &e)
+}
+
+/// Stores the value of a turn in its target, and begins the body.
+pub(crate) fn begin_body(
+    state: &mut State,
+    frames: &mut Vec<Frame>,
+    at: &Standing,
+    turns: Box<Turns>,
+    x: Val,
+    aim: Aim,
+) -> Result<Control, Halt>
+    ensures goes { (env : Env) (n : ℕ) (running : List (List ℕ × List ℕ)) → let here = here_of at.now at.now.line running in Goes (on env n here turns.value.line).site (above env n here (frame_does env n here (f.Turn turns x) (an_aim (aim_of aim))) frames.old.items (world_of state.old)) result (λ control. machine_does env n here control frames.new.items (world_of state.new)) }
+    ensures lighter { IfOk result (λ control. Lighter state.old.heap.steps (frames_weight frames.old.items + 8) state.new.heap.steps (frames_weight frames.new.items + control_weight control)) }
+{
+    if let Err(halt) = store(state, at, &aim, x) {
+        return Err(halt);
+    }
+    let body = Arc::try_clone(&turns.body)?;
+    push(frames, Frame::Turns(turns))?;
+    Ok(Control::Suite(body, 0))
+}
+
+/// Stores the value of a turn of a clause in its target, and begins the clause behind it.
+pub(crate) fn begin_clause(
+    state: &mut State,
+    frames: &mut Vec<Frame>,
+    at: &Standing,
+    turns: Box<Gathering>,
+    x: Val,
+    got: Box<Gathered>,
+    aim: Aim,
+) -> Result<Control, Halt>
+    ensures goes { (env : Env) (n : ℕ) (running : List (List ℕ × List ℕ)) → let here = here_of at.now at.now.line running in Goes (on env n here turns.value.line).site (above env n here (frame_does env n here (f.Aimed turns x got) (an_aim (aim_of aim))) frames.old.items (world_of state.old)) result (λ control. machine_does env n here control frames.new.items (world_of state.new)) }
+    ensures lighter { IfOk result (λ control. Lighter state.old.heap.steps (frames_weight frames.old.items + 8) state.new.heap.steps (frames_weight frames.new.items + control_weight control)) }
+{
+    if let Err(halt) = store(state, at, &aim, x) {
+        return Err(halt);
+    }
+    let of = Arc::try_clone(&turns.of)?;
+    let line = turns.line;
+    let inner = turns.inner;
+    push(frames, Frame::Gather(turns))?;
+    Ok(Control::Clauses(line, of, inner, got))
 }

@@ -21,7 +21,7 @@ use Rattle.open_nodes.specs.declared.run.Run.{Run}
 use Rattle.round.specs.Call.{Calls, IsHistory as IsPast}
 use Rattle.round.specs.declared.stop.Stop.{Stop}
 use Rattle.loader.specs.Held.{Held, IsHistory, IsLawful, files_of}
-use Rattle.loader.specs.Answers.{one_member, build_text, package_shown, module_shown, ArePackagesShown, IsModuleShown, IsValueOf, IsUnlessRefused, IsRequestAnswer, Tells}
+use Rattle.loader.specs.Answers.{one_member, build_text, ArePackagesShown, IsModuleShown, IsValueOf, IsUnlessRefused, IsRequestAnswer, Tells}
 use Rattle.loader.specs.Effects.{AreHeld, StopsAfter, module_roots}
 use Rattle.loader.specs.Told.{package_told, module_told}
 use Rattle.loader.specs.State.{Edit, put, del, files_refusal, changed_files}
@@ -29,10 +29,10 @@ use Rattle.filetree.specs.Lawful.{HasPaths}
 use Rattle.filetree.proofs.Lawful.{edits_keep_paths}
 use Rattle.labels.specs.Paths.{is_package_name}
 use Rattle.labels.specs.Labels.{Target, label_of, would_name, label_text, is_target, is_module}
-use Rattle.answers.specs.Answers.{packages_data, fault_data, cycle_data}
+use Rattle.answers.specs.Answers.{packages_data}
 use Rattle.packages.proofs.Held.{packages_hold, modules_hold}
 use Rattle.std.proofs.lemmas.Bool.{and_parts}
-use Rattle.std.specs.List.{list_all, starts_with, AllByRecursion}
+use Rattle.std.specs.List.{list_all, starts_with}
 use Rattle.commands.specs.Commands.{Request, find, load, module_of}
 use Rattle.commands.specs.Refusals.{request_refusal, load_refusal, module_label, if_module, refusal_without}
 use Rattle.keys.specs.declared.value.BuildName.{BuildName}
@@ -117,7 +117,7 @@ packages_held files graph (name ∷ names) good named held =
       packages_held files graph names good parts.1 (λ k i. held k (further i)),
     )
 
-load_accepted : (names : List (List ℕ)) → load_refusal names ≡ None → list_all is_package_name names ≡ true
+pub load_accepted : (names : List (List ℕ)) → load_refusal names ≡ None → list_all is_package_name names ≡ true
 load_accepted names e = counted (length names == 0 || nat_lt 256 (length names)) (list_all is_package_name names) e
   where
     named : (b : Bool) → cond {A = Option ℕ} b None (Some 5) ≡ None → b ≡ true

@@ -32,7 +32,7 @@ differ_append : {X : Type 0} (xs ys : List X) → AllDiffer xs → AllDiffer ys 
 differ_append [] ys d e f = e
 differ_append (x ∷ xs) ys d e f = (all_append (λ j. x ≢ j) xs ys d.0 (λ y i. f x y first i), differ_append xs ys d.1 e (λ y z i j. f y z (after i) j))
 
-from_map : {X Y : Type 0} (f : X → Y) (xs : List X) (y : Y) → In y (map f xs) → (x : X) × In x xs × (f x ≡ y)
+pub from_map : {X Y : Type 0} (f : X → Y) (xs : List X) (y : Y) → In y (map f xs) → (x : X) × In x xs × (f x ≡ y)
 from_map f (x ∷ xs) y first = (x, first, refl)
 from_map f (x ∷ xs) y (after i) = let r = from_map f xs y i in (r.0, after r.1, r.2)
 from_map f [] y i = elim i [ ]

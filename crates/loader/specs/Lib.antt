@@ -3,8 +3,11 @@ pub mod Held
 pub mod Answers
 pub mod Journal
 pub mod Effects
+pub mod LineAnswers
 pub mod Linked
 pub mod Kept
 pub mod Served
 pub mod Told
 pub mod Laws
+pub mod Publishing
+pub mod PublishingLaws

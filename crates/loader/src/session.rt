@@ -1,5 +1,6 @@
 //! The present files with the graph of what was found out about them, and their edits.
-ghost use Rattle.std.specs.Prelude.{◌≡◌, ◌≤◌, ◌++◌, ◌∷◌, [], Ok, IfOk, OnOk, OnErr, string_bytes};
+ghost use Rattle.std.specs.Prelude.{◌≡◌, ◌≤◌, ◌+◌, ◌++◌, ◌∷◌, [], Ok, IfOk, OnOk, OnErr, length, string_bytes};
+ghost use Rattle.board.specs.Rule.{total};
 ghost use Rattle.evaluation.specs.Graph.{Marks};
 ghost use Rattle.filetree.specs.Edits as edits;
 ghost use Rattle.node.specs.Graphs.{record_at, IsTouched};
@@ -17,15 +18,20 @@ use crate::accepted::Accepted;
 use crate::edit::EditError;
 use crate::reply::Reply;
 use crate::told::{roots_of, told};
+use crate::workers::evaluate_with;
 use crate::written::refused;
 use commands::{Edit, Request, refusal};
 use filetree::{Tree, TreeError};
-use functions::Loading;
+use functions::{LoadRules, Loading};
 use keys::Key;
 use node::Graph;
 use round::{Run, Stop, evaluate_here};
 use std::alloc::Global;
 use std::marker::Model;
+use std::sync::Wait;
+use std::thread::Threads;
+
+mod publishing;
 
 /// The present files, and the graph of what earlier requests found out about them. A contract sees the graph, and the
 /// history for which it is lawful: the version at which the session began, without files, and the edits accepted since
@@ -158,6 +164,40 @@ impl Session {
         Ok(Reply { text, runs })
     }
 
+    /// The same by worker threads, each with one of the hands, and the hands with it, whose turns are those of the reply's
+    /// runs. What is answered does not hang on the order in which the workers make their turns. After a stop the hands are
+    /// given up. That there are 1 to 16 hands is the caller's condition.
+    pub fn request_with<R: LoadRules + Send + Drop, T: Threads + Wait + Sync>(
+        &mut self,
+        runtime: &T,
+        request: &Request<'_>,
+        hands: Vec<R>,
+        budget: u64,
+    ) -> Result<(Vec<R>, Reply), Stop>
+        requires { (1 ≤ length hands.items) × (length hands.items ≤ 16) }
+        ensures hands { IfOk result (λ done. length done.0.items ≡ length hands.items) }
+        ensures counted { IfOk result (λ done. total R.turns done.0.items ≡ total R.turns hands.items + turns_of done.1.runs.items) }
+        ensures text { IfOk result (λ done. answers.Tells (answers.IsRequestAnswer (request_seen request.now) (files_of self.old)) (string_bytes done.1.text)) }
+        ensures moves { IfOk result (λ done. Moves (request_effect (request_seen request.now) self.old.graph.version) self.old self.new done.1.runs.items) }
+        ensures turns { IfOk result (λ done. turns_of done.1.runs.items ≤ budget) }
+        ensures stopped { OnErr result (StopsAfter (request_roots (request_seen request.now)) self.old self.new) }
+        ensures history { (self.new.began ≡ self.old.began) × (self.new.edits ≡ self.old.edits) }
+        ensures version { self.new.graph.version ≡ self.old.graph.version }
+        ensures lawful { IsLawful self.new }
+    {
+        if let Some(n) = refusal(self.alloc, request)? {
+            let reply = Reply {
+                text: refused(self.alloc, n)?,
+                runs: Vec::new(self.alloc),
+            };
+            return Ok((hands, reply));
+        }
+        let roots = roots_of(self.alloc, request)?;
+        let (hands, runs) = self.settle_with(runtime, roots.as_slice(), hands, budget)?;
+        let line = told(self.alloc, &self.graph, request, roots.as_slice())?;
+        Ok((hands, Reply { text: line, runs }))
+    }
+
     // Evaluates keys over the graph, in at most `budget` turns, and answers what that ran. Each of them that has a value for
     // the present files is then held with it.
     fn settle(&mut self, roots: &[Key], budget: u64) -> Result<Vec<Run>, Stop>
@@ -179,6 +219,37 @@ impl Session {
             budget,
         )?;
         Ok(runs)
+    }
+
+    // The same by worker threads.
+    fn settle_with<R: LoadRules + Send + Drop, T: Threads + Wait + Sync>(
+        &mut self,
+        runtime: &T,
+        roots: &[Key],
+        hands: Vec<R>,
+        budget: u64,
+    ) -> Result<(Vec<R>, Vec<Run>), Stop>
+        requires { (1 ≤ length hands.items) × (length hands.items ≤ 16) }
+        ensures hands { IfOk result (λ done. length done.0.items ≡ length hands.items) }
+        ensures counted { IfOk result (λ done. total R.turns done.0.items ≡ total R.turns hands.items + turns_of done.1.items) }
+        ensures law { IfOk result (λ done. Calls next (read (files_of self.old)) roots.now self.old.graph self.new.graph (Ok done.1.items)) }
+        ensures turns { IfOk result (λ done. turns_of done.1.items ≤ budget) }
+        ensures held { OnOk result (AreHeld (files_of self.old) roots.now self.new.graph) }
+        ensures stopped { OnErr result (StopsAfter roots.now self.old self.new) }
+        ensures history { (self.new.began ≡ self.old.began) × (self.new.edits ≡ self.old.edits) }
+        ensures version { self.new.graph.version ≡ self.old.graph.version }
+        ensures lawful { IsLawful self.new }
+    {
+        let done = evaluate_with(
+            runtime,
+            self.alloc,
+            &mut self.graph,
+            &self.tree,
+            roots,
+            hands,
+            budget,
+        )?;
+        Ok(done)
     }
 }
 

@@ -27,8 +27,8 @@ use std::alloc::Global;
 use std::sync::Arc;
 use texts::{Memory, Text};
 
-// The key of each package.
-fn package_keys(alloc: Global, names: &[&str]) -> Result<Vec<Key>, Memory>
+/// The key of each package.
+pub fn package_keys(alloc: Global, names: &[&str]) -> Result<Vec<Key>, Memory>
     ensures { IfOk result (λ roots. roots.items ≡ map (λ name. keys.Package name) (texts_seen names.now)) }
 {
     let mut roots = Vec::new(alloc);
@@ -105,8 +105,8 @@ fn write_packages(
     end_packages(out)
 }
 
-// Writes the package that is held of a key.
-fn write_package_held(
+/// Writes the package that is held of a key.
+pub fn write_package_held(
     alloc: Global,
     out: &mut Draft,
     graph: &Graph,

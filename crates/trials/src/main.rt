@@ -12,6 +12,8 @@ use anyhow::{Result, bail};
 use serving::{tell_budgets, tell_failures, tell_journal, tell_words};
 use sessions::tell_sessions;
 use std::io;
+use std::sync::Wait;
+use std::thread::Threads;
 use turn_order::tell_turns;
 
 // Cuts a text into what stands above a line, and what stands below it.
@@ -23,19 +25,19 @@ fn cut<'a>(text: &'a str, line: &str) -> Result<(&'a str, &'a str)> {
 }
 
 // Compares all that the table holds.
-fn compare(rt: &HostRuntime, table: &str) -> Result<()> {
+fn compare<T: Threads + Wait + Sync>(rt: &HostRuntime, threads: &T, table: &str) -> Result<()> {
     let (journal, rest) = cut(table, "== sessions\n")?;
     let (sessions, rest) = cut(rest, "== devices\n")?;
     let (lines, words) = cut(rest, "== words\n")?;
-    tell_journal(rt, journal)?;
+    tell_journal(rt, threads, journal)?;
     tell_sessions(rt, sessions)?;
-    tell_failures(rt, lines)?;
-    tell_words(rt, words)?;
+    tell_failures(rt, threads, lines)?;
+    tell_words(rt, threads, words)?;
     tell_budgets(rt)?;
     tell_turns(rt)
 }
 
 fn main(rt: HostRuntime) -> Result<()> {
     let table = io::read_to_string(rt.alloc(), rt.reader())?;
-    compare(&rt, table.as_str())
+    compare(&rt, &rt, table.as_str())
 }

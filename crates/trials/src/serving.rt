@@ -6,6 +6,8 @@ use lines::{ReaderInput, WriterOutput};
 use loader::{command, serve_here};
 use std::alloc::Global;
 use std::io::{self, Write};
+use std::sync::Wait;
+use std::thread::Threads;
 
 const RUN: [&str; 2] = ["loader", "run"];
 
@@ -28,19 +30,21 @@ enum Fault {
 }
 
 // Runs the product with words on an input, over devices that move so many bytes a call.
-fn run_on(
-    alloc: Global,
+fn run_on<T: Threads + Wait + Sync>(
+    rt: &HostRuntime,
+    threads: &T,
     words: &[&str],
     input: &[u8],
     step: usize,
     reads: Turns,
     writes: Turns,
 ) -> Ran {
+    let alloc = rt.alloc();
     let mut written = Vec::new(alloc);
     let mut errors = Vec::new(alloc);
     let mut reader = ReaderInput::new(Source::new(input, step, reads));
     let mut writer = WriterOutput::new(Sink::new(&mut written, step, writes));
-    let status = command(alloc, words, &mut reader, &mut writer, &mut errors);
+    let status = command(threads, alloc, words, &mut reader, &mut writer, &mut errors);
     drop(writer);
     Ran {
         status,
@@ -50,9 +54,14 @@ fn run_on(
 }
 
 // Runs the product over devices that never fail.
-fn run_whole(alloc: Global, words: &[&str], input: &str) -> Ran {
+fn run_whole<T: Threads + Wait + Sync>(
+    rt: &HostRuntime,
+    threads: &T,
+    words: &[&str],
+    input: &str,
+) -> Ran {
     let (reads, writes) = (Turns::new(0, false), Turns::new(0, false));
-    run_on(alloc, words, input.as_bytes(), 65536, reads, writes)
+    run_on(rt, threads, words, input.as_bytes(), 65536, reads, writes)
 }
 
 // Writes bytes.
@@ -63,21 +72,31 @@ fn write_bytes(rt: &HostRuntime, bytes: &[u8]) -> Result<()> {
 }
 
 /// Writes the journal of lines, and the status.
-pub fn tell_journal(rt: &HostRuntime, lines: &str) -> Result<()> {
-    let ran = run_whole(rt.alloc(), &["loader", "run", "--runs"], lines);
+pub fn tell_journal<T: Threads + Wait + Sync>(
+    rt: &HostRuntime,
+    threads: &T,
+    lines: &str,
+) -> Result<()> {
+    let ran = run_whole(rt, threads, &["loader", "run", "--runs"], lines);
     write_bytes(rt, ran.errors.as_slice())?;
     println!(rt; "status {}", ran.status)?;
     Ok(())
 }
 
 // Runs the product by three bytes a call, with a fault.
-fn fail_at(alloc: Global, fault: Fault, at: u64, input: &str) -> Ran {
+fn fail_at<T: Threads + Wait + Sync>(
+    rt: &HostRuntime,
+    threads: &T,
+    fault: Fault,
+    at: u64,
+    input: &str,
+) -> Ran {
     let (reads, writes) = match fault {
         Fault::Read => (Turns::new(at, false), Turns::new(0, false)),
         Fault::Write => (Turns::new(0, false), Turns::new(at, false)),
         Fault::Interrupted => (Turns::new(0, true), Turns::new(0, true)),
     };
-    run_on(alloc, &RUN, input.as_bytes(), 3, reads, writes)
+    run_on(rt, threads, &RUN, input.as_bytes(), 3, reads, writes)
 }
 
 // Tells a run: its status, how many bytes it wrote, whether they begin the answers, and what it said.
@@ -97,15 +116,16 @@ fn tell_ran(rt: &HostRuntime, what: &str, ran: &Ran, answers: &[u8]) -> Result<(
 }
 
 // Fails each call in turn, up to the first that is not made.
-fn tell_stops(
+fn tell_stops<T: Threads + Wait + Sync>(
     rt: &HostRuntime,
+    threads: &T,
     fault: Fault,
     what: &str,
     lines: &str,
     answers: &[u8],
 ) -> Result<()> {
     for at in 1..200u64 {
-        let ran = fail_at(rt.alloc(), fault, at, lines);
+        let ran = fail_at(rt, threads, fault, at, lines);
         let name = format!(in rt.alloc(); "{what} {at}")?;
         tell_ran(rt, name.as_str(), &ran, answers)?;
         if ran.status == 0 {
@@ -116,14 +136,25 @@ fn tell_stops(
 }
 
 /// Serves lines, and then each time with another read or write that fails.
-pub fn tell_failures(rt: &HostRuntime, lines: &str) -> Result<()> {
-    let whole = run_whole(rt.alloc(), &RUN, lines);
+pub fn tell_failures<T: Threads + Wait + Sync>(
+    rt: &HostRuntime,
+    threads: &T,
+    lines: &str,
+) -> Result<()> {
+    let whole = run_whole(rt, threads, &RUN, lines);
     let answers = whole.written.as_slice();
     write_bytes(rt, answers)?;
     tell_ran(rt, "whole", &whole, answers)?;
-    tell_stops(rt, Fault::Interrupted, "interrupted", lines, answers)?;
-    tell_stops(rt, Fault::Read, "read", lines, answers)?;
-    tell_stops(rt, Fault::Write, "write", lines, answers)
+    tell_stops(
+        rt,
+        threads,
+        Fault::Interrupted,
+        "interrupted",
+        lines,
+        answers,
+    )?;
+    tell_stops(rt, threads, Fault::Read, "read", lines, answers)?;
+    tell_stops(rt, threads, Fault::Write, "write", lines, answers)
 }
 
 // Names what was said.
@@ -138,9 +169,9 @@ fn kind_of(errors: &[u8]) -> &'static str {
 }
 
 // Runs the product with the words of a row.
-fn tell_row(rt: &HostRuntime, row: &str) -> Result<()> {
+fn tell_row<T: Threads + Wait + Sync>(rt: &HostRuntime, threads: &T, row: &str) -> Result<()> {
     let words: Vec<&str> = row.split(' ').collect(rt.alloc())?;
-    let ran = run_whole(rt.alloc(), words.as_slice(), FIND);
+    let ran = run_whole(rt, threads, words.as_slice(), FIND);
     let (status, count) = (ran.status, ran.written.len());
     let kind = kind_of(ran.errors.as_slice());
     println!(rt; "{row}: status {status}, {count} bytes, said {kind}")?;
@@ -148,9 +179,13 @@ fn tell_row(rt: &HostRuntime, row: &str) -> Result<()> {
 }
 
 /// Runs the product with the words of each row.
-pub fn tell_words(rt: &HostRuntime, rows: &str) -> Result<()> {
+pub fn tell_words<T: Threads + Wait + Sync>(
+    rt: &HostRuntime,
+    threads: &T,
+    rows: &str,
+) -> Result<()> {
     for row in rows.lines() {
-        tell_row(rt, row)?;
+        tell_row(rt, threads, row)?;
     }
     Ok(())
 }

@@ -1,0 +1,13 @@
+use Rattle.std.proofs.Common.{◌≡◌, ◌++◌, ◌∙◌, ap}
+use Rattle.std.proofs.lemmas.Result.{IfOk-weaker}
+use Rattle.node.specs.Graphs.{record_at, present}
+use Rattle.answers.specs.Tokens.{tokens_of}
+use Rattle.serde_json.specs.Written.{compact_text}
+use Rattle.loader.specs.Told.{package_told}
+use Rattle.loader.proofs.publishing.text_of.Goals as goal
+
+pub returns : goal.returns
+returns c =
+    let d = package_told c.args.key.now (present (record_at c.args.graph.now c.args.key.now)) in
+    IfOk-weaker c.new.result (λ t. t ≡ c.as_str.result.now) (λ t. t ≡ compact_text d)
+    (λ t is. is ∙ (c.as_str.ensures.value ∙ c.into_text-text.ensures.value d (c.in_ok-write_package_held.ensures ∙ ap (λ ts. ts ++ tokens_of d) c.new-out.ensures))) c.new.ensures

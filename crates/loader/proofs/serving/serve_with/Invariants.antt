@@ -1,0 +1,18 @@
+use Rattle.std.proofs.Common.{◌≡◌, ◌+◌, ◌≤◌, length}
+use Rattle.board.specs.Rule.{total}
+use Rattle.open_nodes.specs.Counted.{turns_of}
+use Rattle.loader.specs.Served.{Between}
+use Rattle.loader.proofs.serving.serve_with.Given as goal
+
+abbrev pub invariant-loop-held : goal.invariant-loop-held
+invariant-loop-held g l = record {
+  between : Between l.budget (g.R.Input.told l.fn.reader) (g.R.Input.told l.reader) (g.W.Output.held l.fn.writer) (g.W.Output.held l.writer) l.pending l.held (g.J.Runs.kept l.journal);
+  ends : g.R.Input.ends l.fn.reader ≤ g.R.Input.ends l.reader;
+  reader_counts : g.R.Input.failures l.fn.reader ≤ g.R.Input.failures l.reader;
+  hands : length l.crew.items ≡ length l.fn.hands.items;
+  counted : total g.H.Rules.turns l.crew.items ≡ total g.H.Rules.turns l.fn.hands.items + turns_of (g.J.Runs.kept l.journal);
+  writer_counts : g.W.Output.failures l.fn.writer ≤ g.W.Output.failures l.writer;
+}
+
+abbrev pub decreases-loop-held : goal.decreases-loop-held
+decreases-loop-held g l = g.R.Input.left l.reader + length l.pending

@@ -1,0 +1,83 @@
+//! Requests whose packages are published for readers beside the loader.
+ghost use Rattle.std.specs.Prelude.{◌≡◌, ◌≤◌, ◌⊎◌, None, IfOk, OnOk, OnErr, string_bytes};
+ghost use Rattle.open_nodes.specs.Counted.{turns_of};
+ghost use Rattle.commands.specs.Commands.{load};
+ghost use Rattle.commands.specs.Refusals.{request_refusal};
+ghost use Rattle.commands.specs.Seen.{request_seen, texts_seen};
+ghost use Rattle.shelf.specs.Lists.{version_of};
+ghost use Rattle.shelf.specs.Shelves.{published_by, shown_by, shelf_of};
+ghost use Rattle.loader.specs.Answers as answers;
+ghost use Rattle.loader.specs.Effects.{Moves, StopsAfter, request_effect, request_roots};
+ghost use Rattle.loader.specs.Held.{files_of, IsLawful};
+ghost use Rattle.loader.specs.Publishing.{AreEntries, Publishes, Shows, names_to_publish};
+
+use super::Session;
+use crate::publishing::packages_told;
+use crate::reply::Reply;
+use crate::told::package_keys;
+use commands::{Request, refusal};
+use round::Stop;
+use shelf::{Keeper, Told};
+use std::sync::Wait;
+use texts::Text;
+
+impl Session {
+    /// Answers a request as `request` does, and publishes the packages of a load that is not refused: one entry for each
+    /// distinct name, all at the present version. Its text is the JSON of that package. Then it returns what readers may
+    /// learn. Other requests publish nothing.
+    ///
+    /// Returns `Budget` where the budget of turns is spent, and nothing is published. Returns `Memory` if an allocation
+    /// fails. Nothing is shown to readers then, and the publish may be taken up: a later one shows it.
+    pub fn request_published<R: Wait + Drop>(
+        &mut self,
+        request: &Request<'_>,
+        keeper: &mut Keeper<R>,
+        budget: u64,
+    ) -> Result<(Reply, Option<Told>), Stop>
+        requires { version_of (published_by keeper.old) ≤ self.old.graph.version }
+        ensures text { IfOk result (λ r. answers.Tells (answers.IsRequestAnswer (request_seen request.now) (files_of self.old)) (string_bytes r.0.text)) }
+        ensures moves { IfOk result (λ r. Moves (request_effect (request_seen request.now) self.old.graph.version) self.old self.new r.0.runs.items) }
+        ensures turns { IfOk result (λ r. turns_of r.0.runs.items ≤ budget) }
+        ensures stopped { OnErr result (StopsAfter (request_roots (request_seen request.now)) self.old self.new) }
+        ensures history { (self.new.began ≡ self.old.began) × (self.new.edits ≡ self.old.edits) }
+        ensures version { self.new.graph.version ≡ self.old.graph.version }
+        ensures lawful { IsLawful self.new }
+        ensures shelf { shelf_of keeper.new ≡ shelf_of keeper.old }
+        ensures published { OnOk result (Publishes (files_of self.old) self.old.graph.version (names_to_publish (request_seen request.now)) (published_by keeper.old) (published_by keeper.new)) }
+        ensures told { IfOk result (λ r. Shows (names_to_publish (request_seen request.now)) r.1 keeper.old keeper.new) }
+        ensures refused { OnErr result ((published_by keeper.new ≡ published_by keeper.old) ⊎ Publishes (files_of self.old) self.old.graph.version (names_to_publish (request_seen request.now)) (published_by keeper.old) (published_by keeper.new)) }
+        ensures hidden { OnErr result (shown_by keeper.new ≡ shown_by keeper.old) }
+    {
+        let Request::Load(names) = request else {
+            return Ok((self.request(request, budget)?, None));
+        };
+        if refusal(self.alloc, request)?.is_some() {
+            return Ok((self.request(request, budget)?, None));
+        }
+        let (reply, entries) = self.load(names.as_slice(), budget)?;
+        let told = keeper.publish(u64::from(self.version()), entries)?;
+        Ok((reply, Some(told)))
+    }
+
+    // Answers a load that is not refused, with the entries that it publishes.
+    fn load(&mut self, names: &[&str], budget: u64) -> Result<(Reply, Vec<(Text, Text)>), Stop>
+        requires { request_refusal (load (texts_seen names.now)) ≡ None }
+        ensures text { IfOk result (λ r. answers.Tells (answers.IsRequestAnswer (load (texts_seen names.now)) (files_of self.old)) (string_bytes r.0.text)) }
+        ensures entries { IfOk result (λ r. AreEntries (files_of self.old) (texts_seen names.now) r.1.items) }
+        ensures moves { IfOk result (λ r. Moves (request_effect (load (texts_seen names.now)) self.old.graph.version) self.old self.new r.0.runs.items) }
+        ensures turns { IfOk result (λ r. turns_of r.0.runs.items ≤ budget) }
+        ensures stopped { OnErr result (StopsAfter (request_roots (load (texts_seen names.now))) self.old self.new) }
+        ensures history { (self.new.began ≡ self.old.began) × (self.new.edits ≡ self.old.edits) }
+        ensures version { self.new.graph.version ≡ self.old.graph.version }
+        ensures lawful { IsLawful self.new }
+    {
+        let roots = package_keys(self.alloc, names)?;
+        let runs = self.settle(roots.as_slice(), budget)?;
+        let told = packages_told(self.alloc, &self.graph, names)?;
+        let reply = Reply {
+            text: told.line,
+            runs,
+        };
+        Ok((reply, told.entries))
+    }
+}
