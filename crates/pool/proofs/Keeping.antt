@@ -21,6 +21,7 @@ use Rattle.open_nodes.specs.Counted.{HasMade}
 use Rattle.open_nodes.specs.Nodes.{node_at}
 use Rattle.open_nodes.specs.declared.table.Node.{Node}
 use Rattle.open_nodes.specs.declared.table.Phase.TheVariants as phase
+use Rattle.round.specs.Here.{IsResting}
 use Rattle.round.specs.Rounds.{standing, StandsBeside, IsStalled, IsOfJobOut, HandsOut, TakesBack, KeepsJobs, KeepsAllJobs}
 use Rattle.round.specs.Turning.{IsOutWith}
 use Rattle.round.specs.declared.rounds.Round.{Round}
@@ -56,9 +57,9 @@ not_both n a b = no (sym a ∙ b)
 
 module _ {R S : Type 0} where
   -- with no job out and none ready the round is stalled
-  pub is_stalled : (graph : Recorded) (round : Round R S) (v : View Asked Outcome) (roots : List Key) (places hands out handed : ℕ) → IsServing graph round v roots places hands out handed → out ≡ 0
+  pub is_stalled : (graph : Recorded) (round : Round R S) (v : View Asked Outcome) (roots : List Key) (first places hands out handed : ℕ) → IsServing graph round v roots first places hands out handed → out ≡ 0
       → (standing round).table.ready.keys ≡ [] → IsStalled (standing round)
-  is_stalled graph round v roots places hands out handed s none ready =
+  is_stalled graph round v roots first places hands out handed s none ready =
       (ready, none_in (standing round).out (λ k i. let at = s.posted k i in none_at v.out (s.counted ∙ none) at.0 at.1 at.2))
 
   -- a key that is ready has no job out
@@ -69,8 +70,8 @@ module _ {R S : Type 0} where
   -- a job was handed out and posted
   pub given : (graph : Recorded) (before later : Round R S) (v w : View Asked Outcome) (p : ℕ) (job : Asked) (key : Key) → StandsBeside graph later → KeepsAllJobs graph (standing before) (standing later)
       → HandsOut graph key (standing before) (standing later) (Some job) → HasPosted v p job w
-      → (roots : List Key) (places hands out handed : ℕ) → IsServing graph before v roots places hands out handed → IsServing graph later w roots places hands (out + 1) (handed + 1)
-  given graph before later v w p job key beside others h did roots places hands out handed s =
+      → (roots : List Key) (first places hands out handed : ℕ) → IsServing graph before v roots first places hands out handed → IsServing graph later w roots places hands (out + 1) (handed + 1)
+  given graph before later v w p job key beside others h did roots first places hands out handed s =
       let u = did.1.0 in let same = looked_same 0 p v u did.1.1 in let was : get_elem? v.out p ≡ some None = did.0 in
       let out_is : w.out ≡ set v.out p (Some job) = ap (λ (z : View Asked Outcome). z.out) did.1.2 ∙ ap (λ (l : List (Option Asked)). set l p (Some job)) same.0 in
       let here : get_elem? w.out p ≡ some (Some job) = ap (λ (l : List (Option Asked)). get_elem? l p) out_is ∙ set_here v.out p (Some job) (below v.out p None was) in
@@ -80,7 +81,7 @@ module _ {R S : Type 0} where
       record {
         beside = beside;
         same_roots = h.4 ∙ s.same_roots;
-        made = subst (HasMade later.table) (ap made_in (sym collected)) (h.5 (made_in v.collected) s.made);
+        made = subst (HasMade later.table) (ap (λ (l : List Outcome). first + made_in l) (sym collected)) (h.5 (first + made_in v.collected) s.made);
         posted = λ k i. ⊎_elim
             (λ old. let at = s.posted k old in
             (at.0, at.1, ap (λ (l : List (Option Asked)). get_elem? l at.0) out_is ∙ (set_else v.out p at.0 (Some job) (λ e. none_some (some-injective None (Some at.1) (sym was ∙ (ap (get_elem? v.out) (sym e) ∙ at.2)))) ∙ at.2), at.3))
@@ -108,11 +109,11 @@ module _ {R S : Type 0} where
 
   -- nothing was collected
   pub looked_in_vain : (graph : Recorded) (round : Round R S) (v w : View Asked Outcome) (n : ℕ) → Looked 3 n v w
-      → (roots : List Key) (places hands out handed : ℕ) → IsServing graph round v roots places hands out handed → IsServing graph round w roots places hands out handed
-  looked_in_vain graph round v w n did roots places hands out handed s = let same = looked_same 3 n v w did in record {
+      → (roots : List Key) (first places hands out handed : ℕ) → IsServing graph round v roots first places hands out handed → IsServing graph round w roots first places hands out handed
+  looked_in_vain graph round v w n did roots first places hands out handed s = let same = looked_same 3 n v w did in record {
     beside = s.beside;
     same_roots = s.same_roots;
-    made = subst (HasMade round.table) (ap made_in (sym same.2)) s.made;
+    made = subst (HasMade round.table) (ap (λ (l : List Outcome). first + made_in l) (sym same.2)) s.made;
     posted = λ k i. let at = s.posted k i in (at.0, at.1, ap (λ (l : List (Option Asked)). get_elem? l at.0) same.0 ∙ at.2, at.3);
     sized = ap length same.0 ∙ s.sized;
     staffed = same.3 ∙ s.staffed;
@@ -126,8 +127,8 @@ module _ {R S : Type 0} where
   -- a turn was collected and taken back
   pub taken : (old new : Recorded) (before later : Round R S) (v w : View Asked Outcome) (p : ℕ) (turn : Outcome) → StandsBeside new later → KeepsJobs turn.asked.key old new (standing before) (standing later)
       → TakesBack (standing before) (standing later) turn.asked.key → turn.ending ≡ Made → HasCollected (λ t. t.asked) v p turn w
-      → (roots : List Key) (places hands out handed : ℕ) → IsServing old before v roots places hands out handed → IsServing new later w roots places hands (out - 1) handed × (0 < out)
-  taken old new before later v w p turn beside others back made did roots places hands out handed s =
+      → (roots : List Key) (first places hands out handed : ℕ) → IsServing old before v roots first places hands out handed → IsServing new later w roots places hands (out - 1) handed × (0 < out)
+  taken old new before later v w p turn beside others back made did roots first places hands out handed s =
       let u = did.1.0 in let same = looked_same 3 p v u did.1.1 in let was : get_elem? v.out p ≡ some (Some turn.asked) = did.0 in
       let out_is : w.out ≡ set v.out p None = ap (λ (z : View Asked Outcome). z.out) did.1.2 ∙ ap (λ (l : List (Option Asked)). set l p None) same.0 in
       let collected : w.collected ≡ v.collected ++ turn ∷ [] = ap (λ (z : View Asked Outcome). z.collected) did.1.2 ∙ ap (λ (l : List Outcome). l ++ turn ∷ []) same.2 in
@@ -141,7 +142,7 @@ module _ {R S : Type 0} where
         record {
           beside = beside;
           same_roots = back.0 ∙ s.same_roots;
-          made = subst (HasMade later.table) one (back.2 (made_in v.collected) s.made);
+          made = subst (HasMade later.table) (omega (arith, one)) (back.2 (first + made_in v.collected) s.made);
           posted = λ k i. let at = s.posted k (back.1.from k i) in (
             at.0,
             at.1,
@@ -169,21 +170,22 @@ pub rep_long : {X : Type 0} (n : ℕ) (x : X) → length (replicate n x) ≡ n
 rep_long zero x = refl
 rep_long (suc n) x = ap suc (rep_long n x)
 
--- a round that was opened, beside a new board
-pub begins : {R S : Type 0} (graph : Recorded) (round : Round R S) (v : View Asked Outcome) (roots : List Key) (n : ℕ) → v ≡ opened n v.hands → StandsBeside graph round
-    → (standing round).roots ≡ roots → (standing round).out ≡ [] → HasMade round.table 0 → IsServing graph round v roots n v.hands 0 0
-begins graph round v roots n new beside same none made =
+-- a round of which the first turns were made, beside a new board
+pub begins : {R S : Type 0} (graph : Recorded) (round : Round R S) (v : View Asked Outcome) (roots : List Key) (first n : ℕ) → v ≡ opened n v.hands
+    → IsResting graph round roots first → IsServing graph round v roots first n v.hands 0 first
+begins graph round v roots first n new rests =
     let out : v.out ≡ replicate n None = ap (λ (z : View Asked Outcome). z.out) new in let collected : v.collected ≡ [] = ap (λ (z : View Asked Outcome). z.collected) new in
+    let none : made_in v.collected ≡ 0 = ap made_in collected in
     record {
-      beside = beside;
-      same_roots = same;
-      made = subst (HasMade round.table) (ap made_in (sym collected)) made;
-      posted = λ k i. absurd (not_in i none);
+      beside = rests.beside;
+      same_roots = rests.same_roots;
+      made = subst (HasMade round.table) (omega (arith, none)) rests.made;
+      posted = λ k i. absurd (not_in i rests.none_out);
       sized = ap length out ∙ rep_long n None;
       staffed = refl;
       none_answered = ap (λ (z : View Asked Outcome). z.answers) new;
       counted = ap (total one_out) out ∙ rep_none n;
-      handed_out = let a = ap made_in collected in omega (arith, a);
+      handed_out = omega (arith, none);
       known = λ p job e. absurd (none_at v.out (ap (total one_out) out ∙ rep_none n) p job e);
       apart = λ p q job other e f same. absurd (none_at v.out (ap (total one_out) out ∙ rep_none n) p job e);
     }
@@ -242,11 +244,11 @@ shut_same v w a = (ap length a.0, a.1, a.2)
 
 -- a host that did nothing but shut the board
 pub serves_shut : {R S : Type 0} (graph : Recorded) (round : Round R S) (v w : View Asked Outcome) → IsShutOnly v w
-    → (roots : List Key) (places hands out handed : ℕ) → IsServing graph round v roots places hands out handed → IsServing graph round w roots places hands out handed
-serves_shut graph round v w same roots places hands out handed s = record {
+    → (roots : List Key) (first places hands out handed : ℕ) → IsServing graph round v roots first places hands out handed → IsServing graph round w roots first places hands out handed
+serves_shut graph round v w same roots first places hands out handed s = record {
   beside = s.beside;
   same_roots = s.same_roots;
-  made = subst (HasMade round.table) (ap made_in (sym same.3)) s.made;
+  made = subst (HasMade round.table) (ap (λ (l : List Outcome). first + made_in l) (sym same.3)) s.made;
   posted = λ k i. let at = s.posted k i in (at.0, at.1, ap (λ (l : List (Option Asked)). get_elem? l at.0) same.0 ∙ at.2, at.3);
   sized = ap length same.0 ∙ s.sized;
   staffed = same.1 ∙ s.staffed;

@@ -13,21 +13,21 @@ use Rattle.pool.specs.declared.evaluations.Ran.{Ran}
 use Rattle.round.specs.Call.{Calls, HasOpenRoot, HasTurnToMake}
 use Rattle.round.specs.declared.stop.Stop.TheVariants as stop
 
--- the evaluation of the roots by these rules, in at most `budget` turns
-pub record HasRun {R S : Type 0} (next : Key → List Value → Reply Key Value) (turns : R → ℕ) (read : Key → Option Value) (id : TableId) (places : ℕ) (roots : List Key) (before : Recorded) (given : List R) (budget : ℕ) (ran : Ran R S) : Type 0 where
+-- the evaluation of the roots since the graph was as before, of which the first turns were made, by these rules, in at most `budget` turns
+pub record HasRun {R S : Type 0} (next : Key → List Value → Reply Key Value) (turns : R → ℕ) (read : Key → Option Value) (id : TableId) (places : ℕ) (roots : List Key) (before : Recorded) (first : ℕ) (given : List R) (budget : ℕ) (ran : Ran R S) : Type 0 where
   pub law : IfOk ran.ended (λ runs. Calls next read roots before ran.graph (Ok runs.items))
   pub within : IfOk ran.ended (λ runs. turns_of runs.items ≤ budget)
   pub stopped : IfErr ran.ended (λ e. Calls next read roots before ran.graph (Err e))
   pub open_root : IsErrOf ran.ended stop.Budget → HasOpenRoot next read roots before ran.graph
   pub spent : IsErrOf ran.ended stop.Budget → HasTurnToMake next read roots before ran.graph
   -- all jobs are back where the budget is spent, and their turns are as many
-  pub made_all : IsErrOf ran.ended stop.Budget → (jobs_out ran.host.seat.me.0 ≡ 0) × (made_in ran.host.seat.me.0.collected ≡ budget)
+  pub made_all : IsErrOf ran.ended stop.Budget → (jobs_out ran.host.seat.me.0 ≡ 0) × (first + made_in ran.host.seat.me.0.collected ≡ budget)
   -- host and hands are at rest, whatever it ended with
   pub host_rests : IsHostAtRest id ran.host.seat
   pub hands_rest : All (λ h. IsHandAtRest id h.seat) ran.hands.items
   pub staffed : (length ran.hands.items ≡ length given) × (ran.host.seat.me.0.hands ≡ length given) × (length ran.rules.items ≡ length given)
   pub sized : (length ran.host.seat.me.0.out ≡ places) × (ran.host.seat.me.0.answers ≡ [])
-  -- no job is out, and what was collected are the turns of the runs
-  pub done : IfOk ran.ended (λ runs. (jobs_out ran.host.seat.me.0 ≡ 0) × (made_in ran.host.seat.me.0.collected ≡ turns_of runs.items))
+  -- no job is out, and the first turns with those that were collected are the turns of the runs
+  pub done : IfOk ran.ended (λ runs. (jobs_out ran.host.seat.me.0 ≡ 0) × (first + made_in ran.host.seat.me.0.collected ≡ turns_of runs.items))
   -- the rules made the turns that the hands answered
   pub made : total turns ran.rules.items ≡ total turns given + total (λ h. made_in h.seat.me.0.answers) ran.hands.items

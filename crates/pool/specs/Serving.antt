@@ -53,18 +53,18 @@ AreKnown graph s v = (p : ℕ) (job : Asked) → get_elem? v.out p ≡ some (Som
 abbrev pub AreApart : View Asked Outcome → Type 0
 AreApart v = (p q : ℕ) (job other : Asked) → get_elem? v.out p ≡ some (Some job) → get_elem? v.out q ≡ some (Some other) → job.key ≡ other.key → p ≡ q
 
--- The round stands beside the graph, and each of its jobs that is out lies on the board of so many places. The turns that were collected are those
--- that the round has counted, and with the jobs that are out they are as many as were handed out.
-pub record IsServing {R S : Type 0} (graph : Recorded) (round : Round R S) (v : View Asked Outcome) (roots : List Key) (places hands out handed : ℕ) : Type 0 where
+-- The round stands beside the graph, and each of its jobs that is out lies on the board of so many places. The turns that were made first, with
+-- those that were collected, are those that the round has counted. With the jobs that are out they are as many as were handed out.
+pub record IsServing {R S : Type 0} (graph : Recorded) (round : Round R S) (v : View Asked Outcome) (roots : List Key) (first places hands out handed : ℕ) : Type 0 where
   pub beside : StandsBeside graph round
   pub same_roots : (standing round).roots ≡ roots
-  pub made : HasMade round.table (made_in v.collected)
+  pub made : HasMade round.table (first + made_in v.collected)
   pub posted : (k : Key) → In k (standing round).out → IsPostedKey v k
   pub sized : length v.out ≡ places
   pub staffed : v.hands ≡ hands
   pub none_answered : v.answers ≡ []
   pub counted : jobs_out v ≡ out
-  pub handed_out : made_in v.collected + out ≡ handed
+  pub handed_out : first + made_in v.collected + out ≡ handed
   pub known : AreKnown graph (standing round) v
   pub apart : AreApart v
 

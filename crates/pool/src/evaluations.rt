@@ -6,19 +6,23 @@ ghost use Rattle.leaves.specs.Leaves as leaves;
 ghost use Rattle.open_nodes.specs.Counted.{turns_of};
 ghost use Rattle.pool.specs.Running.{HasRun};
 ghost use Rattle.round.specs.Call.{Calls, HasOpenRoot, HasTurnToMake};
+ghost use Rattle.round.specs.Here.{IsResting};
+ghost use Rattle.round.specs.Rounds.{standing};
+ghost use Rattle.round.specs.Since.{IsTrueSinceSome};
 ghost use Rattle.round.specs.declared.stop.Stop.{Stop};
 
 use crate::bell::Bells;
 use crate::board_end::close_board;
 use crate::crew::{Crew, join_all};
+use crate::first_turns::make_first_turns;
 use crate::host::serve;
-use crate::steps::share_all;
 use board::{Board, Hand, Host, OpenError};
 use filetree::Tree;
 use keys::{Key, Rules};
 use node::Graph;
-use round::{Run, Stop};
+use round::{Round, Run, Stop, close_stall, has_ready, share_all};
 use std::alloc::Global;
+use std::snapshot::Snapshot;
 use std::sync::Wait;
 use std::thread::{Scope, Threads};
 use std::{mem, thread};
@@ -55,13 +59,17 @@ fn run<'s, E, R: Rules + Send + Drop + 's, T: Threads + Wait + Sync>(
     rules: Vec<R>,
     mut graph: Graph,
     tree: &Tree,
-    roots: Vec<Key>,
+    entry: Snapshot<Graph>,
+    round: Round<R>,
+    first: u64,
     budget: u64,
 ) -> Ran<R>
     requires host { IsNewHost board.now.table.shared.table_id board.now.capacity (length rules.items) host.seat }
     requires hands { All (λ h. IsNewHand board.now.table.shared.table_id h.seat) hands.items × (length hands.items ≡ length rules.items) }
     requires places { 0 < board.now.capacity }
-    ensures { HasRun R.next R.turns (leaves.read tree.now) board.now.table.shared.table_id board.now.capacity roots.items graph rules.items budget result }
+    requires rests { IsResting graph round (standing round).roots first × (first ≤ budget) }
+    requires truth { IsTrueSinceSome R.next (leaves.read tree.now) (standing round).roots entry.value graph round.table }
+    ensures { HasRun R.next R.turns (leaves.read tree.now) board.now.table.shared.table_id board.now.capacity (standing round).roots entry.value first rules.items budget result }
 {
     let workers = match with_room(alloc, rules.len()) {
         Ok(workers) => workers,
@@ -81,7 +89,8 @@ fn run<'s, E, R: Rules + Send + Drop + 's, T: Threads + Wait + Sync>(
         hands,
     };
     let ended = serve(
-        scope, rt, alloc, board, bells, &mut host, &mut crew, &mut graph, tree, roots, budget,
+        scope, rt, board, bells, &mut host, &mut crew, &mut graph, tree, entry, round, first,
+        budget,
     );
     board.shut(&mut host);
     bells.jobs.ring_all();
@@ -106,13 +115,17 @@ fn scoped<R: Rules + Send + Drop, T: Threads + Wait + Sync>(
     rules: Vec<R>,
     graph: Graph,
     tree: &Tree,
-    roots: Vec<Key>,
+    entry: Snapshot<Graph>,
+    round: Round<R>,
+    first: u64,
     budget: u64,
 ) -> Ran<R>
     requires host { IsNewHost board.now.table.shared.table_id board.now.capacity (length rules.items) host.seat }
     requires hands { All (λ h. IsNewHand board.now.table.shared.table_id h.seat) hands.items × (length hands.items ≡ length rules.items) }
     requires places { 0 < board.now.capacity }
-    ensures { HasRun R.next R.turns (leaves.read tree.now) board.now.table.shared.table_id board.now.capacity roots.items graph rules.items budget result }
+    requires rests { IsResting graph round (standing round).roots first × (first ≤ budget) }
+    requires truth { IsTrueSinceSome R.next (leaves.read tree.now) (standing round).roots entry.value graph round.table }
+    ensures { HasRun R.next R.turns (leaves.read tree.now) board.now.table.shared.table_id board.now.capacity (standing round).roots entry.value first rules.items budget result }
 {
     thread::scope(
         thread::scope_env(),
@@ -121,42 +134,41 @@ fn scoped<R: Rules + Send + Drop, T: Threads + Wait + Sync>(
             requires host { IsNewHost board.now.table.shared.table_id board.now.capacity (length rules.items) host.seat }
             requires hands { All (λ h. IsNewHand board.now.table.shared.table_id h.seat) hands.items × (length hands.items ≡ length rules.items) }
             requires places { 0 < board.now.capacity }
-            ensures { HasRun R.next R.turns (leaves.read tree.entry.now) board.entry.now.table.shared.table_id board.entry.now.capacity roots.items graph rules.items budget result }
+            requires rests { IsResting graph round (standing round).roots first × (first ≤ budget) }
+            requires truth { IsTrueSinceSome R.next (leaves.read tree.now) (standing round).roots entry.value graph round.table }
+            ensures { HasRun R.next R.turns (leaves.read tree.entry.now) board.entry.now.table.shared.table_id board.entry.now.capacity (standing round).roots entry.value first rules.items budget result }
         {
             run(
-                scope, rt, alloc, board, bells, host, hands, rules, graph, tree, roots, budget,
+                scope, rt, alloc, board, bells, host, hands, rules, graph, tree, entry, round,
+                first, budget,
             )
         },
     )
 }
 
-/// Evaluates the roots over the graph as `evaluate_here` does, in at most `budget` turns, by worker threads. Each has one
-/// of the hands. A thread is made only where more jobs are out than there are threads. What is promised does not hang on
-/// the order in which jobs are taken, made and collected.
-///
-/// `Stop::Budget` where so many turns were made, all jobs are back, and a further turn is to be made. `Stop::Memory` where
-/// a growth was refused or a thread could not be made. After a stop the graph is as after a stop of `evaluate_here`, and
-/// the hands are given up. Whatever it answers, each job came back, and no thread runs on. That there are 1 to 16 hands is
-/// the caller's condition.
-pub fn evaluate<R: Rules + Send + Drop, T: Threads + Wait + Sync>(
+// Goes on with an evaluation of which the first turns were made, since the graph was that of the entry, by workers.
+fn by_workers<R: Rules + Send + Drop, T: Threads + Wait + Sync>(
     rt: &T,
     alloc: Global,
     graph: &mut Graph,
     tree: &Tree,
-    roots: &[Key],
+    entry: Snapshot<Graph>,
+    round: Round<R>,
     hands: Vec<R>,
+    first: u64,
     budget: u64,
 ) -> Result<(Vec<R>, Vec<Run>), Stop>
-    requires { (1 ≤ length hands.items) × (length hands.items ≤ 16) }
-    ensures law { IfOk result (λ done. Calls R.next (leaves.read tree.now) roots.now graph.old graph.new (Ok done.1.items)) }
-    ensures stopped { IfErr result (λ e. Calls R.next (leaves.read tree.now) roots.now graph.old graph.new (Err e)) }
-    ensures turns { IfOk result (λ done. total R.turns done.0.items ≡ total R.turns hands.items + turns_of done.1.items) }
+    requires hands { (1 ≤ length hands.items) × (length hands.items ≤ 16) }
+    requires rests { IsResting graph.old round (standing round).roots first × (first ≤ budget) }
+    requires truth { IsTrueSinceSome R.next (leaves.read tree.now) (standing round).roots entry.value graph.old round.table }
+    ensures law { IfOk result (λ done. Calls R.next (leaves.read tree.now) (standing round).roots entry.value graph.new (Ok done.1.items)) }
+    ensures stopped { IfErr result (λ e. Calls R.next (leaves.read tree.now) (standing round).roots entry.value graph.new (Err e)) }
+    ensures turns { IfOk result (λ done. first + total R.turns done.0.items ≡ total R.turns hands.items + turns_of done.1.items) }
     ensures hands { IfOk result (λ done. length done.0.items ≡ length hands.items) }
     ensures within { IfOk result (λ done. turns_of done.1.items ≤ budget) }
-    ensures budget { IsErrOf result Stop.Budget → HasOpenRoot R.next (leaves.read tree.now) roots.now graph.old graph.new }
-    ensures spent { IsErrOf result Stop.Budget → HasTurnToMake R.next (leaves.read tree.now) roots.now graph.old graph.new }
+    ensures budget { IsErrOf result Stop.Budget → HasOpenRoot R.next (leaves.read tree.now) (standing round).roots entry.value graph.new }
+    ensures spent { IsErrOf result Stop.Budget → HasTurnToMake R.next (leaves.read tree.now) (standing round).roots entry.value graph.new }
 {
-    let roots = share_all(alloc, roots)?;
     let (board, host, seats) = match Board::open(alloc, CAPACITY, hands.len()) {
         Ok(made) => made,
         Err(OpenError::Memory) => return Err(Stop::Memory),
@@ -171,7 +183,7 @@ pub fn evaluate<R: Rules + Send + Drop, T: Threads + Wait + Sync>(
         hands: seats,
         ended,
     } = scoped(
-        rt, alloc, &board, &bells, host, seats, hands, lent, tree, roots, budget,
+        rt, alloc, &board, &bells, host, seats, hands, lent, tree, entry, round, first, budget,
     );
     *graph = after;
     let _back = close_board(board, host, seats);
@@ -179,4 +191,46 @@ pub fn evaluate<R: Rules + Send + Drop, T: Threads + Wait + Sync>(
         Err(stop) => Err(stop),
         Ok(runs) => Ok((rules, runs)),
     }
+}
+
+/// Evaluates the roots over the graph as `evaluate_here` does, in at most `budget` turns, by worker threads. Each has one
+/// of the hands. The first turns are made on the caller's thread: a few, and more as long as one alone can be made. A thread
+/// is made only where more jobs are out than there are threads. What is promised does not hang on the order in which jobs
+/// are taken, made and collected.
+///
+/// `Stop::Budget` where so many turns were made, all jobs are back, and a further turn is to be made. `Stop::Memory` where
+/// a growth was refused or a thread could not be made. After a stop the graph is as after a stop of `evaluate_here`, and
+/// the hands are given up. Whatever it answers, each job came back, and no thread runs on. That there are 1 to 16 hands is
+/// the caller's condition.
+pub fn evaluate<R: Rules + Send + Drop, T: Threads + Wait + Sync>(
+    rt: &T,
+    alloc: Global,
+    graph: &mut Graph,
+    tree: &Tree,
+    roots: &[Key],
+    mut hands: Vec<R>,
+    budget: u64,
+) -> Result<(Vec<R>, Vec<Run>), Stop>
+    requires { (1 ≤ length hands.items) × (length hands.items ≤ 16) }
+    ensures law { IfOk result (λ done. Calls R.next (leaves.read tree.now) roots.now graph.old graph.new (Ok done.1.items)) }
+    ensures stopped { IfErr result (λ e. Calls R.next (leaves.read tree.now) roots.now graph.old graph.new (Err e)) }
+    ensures turns { IfOk result (λ done. total R.turns done.0.items ≡ total R.turns hands.items + turns_of done.1.items) }
+    ensures hands { IfOk result (λ done. length done.0.items ≡ length hands.items) }
+    ensures within { IfOk result (λ done. turns_of done.1.items ≤ budget) }
+    ensures budget { IsErrOf result Stop.Budget → HasOpenRoot R.next (leaves.read tree.now) roots.now graph.old graph.new }
+    ensures spent { IsErrOf result Stop.Budget → HasTurnToMake R.next (leaves.read tree.now) roots.now graph.old graph.new }
+{
+    let roots = share_all(alloc, roots)?;
+    let entry = Snapshot::of(&*graph);
+    let mut round: Round<R> = Round::open(alloc, graph, tree, roots)?;
+    let Some(mut own) = hands.pop() else {
+        unreachable!()
+    };
+    let first = make_first_turns(&mut round, graph, tree, &mut own, budget)?;
+    hands.push_reserved(own);
+    if has_ready(&round) {
+        return by_workers(rt, alloc, graph, tree, entry, round, hands, first, budget);
+    }
+    let runs = close_stall(round, graph)?;
+    Ok((hands, runs))
 }

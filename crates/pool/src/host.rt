@@ -6,17 +6,20 @@ ghost use Rattle.open_nodes.specs.Counted.{turns_of};
 ghost use Rattle.pool.specs.Crews.{IsCrew, SameCrew};
 ghost use Rattle.pool.specs.Serving.{IsSameHost, IsShutOnly, jobs_out, made_in};
 ghost use Rattle.round.specs.Call.{Calls, HasOpenRoot, HasTurnToMake};
+ghost use Rattle.round.specs.Here.{IsResting};
+ghost use Rattle.round.specs.Rounds.{standing};
+ghost use Rattle.round.specs.Since.{IsTrueSinceSome};
 ghost use Rattle.round.specs.declared.stop.Stop.{Stop};
 
 use crate::bell::Bells;
 use crate::crew::{Crew, hire};
-use crate::steps::{give, has_ready, take};
+use crate::steps::{give, take};
 use board::{Board, Host};
 use filetree::Tree;
-use keys::{Key, Rules};
+use keys::Rules;
 use node::Graph;
-use round::{Round, Run, Stop, close_stall};
-use std::alloc::Global;
+use round::{Round, Run, Stop, close_stall, has_ready};
+use std::snapshot::Snapshot;
 use std::sync::Wait;
 use std::thread::Scope;
 use texts::Memory;
@@ -47,19 +50,20 @@ fn staff<'s, E, R: Rules + Send + Drop + 's, T: Wait + Sync>(
     Ok(())
 }
 
-// Evaluates the roots by the turns that the workers of the board make, until no turn can be made any more. All jobs are
-// back then, and so they are where the budget is spent.
+// Goes on with the evaluation by the turns that the workers of the board make, until no turn can be made any more. All jobs
+// are back then, and so they are where the budget is spent. The first turns were made since the graph was that of the entry.
 pub(crate) fn serve<'s, E, R: Rules + Send + Drop + 's, T: Wait + Sync>(
     scope: &Scope<'s, E>,
     rt: &'s T,
-    alloc: Global,
     board: &'s Board<R>,
     bells: &'s Bells,
     host: &mut Host<R>,
     crew: &mut Crew<'s, R>,
     graph: &mut Graph,
     tree: &Tree,
-    roots: Vec<Key>,
+    entry: Snapshot<Graph>,
+    mut round: Round<R>,
+    first: u64,
     budget: u64,
 ) -> Result<Vec<Run>, Stop>
     requires host { IsNewHost board.now.table.shared.table_id board.now.capacity host.old.seat.me.0.hands host.old.seat }
@@ -67,20 +71,21 @@ pub(crate) fn serve<'s, E, R: Rules + Send + Drop + 's, T: Wait + Sync>(
     requires crew { IsCrew board.now.table.shared.table_id crew.old }
     requires new { All (λ h. IsNewHand board.now.table.shared.table_id h.seat) crew.old.hands.items }
     requires none { length crew.old.workers.items ≡ 0 }
+    requires rests { IsResting graph.old round (standing round).roots first × (first ≤ budget) }
+    requires truth { IsTrueSinceSome R.next (leaves.read tree.now) (standing round).roots entry.value graph.old round.table }
     ensures host { IsHostAtRest board.now.table.shared.table_id host.new.seat × IsSameHost host.old.seat.me.0 host.new.seat.me.0 }
     ensures crew { IsCrew board.now.table.shared.table_id crew.new × SameCrew R.turns crew.old crew.new }
-    ensures law { IfOk result (λ runs. Calls R.next (leaves.read tree.now) roots.items graph.old graph.new (Ok runs.items)) }
-    ensures stopped { IfErr result (λ e. Calls R.next (leaves.read tree.now) roots.items graph.old graph.new (Err e)) }
-    ensures budget { IsErrOf result Stop.Budget → HasOpenRoot R.next (leaves.read tree.now) roots.items graph.old graph.new }
-    ensures spent { IsErrOf result Stop.Budget → HasTurnToMake R.next (leaves.read tree.now) roots.items graph.old graph.new }
-    ensures made { IsErrOf result Stop.Budget → (jobs_out host.new.seat.me.0 ≡ 0) × (made_in host.new.seat.me.0.collected ≡ budget) }
-    ensures back { IfOk result (λ runs. (jobs_out host.new.seat.me.0 ≡ 0) × (made_in host.new.seat.me.0.collected ≡ turns_of runs.items)) }
-    ensures few { IfOk result (λ runs. length crew.new.workers.items ≤ turns_of runs.items) }
+    ensures law { IfOk result (λ runs. Calls R.next (leaves.read tree.now) (standing round).roots entry.value graph.new (Ok runs.items)) }
+    ensures stopped { IfErr result (λ e. Calls R.next (leaves.read tree.now) (standing round).roots entry.value graph.new (Err e)) }
+    ensures budget { IsErrOf result Stop.Budget → HasOpenRoot R.next (leaves.read tree.now) (standing round).roots entry.value graph.new }
+    ensures spent { IsErrOf result Stop.Budget → HasTurnToMake R.next (leaves.read tree.now) (standing round).roots entry.value graph.new }
+    ensures made { IsErrOf result Stop.Budget → (jobs_out host.new.seat.me.0 ≡ 0) × (first + made_in host.new.seat.me.0.collected ≡ budget) }
+    ensures back { IfOk result (λ runs. (jobs_out host.new.seat.me.0 ≡ 0) × (first + made_in host.new.seat.me.0.collected ≡ turns_of runs.items)) }
+    ensures few { IfOk result (λ runs. first + length crew.new.workers.items ≤ turns_of runs.items) }
     ensures within { IfOk result (λ runs. turns_of runs.items ≤ budget) }
 {
-    let mut round: Round<R> = Round::open(alloc, graph, tree, roots)?;
     let mut out: usize = 0;
-    let mut handed: u64 = 0;
+    let mut handed = first;
     for _ in rt.forever() {
         let heard = bells.turns.heard();
         let ready = has_ready(&round);

@@ -6,6 +6,7 @@ mod bell;
 mod board_end;
 mod crew;
 mod evaluations;
+mod first_turns;
 mod host;
 mod steps;
 mod worker;

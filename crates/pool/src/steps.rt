@@ -11,41 +11,10 @@ ghost use Rattle.round.specs.Rounds.{standing, StandsBeside};
 
 use board::{Board, Host};
 use filetree::Tree;
-use keys::{Key, Rules};
+use keys::Rules;
 use node::Graph;
-use round::Round;
-use std::alloc::Global;
+use round::{Round, next_key};
 use texts::Memory;
-
-// Shared copies of keys.
-pub(crate) fn share_all(alloc: Global, keys: &[Key]) -> Result<Vec<Key>, Memory>
-    ensures { IfOk result (λ shared. shared.items ≡ keys.now) }
-{
-    let mut shared = Vec::new(alloc);
-    for key in keys {
-        shared.push(key.share()?)?;
-    }
-    Ok(shared)
-}
-
-// Whether the next turn of a key can be handed out.
-pub(crate) fn has_ready<R: Rules>(round: &Round<R>) -> bool
-    ensures yes { IsTrue result → (k : Key) × In k (standing round.now).table.ready.keys }
-    ensures no { result ≡ false → (standing round.now).table.ready.keys ≡ [] }
-{
-    round.ready().is_some()
-}
-
-// The least key that is ready, as one of its own.
-fn next_key<R: Rules>(round: &Round<R>) -> Result<Option<Key>, Memory>
-    ensures some { IfOk result (λ k. IfSome k (λ key. In key (standing round.now).table.ready.keys)) }
-    ensures none { IfOk result (λ k. IfNone k ((standing round.now).table.ready.keys ≡ [])) }
-{
-    match round.ready() {
-        None => Ok(None),
-        Some(key) => Ok(Some(key.share()?)),
-    }
-}
 
 // Hands out the job of the least key that is ready, and posts it. A key is ready and a place is empty, which is the
 // caller's condition.
@@ -61,7 +30,7 @@ pub(crate) fn give<R: Rules>(
     requires ready { (k : Key) × In k (standing round.old).table.ready.keys }
     ensures seat { IsHostAtRest board.now.table.shared.table_id host.new.seat }
     ensures same { IsSameHost host.old.seat.me.0 host.new.seat.me.0 }
-    ensures serving { OnOk result ((roots : List Key) (places hands out handed : ℕ) → IsServing graph.now round.old host.old.seat.me.0 roots places hands out handed → IsServing graph.now round.new host.new.seat.me.0 roots places hands (out + 1) (handed + 1)) }
+    ensures serving { OnOk result ((roots : List Key) (first places hands out handed : ℕ) → IsServing graph.now round.old host.old.seat.me.0 roots first places hands out handed → IsServing graph.now round.new host.new.seat.me.0 roots first places hands (out + 1) (handed + 1)) }
     ensures truth { OnOk result ((next : Key → List Value → Reply Key Value) (read : Key → Option Value) → StaysTrueSince next read graph.now graph.now round.old.table round.new.table) }
 {
     match next_key(round)? {
@@ -89,7 +58,7 @@ pub(crate) fn take<R: Rules>(
     requires known { AreKnown graph.old (standing round.old) host.old.seat.me.0 }
     ensures seat { IsHostAtRest board.now.table.shared.table_id host.new.seat }
     ensures same { IsSameHost host.old.seat.me.0 host.new.seat.me.0 }
-    ensures serving { IfOk result (λ took. (roots : List Key) (places hands out handed : ℕ) → IsServing graph.old round.old host.old.seat.me.0 roots places hands out handed → IsServing graph.new round.new host.new.seat.me.0 roots places hands (left_out took out) handed × (took ≡ true → 0 < out)) }
+    ensures serving { IfOk result (λ took. (roots : List Key) (first places hands out handed : ℕ) → IsServing graph.old round.old host.old.seat.me.0 roots first places hands out handed → IsServing graph.new round.new host.new.seat.me.0 roots first places hands (left_out took out) handed × (took ≡ true → 0 < out)) }
     ensures truth { OnOk result (StaysTrueSince R.next (leaves.read tree.now) graph.old graph.new round.old.table round.new.table) }
     ensures stopped { OnErr result (IsAfterStop R.next (leaves.read tree.now) graph.old graph.new round.old.table) }
 {

@@ -24,8 +24,9 @@ use open_nodes::Run;
 use std::alloc::Global;
 use texts::Memory;
 
-// The least key that is ready, as one of its own.
-fn next_key<R: Rules>(round: &Round<R>) -> Result<Option<Key>, Memory>
+/// The least key whose next turn can be handed out, as one of its own; None where there is none. `Memory` where a growth was
+/// refused.
+pub fn next_key<R: Rules>(round: &Round<R>) -> Result<Option<Key>, Memory>
     ensures some { IfOk result (λ k. IfSome k (λ key. In key (standing round.now).table.ready.keys)) }
     ensures none { IfOk result (λ k. IfNone k ((standing round.now).table.ready.keys ≡ [])) }
 {
@@ -35,16 +36,18 @@ fn next_key<R: Rules>(round: &Round<R>) -> Result<Option<Key>, Memory>
     }
 }
 
-// Whether the next turn of a key can be handed out.
-fn has_ready<R: Rules>(round: &Round<R>) -> bool
+/// Whether the next turn of a key can be handed out. It takes no memory.
+pub fn has_ready<R: Rules>(round: &Round<R>) -> bool
     ensures yes { IsTrue result → (k : Key) × In k (standing round.now).table.ready.keys }
     ensures no { result ≡ false → (standing round.now).table.ready.keys ≡ [] }
 {
     round.ready().is_some()
 }
 
-// Makes the next turn of the node with this key.
-fn turn<R: Rules>(
+/// Makes the next turn of a key by these rules, on this thread: it is handed out, made and taken back. That the key is ready
+/// is the caller's condition. `Memory` where a growth was refused: the round can only be given up then, and the graph is as
+/// after a stop.
+pub fn turn<R: Rules>(
     round: &mut Round<R>,
     graph: &mut Graph,
     tree: &Tree,

@@ -12,7 +12,8 @@ mod settle;
 mod stop;
 mod turns;
 
-pub use here::{close_stall, evaluate_here};
+pub use here::{close_stall, evaluate_here, has_ready, next_key, turn};
+pub use members::share_all;
 pub use open_nodes::Run;
 pub use rounds::{NotTaken, Round};
 pub use stop::Stop;

@@ -1,5 +1,5 @@
 //! A round: one evaluation, turn by turn.
-ghost use Rattle.std.specs.Prelude.{◌≡◌, ◌∷◌, List, Option, Some, None, Ok, Err, true, false, [], IfOk, IfErr, OnOk, OnErr, IfSome, IfNone, IsTrue};
+ghost use Rattle.std.specs.Prelude.{◌≡◌, ◌∷◌, List, length, Option, Some, None, Ok, Err, true, false, [], IfOk, IfErr, OnOk, OnErr, IfSome, IfNone, IsTrue};
 ghost use Rattle.std.specs.Bool.{Decides};
 ghost use Rattle.std.specs.List.{All};
 ghost use Rattle.std.specs.Option.{is_some};
@@ -158,6 +158,13 @@ impl<R: Rules> Round<R> {
             None => None,
             Some(key) => Some(key),
         }
+    }
+
+    /// How many keys' next turns can be handed out. It takes no memory.
+    pub fn ready_count(&self) -> usize
+        ensures { result ≡ length (standing self.now).table.ready.keys }
+    {
+        self.table.ready.len()
     }
 
     /// Hands out the next turn of a key, with all answers so far. None exactly where it is not ready: it does not run, or
