@@ -16,7 +16,7 @@ use heap::{Halt, Heap};
 use made_targets::targets_made;
 use module_values::{Loaded, Module};
 use modules::{frozen_module, load_items};
-use names::{Block, FileNames, Standing, State};
+use names::{Block, FileNames, Made, Standing, State};
 use pieces::tick;
 use std::alloc::Global;
 use texts::Memory;
@@ -57,7 +57,7 @@ pub fn first_state(alloc: Global, e: &Environment) -> Result<State, Memory>
         heap: Heap::new(alloc, STEPS),
         blocks: Vec::new(alloc),
         files,
-        targets: Vec::new(alloc),
+        targets: Made::new(alloc),
     })
 }
 

@@ -1,2 +1,3 @@
 pub mod Found
 pub mod Distinct
+pub mod Adding

@@ -1,3 +1,4 @@
 pub mod View
 pub mod Places
 pub mod Once
+pub mod MadeOnce

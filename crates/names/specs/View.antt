@@ -53,7 +53,7 @@ world_of s = record {
   store = store_of s.heap;
   blocks = map held s.blocks.items;
   files = map names_of s.files.items;
-  targets = map target_of s.targets.items;
+  targets = map target_of s.targets;
 }
 
 -- where code stands: a line of a file, with the functions that are open

@@ -2,11 +2,13 @@
 #![tactic(auto)]
 
 mod blocks;
+mod made;
 mod places;
 mod reading;
 mod state;
 mod universal;
 
+pub use made::Made;
 pub use reading::{bind, is_native_name, read, slot};
 pub use state::{Attribute, Attributed, Block, FileNames, Kept, Slot, Standing, State, Target};
 pub use universal::package_function;

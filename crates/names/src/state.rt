@@ -3,6 +3,7 @@ ghost use Rattle.std.specs.Prelude.{◌≡◌, true, cond};
 ghost use Rattle.std.specs.Option.{ForSome};
 ghost use Rattle.names.specs.Once.{names_in, differ};
 
+use crate::made::Made;
 use grammar::FileKind;
 use heap::{Builtin, Bytes, Heap, Val};
 use indexmap::IndexSet;
@@ -72,7 +73,7 @@ pub struct State {
     pub heap: Heap,
     pub blocks: Vec<Block>,
     pub files: Vec<FileNames>,
-    pub targets: Vec<Target>,
+    pub targets: Made,
 }
 
 /// The file that a piece of code stands in.

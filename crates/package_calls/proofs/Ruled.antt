@@ -1,5 +1,5 @@
 -- How a call of a rule ends, by the target that it describes.
-use Rattle.std.proofs.Common.{◌≡◌, ℕ, List, [], ◌∷◌, ◌++◌, true, false, Err, ap, sym, ◌∙◌}
+use Rattle.std.proofs.Common.{◌≡◌, ℕ, Bool, cond, not, map, refl, List, [], ◌∷◌, ◌++◌, true, false, Err, ap, sym, ◌∙◌}
 use Rattle.std.specs.Prelude.{if◌then◌else◌}
 use Rattle.heap.specs.declared.halt.Halt.{Halt}
 use Rattle.heap.specs.declared.halt.Halt.TheVariants.{Code, Memory}
@@ -11,9 +11,26 @@ use Rattle.meaning.specs.Functions.{Named}
 use Rattle.module_values.specs.Values.{Target}
 use Rattle.language.specs.World.{World, Here, ended, failed, then_runs, at_site, fault}
 use Rattle.language.specs.Rules.{rule, target_of, adds_target, is_used}
+use Rattle.meaning.specs.Comparing.{same_text}
+use Rattle.language.specs.Names.{has_name}
+use Rattle.names.specs.MadeOnce.{name_of}
+use Rattle.names.specs.declared.state.Target as kept
 use Rattle.names.specs.View as view
 use Rattle.names.specs.View.{Ran}
 use Rattle.package_calls.specs.View.{ChecksAs}
+
+-- a name is used where it is that of a target
+pub used_name : (x : List ℕ) (targets : List kept.Target) → is_used x (map view.target_of targets) ≡ has_name x (map name_of targets)
+used_name x [] = refl
+used_name x (t ∷ ts) = ap (λ b. cond (same_text x t.name) true b) (used_name x ts)
+
+pub is_new : (a b : Bool) → a ≡ not b → a ≡ true → b ≡ false
+is_new a true e f = cc
+is_new a false e f = refl
+
+pub is_old : (a b : Bool) → a ≡ not b → a ≡ false → b ≡ true
+is_old a true e f = refl
+is_old a false e f = cc
 
 module _ (f : Builtin) (name : List ℕ) (xs : List Val) (ns : Named) (here : Here) (w : World) where
   fails_with : (c : ℕ) → target_of f name xs ns w.store ≡ bad c → rule f name xs ns here w ≡ failed c here.site

@@ -3,7 +3,7 @@ ghost use Rattle.std.specs.Prelude.{◌≡◌, IfOk, map, codes};
 ghost use Rattle.meaning.specs.Builtins.{builtin_name};
 ghost use Rattle.language.specs.World.{Here};
 ghost use Rattle.language.specs.Arguments.{value_named};
-ghost use Rattle.language.specs.Rules.{rule, is_used, target_of, are_arguments, are_attributes, not_none, name_text, makes_target};
+ghost use Rattle.language.specs.Rules.{rule, target_of, are_arguments, are_attributes, not_none, name_text, makes_target};
 ghost use Rattle.language.specs.Names.{has_name};
 ghost use Rattle.heap.specs.View.{store_of, Checks};
 ghost use Rattle.names.specs.View as view;
@@ -37,23 +37,10 @@ pub fn rule(
         Ok(target) => target,
         Err(halt) => return Err(halt),
     };
-    if is_used(&target.name, state.targets.as_slice()) {
+    if !state.targets.add(target)? {
         return Err(Halt::Code(20));
     }
-    state.targets.push(target)?;
     Ok(Val::Nothing)
-}
-
-// Whether a target has this name.
-fn is_used(name: &Bytes, targets: &[Target]) -> bool
-    ensures { result ≡ is_used name.now (map view.target_of targets.now) }
-{
-    for target in targets {
-        if *name == target.name {
-            return true;
-        }
-    }
-    false
 }
 
 // The target that a call describes, or fault 25, 5 or 15.
