@@ -1,19 +1,21 @@
 use Rattle.std.proofs.Common.{length, ap, refl, ◌∙◌, arith}
-use Rattle.leaves.specs.Leaves as leaves
 use Rattle.board.specs.Rule.{total}
 use Rattle.board.specs.declared.view.View.{View}
 use Rattle.keys.specs.Jobs.{Asked, Outcome}
 use Rattle.pool.specs.Serving.{made_in, jobs_out}
-use Rattle.pool.proofs.Ends.{memory_is_not_budget, nothing_done, if_ok, all_rest, none_made}
+use Rattle.open_nodes.specs.Truths.{IsNext}
+use Rattle.pool.proofs.Ends.{memory_is_not_budget, if_ok, all_rest, none_made}
 use Rattle.pool.proofs.Keeping.{rep_long}
-use Rattle.round.specs.declared.stop.Stop.TheVariants as stop
 use Rattle.pool.proofs.evaluations.run.Goals as goal
 
 pub returns-in-Err : goal.returns-in-Err
 returns-in-Err g c = let host = c.requires.host in let id = c.args.board.now.table.shared.table_id in let none = none_made id c.args.hands.items c.requires.hands.0 in record {
   law = tt;
   within = tt;
-  stopped = nothing_done g.R.Rules.next (leaves.read c.args.tree.now) c.args.roots.items c.args.graph stop.Memory;
+  stopped = λ past h.
+      let met = g.met.R.Rules g.world.𝓛 g.world.𝓜 g.world.𝓡 ((λ s x. x), (λ x. x), (λ x. x), λ x. x) in
+      let laws : IsNext g.R.Rules.next = record { groups_differ = met.groups_differ; ends_plain = met.ends_plain } in
+      (c.requires.truth laws past h).1.after;
   open_root = λ e. absurd (memory_is_not_budget e);
   spent = λ e. absurd (memory_is_not_budget e);
   made_all = λ e. absurd (memory_is_not_budget e);

@@ -3,6 +3,7 @@ use Rattle.evaluation.specs.Value.{In}
 use Rattle.leaves.specs.Leaves as leaves
 use Rattle.node.proofs.Lists.{on_err}
 use Rattle.open_nodes.specs.Truths.{IsNext}
+use Rattle.round.specs.Rounds.{standing}
 use Rattle.round.proofs.NextTurns.{wants_turn}
 use Rattle.round.proofs.Resting.{root_open}
 use Rattle.pool.specs.Serving.{made_in}
@@ -11,12 +12,12 @@ use Rattle.pool.proofs.Staffing.{crew_then}
 use Rattle.pool.proofs.host.serve.Goals as goal
 
 pub loop-init : goal.loop-init
-loop-init g c = let o = c.in_ok-round.ensures in let host = c.requires.host in record {
+loop-init g c = let host = c.requires.host in record {
   host = (host.0, (ap (λ m. m.0.using) host.1, ap (λ m. m.1) host.1));
   same = (refl, refl, refl);
-  serving = begins c.open.new.graph c.in_ok-round.round c.args.host.now.seat.me.0 c.args.roots.items c.args.board.now.capacity (ap (λ m. m.0) host.1) o.beside o.begins.0 o.begins.1 o.made;
-  within = omega arith;
-  truth = λ laws past h. ([], o.truth g.R.Rules.next laws past h);
+  serving = begins c.args.graph.now c.args.round c.args.host.now.seat.me.0 (standing c.args.round).roots c.args.first c.args.board.now.capacity (ap (λ m. m.0) host.1) c.requires.rests.0;
+  within = c.requires.rests.1;
+  truth = c.requires.truth;
   crew = c.requires.crew;
   kept = record { sized = refl; counted = refl };
   new = c.requires.new;
@@ -37,15 +38,15 @@ returns-in_err-staff-clause-stopped g c =
 
 pub loop-preserved-then-out-capacity : goal.loop-preserved-then-out-capacity
 loop-preserved-then-out-capacity g c = let i = c.loop.invariant in let gave = c.in_ok-give.ensures in let staffed = c.in_ok-staff.ensures in
-    let serving = gave.serving c.args.roots.items c.args.board.now.capacity c.args.host.now.seat.me.0.hands c.loop.out c.loop.handed i.serving in
+    let serving = gave.serving (standing c.args.round).roots c.args.first c.args.board.now.capacity c.args.host.now.seat.me.0.hands c.loop.out c.loop.handed i.serving in
     let handed = serving.handed_out in let spent = c.if-handed-budget.true in let few = i.few in
     record {
       host = staffed.host.0;
       same = same_then c.args.host.now.seat.me.0 c.give.new.host.seat.me.0 c.staff.new.host.seat.me.0 (same_then c.args.host.now.seat.me.0 c.loop.host.seat.me.0 c.give.new.host.seat.me.0 i.same gave.same)
           (shut_same c.give.new.host.seat.me.0 c.staff.new.host.seat.me.0 staffed.host.1);
-      serving = serves_shut c.loop.graph c.give.new.round c.give.new.host.seat.me.0 c.staff.new.host.seat.me.0 staffed.host.1 c.args.roots.items c.args.board.now.capacity c.args.host.now.seat.me.0.hands (c.loop.out + 1) (c.loop.handed + 1) serving;
+      serving = serves_shut c.loop.graph c.give.new.round c.give.new.host.seat.me.0 c.staff.new.host.seat.me.0 staffed.host.1 (standing c.args.round).roots c.args.first c.args.board.now.capacity c.args.host.now.seat.me.0.hands (c.loop.out + 1) (c.loop.handed + 1) serving;
       within = omega (arith, spent);
-      truth = gave.truth g.R.Rules.next (leaves.read c.args.tree.now) c.args.roots.items c.args.graph.now i.truth;
+      truth = gave.truth g.R.Rules.next (leaves.read c.args.tree.now) (standing c.args.round).roots c.args.entry.value i.truth;
       crew = staffed.crew.0;
       kept = crew_then g.R.Rules.turns c.args.crew.now c.loop.crew c.staff.new.crew i.kept staffed.crew.1;
       new = staffed.new;
@@ -56,17 +57,17 @@ pub returns-in_err-take-clause-stopped : goal.returns-in_err-take-clause-stopped
 returns-in_err-take-clause-stopped g c =
     let met = g.met.R.Rules g.world.𝓛 g.world.𝓜 g.world.𝓡 ((λ s x. x), (λ x. x), (λ x. x), λ x. x) in
     let laws : IsNext g.R.Rules.next = record { groups_differ = met.groups_differ; ends_plain = met.ends_plain } in
-    on_err c.from_residual-in_err-take.result (λ past h. c.in_err-take.ensures.stopped c.args.roots.items c.args.graph.now c.loop.invariant.truth laws past h)
+    on_err c.from_residual-in_err-take.result (λ past h. c.in_err-take.ensures.stopped (standing c.args.round).roots c.args.entry.value c.loop.invariant.truth laws past h)
 
 pub loop-preserved-then-branch : goal.loop-preserved-then-branch
 loop-preserved-then-branch g c = let i = c.loop.invariant in let took = c.in_ok-take.ensures in
-    let did = rw c.if-branch.true at (took.serving c.args.roots.items c.args.board.now.capacity c.args.host.now.seat.me.0.hands c.loop.out c.loop.handed i.serving) in
+    let did = rw c.if-branch.true at (took.serving (standing c.args.round).roots c.args.first c.args.board.now.capacity c.args.host.now.seat.me.0.hands c.loop.out c.loop.handed i.serving) in
     record {
       host = took.seat;
       same = same_then c.args.host.now.seat.me.0 c.loop.host.seat.me.0 c.take.new.host.seat.me.0 i.same took.same;
       serving = did.0;
       within = i.within;
-      truth = took.truth c.args.roots.items c.args.graph.now i.truth;
+      truth = took.truth (standing c.args.round).roots c.args.entry.value i.truth;
       crew = i.crew;
       kept = i.kept;
       new = i.new;
@@ -75,13 +76,13 @@ loop-preserved-then-branch g c = let i = c.loop.invariant in let took = c.in_ok-
 
 pub loop-preserved : goal.loop-preserved
 loop-preserved g c = let i = c.loop.invariant in let took = c.in_ok-take.ensures in
-    let did = rw c.if-branch.false at (took.serving c.args.roots.items c.args.board.now.capacity c.args.host.now.seat.me.0.hands c.loop.out c.loop.handed i.serving) in
+    let did = rw c.if-branch.false at (took.serving (standing c.args.round).roots c.args.first c.args.board.now.capacity c.args.host.now.seat.me.0.hands c.loop.out c.loop.handed i.serving) in
     record {
       host = took.seat;
       same = same_then c.args.host.now.seat.me.0 c.loop.host.seat.me.0 c.take.new.host.seat.me.0 i.same took.same;
       serving = did.0;
       within = i.within;
-      truth = took.truth c.args.roots.items c.args.graph.now i.truth;
+      truth = took.truth (standing c.args.round).roots c.args.entry.value i.truth;
       crew = i.crew;
       kept = i.kept;
       new = i.new;
@@ -118,7 +119,7 @@ returns-then-ready-2-clause-spent g c = λ e.
 
 pub close_stall-requires-clause-stalled : goal.close_stall-requires-clause-stalled
 close_stall-requires-clause-stalled g c κs within = let none = c.if-out-gt0.false in
-    is_stalled c.loop.graph c.loop.round c.loop.host.seat.me.0 c.args.roots.items c.args.board.now.capacity c.args.host.now.seat.me.0.hands c.loop.out c.loop.handed c.loop.invariant.serving (omega (arith, none)) (c.has_ready-ready.ensures.no c.if-ready-2.false)
+    is_stalled c.loop.graph c.loop.round c.loop.host.seat.me.0 (standing c.args.round).roots c.args.first c.args.board.now.capacity c.args.host.now.seat.me.0.hands c.loop.out c.loop.handed c.loop.invariant.serving (omega (arith, none)) (c.has_ready-ready.ensures.no c.if-ready-2.false)
 
 pub returns-in_err-close_stall-clause-stopped : goal.returns-in_err-close_stall-clause-stopped
 returns-in_err-close_stall-clause-stopped g c =
@@ -135,12 +136,12 @@ returns-else-ready-2-clause-law g c = λ past h.
 
 pub returns-else-ready-2-clause-back : goal.returns-else-ready-2-clause-back
 returns-else-ready-2-clause-back g c = let s = c.loop.invariant.serving in let none = c.if-out-gt0.false in
-    (s.counted ∙ omega (arith, none), c.in_ok-close_stall.ensures.made (made_in c.loop.host.seat.me.0.collected) s.made)
+    (s.counted ∙ omega (arith, none), c.in_ok-close_stall.ensures.made (c.args.first + made_in c.loop.host.seat.me.0.collected) s.made)
 
 pub returns-else-ready-2-clause-few : goal.returns-else-ready-2-clause-few
 returns-else-ready-2-clause-few g c = let s = c.loop.invariant.serving in let none = c.if-out-gt0.false in let few = c.loop.invariant.few in let handed = s.handed_out in
-    let made = c.in_ok-close_stall.ensures.made (made_in c.loop.host.seat.me.0.collected) s.made in omega (arith, none, few, handed, made)
+    let made = c.in_ok-close_stall.ensures.made (c.args.first + made_in c.loop.host.seat.me.0.collected) s.made in omega (arith, none, few, handed, made)
 
 pub returns-else-ready-2-clause-within : goal.returns-else-ready-2-clause-within
 returns-else-ready-2-clause-within g c = let s = c.loop.invariant.serving in let within = c.loop.invariant.within in let handed = s.handed_out in
-    let made = c.in_ok-close_stall.ensures.made (made_in c.loop.host.seat.me.0.collected) s.made in omega (arith, within, handed, made)
+    let made = c.in_ok-close_stall.ensures.made (c.args.first + made_in c.loop.host.seat.me.0.collected) s.made in omega (arith, within, handed, made)

@@ -5,7 +5,7 @@ use Rattle.node.specs.Graphs.{Recorded}
 use Rattle.round.specs.Call.{HasOpenRoot, HasTurnToMake}
 use Rattle.round.specs.declared.stop.Stop.TheVariants as stop
 use Rattle.pool.proofs.Ends.{same_stop}
-use Rattle.pool.proofs.evaluations.evaluate.Goals as goal
+use Rattle.pool.proofs.evaluations.by_workers.Goals as goal
 
 pub returns-in-Err-clause-budget : goal.returns-in-Err-clause-budget
 returns-in-Err-clause-budget g c = λ e. let o = rw c.in-Err.is at c.scoped-after.ensures.open_root in
