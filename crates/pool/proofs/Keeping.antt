@@ -70,7 +70,7 @@ module _ {R S : Type 0} where
   -- a job was handed out and posted
   pub given : (graph : Recorded) (before later : Round R S) (v w : View Asked Outcome) (p : ℕ) (job : Asked) (key : Key) → StandsBeside graph later → KeepsAllJobs graph (standing before) (standing later)
       → HandsOut graph key (standing before) (standing later) (Some job) → HasPosted v p job w
-      → (roots : List Key) (first places hands out handed : ℕ) → IsServing graph before v roots first places hands out handed → IsServing graph later w roots places hands (out + 1) (handed + 1)
+      → (roots : List Key) (first places hands out handed : ℕ) → IsServing graph before v roots first places hands out handed → IsServing graph later w roots first places hands (out + 1) (handed + 1)
   given graph before later v w p job key beside others h did roots first places hands out handed s =
       let u = did.1.0 in let same = looked_same 0 p v u did.1.1 in let was : get_elem? v.out p ≡ some None = did.0 in
       let out_is : w.out ≡ set v.out p (Some job) = ap (λ (z : View Asked Outcome). z.out) did.1.2 ∙ ap (λ (l : List (Option Asked)). set l p (Some job)) same.0 in
@@ -127,7 +127,7 @@ module _ {R S : Type 0} where
   -- a turn was collected and taken back
   pub taken : (old new : Recorded) (before later : Round R S) (v w : View Asked Outcome) (p : ℕ) (turn : Outcome) → StandsBeside new later → KeepsJobs turn.asked.key old new (standing before) (standing later)
       → TakesBack (standing before) (standing later) turn.asked.key → turn.ending ≡ Made → HasCollected (λ t. t.asked) v p turn w
-      → (roots : List Key) (first places hands out handed : ℕ) → IsServing old before v roots first places hands out handed → IsServing new later w roots places hands (out - 1) handed × (0 < out)
+      → (roots : List Key) (first places hands out handed : ℕ) → IsServing old before v roots first places hands out handed → IsServing new later w roots first places hands (out - 1) handed × (0 < out)
   taken old new before later v w p turn beside others back made did roots first places hands out handed s =
       let u = did.1.0 in let same = looked_same 3 p v u did.1.1 in let was : get_elem? v.out p ≡ some (Some turn.asked) = did.0 in
       let out_is : w.out ≡ set v.out p None = ap (λ (z : View Asked Outcome). z.out) did.1.2 ∙ ap (λ (l : List (Option Asked)). set l p None) same.0 in

@@ -18,7 +18,7 @@ loop-made-preserved g c = record {
 }
 
 pub returns-in_err-next_key-clause-stopped : goal.returns-in_err-next_key-clause-stopped
-returns-in_err-next_key-clause-stopped g c = on_err c.from_residual-in_err-next_key.result (λ roots entry since laws past h. (c.loop-made.invariant.truth roots entry since laws past h).1.after)
+returns-in_err-next_key-clause-stopped g c = on_err c.from_residual.result (λ roots entry since laws past h. (c.loop-made.invariant.truth roots entry since laws past h).1.after)
 
 pub returns-in_err-turn-in-Some-clause-stopped : goal.returns-in_err-turn-in-Some-clause-stopped
 returns-in_err-turn-in-Some-clause-stopped g c = on_err c.from_residual-in_err-turn-in-Some.result
