@@ -1,16 +1,13 @@
 -- How an evaluation by workers ends.
-use Rattle.std.proofs.Common.{◌≡◌, inl, suc, List, [], ◌∷◌, All, Option, Result, Ok, Err, sym, ap, refl, arith}
-use Rattle.std.specs.Prelude.{IfOk, IsErrOf}
+use Rattle.std.proofs.Common.{◌≡◌, suc, List, [], ◌∷◌, All, Result, Ok, Err, refl, ap, subst, arith}
+use Rattle.std.specs.Prelude.{IfOk, IfErr, IsErrOf}
 use Rattle.atomic_table.specs.Seated.{TableId}
 use Rattle.board.specs.Places.{IsHandAtRest, IsNewHand}
 use Rattle.board.specs.Rule.{total}
 use Rattle.board.specs.declared.board.Hand.{Hand}
-use Rattle.evaluation.specs.Reply.{Reply}
 use Rattle.keys.specs.declared.key.Key.{Key}
-use Rattle.keys.specs.declared.value.Value.{Value}
-use Rattle.node.specs.Graphs.{Recorded, record_at}
+use Rattle.node.specs.Graphs.{Recorded}
 use Rattle.pool.specs.Serving.{made_in}
-use Rattle.round.specs.Call.{Calls}
 use Rattle.round.specs.declared.stop.Stop.{Stop}
 use Rattle.round.specs.declared.stop.Stop.TheVariants as stop
 
@@ -28,13 +25,17 @@ memory_is_not_budget e = differ (ap stop_of e)
 pub same_stop : {T U : Type 0} (e s : Stop) → IsErrOf {T = T} (Err e) s → IsErrOf {T = U} (Err e) s
 same_stop e s p = ap Err (ap stop_of p)
 
--- where nothing was done, the graph is as after a stop
-pub nothing_done : (next : Key → List Value → Reply Key Value) (read : Key → Option Value) (roots : List Key) (graph : Recorded) (e : Stop) → Calls next read roots graph graph (Err e)
-nothing_done next read roots graph e = λ past h. record { version = ap (λ r. r.version) (sym h.at_entry); lawful = h.lawful; since = λ k. inl (ap (λ r. record_at r k) (sym h.at_entry)) }
-
 pub if_ok : {T E : Type 0} {P Q : T → Type 0} (r : Result T E) → ((x : T) → P x → Q x) → IfOk r P → IfOk r Q
 if_ok (Ok x) f p = f x p
 if_ok (Err e) f p = tt
+
+pub if_err : {T E : Type 0} {P Q : E → Type 0} (r : Result T E) → ((x : E) → P x → Q x) → IfErr r P → IfErr r Q
+if_err (Ok x) f p = tt
+if_err (Err e) f p = f e p
+
+-- what is true of these roots and this graph
+pub moved : (P : List Key → Recorded → Type 0) (roots other : List Key) (old entry : Recorded) → other ≡ roots → entry ≡ old → P other entry → P roots old
+moved P roots other old entry same at p = subst (λ rs. P rs old) same (subst (P other) at p)
 
 module _ {R S : Type 0} (id : TableId) where
   -- hands that have done nothing yet are at rest, and have answered no turn

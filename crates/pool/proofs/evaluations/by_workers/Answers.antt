@@ -1,18 +1,30 @@
-use Rattle.std.proofs.Common.{List, subst}
+use Rattle.std.proofs.Common.{sym, ap, subst, arith}
 use Rattle.leaves.specs.Leaves as leaves
-use Rattle.keys.specs.declared.key.Key.{Key}
 use Rattle.node.specs.Graphs.{Recorded}
-use Rattle.round.specs.Call.{HasOpenRoot, HasTurnToMake}
+use Rattle.open_nodes.specs.Truths.{IsNext}
+use Rattle.round.specs.Rounds.{standing}
+use Rattle.round.specs.Since.{IsTrueSinceSome}
 use Rattle.round.specs.declared.stop.Stop.TheVariants as stop
+use Rattle.pool.specs.Serving.{made_in}
 use Rattle.pool.proofs.Ends.{same_stop}
 use Rattle.pool.proofs.evaluations.by_workers.Goals as goal
 
+pub returns-in-Err-Memory-clause-stopped : goal.returns-in-Err-Memory-clause-stopped
+returns-in-Err-Memory-clause-stopped g c = λ past h.
+    let met = g.met.R.Rules g.world.𝓛 g.world.𝓜 g.world.𝓡 ((λ s x. x), (λ x. x), (λ x. x), λ x. x) in
+    let laws : IsNext g.R.Rules.next = record { groups_differ = met.groups_differ; ends_plain = met.ends_plain } in
+    (c.requires.truth laws past h).1.after
+
+pub scoped-after-requires-clause-truth : goal.scoped-after-requires-clause-truth
+scoped-after-requires-clause-truth g c κs within =
+    subst (λ (graph : Recorded). IsTrueSinceSome g.R.Rules.next (leaves.read c.args.tree.now) (standing c.args.round).roots c.args.entry.value graph c.args.round.table) (sym c.replace-lent.ensures.value) c.requires.truth
+
 pub returns-in-Err-clause-budget : goal.returns-in-Err-clause-budget
-returns-in-Err-clause-budget g c = λ e. let o = rw c.in-Err.is at c.scoped-after.ensures.open_root in
-    subst (λ (roots : List Key). HasOpenRoot g.R.Rules.next (leaves.read c.args.tree.now) roots c.args.graph.now c.scoped-after.result.graph) c.in_ok-roots.ensures
-    (subst (λ (old : Recorded). HasOpenRoot g.R.Rules.next (leaves.read c.args.tree.now) c.in_ok-roots.roots.items old c.scoped-after.result.graph) c.replace-lent.ensures.value (o (same_stop c.in-Err.stop stop.Budget e)))
+returns-in-Err-clause-budget g c = λ e. (rw c.in-Err.is at c.scoped-after.ensures.open_root) (same_stop c.in-Err.stop stop.Budget e)
 
 pub returns-in-Err-clause-spent : goal.returns-in-Err-clause-spent
-returns-in-Err-clause-spent g c = λ e. let o = rw c.in-Err.is at c.scoped-after.ensures.spent in
-    subst (λ (roots : List Key). HasTurnToMake g.R.Rules.next (leaves.read c.args.tree.now) roots c.args.graph.now c.scoped-after.result.graph) c.in_ok-roots.ensures
-    (subst (λ (old : Recorded). HasTurnToMake g.R.Rules.next (leaves.read c.args.tree.now) c.in_ok-roots.roots.items old c.scoped-after.result.graph) c.replace-lent.ensures.value (o (same_stop c.in-Err.stop stop.Budget e)))
+returns-in-Err-clause-spent g c = λ e. (rw c.in-Err.is at c.scoped-after.ensures.spent) (same_stop c.in-Err.stop stop.Budget e)
+
+pub returns-clause-turns : goal.returns-clause-turns
+returns-clause-turns g c = let done = rw c.in-Ok-ended.is at c.scoped-after.ensures.done in let left = c.close_board-back.ensures.answers done.0 in
+    let none = ap made_in c.scoped-after.ensures.sized.1 in let made = c.scoped-after.ensures.made in let all = done.1 in omega (arith, left, none, made, all)

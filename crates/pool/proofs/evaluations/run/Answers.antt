@@ -1,4 +1,4 @@
-use Rattle.std.proofs.Common.{length, ap, refl, ◌∙◌, arith}
+use Rattle.std.proofs.Common.{◌+◌, length, ap, refl, ◌∙◌, arith}
 use Rattle.board.specs.Rule.{total}
 use Rattle.board.specs.declared.view.View.{View}
 use Rattle.keys.specs.Jobs.{Asked, Outcome}
@@ -38,7 +38,7 @@ returns g c = let e = c.serve-ended.ensures in let host = c.requires.host in let
       stopped = e.stopped;
       open_root = e.budget;
       spent = e.spent;
-      made_all = λ x. let m = e.made x in (ap (λ (v : View Asked Outcome). jobs_out v) shut ∙ m.0, ap (λ (v : View Asked Outcome). made_in v.collected) shut ∙ m.1);
+      made_all = λ x. let m = e.made x in (ap (λ (v : View Asked Outcome). jobs_out v) shut ∙ m.0, ap (λ (v : View Asked Outcome). c.args.first + made_in v.collected) shut ∙ m.1);
       host_rests = c.shut.ensures.host;
       hands_rest = joined.hands;
       staffed = (omega (arith, many, same, sized, no_worker), ap (λ (v : View Asked Outcome). v.hands) shut ∙ (e.host.1.1 ∙ ap (λ m. m.0.hands) host.1), omega (arith, many, sized, no_worker));
@@ -46,6 +46,16 @@ returns g c = let e = c.serve-ended.ensures in let host = c.requires.host in let
         ap (λ (v : View Asked Outcome). length v.out) shut ∙ (e.host.1.0 ∙ (ap (λ m. length m.0.out) host.1 ∙ rep_long c.args.board.now.capacity _)),
         ap (λ (v : View Asked Outcome). v.answers) shut ∙ (e.host.1.2 ∙ ap (λ m. m.0.answers) host.1),
       );
-      done = if_ok c.serve-ended.result (λ runs b. (ap (λ (v : View Asked Outcome). jobs_out v) shut ∙ b.0, ap (λ (v : View Asked Outcome). made_in v.collected) shut ∙ b.1)) e.back;
+      done = if_ok c.serve-ended.result (λ runs b. (ap (λ (v : View Asked Outcome). jobs_out v) shut ∙ b.0, ap (λ (v : View Asked Outcome). c.args.first + made_in v.collected) shut ∙ b.1)) e.back;
       made = omega (arith, turned, counted, no_turn, none);
     }
+
+pub serve-ended-requires-clause-crew : goal.serve-ended-requires-clause-crew
+serve-ended-requires-clause-crew g c κs within = let none = ap length c.in-Ok.ensures.0 in let room = c.in-Ok.ensures.1 in let many = c.len.ensures in let hands = c.requires.hands.1 in record {
+  paired = hands;
+  here = λ k d l. absurd (omega (arith, l, none));
+  seats = all_rest c.args.board.now.table.shared.table_id c.args.hands.items c.requires.hands.0;
+  rules_fit = (let fits = c.args.rules.ok in omega (arith, none, fits));
+  hands_fit = (let fits = c.args.hands.ok in omega (arith, none, fits, hands));
+  workers_fit = omega (arith, none, room, many);
+}

@@ -1,5 +1,4 @@
 use Rattle.std.proofs.Common.{◌≡◌, ◌+◌, ℕ, arith}
-use Rattle.leaves.specs.Leaves as leaves
 use Rattle.node.proofs.Lists.{on_err}
 use Rattle.round.specs.Rounds.{standing}
 use Rattle.pool.proofs.first_turns.make_first_turns.Goals as goal

@@ -1,4 +1,4 @@
-use Rattle.std.proofs.Common.{⊎_elim, ◌+◌, [], ◌∙◌, ap, sym, refl, subst, arith}
+use Rattle.std.proofs.Common.{◌≡◌, ◌≤◌, Bool, true, false, ⊎_elim, ◌+◌, ◌∙◌, ap, sym, refl, subst, arith}
 use Rattle.evaluation.specs.Value.{In}
 use Rattle.leaves.specs.Leaves as leaves
 use Rattle.node.proofs.Lists.{on_err}
@@ -10,6 +10,7 @@ use Rattle.pool.specs.Serving.{made_in}
 use Rattle.pool.proofs.Keeping.{begins, is_stalled, same_then, shut_same, serves_shut}
 use Rattle.pool.proofs.Staffing.{crew_then}
 use Rattle.pool.proofs.host.serve.Goals as goal
+use Rattle.pool.proofs.host.serve.Goals.{else-ready-via-then-ready+then-handed-budget+else-out-capacity, else-ready-via-then-ready+else-handed-budget, else-ready-via-else-ready}
 
 pub loop-init : goal.loop-init
 loop-init g c = let host = c.requires.host in record {
@@ -28,7 +29,7 @@ pub returns-in_err-give-clause-stopped : goal.returns-in_err-give-clause-stopped
 returns-in_err-give-clause-stopped g c =
     let met = g.met.R.Rules g.world.𝓛 g.world.𝓜 g.world.𝓡 ((λ s x. x), (λ x. x), (λ x. x), λ x. x) in
     let laws : IsNext g.R.Rules.next = record { groups_differ = met.groups_differ; ends_plain = met.ends_plain } in
-    on_err c.from_residual-in_err-give.result (λ past h. (c.loop.invariant.truth laws past h).1.after)
+    on_err c.from_residual.result (λ past h. (c.loop.invariant.truth laws past h).1.after)
 
 pub returns-in_err-staff-clause-stopped : goal.returns-in_err-staff-clause-stopped
 returns-in_err-staff-clause-stopped g c =
@@ -145,3 +146,15 @@ returns-else-ready-2-clause-few g c = let s = c.loop.invariant.serving in let no
 pub returns-else-ready-2-clause-within : goal.returns-else-ready-2-clause-within
 returns-else-ready-2-clause-within g c = let s = c.loop.invariant.serving in let within = c.loop.invariant.within in let handed = s.handed_out in
     let made = c.in_ok-close_stall.ensures.made (c.args.first + made_in c.loop.host.seat.me.0.collected) s.made in omega (arith, within, handed, made)
+
+true_false : {b : Bool} → b ≡ true → b ≡ false → ⊥
+true_false t f = cc
+
+pub returns-then-ready-2-clause-made : goal.returns-then-ready-2-clause-made
+returns-then-ready-2-clause-made g c = λ e. let s = c.loop.invariant.serving in let h = s.handed_out in let w = c.loop.invariant.within in let none = c.if-out-gt0.false in let places = c.requires.places in
+    let spent : c.args.budget ≤ c.loop.handed =
+    (elim c.else-ready.branch [
+      | else-ready-via-then-ready+then-handed-budget+else-out-capacity o ↦ let full = o.if-out-capacity.false in let as_many = o.capacity.ensures in absurd (omega (arith, full, as_many, none, places))
+      | else-ready-via-then-ready+else-handed-budget o ↦ o.if-handed-budget.false
+      | else-ready-via-else-ready o ↦ absurd (true_false c.if-ready-2.true o.if-ready.false)
+    ]) in (s.counted ∙ omega (arith, none), omega (arith, h, w, none, spent))
