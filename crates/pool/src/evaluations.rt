@@ -194,8 +194,8 @@ fn by_workers<R: Rules + Send + Drop, T: Threads + Wait + Sync>(
 }
 
 /// Evaluates the roots over the graph as `evaluate_here` does, in at most `budget` turns, by worker threads. Each has one
-/// of the hands. The first turns are made on the caller's thread: a few, and more as long as one alone can be made. A thread
-/// is made only where more jobs are out than there are threads. What is promised does not hang on the order in which jobs
+/// of the hands. The first turns are made on the caller's thread, as long as one alone can be made at a time. A thread is
+/// made only where more jobs are out than there are threads. What is promised does not hang on the order in which jobs
 /// are taken, made and collected.
 ///
 /// `Stop::Budget` where so many turns were made, all jobs are back, and a further turn is to be made. `Stop::Memory` where

@@ -1,4 +1,4 @@
-//! The first turns of an evaluation, which the host makes itself: where few are to be made, no thread is worth its start.
+//! The first turns of an evaluation, which the host makes itself: where one alone can be made, a thread gains nothing.
 ghost use Rattle.std.specs.Prelude.{◌≡◌, ◌+◌, ◌≤◌, IfOk, OnOk, OnErr};
 ghost use Rattle.leaves.specs.Leaves as leaves;
 ghost use Rattle.pool.specs.Serving.{StaysTrueSince, IsAfterStop};
@@ -11,11 +11,7 @@ use node::Graph;
 use round::{Round, next_key, turn};
 use texts::Memory;
 
-// How many turns the host makes however many can be made at once: they take about as long as the start of a thread.
-const FEW: u64 = 8;
-
-// Makes the first turns by these rules, in the order of one thread: a few, and more as long as one alone can be made.
-// Returns how many it made.
+// Makes the first turns by these rules, as long as one alone can be made at a time. Returns how many it made.
 pub(crate) fn make_first_turns<R: Rules>(
     round: &mut Round<R>,
     graph: &mut Graph,
@@ -31,7 +27,7 @@ pub(crate) fn make_first_turns<R: Rules>(
     ensures stopped { OnErr result (IsAfterStop R.next (leaves.read tree.now) graph.old graph.new round.old.table) }
 {
     for made in 0..budget {
-        if FEW <= made && 1 < round.ready_count() {
+        if 1 < round.ready_count() {
             return Ok(made);
         }
         match next_key(round)? {
