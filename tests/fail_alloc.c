@@ -43,3 +43,12 @@ __attribute__((destructor)) static void tell(void)
         }
     }
 }
+
+/* A program that may make threads ends by this call, and then no destructor runs. */
+void _exit(int status)
+{
+    void (*real)(int) = (void (*)(int))dlsym(RTLD_NEXT, "_exit");
+    tell();
+    real(status);
+    __builtin_unreachable();
+}
