@@ -1,5 +1,6 @@
 //! The heap.
-ghost use Rattle.std.specs.Prelude.{◌≡◌, [], map, option_map, slice_get};
+ghost use Rattle.std.specs.Prelude.{◌≡◌, [], map, option_map, slice_get, IsOkUnless, OnOk, ◌+◌, ◌≤◌};
+ghost use Rattle.heap.specs.declared.halt.Halt.TheVariants.{Memory};
 ghost use Rattle.meaning.specs.Heap.{at, makes, makes_text, makes_list, makes_tuple};
 ghost use Rattle.heap.specs.View.{object_of, store_of, Says};
 
@@ -13,6 +14,17 @@ pub const LONGEST: usize = 65536;
 
 /// The containers that a walk may enter inside one another.
 pub const DEEPEST: u32 = 64;
+
+/// The most bytes that the objects of one evaluation may take together, with the copies that loops go over. An object that
+/// is reached no more still counts. Texts that are shared with a file or a module count too.
+pub const MOST_HELD: u64 = 1_073_741_824;
+
+// What counts for an object whatever it has, for a member of a list or tuple, and for an entry of a dictionary, in bytes.
+const OBJECT: u64 = 64;
+
+const MEMBER: u64 = 16;
+
+const ENTRY: u64 = 96;
 
 /// An object of the heap. The flag of a list or dictionary says that it is frozen.
 #[derive(Drop)]
@@ -33,6 +45,19 @@ pub struct Heap {
     pub objects: Vec<Object>,
     pub iterated: Vec<usize>,
     pub steps: u64,
+    held: u64,
+}
+
+// The bytes that an object counts for.
+fn size_of(object: &Object) -> u64 {
+    let own = match object {
+        Object::Text(bytes) => bytes.as_slice().len() as u64,
+        Object::List(members, _) => (members.len() as u64).saturating_mul(MEMBER),
+        Object::Tuple(members) => (members.len() as u64).saturating_mul(MEMBER),
+        Object::Dict(entries, _) => (entries.len() as u64).saturating_mul(ENTRY),
+        Object::Function(_, _) => 0,
+    };
+    own.saturating_add(OBJECT)
 }
 
 impl Heap {
@@ -45,6 +70,7 @@ impl Heap {
             objects: Vec::new(alloc),
             iterated: Vec::new(alloc),
             steps,
+            held: 0,
         }
     }
 
@@ -55,10 +81,70 @@ impl Heap {
         self.objects.get(place)
     }
 
-    /// A new object.
+    // Counts bytes that are held from now on, or `Memory` where they are too many.
+    fn hold(&mut self, bytes: u64) -> Result<(), Halt>
+        ensures same { store_of self.new ≡ store_of self.old }
+        ensures counted { OnOk result (self.new.held ≡ self.old.held + bytes) }
+        ensures within { OnOk result (self.new.held ≤ MOST_HELD) }
+        ensures refused { IsOkUnless result Memory }
+    {
+        self.held = self.held.saturating_add(bytes);
+        if self.held > MOST_HELD {
+            return Err(Halt::Memory);
+        }
+        Ok(())
+    }
+
+    /// Counts members that a list is about to get. `Memory` where the objects would take more than `MOST_HELD` bytes.
+    pub fn hold_members(&mut self, number: usize) -> Result<(), Halt>
+        ensures same { store_of self.new ≡ store_of self.old }
+        ensures within { OnOk result (self.new.held ≤ MOST_HELD) }
+        ensures refused { IsOkUnless result Memory }
+    {
+        self.hold((number as u64).saturating_mul(MEMBER))
+    }
+
+    /// Counts an entry that a dictionary is about to get, as `hold_members` does.
+    pub fn hold_entry(&mut self) -> Result<(), Halt>
+        ensures same { store_of self.new ≡ store_of self.old }
+        ensures within { OnOk result (self.new.held ≤ MOST_HELD) }
+        ensures refused { IsOkUnless result Memory }
+    {
+        self.hold(ENTRY)
+    }
+
+    /// Counts the copy that a loop goes over of what stands at a place, as `hold_members` does.
+    pub fn hold_copy(&mut self, place: usize) -> Result<(), Halt>
+        ensures same { store_of self.new ≡ store_of self.old }
+        ensures within { OnOk result (self.new.held ≤ MOST_HELD) }
+        ensures refused { IsOkUnless result Memory }
+    {
+        let bytes = self.size_at(place);
+        self.hold(bytes)
+    }
+
+    /// The copy that a loop went over counts no more. What stands at the place must have kept its size since
+    /// `hold_copy`; else the count is wrong, and nothing but the count.
+    pub fn release_copy(&mut self, place: usize)
+        ensures same { store_of self.new ≡ store_of self.old }
+    {
+        let bytes = self.size_at(place);
+        self.held = self.held.saturating_sub(bytes);
+    }
+
+    // The bytes that what stands at a place counts for.
+    fn size_at(&self, place: usize) -> u64 {
+        match self.objects.get(place) {
+            Some(object) => size_of(object),
+            None => 0,
+        }
+    }
+
+    /// A new object. `Memory` also where the objects would take more than `MOST_HELD` bytes.
     pub fn make(&mut self, object: Object) -> Result<Val, Halt>
         ensures { Says (makes (object_of object) (store_of self.old)) result (store_of self.new) }
     {
+        self.hold(size_of(&object))?;
         let place = self.objects.len();
         self.objects.push(object)?;
         Ok(Val::At(place))

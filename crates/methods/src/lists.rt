@@ -105,6 +105,7 @@ fn may_change(heap: &Heap, a: usize, frozen: bool) -> Result<(), Halt>
 fn extend_members(heap: &mut Heap, a: usize, more: &[Val]) -> Result<(), Halt>
     ensures { Says (extended a (at a (store_of heap.old)) more.now (store_of heap.old)) result (store_of heap.new) }
 {
+    heap.hold_members(more.len())?;
     let Some(object) = heap.objects.get_mut(a) else {
         return Err(Halt::Code(5));
     };

@@ -81,12 +81,13 @@ pub fn items(heap: &Heap, a: Val) -> Result<Vec<Val>, Halt>
     values::items(heap, a)
 }
 
-/// From here on a list or dictionary is iterated.
+/// From here on a list or dictionary is iterated. The copy of its members that a loop goes over is counted as held.
 pub fn lock(heap: &mut Heap, a: Val) -> Result<(), Halt>
     ensures says { Says (locks a (store_of heap.old)) result (store_of heap.new) }
     ensures steps { heap.new.steps ≡ heap.old.steps }
 {
     if let Val::At(place) = a {
+        heap.hold_copy(place)?;
         heap.iterated.insert(0, place)?;
     }
     Ok(())
@@ -97,7 +98,8 @@ pub fn unlock(heap: &mut Heap, a: Val)
     ensures says { unlocks a (store_of heap.old) ≡ o.gives tt (store_of heap.new) }
     ensures steps { heap.new.steps ≡ heap.old.steps }
 {
-    if let Val::At(_) = a {
+    if let Val::At(place) = a {
+        heap.release_copy(place);
         if !heap.iterated.is_empty() {
             heap.iterated.remove(0);
         }
