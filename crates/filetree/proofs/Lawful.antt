@@ -1,5 +1,5 @@
 -- Edits keep it so that each file has a path.
-use Rattle.std.proofs.Common.{◌≡◌, ◌∙◌, ap, sym, refl, ℕ, Bool, true, false, cond, not, ◌||◌, List, [], ◌∷◌, Option, Some, None}
+use Rattle.std.proofs.Common.{◌≡◌, ◌∙◌, ap, sym, refl, ℕ, suc, Bool, true, false, cond, not, ◌||◌, List, [], ◌∷◌, Option, Some, None}
 use Rattle.std.specs.Prelude.{is_some, nat_lt, length}
 use Rattle.std.specs.FinMap as map
 use Rattle.std.specs.List.{list_any, list_all}
@@ -10,6 +10,7 @@ use Rattle.std.proofs.lemmas.Map.Text.{is_eq-slice_cmp}
 use Rattle.std.proofs.Common.{inl, inr}
 use Rattle.labels.specs.Paths.{is_path}
 use Rattle.filetree.specs.Files.{Files, put_refusal, is_below_a_file, is_directory, text_limit}
+use Rattle.filetree.specs.Changes.{Change, put, del, change_refusal, changed, first_refused, refused_or, all_changed}
 use Rattle.filetree.specs.Lawful.{HasPaths, EditsKeepPaths}
 use Rattle.filetree.proofs.Slashes.{same_bytes, own_bytes}
 
@@ -60,17 +61,37 @@ good_at false o h = absurd (not_none 2 h)
 good_path : (files : Files) (path text : List ℕ) → put_refusal files path text ≡ None → is_path path ≡ true
 good_path files path text h = good_at (is_path path) (later_refusal files path text) h
 
+puts_keep : (files : Files) (path text : List ℕ) → HasPaths files → put_refusal files path text ≡ None → HasPaths (map.insert files path text)
+puts_keep files path text all told = paths_from (map.insert files path text) (λ q h.
+    elim (eq_by_cmp (slice_cmp nat_cmp) q path) as (λ b. eq_by_cmp (slice_cmp nat_cmp) q path ≡ b → is_some (cond b (Some text) (map.get files q)) ≡ true → is_path q ≡ true) [
+      | true ↦ λ e g. ap is_path (same_key q path e) ∙ good_path files path text told
+      | false ↦ λ e g. paths_to files q all g
+    ] refl (sym (ap is_some (map.get-insert nat_list_cmp_total files path text q)) ∙ h))
+
+removals_keep : (files : Files) (path : List ℕ) → HasPaths files → HasPaths (map.remove files path)
+removals_keep files path all = paths_from (map.remove files path) (λ q h.
+    elim (eq_by_cmp (slice_cmp nat_cmp) q path) as (λ b. is_some (cond b None (map.get files q)) ≡ true → is_path q ≡ true) [
+      | true ↦ λ g. absurd (false≢true g)
+      | false ↦ λ g. paths_to files q all g
+    ] (sym (ap is_some (map.get-remove nat_list_cmp_total files path q)) ∙ h))
+
+change_keeps : (c : Change) (files : Files) → HasPaths files → change_refusal c files ≡ None → HasPaths (changed c files)
+change_keeps (put path text) files all told = puts_keep files path text all told
+change_keeps (del path) files all told = removals_keep files path all
+
+changes_keep : (at : ℕ) (cs : List Change) (files : Files) → HasPaths files → first_refused at cs files ≡ None → HasPaths (all_changed cs files)
+changes_keep at [] files all told = all
+changes_keep at (c ∷ cs) files all told = go (λ kept h. changes_keep (suc at) cs (changed c files) kept h) (change_refusal c files) refl told
+  where
+    go : (HasPaths (changed c files) → first_refused (suc at) cs (changed c files) ≡ None → HasPaths (all_changed cs (changed c files)))
+        → (o : Option ℕ) → change_refusal c files ≡ o → refused_or at o (first_refused (suc at) cs (changed c files)) ≡ None → HasPaths (all_changed cs (changed c files))
+    go more None e h = more (change_keeps c files all e) h
+    go more (Some n) e h = absurd cc
+
 pub edits_keep_paths : EditsKeepPaths
 edits_keep_paths = (
   paths_from map.empty (λ q h. absurd (false≢true (sym (ap is_some (map.get-empty {X = List ℕ} (slice_cmp nat_cmp) q)) ∙ h))),
-  (λ files path text all told. paths_from (map.insert files path text) (λ q h.
-      elim (eq_by_cmp (slice_cmp nat_cmp) q path) as (λ b. eq_by_cmp (slice_cmp nat_cmp) q path ≡ b → is_some (cond b (Some text) (map.get files q)) ≡ true → is_path q ≡ true) [
-        | true ↦ λ e g. ap is_path (same_key q path e) ∙ good_path files path text told
-        | false ↦ λ e g. paths_to files q all g
-      ] refl (sym (ap is_some (map.get-insert nat_list_cmp_total files path text q)) ∙ h))),
-  (λ files path all. paths_from (map.remove files path) (λ q h.
-      elim (eq_by_cmp (slice_cmp nat_cmp) q path) as (λ b. is_some (cond b None (map.get files q)) ≡ true → is_path q ≡ true) [
-        | true ↦ λ g. absurd (false≢true g)
-        | false ↦ λ g. paths_to files q all g
-      ] (sym (ap is_some (map.get-remove nat_list_cmp_total files path q)) ∙ h))),
+  puts_keep,
+  removals_keep,
+  λ files changes all told. changes_keep 0 changes files all told,
 )

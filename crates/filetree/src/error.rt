@@ -25,6 +25,28 @@ pub enum TreeError {
     Memory,
 }
 
+/// Why none of several changes was made.
+#[derive(Debug, Drop, Error)]
+pub enum BatchError {
+    /// The first change that is refused on the files after those before it, counted from 0, and the number of its refusal.
+    #[error("change {0} refused: {1}")]
+    At(usize, u64),
+    /// A growth was refused.
+    #[error("out of memory")]
+    Memory,
+}
+
+impl From<texts::Memory> for BatchError {
+    ghost use Rattle.std.specs.Prelude.{◌≡◌};
+    ghost use Rattle.filetree.specs.declared.error.BatchError.TheVariants.{Memory};
+
+    ghost from_gives = { λ _ e. e ≡ Memory };
+
+    fn from(_error: texts::Memory) -> BatchError {
+        BatchError::Memory
+    }
+}
+
 impl From<texts::Memory> for TreeError {
     ghost use Rattle.std.specs.Prelude.{◌≡◌};
     ghost use Rattle.filetree.specs.declared.error.TreeError.TheVariants.{Memory};

@@ -3,12 +3,14 @@
 
 ghost use Rattle.filetree.specs.Lawful.{EditsKeepPaths};
 
+mod change;
 mod error;
 mod folder;
 mod listing;
 mod tree;
 
-pub use error::TreeError;
+pub use change::Change;
+pub use error::{BatchError, TreeError};
 pub use listing::Listing;
 pub use tree::Tree;
 

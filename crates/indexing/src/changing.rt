@@ -80,7 +80,6 @@ fn set_member(heap: &mut Heap, a: usize, i: i64, x: Val) -> Result<(), Halt>
 fn set_key(heap: &mut Heap, a: usize, key: Key, entry: Entry) -> Result<(), Halt>
     ensures { Says (set_key a (at a (store_of heap.old)) key entry (store_of heap.old)) result (store_of heap.new) }
 {
-    heap.hold_entry()?;
     let Some(object) = heap.objects.get_mut(a) else {
         return Err(Halt::Code(5));
     };
@@ -91,5 +90,6 @@ fn set_key(heap: &mut Heap, a: usize, key: Key, entry: Entry) -> Result<(), Halt
         return Err(Halt::Code(13));
     }
     set_entry(entries, key, entry)?;
+    heap.hold_entry()?;
     Ok(())
 }

@@ -1,13 +1,17 @@
--- The leaves that an edit of a path touches.
-use Rattle.std.specs.Prelude.{ℕ, List, [], ◌∷◌, map}
+-- The leaves that edits touch.
+use Rattle.std.specs.Prelude.{ℕ, List, [], ◌∷◌, map, flat_map}
 use Rattle.evaluation.specs.Value.{In}
 use Rattle.labels.specs.Labels.{ancestors}
 use Rattle.keys.specs.declared.key.Key.{Key}
 use Rattle.keys.specs.declared.key.Key.TheVariants.{File, Listing}
 
--- its file, and the listing of each directory that it lies below, the root among them
-abbrev pub touched_leaves : List ℕ → List Key
-touched_leaves path = File path ∷ Listing [] ∷ map Listing (ancestors path)
+-- of one path: its file, and the listing of each directory that it lies below, the root among them
+abbrev pub leaves_of : List ℕ → List Key
+leaves_of path = File path ∷ Listing [] ∷ map Listing (ancestors path)
 
-abbrev pub IsTouched : List ℕ → Key → Type 0
-IsTouched path k = In k (touched_leaves path)
+-- of all these paths
+abbrev pub touched_leaves : List (List ℕ) → List Key
+touched_leaves paths = flat_map leaves_of paths
+
+abbrev pub IsTouched : List (List ℕ) → Key → Type 0
+IsTouched paths k = In k (touched_leaves paths)

@@ -12,11 +12,12 @@ use Rattle.std.proofs.lemmas.Map.Views.{tells_apart}
 use Rattle.evaluation.specs.Value.{In, first, after}
 use Rattle.labels.specs.Labels.{ancestors}
 use Rattle.filetree.specs.Files.{Files, is_ancestor}
+use Rattle.filetree.specs.Changes.{Change, put, del, path_of, changed, all_changed}
 use Rattle.filetree.specs.Listings.{rest_below, listing}
 use Rattle.filetree.proofs.Listed.{rest_passes, any_rest, names_of_rests}
 use Rattle.filetree.proofs.Slashes.{ancestor_from}
 use Rattle.filetree.proofs.Whole.{same_bool}
-use Rattle.keys.specs.Touched.{IsTouched}
+use Rattle.keys.specs.Touched.{leaves_of, touched_leaves, IsTouched}
 use Rattle.keys.specs.declared.key.Key.{Key}
 use Rattle.keys.specs.declared.key.Key.TheVariants as key
 use Rattle.keys.specs.declared.value.Value.{Value}
@@ -76,8 +77,12 @@ listing_among : {d : List ℕ} {ds : List (List ℕ)} → In d ds → In (key.Li
 listing_among first = first
 listing_among (after i) = after (listing_among i)
 
+-- an edit of the path touches the leaf
+abbrev touches : List ℕ → Key → Type 0
+touches path k = In k (leaves_of path)
+
 -- a path that touches no listing of a directory has no rest below it
-no_rest : (d path : List ℕ) → (IsTouched path (key.Listing d) → ⊥) → rest_below d path ≡ None
+no_rest : (d path : List ℕ) → (touches path (key.Listing d) → ⊥) → rest_below d path ≡ None
 no_rest [] path n = absurd (n (after first))
 no_rest (b ∷ d) path n = go (is_ancestor (b ∷ d) path) refl
   where
@@ -102,7 +107,7 @@ module _ (files later : Files) (path : List ℕ) (others : (q : List ℕ) → sa
       false≢true (sym h ∙ passes_some t (map_of.keys later) p.0 p.1 (sym (map_of.contains_key-keys later p.0) ∙ others p.0 (apart t f p.0 p.1) ∙ map_of.contains_key-keys files p.0 ∙ p.2)))
 
   -- a directory that the path does not lie below has the same names
-  pub listing_stays : (d : List ℕ) → (IsTouched path (key.Listing d) → ⊥) → listing later d ≡ listing files d
+  pub listing_stays : (d : List ℕ) → (touches path (key.Listing d) → ⊥) → listing later d ≡ listing files d
   listing_stays d n = names_of_rests d d (map_of.keys later) (map_of.keys files) (λ p.
       any_rest (rest_below d) p (map_of.keys later)
       ∙ same_keys (λ x. rest_passes p (rest_below d x)) (ap (rest_passes p) (no_rest d path n))
@@ -117,10 +122,10 @@ other_path path q n = go (eq_by_cmp (slice_cmp nat_cmp) q path) refl
     go false t = t
 
 -- an edit changes no other leaf
-not_file : (path q : List ℕ) → (IsTouched path (key.File q) → ⊥) → key.File path ≢ key.File q
-not_file path q n e = n (subst (IsTouched path) e first)
+not_file : (path q : List ℕ) → (touches path (key.File q) → ⊥) → key.File path ≢ key.File q
+not_file path q n e = n (subst (touches path) e first)
 
-pub put_reads : (files : Files) (path text : List ℕ) (k : Key) → (IsTouched path k → ⊥) → read (map_of.insert files path text) k ≡ read files k
+pub put_reads : (files : Files) (path text : List ℕ) (k : Key) → (touches path k → ⊥) → read (map_of.insert files path text) k ≡ read files k
 put_reads files path text (key.File q) n =
     ap (λ o. Some (value.File o)) (map_of.get-insert nat_list_cmp_total files path text q ∙ ap (λ b. cond b (Some text) (map_of.get files q)) (other_path path q (not_file path q n)))
 put_reads files path text (key.Listing d) n =
@@ -131,7 +136,7 @@ put_reads files path text (key.Glob walk) n = refl
 put_reads files path text (key.Module label) n = refl
 put_reads files path text (key.Package name) n = refl
 
-pub del_reads : (files : Files) (path : List ℕ) (k : Key) → (IsTouched path k → ⊥) → read (map_of.remove files path) k ≡ read files k
+pub del_reads : (files : Files) (path : List ℕ) (k : Key) → (touches path k → ⊥) → read (map_of.remove files path) k ≡ read files k
 del_reads files path (key.File q) n =
     ap (λ o. Some (value.File o)) (map_of.get-remove nat_list_cmp_total files path q ∙ ap (λ b. cond b None (map_of.get files q)) (other_path path q (not_file path q n)))
 del_reads files path (key.Listing d) n =
@@ -141,3 +146,22 @@ del_reads files path (key.Lookup directory) n = refl
 del_reads files path (key.Glob walk) n = refl
 del_reads files path (key.Module label) n = refl
 del_reads files path (key.Package name) n = refl
+
+change_reads : (files : Files) (c : Change) (k : Key) → (touches (path_of c) k → ⊥) → read (changed c files) k ≡ read files k
+change_reads files (put path text) k n = put_reads files path text k n
+change_reads files (del path) k n = del_reads files path k n
+
+in_front : {k : Key} {xs : List Key} (ys : List Key) → In k xs → In k (xs ++ ys)
+in_front ys first = first
+in_front ys (after i) = after (in_front ys i)
+
+in_back : {k : Key} (xs : List Key) {ys : List Key} → In k ys → In k (xs ++ ys)
+in_back [] i = i
+in_back (x ∷ xs) i = after (in_back xs i)
+
+-- changes leave each leaf that they do not touch
+pub changes_read : (files : Files) (cs : List Change) (k : Key) → (IsTouched (map path_of cs) k → ⊥) → read (all_changed cs files) k ≡ read files k
+changes_read files [] k n = refl
+changes_read files (c ∷ cs) k n =
+    changes_read (changed c files) cs k (λ i. n (in_back (leaves_of (path_of c)) i))
+    ∙ change_reads files c k (λ i. n (in_front (touched_leaves (map path_of cs)) i))

@@ -105,7 +105,6 @@ fn may_change(heap: &Heap, a: usize, frozen: bool) -> Result<(), Halt>
 fn extend_members(heap: &mut Heap, a: usize, more: &[Val]) -> Result<(), Halt>
     ensures { Says (extended a (at a (store_of heap.old)) more.now (store_of heap.old)) result (store_of heap.new) }
 {
-    heap.hold_members(more.len())?;
     let Some(object) = heap.objects.get_mut(a) else {
         return Err(Halt::Code(5));
     };
@@ -116,5 +115,6 @@ fn extend_members(heap: &mut Heap, a: usize, more: &[Val]) -> Result<(), Halt>
         return Err(Halt::Code(13));
     }
     members.extend_from_slice(more)?;
+    heap.hold_members(more.len())?;
     Ok(())
 }

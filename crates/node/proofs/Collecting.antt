@@ -173,10 +173,10 @@ shown_reached records version before b leaves path keys e r =
 
 -- a graph whose records were marked so
 module _ (users : Users) (old new : Records) (version : ℕ) (before : Recorded) (b : recorded version old ≡ before) (linked : IsLinked old users) (keys : List Key) (s : SetsMarks true old new keys) where
-  pub marking_linked : (path : List ℕ) → AreReached (record_at before) (IsTouched path) keys → keys_of new ≡ keys_of old → IsLinked new users
-  marking_linked path r k = let o : AreDistinct new = subst (λ ks. IsDistinct key_eq ks) (sym k) linked.ordered in let a = seen_reached old version before b (IsTouched path) keys r in
-      still_linked users (touched_leaves path) old new keys linked (set_marked users (touched_leaves path) old new keys linked a s) (set_passed users (touched_leaves path) old new keys linked a s) (set_begun users (touched_leaves path) old new keys linked a s) o
+  pub marking_linked : (paths : List (List ℕ)) → AreReached (record_at before) (IsTouched paths) keys → keys_of new ≡ keys_of old → IsLinked new users
+  marking_linked paths r k = let o : AreDistinct new = subst (λ ks. IsDistinct key_eq ks) (sym k) linked.ordered in let a = seen_reached old version before b (IsTouched paths) keys r in
+      still_linked users (touched_leaves paths) old new keys linked (set_marked users (touched_leaves paths) old new keys linked a s) (set_passed users (touched_leaves paths) old new keys linked a s) (set_begun users (touched_leaves paths) old new keys linked a s) o
 
-  pub marking_marks : (path : List ℕ) → AreReached (record_at before) (IsTouched path) keys → (later : ℕ) → Marks (record_at before) (record_at (recorded later new)) (IsTouched path)
-  marking_marks path r later = let a = seen_reached old version before b (IsTouched path) keys r in
-      touched_marks users (touched_leaves path) old new keys linked (set_marked users (touched_leaves path) old new keys linked a s) (set_passed users (touched_leaves path) old new keys linked a s) (set_begun users (touched_leaves path) old new keys linked a s) path refl before version later b
+  pub marking_marks : (paths : List (List ℕ)) → AreReached (record_at before) (IsTouched paths) keys → (later : ℕ) → Marks (record_at before) (record_at (recorded later new)) (IsTouched paths)
+  marking_marks paths r later = let a = seen_reached old version before b (IsTouched paths) keys r in
+      touched_marks users (touched_leaves paths) old new keys linked (set_marked users (touched_leaves paths) old new keys linked a s) (set_passed users (touched_leaves paths) old new keys linked a s) (set_begun users (touched_leaves paths) old new keys linked a s) paths refl before version later b

@@ -20,12 +20,12 @@ use Rattle.node.specs.Laws.{IsLawfulFor, TouchKeepsLawful, SettlingKeepsLawful, 
 use Rattle.node.proofs.Lists.{some_is, none_some, true_false, decide_key}
 use Rattle.node.proofs.Batching.{decide_in, entry_of}
 
-pub touch_keeps : (old new : Recorded) (path : List ℕ) → new.version ≡ old.version + 1 → Marks (record_at old) (record_at new) (IsTouched path) → TouchKeepsLawful old new path
-touch_keeps old new path v m next reads edits law e edit stays =
+pub touch_keeps : (old new : Recorded) (paths : List (List ℕ)) → new.version ≡ old.version + 1 → Marks (record_at old) (record_at new) (IsTouched paths) → TouchKeepsLawful old new paths
+touch_keeps old new paths v m next reads edits law e edit stays =
     subst (λ (n : ℕ). Lawful next cycle reads (record_at new) (λ u k. IsTouched (edits u) k) n) (sym v)
     (touch_lawful next cycle reads (record_at old) (record_at new) (λ u k. IsTouched (edits u) k) old.version law
-    (subst (λ (p : List ℕ). Marks (record_at old) (record_at new) (IsTouched p)) (sym e) m)
-    (λ k n. edit k (subst (λ (p : List ℕ). IsTouched p k → ⊥) e n)) stays)
+    (subst (λ (p : List (List ℕ)). Marks (record_at old) (record_at new) (IsTouched p)) (sym e) m)
+    (λ k n. edit k (subst (λ (p : List (List ℕ)). IsTouched p k → ⊥) e n)) stays)
 
 -- how the changed version comes about
 abbrev IsChange : Option (Record Key Value) → Value → ℕ → ℕ → Type 0
@@ -34,7 +34,7 @@ IsChange o value version at = ((r : Record Key Value) × (o ≡ Some r) × (r.va
 module _ (old new : Recorded) (key : Key) (value : Value) (groups : List (List Key)) (at : ℕ) (same : new.version ≡ old.version)
     (sets : Sets (record_at old) (record_at new) key (record { value = value; groups = groups; settled_at = old.version; changed_at = at; dirty = false }))
     (change : IsChange (record_at old key) value old.version at) where
-  pub settling_keeps : ((next : Key → List Value → Reply Key Value) (reads : ℕ → Key → Option Value) (edits : ℕ → List ℕ) → IsLawfulFor next reads edits old → HasReadyMembers (record_at old) key groups) → SettlingKeepsLawful old new key value groups
+  pub settling_keeps : ((next : Key → List Value → Reply Key Value) (reads : ℕ → Key → Option Value) (edits : ℕ → List (List ℕ)) → IsLawfulFor next reads edits old → HasReadyMembers (record_at old) key groups) → SettlingKeepsLawful old new key value groups
   settling_keeps ready next reads edits law holds =
       subst (λ (n : ℕ). Lawful next cycle reads (record_at new) (λ u k. IsTouched (edits u) k) n) (sym same)
       (settle_lawful next cycle turned reads (record_at old) (λ u k. IsTouched (edits u) k) old.version law (record_at new) changed)

@@ -142,10 +142,10 @@ kept_seen records version k found h = go found ∙ ap (option_map record_of) h �
     go None = refl
     go (Some e) = refl
 
--- marks from the leaves that an edit touches
+-- marks from the leaves that edits touch
 module _ (users : Users) (leaves : List Key) (old new : Records) (marked : List Key) (linked : IsLinked old users) (m : Marked users leaves old new marked) (passed : HasPassed users new marked) (begins : (k : Key) → In k leaves → IsDirty new k) where
-  pub touched_marks : (path : List ℕ) → leaves ≡ touched_leaves path → (before : Recorded) (version later_version : ℕ) → recorded version old ≡ before → Marks (record_at before) (record_at (recorded later_version new)) (IsTouched path)
-  touched_marks path e before version later_version b =
+  pub touched_marks : (paths : List (List ℕ)) → leaves ≡ touched_leaves paths → (before : Recorded) (version later_version : ℕ) → recorded version old ≡ before → Marks (record_at before) (record_at (recorded later_version new)) (IsTouched paths)
+  touched_marks paths e before version later_version b =
       subst (λ (ls : List Key). Marks (record_at before) (record_at (recorded later_version new)) (λ k. In k ls)) e
       (subst (λ (r : Recorded). Marks (record_at r) (record_at (recorded later_version new)) (λ k. In k leaves)) b
       (subst (λ (f : Key → Option (Record Key Value)). Marks f (record_at (recorded later_version new)) (λ k. In k leaves)) (sym (seen_all old version))

@@ -1,8 +1,8 @@
--- The leaves that an edit touches, one by one.
+-- The leaves that an edit of a path touches, one by one.
 use Rattle.std.proofs.Common.{◌≡◌, ◌∙◌, ap, sym, ℕ, List, [], ◌∷◌, ◌++◌, reverse, map}
 use Rattle.std.proofs.lemmas.List.{reverse-append, map-append, append_assoc}
 use Rattle.labels.specs.Labels.{ancestors}
-use Rattle.keys.specs.Touched.{touched_leaves}
+use Rattle.keys.specs.Touched.{leaves_of}
 use Rattle.keys.specs.declared.key.Key.{Key}
 use Rattle.keys.specs.declared.key.Key.TheVariants as key
 
@@ -19,7 +19,7 @@ one_above rest d name listings now split pushed is =
 
 -- and then the root and the file
 pub all_touched : (path root file : List ℕ) (listings with_root now leaves : List Key) → reverse listings ≡ map key.Listing (ancestors path) → with_root ≡ listings ++ key.Listing root ∷ [] → now ≡ with_root ++ key.File file ∷ []
-    → leaves ≡ reverse now → root ≡ [] → file ≡ path → leaves ≡ touched_leaves path
+    → leaves ≡ reverse now → root ≡ [] → file ≡ path → leaves ≡ leaves_of path
 all_touched path root file listings with_root now leaves above pushed_root pushed_file turned is_root is_file =
     turned ∙ ap reverse pushed_file ∙ reverse-append with_root (key.File file ∷ [])
     ∙ ap (λ r. key.File file ∷ r) (ap reverse pushed_root ∙ reverse-append listings (key.Listing root ∷ []))

@@ -9,9 +9,14 @@ use Rattle.keys.specs.Keys.{key_cmp}
 use Rattle.keys.specs.declared.key.Key.{Key}
 use Rattle.keys.specs.declared.value.Value.{Value}
 pub use Rattle.keys.specs.Touched.{touched_leaves, IsTouched}
+use Rattle.std.specs.Borrow.{Bor}
 use Rattle.numbered.specs.Tables.{AreDistinct}
 use Rattle.node.specs.declared.kept.Kept.{Kept}
 use Rattle.node.specs.Kept.{Records, Users, UserLists, AreNumbers, kept_at, users_at, users_in, record_of}
+
+-- the paths that references point to
+abbrev pub paths_seen : List (Bor (List ℕ)) → List (List ℕ)
+paths_seen = map (λ p. p.now)
 
 -- its version, and its records in the order in which their keys were recorded first
 pub record Recorded : Type 0 where

@@ -1,5 +1,5 @@
 //! The graph of records.
-ghost use Rattle.std.specs.Prelude.{◌≡◌, ℕ, List, ◌+◌, ◌<◌, [], length, IfSome, IfNone, IfOk, OnOk, OnErr, map, IsSome, IsTrue, Some, false};
+ghost use Rattle.std.specs.Prelude.{◌≡◌, ℕ, List, ◌+◌, ◌<◌, [], ◌∷◌, length, IfSome, IfNone, IfOk, OnOk, OnErr, map, IsSome, IsTrue, Some, false};
 ghost use Rattle.std.specs.Option.{option_map};
 ghost use Rattle.std.specs.Arc.{arc_value};
 ghost use Rattle.evaluation.specs.Graph.{Record, Marks};
@@ -11,7 +11,7 @@ ghost use Rattle.node.specs.Counts.{edges_of};
 ghost use Rattle.node.specs.Batches.{keys_of, HasReadyEntries, SetsAll};
 ghost use Rattle.node.specs.Laws.{IsAlwaysLawful, TouchKeepsLawful, SettlingKeepsLawful, BatchKeepsLawful};
 ghost use Rattle.node.specs.Writes.{HasReadyMembers, stored, is_ready_group, are_ready};
-ghost use Rattle.node.specs.Graphs.{record_at, present, IsTouched, AreReached, HasCleanMembers, Sets};
+ghost use Rattle.node.specs.Graphs.{record_at, present, IsTouched, paths_seen, AreReached, HasCleanMembers, Sets};
 
 use crate::batch::store_all;
 use crate::counts::{Counts, edges};
@@ -146,14 +146,14 @@ impl Graph {
         }
     }
 
-    /// The keys whose records an edit of the path is to mark: not dirty so far, and they reach a leaf which the edit
-    /// touches. These leaves are the path's file, and the listing of each directory that it lies below, the root among
-    /// them. The cost follows what is reached. Nothing changes. `Memory` where a growth was refused.
-    pub fn reached_by(&mut self, path: &str) -> Result<Vec<Key>, Memory>
-        ensures reached { IfOk result (λ keys. AreReached (record_at self.old) (IsTouched path.now) keys.items) }
+    /// The keys whose records an edit of these paths is to mark: not dirty so far, and they reach a leaf which the edit
+    /// touches. These leaves are the file of each path, and the listing of each directory that it lies below, the root
+    /// among them. The cost follows what is reached. Nothing changes. `Memory` where a growth was refused.
+    pub fn reached_by(&mut self, paths: &[&str]) -> Result<Vec<Key>, Memory>
+        ensures reached { IfOk result (λ keys. AreReached (record_at self.old) (IsTouched (paths_seen paths.now)) keys.items) }
         ensures same { self.new ≡ self.old }
     {
-        let leaves = touched(self.alloc, path)?;
+        let leaves = touched(self.alloc, paths)?;
         let mut marked = Vec::new(self.alloc);
         let spread = mark_from(
             &mut self.records,
@@ -168,36 +168,49 @@ impl Graph {
     }
 
     /// Takes in an edit: one version more, and the records of these keys are marked. They must be what `reached_by`
-    /// answers for the edit's path at the present graph. Nothing else changes, and no memory is taken. A graph that is
+    /// answers for the edit's paths at the present graph. Nothing else changes, and no memory is taken. A graph that is
     /// lawful for a history of the files is lawful for the history with this edit. That the version is below its last
     /// value is the caller's condition. The new version.
     pub fn mark(&mut self, reached: &[Key]) -> u32
         requires below { self.old.version < u32.MAX }
-        requires reached { (path : List ℕ) × AreReached (record_at self.old) (IsTouched path) reached.now }
+        requires reached { (paths : List (List ℕ)) × AreReached (record_at self.old) (IsTouched paths) reached.now }
         ensures version { result ≡ self.old.version + 1 }
         ensures moved { self.new.version ≡ self.old.version + 1 }
-        ensures marks { (path : List ℕ) → AreReached (record_at self.old) (IsTouched path) reached.now → Marks (record_at self.old) (record_at self.new) (IsTouched path) }
-        ensures lawful { (path : List ℕ) → AreReached (record_at self.old) (IsTouched path) reached.now → TouchKeepsLawful self.old self.new path }
+        ensures marks { (paths : List (List ℕ)) → AreReached (record_at self.old) (IsTouched paths) reached.now → Marks (record_at self.old) (record_at self.new) (IsTouched paths) }
+        ensures lawful { (paths : List (List ℕ)) → AreReached (record_at self.old) (IsTouched paths) reached.now → TouchKeepsLawful self.old self.new paths }
     {
         set_all(&mut self.records, reached, true);
         self.version += 1;
         self.version
     }
 
-    /// Takes in an edit of the path: what `reached_by` answers is marked. One version more, and each record is marked
-    /// that reaches a leaf which the edit touches. Nothing else changes. A graph that is lawful for a history of the
-    /// files is lawful for the history with this edit. That the version is below its last value is the caller's
+    /// Takes in an edit of these paths together: what `reached_by` answers is marked. One version more, and each record
+    /// is marked that reaches a leaf which the edit touches. Nothing else changes. A graph that is lawful for a history
+    /// of the files is lawful for the history with this edit. That the version is below its last value is the caller's
     /// condition. The new version, or `Memory` where a growth was refused, and then nothing has changed.
+    pub fn touch_all(&mut self, paths: &[&str]) -> Result<u32, Memory>
+        requires { self.old.version < u32.MAX }
+        ensures version { IfOk result (λ v. v ≡ self.old.version + 1) }
+        ensures moved { OnOk result (self.new.version ≡ self.old.version + 1) }
+        ensures marks { OnOk result (Marks (record_at self.old) (record_at self.new) (IsTouched (paths_seen paths.now))) }
+        ensures lawful { OnOk result (TouchKeepsLawful self.old self.new (paths_seen paths.now)) }
+        ensures refused { OnErr result (self.new ≡ self.old) }
+    {
+        let reached = self.reached_by(paths)?;
+        let version = self.mark(reached.as_slice());
+        Ok(version)
+    }
+
+    /// Takes in an edit of one path, as `touch_all` does of several.
     pub fn touch(&mut self, path: &str) -> Result<u32, Memory>
         requires { self.old.version < u32.MAX }
         ensures version { IfOk result (λ v. v ≡ self.old.version + 1) }
         ensures moved { OnOk result (self.new.version ≡ self.old.version + 1) }
-        ensures marks { OnOk result (Marks (record_at self.old) (record_at self.new) (IsTouched path.now)) }
-        ensures lawful { OnOk result (TouchKeepsLawful self.old self.new path.now) }
+        ensures marks { OnOk result (Marks (record_at self.old) (record_at self.new) (IsTouched (path.now ∷ []))) }
+        ensures lawful { OnOk result (TouchKeepsLawful self.old self.new (path.now ∷ [])) }
         ensures refused { OnErr result (self.new ≡ self.old) }
     {
-        let reached = self.reached_by(path)?;
-        let version = self.mark(reached.as_slice());
+        let version = self.touch_all(&[path])?;
         Ok(version)
     }
 

@@ -34,7 +34,7 @@ pub record Past (read : Key → Option Value) : Type 0 where
   pub entry : Recorded
   pub roots : List Key
   pub reads : ℕ → Key → Option Value
-  pub edits : ℕ → List ℕ
+  pub edits : ℕ → List (List ℕ)
   pub at_present : (k : Key) → reads entry.version k ≡ read k
   pub leaf_stays : (u w : ℕ) (k : Key) (v : Value) → reads u k ≡ Some v → (x : Value) × (reads w k ≡ Some x)
   pub leaf_plain : (u : ℕ) (k : Key) (v : Value) → reads u k ≡ Some v → NoCycle v

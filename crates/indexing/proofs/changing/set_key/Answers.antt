@@ -11,4 +11,4 @@ returns c =
     let found = heap_at heap.items heap.len c.args.a c.in-Some.object.now heap.ok.0 (c.in-Some.ensures.variant.0 refl) c.in-Some.ensures.value in
     let entries = c.in-Dict.entries.entries in
     let room : is_sized (length (with_key c.args.key c.args.entry entries)) ≡ true = sym (c.if-not-has_room.ensures c.args.entry) in
-    rw (found, c.in-Dict.is, room, map-set, c.in_ok-set_entry.ensures)
+    rw (c.hold_entry.ensures.same, found, c.in-Dict.is, room, map-set, c.in_ok-set_entry.ensures)

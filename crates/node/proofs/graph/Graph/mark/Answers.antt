@@ -14,12 +14,12 @@ invariant_of-self c =
     c.self.invariant.numbers
 
 pub returns-clause-marks : goal.returns-clause-marks
-returns-clause-marks c = λ path r.
+returns-clause-marks c = λ paths r.
     marking_marks (users_in c.self.inside.records c.self.inside.users) c.self.inside.records c.set_all.new.records c.self.inside.version c.args.self.now c.self.view_is c.self.invariant.linked c.args.reached.now c.set_all.ensures.sets
-    path r (c.self.inside.version + 1)
+    paths r (c.self.inside.version + 1)
 
 pub returns-clause-lawful : goal.returns-clause-lawful
-returns-clause-lawful c = λ path r.
-    touch_keeps c.args.self.now (recorded (c.self.inside.version + 1) c.set_all.new.records) path (ap (λ (g : Recorded). g.version + 1) c.self.view_is)
+returns-clause-lawful c = λ paths r.
+    touch_keeps c.args.self.now (recorded (c.self.inside.version + 1) c.set_all.new.records) paths (ap (λ (g : Recorded). g.version + 1) c.self.view_is)
     (marking_marks (users_in c.self.inside.records c.self.inside.users) c.self.inside.records c.set_all.new.records c.self.inside.version c.args.self.now c.self.view_is c.self.invariant.linked c.args.reached.now c.set_all.ensures.sets
-    path r (c.self.inside.version + 1))
+    paths r (c.self.inside.version + 1))

@@ -3,7 +3,7 @@ use Rattle.keys.specs.Touched.{touched_leaves}
 use Rattle.keys.specs.declared.key.Key.{Key}
 use Rattle.numbered.specs.Flats.{members_in}
 use Rattle.node.specs.Kept.{Records, users_in}
-use Rattle.node.specs.Graphs.{recorded, record_at, AreReached, IsLinkedBy, IsTouched}
+use Rattle.node.specs.Graphs.{recorded, record_at, AreReached, IsLinkedBy, IsTouched, paths_seen}
 use Rattle.node.proofs.Collecting.{unmarked_same, are_reached, shown_reached}
 use Rattle.node.proofs.Numbering.{members_same}
 use Rattle.node.proofs.graph.Graph.reached_by.Goals as goal
@@ -61,8 +61,8 @@ returns-clause-reached c =
     let middle = c.mark_from-spread.new.records in
     let marked = members_in middle c.mark_from-spread.new.marked.items in
     let keys : c.in_ok-keys.keys.items ≡ marked = c.in_ok-keys.ensures ∙ members_same middle c.unmark_all.new.records c.unmark_all.ensures.keys c.as_slice-3.result.now ∙ ap (members_in middle) c.as_slice-3.ensures.value in
-    subst (λ (ks : List Key). AreReached (record_at c.args.self.now) (IsTouched c.args.path.now) ks) (sym keys)
-    (shown_reached c.self.inside.records c.self.inside.version c.args.self.now c.self.view_is c.as_slice.result.now (touched_leaves c.args.path.now) marked
+    subst (λ (ks : List Key). AreReached (record_at c.args.self.now) (IsTouched (paths_seen c.args.paths.now)) ks) (sym keys)
+    (shown_reached c.self.inside.records c.self.inside.version c.args.self.now c.self.view_is c.as_slice.result.now (touched_leaves (paths_seen c.args.paths.now)) marked
     (c.as_slice.ensures.value ∙ c.in_ok-leaves.ensures)
     (are_reached (users_in c.self.inside.records c.self.inside.users) c.as_slice.result.now c.self.inside.records middle marked c.self.invariant.linked
     c.mark_from-spread.ensures.marked c.in_ok-spread.ensures.passed c.in_ok-spread.ensures.begun))

@@ -1,5 +1,5 @@
 use Rattle.node.proofs.Touching.{all_touched}
-use Rattle.node.proofs.leaves.touched.Goals as goal
+use Rattle.node.proofs.leaves.touched_by.Goals as goal
 
 pub returns : goal.returns
 returns c =

@@ -1,0 +1,88 @@
+//! Changes of files, one or several together.
+ghost use Rattle.std.specs.Prelude.{◌≡◌, IfOk};
+ghost use Rattle.filetree.specs.Changes as specs;
+ghost use Rattle.filetree.specs.Edits.{Edits, refusal_of};
+ghost use Rattle.filetree.specs.Shown.{change_seen, changes_seen};
+
+use crate::error::{BatchError, TreeError};
+use crate::tree::Tree;
+
+/// A change of one file.
+#[derive(Drop)]
+pub enum Change<'a> {
+    /// A text is put at a path. One that was there is replaced.
+    Put(&'a str, &'a str),
+    /// The file at a path is taken away.
+    Del(&'a str),
+}
+
+impl Change<'_> {
+    /// The path of the file that is changed.
+    pub fn path(&self) -> &str
+        ensures { result.now ≡ specs.path_of (change_seen self.now) }
+    {
+        match self {
+            Change::Put(path, _) => path,
+            Change::Del(path) => path,
+        }
+    }
+}
+
+// The error of a change that is refused, by its number among several.
+fn refused_at(at: usize, error: &TreeError) -> BatchError
+    ensures { result ≡ specs.error_at at (refusal_of error.now) }
+{
+    match error {
+        TreeError::Code2 => BatchError::At(at, 2),
+        TreeError::Code3 => BatchError::At(at, 3),
+        TreeError::Code4 => BatchError::At(at, 4),
+        TreeError::Code7 => BatchError::At(at, 7),
+        TreeError::Memory => BatchError::Memory,
+    }
+}
+
+impl Tree {
+    /// The number of the first refusal of a change, or none, as `put_refusal` and `del_refusal` have them.
+    pub fn change_refusal(&self, change: &Change<'_>) -> Option<u64>
+        ensures { result ≡ specs.change_refusal (change_seen change.now) self.now }
+    {
+        match change {
+            Change::Put(path, text) => self.put_refusal(path, text),
+            Change::Del(path) => self.del_refusal(path),
+        }
+    }
+
+    /// Makes a change, as `put` and `del` do.
+    pub fn change(&mut self, change: &Change<'_>) -> Result<(), TreeError>
+        ensures { Edits result (specs.change_refusal (change_seen change.now) self.old) self.old (specs.changed (change_seen change.now) self.old) self.new }
+    {
+        match change {
+            Change::Put(path, text) => self.put(path, text),
+            Change::Del(path) => self.del(path),
+        }
+    }
+
+    // Makes changes in their order, up to the first that is refused.
+    fn change_each(&mut self, edits: &[Change<'_>]) -> Result<(), BatchError>
+        ensures { specs.MakesAll result (specs.changes_refusal (changes_seen edits.now) self.old) (specs.all_changed (changes_seen edits.now) self.old) self.new }
+    {
+        for (at, edit) in edits.iter().enumerate() {
+            if let Err(error) = self.change(edit) {
+                return Err(refused_at(at, &error));
+            }
+        }
+        Ok(())
+    }
+
+    /// Makes all of these changes in their order, or none: a change is refused as `put` and `del` refuse it on the files
+    /// after those before it. Then, and where a growth was refused, nothing has changed. Folders are shared with the
+    /// tree as it was, so it costs what the changed paths reach.
+    pub fn apply_all(&mut self, edits: &[Change<'_>]) -> Result<(), BatchError>
+        ensures { specs.EditsAll result (specs.changes_refusal (changes_seen edits.now) self.old) self.old (specs.all_changed (changes_seen edits.now) self.old) self.new }
+    {
+        let mut changed = self.copy()?;
+        changed.change_each(edits)?;
+        *self = changed;
+        Ok(())
+    }
+}
