@@ -1,17 +1,19 @@
 -- A command of the code, as the definitions see it.
 use Rattle.std.specs.Prelude.{ℕ, List, map}
 use Rattle.std.specs.Borrow.{Bor}
+use Rattle.filetree.specs.Shown.{changes_seen}
 use Rattle.commands.specs.Commands as commands
 use Rattle.commands.specs.declared.command.Edit.{Edit}
-use Rattle.commands.specs.declared.command.Edit.TheVariants.{Put, Del}
+use Rattle.commands.specs.declared.command.Edit.TheVariants.{Put, Del, Batch}
 use Rattle.commands.specs.declared.command.Request.{Request}
 use Rattle.commands.specs.declared.command.Request.TheVariants.{Find, Load, Module}
 use Rattle.commands.specs.declared.command.Command.{Command}
 use Rattle.commands.specs.declared.command.Command.TheVariants.{Change, Ask}
 
 abbrev pub edit_seen : Edit → commands.Edit
-edit_seen (Put path text) = commands.put path.now text.now
-edit_seen (Del path) = commands.del path.now
+edit_seen (Put path text) = commands.one (commands.put path.now text.now)
+edit_seen (Del path) = commands.one (commands.del path.now)
+edit_seen (Batch changes) = commands.batch (changes_seen changes.items)
 
 -- the texts that references point to
 abbrev pub texts_seen : List (Bor (List ℕ)) → List (List ℕ)

@@ -1,27 +1,15 @@
 //! Commands.
-ghost use Rattle.std.specs.Prelude.{◌≡◌};
-ghost use Rattle.commands.specs.Commands as commands;
-ghost use Rattle.commands.specs.Seen.{edit_seen};
+use filetree::Change;
 
-/// A change of one file.
+/// An edit: a change of one file, or several together.
 #[derive(Drop)]
 pub enum Edit<'a> {
     /// A text is put at a path. One that was there is replaced.
     Put(&'a str, &'a str),
     /// The file at a path is taken away.
     Del(&'a str),
-}
-
-impl Edit<'_> {
-    /// The path of the file that is changed.
-    pub fn path(&self) -> &str
-        ensures { result.now ≡ commands.path_of (edit_seen self.now) }
-    {
-        match self {
-            Edit::Put(path, _) => path,
-            Edit::Del(path) => path,
-        }
-    }
+    /// Changes that are made in their order, all of them or none.
+    Batch(Vec<Change<'a>>),
 }
 
 /// A question about the present files.

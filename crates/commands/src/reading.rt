@@ -3,8 +3,10 @@ ghost use Rattle.std.specs.Prelude.{◌≡◌, IfOk, option_map};
 ghost use Rattle.serde_json.specs.View.{view, items_view};
 ghost use Rattle.commands.specs.Commands as commands;
 ghost use Rattle.commands.specs.Seen.{command_seen, texts_seen};
+ghost use Rattle.filetree.specs.Shown.{change_seen, changes_seen};
 
 use crate::command::{Command, Edit, Request};
+use filetree::Change;
 use serde_json::Value;
 use std::alloc::Global;
 use texts::Memory;
@@ -63,19 +65,70 @@ fn member_count(value: &Value) -> usize
     }
 }
 
-fn put_in(value: &Value) -> Option<Command<'_>>
-    ensures { option_map command_seen result ≡ commands.put_in (view value.now) }
+fn put_in(value: &Value) -> Option<Change<'_>>
+    ensures { option_map change_seen result ≡ commands.put_in (view value.now) }
 {
     let path = text_at(value, "path")?;
     let text = text_at(value, "text")?;
-    Some(Command::Change(Edit::Put(path, text)))
+    Some(Change::Put(path, text))
 }
 
-fn del_in(value: &Value) -> Option<Command<'_>>
-    ensures { option_map command_seen result ≡ commands.del_in (view value.now) }
+fn del_in(value: &Value) -> Option<Change<'_>>
+    ensures { option_map change_seen result ≡ commands.del_in (view value.now) }
 {
     let path = text_at(value, "path")?;
-    Some(Command::Change(Edit::Del(path)))
+    Some(Change::Del(path))
+}
+
+// The change with exactly these members.
+fn change_in(value: &Value) -> Option<Change<'_>>
+    ensures { option_map change_seen result ≡ commands.change_in (view value.now) }
+{
+    let op = text_at(value, "op")?;
+    let count = member_count(value);
+    if op == "put" && count == 3 {
+        return put_in(value);
+    }
+    if op == "del" && count == 2 {
+        return del_in(value);
+    }
+    None
+}
+
+// The command that makes a change, where there is one.
+fn to_make(change: Option<Change<'_>>) -> Option<Command<'_>>
+    ensures { option_map command_seen result ≡ option_map commands.one_change (option_map change_seen change.entry) }
+{
+    match change? {
+        Change::Put(path, text) => Some(Command::Change(Edit::Put(path, text))),
+        Change::Del(path) => Some(Command::Change(Edit::Del(path))),
+    }
+}
+
+// The changes of an array, where all its items are changes.
+fn changes_in(alloc: Global, items: &[Value]) -> Result<Option<Vec<Change<'_>>>, Memory>
+    ensures { IfOk result (λ found. option_map (λ changes. changes_seen changes.items) found ≡ commands.changes_in (items_view items.now)) }
+{
+    let mut all = Vec::new(alloc);
+    for item in items {
+        match change_in(item) {
+            Some(change) => all.push(change)?,
+            None => return Ok(None),
+        }
+    }
+    Ok(Some(all))
+}
+
+fn edits_in(alloc: Global, value: &Value) -> Result<Option<Command<'_>>, Memory>
+    ensures { IfOk result (λ found. option_map command_seen found ≡ commands.edits_in (view value.now)) }
+{
+    let Some(items) = value.get("edits").and_then(Value::as_array) else {
+        return Ok(None);
+    };
+    match changes_in(alloc, items.as_slice())? {
+        Some(changes) => Ok(Some(Command::Change(Edit::Batch(changes)))),
+        None => Ok(None),
+    }
 }
 
 fn find_in(value: &Value) -> Option<Command<'_>>
@@ -110,10 +163,13 @@ pub fn command_of(alloc: Global, value: &Value) -> Result<Option<Command<'_>>, M
     };
     let count = member_count(value);
     if op == "put" && count == 3 {
-        return Ok(put_in(value));
+        return Ok(to_make(put_in(value)));
     }
     if op == "del" && count == 2 {
-        return Ok(del_in(value));
+        return Ok(to_make(del_in(value)));
+    }
+    if op == "edit" && count == 2 {
+        return edits_in(alloc, value);
     }
     if op == "find" && count == 2 {
         return Ok(find_in(value));

@@ -46,7 +46,7 @@ fn staff<'s, E, R: Rules + Send + Drop + 's, T: Wait + Sync>(
     if crew.workers.len() < out && !crew.rules.is_empty() {
         return hire(scope, rt, board, bells, host, crew);
     }
-    bells.jobs.ring();
+    bells.jobs.ring_for(out, crew.workers.len());
     Ok(())
 }
 

@@ -1,5 +1,7 @@
 //! An evaluation on one thread.
-ghost use Rattle.std.specs.Prelude.{◌≡◌, ◌+◌, ◌≤◌, ℕ, List, [], ◌∷◌, false, Option, IfOk, IfErr, IfSome, IfNone, OnOk, IsErrOf, IsTrue, Ok, Err};
+ghost use Rattle.std.specs.Prelude.{◌≡◌, ◌+◌, ◌≤◌, ℕ, List, [], ◌∷◌, false, Option, IfOk, IfErr, IfSome, IfNone, OnOk, IsErrOf, IsTrue, Ok, Err, All};
+ghost use Rattle.std.specs.BTreeMap.Range.{IsLeBy};
+ghost use Rattle.keys.specs.Keys.{key_cmp};
 ghost use Rattle.evaluation.specs.Reply.{Reply};
 ghost use Rattle.evaluation.specs.Choices.{Hand, Back};
 ghost use Rattle.evaluation.specs.Value.{In};
@@ -29,6 +31,7 @@ use texts::Memory;
 pub fn next_key<R: Rules>(round: &Round<R>) -> Result<Option<Key>, Memory>
     ensures some { IfOk result (λ k. IfSome k (λ key. In key (standing round.now).table.ready.keys)) }
     ensures none { IfOk result (λ k. IfNone k ((standing round.now).table.ready.keys ≡ [])) }
+    ensures least { IfOk result (λ k. IfSome k (λ key. All (IsLeBy key_cmp key) (standing round.now).table.ready.keys)) }
 {
     match round.ready() {
         None => Ok(None),
