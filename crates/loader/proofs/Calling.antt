@@ -37,7 +37,7 @@ in_middle (x ∷ before) run rest = after (in_middle before run rest)
 split : (a b : ℕ) → (a ≤ b) ⊎ (b < a)
 split a b = grind arith
 
-module _ (files : ℕ → Files) (paths : ℕ → List ℕ) where
+module _ (files : ℕ → Files) (paths : ℕ → List (List ℕ)) where
   abbrev at : ℕ → Key → Option Value
   at = leaves files paths
 

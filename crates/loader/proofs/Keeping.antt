@@ -18,7 +18,7 @@ use Rattle.open_nodes.specs.Counted.{turns_of}
 use Rattle.open_nodes.specs.declared.run.Run.{Run}
 use Rattle.round.specs.Call.{Calls}
 use Rattle.loader.specs.State.{State, start, Edit}
-use Rattle.loader.specs.Held.{Held, IsHistory, IsLawful, state_of, path_of, files_at, path_at}
+use Rattle.loader.specs.Held.{Held, IsHistory, IsLawful, state_of, paths_of, files_at, paths_at}
 use Rattle.loader.specs.Answers.{line_state, state_after}
 use Rattle.loader.specs.Journal.{Asked}
 use Rattle.loader.specs.Effects.{Effect, nothing, edited, asked, line_effect, effects, edits_in, requests_in, Moves}
@@ -82,7 +82,7 @@ module _ (budget : ℕ) (h h' : Held) (lines : List (List ℕ)) (runs own : List
         let l = law.lawful files paths (subst (λ (b : ℕ). IsHistory files paths b h'.edits) (sym (m.1 ∙ kept.began)) history) in
         subst (λ (rs : List Asked). IsToldBy files paths budget h'.graph rs (runs ++ own)) (sym rs)
         (subst (λ (xs : List Run). IsToldBy files paths budget h'.graph (requests_in so_far) xs) (sym (ap (λ x. runs ++ x) m.0 ∙ append-nil runs))
-        (told_edit files paths budget h.graph h'.graph (path_of edit) v m.3 l (requests_in so_far) runs t));
+        (told_edit files paths budget h.graph h'.graph (paths_of edit) v m.3 l (requests_in so_far) runs t));
   }
     where
       split : all ≡ so_far ++ edited edit ∷ []
@@ -127,8 +127,8 @@ module _ (budget : ℕ) (h h' : Held) (lines : List (List ℕ)) (runs own : List
 -- the journal of all lines
 pub kept_journal : (budget : ℕ) (h : Held) (lines : List (List ℕ)) (runs : List Run) → IsKept budget h lines runs → IsJournalOf budget lines runs
 kept_journal budget h lines runs kept =
-    (kept.told (files_at (edits_in (effects start lines))) (path_at (edits_in (effects start lines)))
-    (subst (λ (x : List Edit). IsHistory (files_at (edits_in (effects start lines))) (path_at (edits_in (effects start lines))) 0 x) (sym kept.edits) (history_of (edits_in (effects start lines))))).journal
+    (kept.told (files_at (edits_in (effects start lines))) (paths_at (edits_in (effects start lines)))
+    (subst (λ (x : List Edit). IsHistory (files_at (edits_in (effects start lines))) (paths_at (edits_in (effects start lines))) 0 x) (sym kept.edits) (history_of (edits_in (effects start lines))))).journal
 
 -- no line yet
 pub kept_at_start : (budget : ℕ) (h : Held) → IsLawful h → h.began ≡ 0 → h.edits ≡ [] → h.graph.records ≡ [] → IsKept budget h [] []

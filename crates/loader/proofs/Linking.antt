@@ -22,7 +22,7 @@ use Rattle.loader.specs.Linked.{Stays, IsLinked}
 pub past_or_now : (w n m : ℕ) → m ≡ n + 1 → w ≤ m → (w ≤ n) ⊎ (w ≡ m)
 past_or_now w n m e h = grind arith
 
-module _ (files : ℕ → Files) (paths : ℕ → List ℕ) where
+module _ (files : ℕ → Files) (paths : ℕ → List (List ℕ)) where
   abbrev at : ℕ → Key → Option Value
   at = leaves files paths
 

@@ -1,6 +1,6 @@
 -- A request of a session.
 use Rattle.std.proofs.Common.{◌≡◌, ℕ, List, [], ◌∷◌, map, length, Bool, true, ◌||◌, ◌==◌, cond, None, Some, refl, sym, ◌∙◌, ap, subst}
-use Rattle.std.specs.Prelude.{Result, Ok, Err, IfOk, Option, codes, false, nat_lt, nat_eq}
+use Rattle.std.specs.Prelude.{Result, Ok, Err, IfOk, Option, option_map, codes, false, nat_lt, nat_eq}
 use Rattle.evaluation.specs.Value.{In, first, after as further, Grounded, is_leaf, has_run, HasValue, leaf, run}
 use Rattle.filetree.specs.Files.{Files}
 use Rattle.functions.specs.Lookups.{build_of}
@@ -24,7 +24,9 @@ use Rattle.loader.specs.Held.{Held, IsHistory, IsLawful, files_of}
 use Rattle.loader.specs.Answers.{one_member, build_text, ArePackagesShown, IsModuleShown, IsValueOf, IsUnlessRefused, IsRequestAnswer, Tells}
 use Rattle.loader.specs.Effects.{AreHeld, StopsAfter, module_roots}
 use Rattle.loader.specs.Told.{package_told, module_told}
-use Rattle.loader.specs.State.{Edit, put, del, files_refusal, changed_files}
+use Rattle.loader.specs.State.{Edit, one, batch, Refusal, plain, files_refusal, changed_files}
+use Rattle.edits.specs.Edits.{refusal_at}
+use Rattle.filetree.specs.Changes.{change_refusal, changes_refusal, refused_or}
 use Rattle.filetree.specs.Lawful.{HasPaths}
 use Rattle.filetree.proofs.Lawful.{edits_keep_paths}
 use Rattle.labels.specs.Paths.{is_package_name}
@@ -47,7 +49,7 @@ grounded_value files (is_leaf e) = ([], leaf e)
 grounded_value files (has_run {groups = gs} e t) = (gs, run e t)
 
 module _ (h : Held) (law : IsLawful h) (tree : Files) (is : tree ≡ files_of h) (roots : List Key) (new : Recorded) where
-  past_at : (files : ℕ → Files) (paths : ℕ → List ℕ) → IsHistory files paths h.began h.edits → Past (read tree)
+  past_at : (files : ℕ → Files) (paths : ℕ → List (List ℕ)) → IsHistory files paths h.began h.edits → Past (read tree)
   past_at files paths history = record {
     entry = h.graph;
     roots = roots;
@@ -58,12 +60,12 @@ module _ (h : Held) (law : IsLawful h) (tree : Files) (is : tree ≡ files_of h)
     leaf_plain = λ u k v e. read_plain (files u) k v e;
   }
 
-  is_past : (files : ℕ → Files) (paths : ℕ → List ℕ) (history : IsHistory files paths h.began h.edits) → IsPast next (read tree) (past_at files paths history) roots h.graph
+  is_past : (files : ℕ → Files) (paths : ℕ → List (List ℕ)) (history : IsHistory files paths h.began h.edits) → IsPast next (read tree) (past_at files paths history) roots h.graph
   unfolding past_at
   is_past files paths history = record { at_entry = refl; of_roots = refl; lawful = law.lawful files paths history }
 
   -- the session stays lawful, at its version
-  kept_lawful : ((files : ℕ → Files) (paths : ℕ → List ℕ) (history : IsHistory files paths h.began h.edits) → IsAfter next (read tree) (past_at files paths history) new)
+  kept_lawful : ((files : ℕ → Files) (paths : ℕ → List (List ℕ)) (history : IsHistory files paths h.began h.edits) → IsAfter next (read tree) (past_at files paths history) new)
       → (new.version ≡ h.graph.version) × IsLawful (record { began = h.began; edits = h.edits; graph = new })
   unfolding past_at
   kept_lawful after =
@@ -187,16 +189,16 @@ build_plain (Some Build) = refl
 pub text_told : (request : Request) (files : Files) (text : List ℕ) → request_refusal request ≡ None → Tells (IsValueOf request files) text → Tells (IsRequestAnswer request files) text
 text_told request files text accepted told = (told.0, subst (λ (n : Option ℕ). IsUnlessRefused n (IsValueOf request files) told.0) (sym accepted) told.1, told.2)
 
+not_plain : (o : Option ℕ) → option_map plain o ≡ None → o ≡ None
+not_plain None e = refl
+not_plain (Some n) e = absurd cc
+
+not_batch : (b : Bool) (o : Option (ℕ × ℕ)) → cond {A = Option Refusal} b (Some (plain 10)) (option_map refusal_at o) ≡ None → o ≡ None
+not_batch true o e = absurd cc
+not_batch false None e = refl
+not_batch false (Some p) e = absurd cc
+
 -- the files of an edit that is not refused have paths alone
 pub kept_paths : (edit : Edit) (files : Files) → HasPaths files → files_refusal edit files ≡ None → HasPaths (changed_files edit files)
-kept_paths (put path text) files good e = edits_keep_paths.1 files path text good e
-kept_paths (del path) files good e = edits_keep_paths.2 files path good
-
--- what is held of keys, in an equal graph
-pub held_in : (files : Files) (keys others : List Key) (graph other : Recorded) → keys ≡ others → graph ≡ other → AreHeld files keys graph → AreHeld files others other
-held_in files keys others graph other same one held = subst (AreHeld files others) one (subst (λ (ks : List Key). AreHeld files ks graph) same held)
-
--- what follows of a result that is there
-pub if_ok : {A E : Type 0} (P Q : A → Type 0) (r : Result A E) → ((x : A) → P x → Q x) → IfOk r P → IfOk r Q
-if_ok P Q (Ok x) f h = f x h
-if_ok P Q (Err e) f h = tt
+kept_paths (one c) files good e = edits_keep_paths.3 files (c ∷ []) good (ap (λ o. refused_or 0 o None) (not_plain (change_refusal c files) e))
+kept_paths (batch cs) files good e = edits_keep_paths.3 files cs good (not_batch (length cs == 0 || nat_lt 256 (length cs)) (changes_refusal cs files) e)

@@ -50,7 +50,7 @@ in_either [] ys i = inr i
 in_either (x ∷ xs) ys first = inl first
 in_either (x ∷ xs) ys (after i) = elim (in_either xs ys i) [ inl a ↦ inl (after a) | inr b ↦ inr b ]
 
-module _ (files : ℕ → Files) (paths : ℕ → List ℕ) (budget : ℕ) where
+module _ (files : ℕ → Files) (paths : ℕ → List (List ℕ)) (budget : ℕ) where
   -- the items of one more request
   items_more : (earlier requests : List Asked) (runs : List Run) (request : Asked) (own : List Run) → AreItems files paths budget earlier requests runs → AreItemsOf files paths (turned_onto earlier requests) request own
       → turns_of own ≤ budget → AreItems files paths budget earlier (requests ++ request ∷ []) (runs ++ own)

@@ -12,7 +12,7 @@ use Rattle.packages.specs.Loaded.{HoldsPackage, HoldsModule}
 use Rattle.answers.specs.Answers.{package_data, faulty_package, packages_data, fault_data, cycle_data, module_data, faulty_module}
 use Rattle.serde_json.specs.Data.{Data, null, string, number, unsigned, object, no_members, member}
 use Rattle.serde_json.specs.Written.{compact_text}
-use Rattle.loader.specs.State.{State, Edit, refusal_of, changed}
+use Rattle.loader.specs.State.{State, Edit, Refusal, plain, at_change, refusal_of, changed}
 use Rattle.commands.specs.Refusals.{request_refusal, module_label}
 use Rattle.commands.specs.Commands.{Command, change, ask, Request, find, load, module_of, data_of, command_of}
 
@@ -21,6 +21,14 @@ one_member key d = object (member key d no_members)
 
 abbrev pub refused : ℕ → Data
 refused n = one_member (codes "refused") (number (unsigned n))
+
+-- the change of a batch that is refused, by its place among them from 0 on
+abbrev pub refused_at : ℕ → ℕ → Data
+refused_at at n = object (member (codes "edit") (number (unsigned at)) (member (codes "refused") (number (unsigned n)) no_members))
+
+abbrev pub refusal_data : Refusal → Data
+refusal_data (plain n) = refused n
+refusal_data (at_change at n) = refused_at at n
 
 abbrev pub accepted : ℕ → Data
 accepted version = one_member (codes "ok") (number (unsigned version))
@@ -84,13 +92,13 @@ abbrev pub IsRequestAnswer : Request → Files → Data → Type 0
 IsRequestAnswer request files d = IsUnlessRefused (request_refusal request) (IsValueOf request files) d
 
 -- the first refusal, or the new version
-abbrev pub edit_answer : State → Option ℕ → Data
-edit_answer s (Some n) = refused n
+abbrev pub edit_answer : State → Option Refusal → Data
+edit_answer s (Some r) = refusal_data r
 edit_answer s None = accepted (s.version + 1)
 
 -- no change, or the change
-abbrev pub edited_state : Edit → State → Option ℕ → State
-edited_state edit s (Some n) = s
+abbrev pub edited_state : Edit → State → Option Refusal → State
+edited_state edit s (Some r) = s
 edited_state edit s None = changed edit s
 
 abbrev pub IsAnswerTo : Command → State → Data → Type 0

@@ -16,8 +16,8 @@ use Rattle.open_nodes.specs.declared.run.Run.{Run}
 use Rattle.node.specs.Laws.{IsLawfulFor}
 use Rattle.open_nodes.specs.Truths.{Past, IsAfter}
 use Rattle.round.specs.Call.{Calls}
-use Rattle.loader.specs.State.{State, Edit, refusal_of}
-use Rattle.loader.specs.Held.{Held, files_of, path_of}
+use Rattle.loader.specs.State.{State, Edit, Refusal, refusal_of}
+use Rattle.loader.specs.Held.{Held, files_of, paths_of}
 use Rattle.commands.specs.Refusals.{request_refusal, module_label}
 use Rattle.commands.specs.Commands.{Command, change, ask, Request, find, load, module_of, data_of, command_of}
 use Rattle.loader.specs.Answers.{line_state}
@@ -46,9 +46,9 @@ unless_refused None effect = effect
 abbrev pub request_effect : Request → ℕ → Effect
 request_effect request version = unless_refused (request_refusal request) (asked (record { version = version; roots = request_roots request }))
 
-abbrev pub edit_effect : Edit → Option ℕ → Effect
+abbrev pub edit_effect : Edit → Option Refusal → Effect
 edit_effect edit None = edited edit
-edit_effect edit (Some n) = nothing
+edit_effect edit (Some r) = nothing
 
 abbrev pub command_effect : Command → State → Effect
 command_effect (change edit) s = edit_effect edit (refusal_of edit s)
@@ -83,8 +83,8 @@ requests_in (asked request ∷ effects) = request ∷ requests_in effects
 -- what an effect makes of a session, with these runs
 abbrev pub Moves : Effect → Held → Held → List Run → Type 0
 Moves nothing old new runs = (new ≡ old) × (runs ≡ [])
--- the edit's path is marked in the graph
-Moves (edited edit) old new runs = (runs ≡ []) × (new.began ≡ old.began) × (new.edits ≡ old.edits ++ edit ∷ []) × Marks (record_at old.graph) (record_at new.graph) (IsTouched (path_of edit))
+-- what the edit's paths reach is marked in the graph
+Moves (edited edit) old new runs = (runs ≡ []) × (new.began ≡ old.began) × (new.edits ≡ old.edits ++ edit ∷ []) × Marks (record_at old.graph) (record_at new.graph) (IsTouched (paths_of edit))
 -- the law of a call holds on the graph
 Moves (asked request) old new runs = (new.began ≡ old.began) × (new.edits ≡ old.edits) × (request.version ≡ old.graph.version) × Calls next (read (files_of old)) request.roots old.graph new.graph (Ok runs)
 

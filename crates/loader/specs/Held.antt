@@ -6,7 +6,7 @@ use Rattle.functions.specs.Next.{next}
 use Rattle.leaves.specs.Leaves.{read}
 use Rattle.node.specs.Graphs.{Recorded}
 use Rattle.node.specs.Laws.{IsLawfulFor}
-pub use Rattle.commands.specs.Commands.{path_of}
+pub use Rattle.commands.specs.Commands.{paths_of}
 use Rattle.loader.specs.State.{State, Edit, changed_files}
 
 pub record Held : Type 0 where
@@ -29,28 +29,28 @@ files_of h = files_after map.empty h.edits
 abbrev pub state_of : Held → State
 state_of h = record { files = files_of h; version = h.graph.version }
 
--- the path of the edit of that number, counted from 1
-abbrev pub path_at : List Edit → ℕ → List ℕ
-path_at [] n = []
-path_at (edit ∷ edits) zero = []
-path_at (edit ∷ edits) (suc zero) = path_of edit
-path_at (edit ∷ edits) (suc (suc n)) = path_at edits (suc n)
+-- the paths of the edit of that number, counted from 1
+abbrev pub paths_at : List Edit → ℕ → List (List ℕ)
+paths_at [] n = []
+paths_at (edit ∷ edits) zero = []
+paths_at (edit ∷ edits) (suc zero) = paths_of edit
+paths_at (edit ∷ edits) (suc (suc n)) = paths_at edits (suc n)
 
--- the history of edits from version 0 on: the files after the first u, and the path of the u-th
+-- the history of edits from version 0 on: the files after the first u, and the paths of the u-th
 abbrev pub files_at : List Edit → ℕ → Files
 files_at edits u = files_after map.empty (take u edits)
 
--- `files u` are the files at version u, and `paths u` is the path of the edit to version u, where these edits are made from version n on
-abbrev pub Follows : (ℕ → Files) → (ℕ → List ℕ) → ℕ → List Edit → Type 0
+-- `files u` are the files at version u, and `paths u` are the paths of the edit to version u, where these edits are made from version n on
+abbrev pub Follows : (ℕ → Files) → (ℕ → List (List ℕ)) → ℕ → List Edit → Type 0
 Follows files paths n [] = ⊤
-Follows files paths n (edit ∷ edits) = (files (suc n) ≡ changed_files edit (files n)) × (paths (suc n) ≡ path_of edit) × Follows files paths (suc n) edits
+Follows files paths n (edit ∷ edits) = (files (suc n) ≡ changed_files edit (files n)) × (paths (suc n) ≡ paths_of edit) × Follows files paths (suc n) edits
 
 -- a history that begins at a version without files
-pub record IsHistory (files : ℕ → Files) (paths : ℕ → List ℕ) (began : ℕ) (edits : List Edit) : Type 0 where
+pub record IsHistory (files : ℕ → Files) (paths : ℕ → List (List ℕ)) (began : ℕ) (edits : List Edit) : Type 0 where
   pub start : files began ≡ map.empty
   pub follows : Follows files paths began edits
 
 -- the version counts the edits, and the graph is lawful for their history under the loading rules
 pub record IsLawful (h : Held) : Type 0 where
   pub version : h.graph.version ≡ h.began + length h.edits
-  pub lawful : (files : ℕ → Files) (paths : ℕ → List ℕ) → IsHistory files paths h.began h.edits → IsLawfulFor next (λ u. read (files u)) paths h.graph
+  pub lawful : (files : ℕ → Files) (paths : ℕ → List (List ℕ)) → IsHistory files paths h.began h.edits → IsLawfulFor next (λ u. read (files u)) paths h.graph

@@ -1,4 +1,4 @@
--- What a journal tells, by the requests and the history of the files alone: `files u` are the files at version u, and `paths u` is the path of
+-- What a journal tells, by the requests and the history of the files alone: `files u` are the files at version u, and `paths u` are the paths of
 -- the edit to version u.
 use Rattle.std.specs.declared.cmp.Ordering.TheVariants.{Less}
 use Rattle.std.specs.Prelude.{◌≡◌, ◌≢◌, ◌⊎◌, ℕ, ◌<◌, ◌≤◌, List, [], ◌∷◌, ◌++◌, map, Option, Some, None}
@@ -28,7 +28,7 @@ keys_of runs = map (λ run. run.key) runs
 abbrev pub place_of : Run → Key × ℕ
 place_of run = (run.key, run.version)
 
-module _ (files : ℕ → Files) (paths : ℕ → List ℕ) where
+module _ (files : ℕ → Files) (paths : ℕ → List (List ℕ)) where
   -- the leaves at a version
   abbrev pub leaves : ℕ → Key → Option Value
   leaves u = read (files u)

@@ -17,7 +17,7 @@ abbrev pub turned_onto : List Asked → List Asked → List Asked
 turned_onto earlier [] = earlier
 turned_onto earlier (request ∷ requests) = turned_onto (request ∷ earlier) requests
 
-module _ (files : ℕ → Files) (paths : ℕ → List ℕ) where
+module _ (files : ℕ → Files) (paths : ℕ → List (List ℕ)) where
   -- from the version at which it was settled to version u, the record is as true as then
   pub record Stays (k : Key) (r : Record Key Value) (u : ℕ) : Type 0 where
     pub early : r.settled_at ≤ u

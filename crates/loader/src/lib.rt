@@ -1,8 +1,6 @@
 //! Lines of commands in, lines of answers out: a resident loader of packages.
 #![tactic(auto)]
 
-mod accepted;
-mod edit;
 mod laws;
 mod program;
 mod publishing;
@@ -17,8 +15,9 @@ mod told;
 mod workers;
 mod written;
 
-pub use commands::{Edit, Request};
-pub use edit::EditError;
+pub use commands::Request;
+pub use edits::{Edit, EditError};
+pub use filetree::Change;
 pub use laws::{input_determines_output, lines_determine_answers, lines_have_answers};
 pub use lines::{Failed, Input, Output};
 pub use program::{BUDGET, command};

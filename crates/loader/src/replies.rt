@@ -12,11 +12,11 @@ ghost use Rattle.loader.specs.Held.{state_of, IsLawful};
 ghost use Rattle.loader.specs.State as state;
 ghost use Rattle.commands.specs.Seen.{edit_seen};
 
-use crate::edit::EditError;
 use crate::reply::Reply;
 use crate::session::Session;
-use crate::written::{accepted, refused};
-use commands::{Command, Edit, Request, command_of, data_of};
+use crate::written::{accepted, refused, refused_at};
+use commands::{Command, Request, command_of, data_of};
+use edits::{Edit, EditError};
 use functions::LoadRules;
 use lines::Line;
 use round::Stop;
@@ -41,6 +41,7 @@ fn edit_answer(alloc: Global, session: &mut Session, edit: &Edit<'_>) -> Result<
     match session.apply(edit) {
         Ok(version) => accepted(alloc, version),
         Err(EditError::Refused(n)) => refused(alloc, n),
+        Err(EditError::RefusedAt(at, n)) => refused_at(alloc, at, n),
         Err(EditError::Memory) => Err(Memory),
     }
 }

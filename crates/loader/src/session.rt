@@ -2,7 +2,6 @@
 ghost use Rattle.std.specs.Prelude.{◌≡◌, ◌≤◌, ◌+◌, ◌++◌, ◌∷◌, [], Ok, IfOk, OnOk, OnErr, length, string_bytes};
 ghost use Rattle.board.specs.Rule.{total};
 ghost use Rattle.evaluation.specs.Graph.{Marks};
-ghost use Rattle.filetree.specs.Edits as edits;
 ghost use Rattle.node.specs.Graphs.{record_at, IsTouched};
 ghost use Rattle.functions.specs.Next.{next};
 ghost use Rattle.leaves.specs.Leaves.{read};
@@ -11,17 +10,16 @@ ghost use Rattle.round.specs.Call.{Calls};
 ghost use Rattle.loader.specs.Answers as answers;
 ghost use Rattle.loader.specs.Effects.{AreHeld, Moves, StopsAfter, request_effect, request_roots};
 ghost use Rattle.loader.specs.State as state;
-ghost use Rattle.loader.specs.Held.{state_of, files_of, path_of, IsLawful};
+ghost use Rattle.loader.specs.Held.{state_of, files_of, paths_of, IsLawful};
 ghost use Rattle.commands.specs.Seen.{edit_seen, request_seen};
 
-use crate::accepted::Accepted;
-use crate::edit::EditError;
 use crate::reply::Reply;
 use crate::told::{roots_of, told};
 use crate::workers::evaluate_with;
 use crate::written::refused;
-use commands::{Edit, Request, refusal};
-use filetree::{Tree, TreeError};
+use commands::{Request, refusal};
+use edits::{Accepted, Edit, EditError, edit_files, edited_paths, refusal_at_limit};
+use filetree::Tree;
 use functions::{LoadRules, Loading};
 use keys::Key;
 use node::Graph;
@@ -63,17 +61,6 @@ impl Model for Session {
     ghost invariant = { λ s. (s.tree ≡ files_of (record { began = s.began; edits = s.accepted; graph = s.graph })) × IsLawful (record { began = s.began; edits = s.accepted; graph = s.graph }) × HasPaths s.tree };
 }
 
-// Makes an edit of the files, or leaves them as they are.
-fn edit_files(tree: &mut Tree, edit: &Edit<'_>) -> Result<(), TreeError>
-    ensures { state.EditsFiles (edit_seen edit.now) tree.old tree.new result }
-{
-    match edit {
-        Edit::Put(path, text) => tree.put(path, text)?,
-        Edit::Del(path) => tree.del(path)?,
-    }
-    Ok(())
-}
-
 impl Session {
     /// No files, at version 0.
     pub fn new(alloc: Global) -> Session
@@ -108,36 +95,25 @@ impl Session {
         self.graph.version()
     }
 
-    /// Makes an edit, and answers the new version. The records that reach a leaf which the edit touches are marked as
-    /// dirty. What is refused changes nothing: what is reached is found out first, then the files are changed in place,
+    /// Makes an edit, and answers the new version: one more, also for a batch. The records that reach a leaf which the edit
+    /// touches are marked as dirty. What is refused changes nothing: what is reached is found out first, then the files are changed in place,
     /// and the marks take no memory.
     pub fn apply(&mut self, edit: &Edit<'_>) -> Result<u32, EditError>
         ensures applies { state.Applies (edit_seen edit.now) (state_of self.old) (state_of self.new) result }
         ensures history { OnOk result ((self.new.began ≡ self.old.began) × (self.new.edits ≡ self.old.edits ++ edit_seen edit.now ∷ [])) }
-        ensures marks { OnOk result (Marks (record_at self.old.graph) (record_at self.new.graph) (IsTouched (path_of (edit_seen edit.now)))) }
+        ensures marks { OnOk result (Marks (record_at self.old.graph) (record_at self.new.graph) (IsTouched (paths_of (edit_seen edit.now)))) }
         ensures lawful { IsLawful self.new }
         ensures refused { OnErr result (self.new ≡ self.old) }
     {
         if self.graph.version() == u32::MAX {
-            return Err(EditError::Refused(self.files_refusal(edit).unwrap_or(8)));
+            return Err(refusal_at_limit(&self.tree, edit));
         }
-        let reached = self.graph.reached_by(edit.path())?;
-        if let Err(error) = edit_files(&mut self.tree, edit) {
-            return Err(refused_as(&error));
-        }
+        let paths = edited_paths(self.alloc, edit)?;
+        let reached = self.graph.reached_by(paths.as_slice())?;
+        edit_files(&mut self.tree, edit)?;
         let version = self.graph.mark(reached.as_slice());
         self.accepted.add(edit);
         Ok(version)
-    }
-
-    // The first refusal by the path, the text and the files.
-    fn files_refusal(&self, edit: &Edit<'_>) -> Option<u64>
-        ensures { result ≡ state.files_refusal (edit_seen edit.now) (files_of self.now) }
-    {
-        match edit {
-            Edit::Put(path, text) => self.tree.put_refusal(path, text),
-            Edit::Del(path) => self.tree.del_refusal(path),
-        }
     }
 
     /// The answer to a request by its evaluation over the graph, in at most `budget` turns, and what that ran: a graph
@@ -250,18 +226,5 @@ impl Session {
             budget,
         )?;
         Ok(done)
-    }
-}
-
-// The error of an edit that the tree refuses.
-fn refused_as(error: &TreeError) -> EditError
-    ensures { result ≡ state.error_of (edits.refusal_of error.now) }
-{
-    match error {
-        TreeError::Code2 => EditError::Refused(2),
-        TreeError::Code3 => EditError::Refused(3),
-        TreeError::Code4 => EditError::Refused(4),
-        TreeError::Code7 => EditError::Refused(7),
-        TreeError::Memory => EditError::Memory,
     }
 }

@@ -37,6 +37,20 @@ pub fn refused(alloc: Global, n: u64) -> Result<String, Memory>
     written(alloc, &answer)
 }
 
+fn refused_at_answer(alloc: Global, at: usize, n: u64) -> Result<Value, Memory>
+    ensures { IfOk result (λ value. view value ≡ answers.refused_at at n) }
+{
+    Ok(json!(in alloc; {"edit": at, "refused": n})?)
+}
+
+/// The text of the answer to a batch of which a change is refused, by its place among them.
+pub fn refused_at(alloc: Global, at: usize, n: u64) -> Result<String, Memory>
+    ensures { IfOk result (λ text. string_bytes text ≡ compact_text (answers.refused_at at n)) }
+{
+    let answer = refused_at_answer(alloc, at, n)?;
+    written(alloc, &answer)
+}
+
 /// The answer to an edit that was made.
 pub fn accepted(alloc: Global, version: u32) -> Result<String, Memory>
     ensures { IfOk result (λ text. string_bytes text ≡ compact_text (answers.accepted version)) }

@@ -1,5 +1,6 @@
 //! An evaluation on one thread.
-ghost use Rattle.std.specs.Prelude.{◌≡◌, ◌+◌, ◌≤◌, ℕ, List, [], ◌∷◌, false, Option, IfOk, IfErr, IfSome, IfNone, OnOk, IsErrOf, IsTrue, Ok, Err, All};
+ghost use Rattle.std.specs.Prelude.{◌≡◌, ◌+◌, ◌≤◌, ℕ, List, [], ◌∷◌, false, Option, IfOk, IfErr, IfSome, IfNone, OnOk, IsErrOf, IsTrue, Ok, Err};
+ghost use Rattle.std.specs.List.{All};
 ghost use Rattle.std.specs.BTreeMap.Range.{IsLeBy};
 ghost use Rattle.keys.specs.Keys.{key_cmp};
 ghost use Rattle.evaluation.specs.Reply.{Reply};

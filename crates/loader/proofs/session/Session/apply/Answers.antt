@@ -5,7 +5,7 @@ use Rattle.filetree.specs.Files.{Files}
 use Rattle.filetree.specs.Lawful.{HasPaths}
 use Rattle.loader.proofs.Requests.{kept_paths}
 use Rattle.loader.specs.State.{Edit, changed, changed_files}
-use Rattle.loader.specs.Held.{Held, files_of, state_of, path_of}
+use Rattle.loader.specs.Held.{Held, files_of, state_of, paths_of}
 use Rattle.commands.specs.Seen.{edit_seen}
 use Rattle.loader.proofs.Histories.{accepted, accepted_state}
 use Rattle.loader.proofs.Applying.{not_refused, is_reached}
@@ -17,13 +17,13 @@ invariant_of-self-2 c =
     let h : Held = record { began = inside.began; edits = inside.accepted; graph = inside.graph } in
     let edit : Edit = edit_seen c.args.edit.now in
     let graph : Recorded = c.reached_by.new.self in
-    let path : List ℕ = c.path.result.now in
+    let paths : List (List ℕ) = map (λ (t : Bor (List ℕ)). t.now) c.as_slice.result.now in
     let reached : AreReached (record_at graph) (IsTouched path) c.as_slice.result.now =
     is_reached inside.graph graph path c.in_ok-reached.reached.items c.as_slice.result.now c.reached_by.ensures.same c.as_slice.ensures.value c.in_ok-reached.ensures.reached in
     let kept = accepted h c.mark-version.new.self c.add.new.self edit c.add.ensures (c.mark-version.ensures.moved ∙ ap (λ (g : Recorded). g.version + 1) c.reached_by.ensures.same) c.edit_files.new.tree
     (c.in_default.ensures.1 ∙ ap (changed_files edit) c.self.invariant.0)
     c.self.invariant.1
-    (subst (λ (g : Recorded). TouchKeepsLawful g c.mark-version.new.self (path_of edit)) c.reached_by.ensures.same
+    (subst (λ (g : Recorded). TouchKeepsLawful g c.mark-version.new.self (paths_of edit)) c.reached_by.ensures.same
     (subst (λ (p : List ℕ). TouchKeepsLawful graph c.mark-version.new.self p) c.path.ensures (c.mark-version.ensures.lawful path reached))) in
     (kept.0, kept.1, subst (λ (f : Files). HasPaths f) (sym c.in_default.ensures.1) (kept_paths edit inside.tree c.self.invariant.2 c.in_default.ensures.0))
 

@@ -2,8 +2,9 @@
 ghost use Rattle.std.specs.Prelude.{◌≡◌, ◌++◌, ◌∷◌, []};
 ghost use Rattle.commands.specs.Seen.{edit_seen};
 
+use crate::changes::Changes;
 use commands::Edit;
-use count::History;
+use filetree::Change;
 use http_server::Log;
 use std::marker::Model;
 
@@ -11,12 +12,12 @@ use std::marker::Model;
 /// no memory.
 #[derive(Drop)]
 pub struct Accepted {
-    log: Log<History, Option<History>>,
+    log: Log<Changes, bool>,
 }
 
 impl Model for Accepted {
     ghost use Rattle.std.specs.Prelude.{List, map};
-    ghost use Rattle.loader.specs.State.{Edit, edit_of};
+    ghost use Rattle.edits.specs.Edits.{Edit, edit_of};
 
     ghost Value = { List Edit };
 
@@ -35,16 +36,21 @@ impl Accepted {
     pub fn add(&mut self, edit: &Edit<'_>)
         ensures { self.new ≡ self.old ++ edit_seen edit.now ∷ [] }
     {
-        let mut path = History::new();
-        path.add_all(edit.path().as_bytes());
-        let text = match edit {
-            Edit::Put(_, text) => {
-                let mut bytes = History::new();
-                bytes.add_all(text.as_bytes());
-                Some(bytes)
+        let mut changes = Changes::new();
+        let together = match edit {
+            Edit::Put(path, text) => {
+                changes.add(&Change::Put(path, text));
+                false
             }
-            Edit::Del(_) => None,
+            Edit::Del(path) => {
+                changes.add(&Change::Del(path));
+                false
+            }
+            Edit::Batch(batch) => {
+                changes.add_all(batch.as_slice());
+                true
+            }
         };
-        self.log = self.log.and(&path, &text);
+        self.log = self.log.and(&changes, &together);
     }
 }
