@@ -2,7 +2,8 @@
 
 use crate::played::play;
 use anyhow::{Result, bail};
-use commands::{Command, Edit, Request, command_of, data_of};
+use commands::{Command, Request, command_of, data_of};
+use edits::{Edit, edit_files, edited_paths};
 use filetree::Tree;
 use functions::Loading;
 use keys::Key;
@@ -45,25 +46,14 @@ pub fn root_of(alloc: Global, line: &str) -> Result<Option<Key>> {
     }
 }
 
-// Changes the files.
-fn change(tree: &mut Tree, edit: &Edit<'_>) -> Result<()> {
-    let changed = match edit {
-        Edit::Put(path, text) => tree.put(path, text),
-        Edit::Del(path) => tree.del(path),
-    };
-    if changed.is_err() {
-        bail!("an edit that is refused");
-    }
-    Ok(())
-}
-
 // Makes an edit, and marks what it reaches.
-fn make_edit(state: &mut State, edit: &Edit<'_>) -> Result<()> {
+fn make_edit(alloc: Global, state: &mut State, edit: &Edit<'_>) -> Result<()> {
     if state.graph.version() == u32::MAX {
         bail!("no version left");
     }
-    let reached = state.graph.reached_by(edit.path())?;
-    change(&mut state.tree, edit)?;
+    let paths = edited_paths(alloc, edit)?;
+    let reached = state.graph.reached_by(paths.as_slice())?;
+    edit_files(&mut state.tree, edit)?;
     let _version = state.graph.mark(reached.as_slice());
     Ok(())
 }
@@ -74,7 +64,7 @@ fn make_edit_of(alloc: Global, state: &mut State, line: &str) -> Result<()> {
         bail!("no JSON: {line}");
     };
     match command_of(alloc, &value)? {
-        Some(Command::Change(edit)) => make_edit(state, &edit),
+        Some(Command::Change(edit)) => make_edit(alloc, state, &edit),
         _ => bail!("no edit: {line}"),
     }
 }

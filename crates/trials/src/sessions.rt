@@ -20,6 +20,7 @@ fn edited(alloc: Global, answer: Result<u32, EditError>) -> Result<String> {
     match answer {
         Ok(version) => Ok(format!(in alloc; "ok: {version}")?),
         Err(EditError::Refused(n)) => Ok(format!(in alloc; "refused: {n}")?),
+        Err(EditError::RefusedAt(at, n)) => Ok(format!(in alloc; "change {at} refused: {n}")?),
         Err(EditError::Memory) => bail!("out of memory"),
     }
 }
