@@ -4,7 +4,7 @@
 PROGRAM := crates/cli/out/cli
 EXAMPLE := examples/session.jsonl
 
-.PHONY: quick run build trials measures shelf-trials readers overlaps test lint digests wrong-bodies limits allocations workers hostile bench
+.PHONY: quick run build trials measures shelf-trials readers overlaps test lint digests wrong-bodies limits allocations workers batches hostile bench
 
 # Shows each line of an example with its answer. It proves nothing: the kit interprets the program.
 quick:
@@ -77,6 +77,10 @@ overlaps: build
 # The same answers with 1 to 16 workers, over the gate's commands, scripts and 10,000 random scripts.
 workers: build
 	python3 tests/workers.py
+
+# Batches of edits and the same edits one by one, over 10,000 random scripts.
+batches: build
+	python3 tests/batches.py
 
 # Deep and wide sources by 1 and 16 workers, the stack that they take, and the costs of lines at their limits.
 hostile: build

@@ -18,6 +18,7 @@ SCRIPTS = [
     "../examples/tour.jsonl",
     "../examples/edits.jsonl",
     "scripts/packages.jsonl",
+    "scripts/batches.jsonl",
     "scripts/globs.jsonl",
     "scripts/pruning.jsonl",
     "scripts/cycles.jsonl",

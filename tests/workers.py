@@ -61,6 +61,12 @@ def package_text(chance):
     return "".join(lines)
 
 
+def batch(chance):
+    """Changes, most of which can be made."""
+    changes = [command(chance) for _ in range(12)]
+    return {"op": "edit", "edits": [it for it in changes if it["op"] in ("put", "del")][:chance.randint(1, 4)]}
+
+
 def command(chance):
     kind = chance.random()
     if kind < 0.2:
@@ -80,7 +86,8 @@ def command(chance):
 
 def random_script(number):
     chance = random.Random(number)
-    lines = [json.dumps(command(chance), separators=(",", ":")) for _ in range(chance.randint(10, 60))]
+    made = [batch(chance) if chance.random() < 0.1 else command(chance) for _ in range(chance.randint(10, 60))]
+    lines = [json.dumps(line, separators=(",", ":")) for line in made]
     return ("\n".join(lines) + "\n").encode()
 
 
