@@ -152,7 +152,8 @@ COSTS = {
     "a fan of 2,000 loads": [put("m/BUILD", "")] + [put(f"m/m{n}.bzl", "X = 1\n") for n in range(2_000)] + [put("s/BUILD", FAN), load("s")],
     "a directory of 100,000 names": [put(f"s/f{n}.c", "") for n in range(100_000)] + [put("s/BUILD", 'x = glob(["*1.c"])\n'), load("s"), put("s/g.c", ""), load("s")],
     "an edit that marks 100,000 records": [put("m/BUILD", ""), put("m/m.bzl", "X = 1\n")] + packages(25_000, 'load("//m:m.bzl", "X")\n') + [{"op": "load", "names": [f"p{n}" for n in range(at, at + 250)]} for at in range(0, 25_000, 250)] + [put("m/m.bzl", "X = 2\n"), load("p1")],
-    "values that nothing reaches": calling("    for i in range(2500): x = [0] * 65536\n"),
+    "values that nothing reaches": calling("    for i in range(1000): x = [0] * 65536\n"),
+    "values beyond the limit": calling("    for i in range(20000): x = [0] * 65536\n"),
 }
 
 
