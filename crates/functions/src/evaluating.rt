@@ -127,6 +127,10 @@ fn wait(alloc: Global, paused: Paused, answers: &[Arc<Value>]) -> Result<Went, M
     let patterns = paused.suspended.patterns();
     match hear(alloc, &paused.package_name, patterns, answers) {
         Ok(Heard::Nothing(group)) => {
+            if paused.suspended.is_large() {
+                drop(paused);
+                return Ok(Went::Ends(Reply::Ask(group)));
+            }
             Ok(Went::Ends(Reply::Wait(group, Continuation::Globs(paused))))
         }
         Ok(Heard::TooFew(group)) => {
