@@ -18,6 +18,8 @@ FAULTS = """no such package|text that is not ASCII|syntax error|name is not boun
  or target name|no such module|label crosses a package boundary|name is not exported|cycle of loads|target is named twice|bad
  pattern|glob finds nothing|call is not allowed here|fail was called|wrong arguments|global is bound twice""".replace("\n", "").split("|")
 BUILD, CYCLE, MOST_NAMES = ("BUILD", "BUILD.bazel"), 19, 256
+# How many changes one edit may have, and how many bytes of them this client puts into a line.
+MOST_CHANGES, MOST_BYTES = 256, 1_000_000
 
 
 class Client:
@@ -41,16 +43,35 @@ class Client:
                 found[os.path.relpath(path, self.directory)] = stamp
         return found
 
-    def send_changes(self):
-        present = self.files()
+    def changes(self, present):
+        """Yields the changes since the files were last sent, removals first: a file may make way for a directory."""
         for path in self.sent.keys() - present.keys():
-            self.ask(op="del", path=path)
+            yield {"op": "del", "path": path}
         for path, stamp in present.items():
             if path not in self.sent or self.sent[path] != stamp:
                 with open(os.path.join(self.directory, path) if stamp else os.devnull, encoding="latin-1") as file:
-                    text = file.read()
-                if "refused" in self.ask(op="put", path=path, text=text):
-                    print(f"{path}:0: left out, no path of a package or too large", file=sys.stderr)
+                    yield {"op": "put", "path": path, "text": file.read()}
+
+    def send(self, changes):
+        """Sends changes as one edit. A change that is refused is left out, and the others are sent again."""
+        while changes:
+            answer = self.ask(op="edit", edits=changes)
+            if "refused" not in answer:
+                return
+            refused = changes.pop(answer.get("edit", 0))
+            if refused["op"] == "put":
+                print(f"{refused['path']}:0: left out, no path of a package or too large", file=sys.stderr)
+
+    def send_changes(self):
+        present, group, size = self.files(), [], 0
+        for change in self.changes(present):
+            length = len(json.dumps(change))
+            if group and (len(group) == MOST_CHANGES or size + length > MOST_BYTES):
+                self.send(group)
+                group, size = [], 0
+            group.append(change)
+            size += length
+        self.send(group)
         self.sent = present
 
     def packages(self):

@@ -1,5 +1,5 @@
-use Rattle.std.proofs.Common.{◌∙◌, ap, sym, subst, List, ℕ, ◌+◌, ◌<◌, arith}
-use Rattle.node.specs.Graphs.{Recorded, record_at, IsTouched, AreReached}
+use Rattle.std.proofs.Common.{◌≡◌, ◌∙◌, ap, sym, subst, List, ℕ, ◌+◌, ◌<◌, arith}
+use Rattle.node.specs.Graphs.{Recorded, record_at, IsTouched, AreReached, paths_seen}
 use Rattle.node.specs.Laws.{TouchKeepsLawful}
 use Rattle.filetree.specs.Files.{Files}
 use Rattle.filetree.specs.Lawful.{HasPaths}
@@ -8,7 +8,7 @@ use Rattle.loader.specs.State.{Edit, changed, changed_files}
 use Rattle.loader.specs.Held.{Held, files_of, state_of, paths_of}
 use Rattle.commands.specs.Seen.{edit_seen}
 use Rattle.loader.proofs.Histories.{accepted, accepted_state}
-use Rattle.loader.proofs.Applying.{not_refused, is_reached}
+use Rattle.loader.proofs.Applying.{not_refused, is_reached, refused_by_files, refused_at_limit}
 use Rattle.loader.proofs.session.Session.apply.Goals as goal
 
 pub invariant_of-self-2 : goal.invariant_of-self-2
@@ -17,15 +17,16 @@ invariant_of-self-2 c =
     let h : Held = record { began = inside.began; edits = inside.accepted; graph = inside.graph } in
     let edit : Edit = edit_seen c.args.edit.now in
     let graph : Recorded = c.reached_by.new.self in
-    let paths : List (List ℕ) = map (λ (t : Bor (List ℕ)). t.now) c.as_slice.result.now in
-    let reached : AreReached (record_at graph) (IsTouched path) c.as_slice.result.now =
-    is_reached inside.graph graph path c.in_ok-reached.reached.items c.as_slice.result.now c.reached_by.ensures.same c.as_slice.ensures.value c.in_ok-reached.ensures.reached in
+    let paths : List (List ℕ) = paths_seen c.as_slice.result.now in
+    let are : paths ≡ paths_of edit = ap paths_seen c.as_slice.ensures.value ∙ c.in_ok-paths.ensures in
+    let reached : AreReached (record_at graph) (IsTouched paths) c.as_slice-2.result.now =
+    is_reached inside.graph graph paths c.in_ok-reached.reached.items c.as_slice-2.result.now c.reached_by.ensures.same c.as_slice-2.ensures.value c.in_ok-reached.ensures.reached in
     let kept = accepted h c.mark-version.new.self c.add.new.self edit c.add.ensures (c.mark-version.ensures.moved ∙ ap (λ (g : Recorded). g.version + 1) c.reached_by.ensures.same) c.edit_files.new.tree
-    (c.in_default.ensures.1 ∙ ap (changed_files edit) c.self.invariant.0)
+    (c.in_ok-edit_files.ensures.1 ∙ ap (changed_files edit) c.self.invariant.0)
     c.self.invariant.1
     (subst (λ (g : Recorded). TouchKeepsLawful g c.mark-version.new.self (paths_of edit)) c.reached_by.ensures.same
-    (subst (λ (p : List ℕ). TouchKeepsLawful graph c.mark-version.new.self p) c.path.ensures (c.mark-version.ensures.lawful path reached))) in
-    (kept.0, kept.1, subst (λ (f : Files). HasPaths f) (sym c.in_default.ensures.1) (kept_paths edit inside.tree c.self.invariant.2 c.in_default.ensures.0))
+    (subst (λ (p : List (List ℕ)). TouchKeepsLawful graph c.mark-version.new.self p) are (c.mark-version.ensures.lawful paths reached))) in
+    (kept.0, kept.1, subst (λ (f : Files). HasPaths f) (sym c.in_ok-edit_files.ensures.1) (kept_paths edit inside.tree c.self.invariant.2 c.in_ok-edit_files.ensures.0))
 
 pub returns-clause-applies : goal.returns-clause-applies
 returns-clause-applies c =
@@ -34,7 +35,7 @@ returns-clause-applies c =
     omega (arith, c.mark-version.type_inv, c.mark-version.ensures.version, ap (λ (g : Recorded). g.version) c.reached_by.ensures.same, ap (λ (x : Held). x.graph.version) c.self.view_is) in
     let h : Held = record { began = inside.began; edits = inside.accepted; graph = inside.graph } in
     let edit : Edit = edit_seen c.args.edit.now in (
-      not_refused edit c.args.self.now inside.tree (c.self.invariant.0 ∙ ap files_of c.self.view_is) c.in_default.ensures.0 below,
+      not_refused edit c.args.self.now inside.tree (c.self.invariant.0 ∙ ap files_of c.self.view_is) c.in_ok-edit_files.ensures.0 below,
       accepted_state h c.mark-version.new.self c.add.new.self edit c.add.ensures (c.mark-version.ensures.moved ∙ ap (λ (g : Recorded). g.version + 1) c.reached_by.ensures.same)
           ∙ ap (λ (x : Held). changed edit (state_of x)) c.self.view_is,
       c.mark-version.ensures.version ∙ sym c.mark-version.ensures.moved,
