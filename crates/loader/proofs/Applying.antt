@@ -1,5 +1,5 @@
 -- An edit that is made.
-use Rattle.std.proofs.Common.{◌≡◌, ◌∙◌, ap, sym, subst, refl, ℕ, ◌<◌, List, None}
+use Rattle.std.proofs.Common.{◌≡◌, ◌∙◌, ap, sym, subst, refl, ℕ, ◌<◌, List, Option, None}
 use Rattle.filetree.specs.Files.{Files}
 use Rattle.keys.specs.declared.key.Key.{Key}
 use Rattle.node.specs.Graphs.{Recorded, record_at, IsTouched, AreReached}

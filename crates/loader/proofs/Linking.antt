@@ -43,7 +43,7 @@ module _ (files : ℕ → Files) (paths : ℕ → List (List ℕ)) where
     untouched = λ x f w lo hi t. true_false (linked.lawful.leaf_clean k r x e f w lo hi t) d;
   }
 
-  module _ (old new : Recorded) (path : List ℕ) (version : new.version ≡ old.version + 1) (marks : Marks (record_at old) (record_at new) (IsTouched path)) (law : IsLawfulFor next at paths new) where
+  module _ (old new : Recorded) (edited : List (List ℕ)) (version : new.version ≡ old.version + 1) (marks : Marks (record_at old) (record_at new) (IsTouched edited)) (law : IsLawfulFor next at paths new) where
     -- what a record was
     origin : (k : Key) (m : Record Key Value) → record_at new k ≡ Some m → (r : Record Key Value) × (record_at old k ≡ Some r) × (d : Bool) × (m ≡ record r { dirty = d })
     origin k m e = go (record_at old k) refl

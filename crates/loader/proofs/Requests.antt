@@ -202,3 +202,12 @@ not_batch false (Some p) e = absurd cc
 pub kept_paths : (edit : Edit) (files : Files) → HasPaths files → files_refusal edit files ≡ None → HasPaths (changed_files edit files)
 kept_paths (one c) files good e = edits_keep_paths.3 files (c ∷ []) good (ap (λ o. refused_or 0 o None) (not_plain (change_refusal c files) e))
 kept_paths (batch cs) files good e = edits_keep_paths.3 files cs good (not_batch (length cs == 0 || nat_lt 256 (length cs)) (changes_refusal cs files) e)
+
+-- what is held of keys, in an equal graph
+pub held_in : (files : Files) (keys others : List Key) (graph other : Recorded) → keys ≡ others → graph ≡ other → AreHeld files keys graph → AreHeld files others other
+held_in files keys others graph other same equal held = subst (AreHeld files others) equal (subst (λ (ks : List Key). AreHeld files ks graph) same held)
+
+-- what follows of a result that is there
+pub if_ok : {A E : Type 0} (P Q : A → Type 0) (r : Result A E) → ((x : A) → P x → Q x) → IfOk r P → IfOk r Q
+if_ok P Q (Ok x) f h = f x h
+if_ok P Q (Err e) f h = tt

@@ -59,11 +59,11 @@ module _ (files : ℕ → Files) (paths : ℕ → List (List ℕ)) (budget : ℕ
       (items.0, items.1 ++ own, ap (λ r. r ++ own) items.2 ∙ append_assoc items.0 items.1 own, items.3, items.4, items_more (q ∷ earlier) requests items.1 request own items.5 of within)
 
   -- an edit
-  pub told_edit : (old new : Recorded) (path : List ℕ) → new.version ≡ old.version + 1 → Marks (record_at old) (record_at new) (IsTouched path) → IsLawfulFor next (leaves files paths) paths new
+  pub told_edit : (old new : Recorded) (edited : List (List ℕ)) → new.version ≡ old.version + 1 → Marks (record_at old) (record_at new) (IsTouched edited) → IsLawfulFor next (leaves files paths) paths new
       → (requests : List Asked) (runs : List Run) → IsToldBy files paths budget old requests runs → IsToldBy files paths budget new requests runs
-  told_edit old new path version marks law requests runs told = record {
+  told_edit old new edited version marks law requests runs told = record {
     journal = told.journal;
-    linked = linked_edit files paths old new path version marks law (turned_onto [] requests) told.linked;
+    linked = linked_edit files paths old new edited version marks law (turned_onto [] requests) told.linked;
     dated = λ run i.
         let r = told.dated run i in
         let m = marks.kept run.key r.0 r.1 in

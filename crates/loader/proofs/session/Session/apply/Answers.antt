@@ -8,7 +8,7 @@ use Rattle.loader.specs.State.{Edit, changed, changed_files}
 use Rattle.loader.specs.Held.{Held, files_of, state_of, paths_of}
 use Rattle.commands.specs.Seen.{edit_seen}
 use Rattle.loader.proofs.Histories.{accepted, accepted_state}
-use Rattle.loader.proofs.Applying.{not_refused, is_reached, refused_by_files, refused_at_limit}
+use Rattle.loader.proofs.Applying.{not_refused, is_reached}
 use Rattle.loader.proofs.session.Session.apply.Goals as goal
 
 pub invariant_of-self-2 : goal.invariant_of-self-2
