@@ -140,7 +140,7 @@ impl Trial {
         if start.graph.version() == u32::MAX {
             bail!("no version left");
         }
-        let reached = start.graph.reached_by(self.file)?;
+        let reached = start.graph.reached_by(&[self.file])?;
         if start.tree.put(self.file, text).is_err() {
             bail!("a file that is not put");
         }
