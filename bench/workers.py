@@ -1,7 +1,7 @@
 #!/usr/bin/env python3
 """Times the built program with 1, 2, 4 and 16 workers on the workload of workload.py, a line at a time.
 
-    workers.py [--runs R] N     N packages; R edits of each kind
+    workers.py [--runs R] [--rounds M] N     N packages; M programs of each number of workers, R edits of each kind in each
 
 It prints the least times in milliseconds, and each as a multiple of that with one worker. The second table has two
 processors alone. Then it tells what a cold load took of a processor: the host, which is the main thread, and all threads.
@@ -18,8 +18,13 @@ import workload
 NUMBERS = [1, 2, 4, 16]
 
 
-def table(n, runs, numbers, before):
-    took = {it: lines.measure(n, [*before, *lines.LOADER, "--workers", str(it)], runs)[0] for it in numbers}
+def table(n, runs, rounds, numbers, before):
+    took = {it: {} for it in numbers}
+    # The numbers take turns, so that a machine that is slow for a while is slow for all of them.
+    for _ in range(rounds):
+        for it in numbers:
+            for name, times in lines.measure(n, [*before, *lines.LOADER, "--workers", str(it)], runs)[0].items():
+                took[it].setdefault(name, []).extend(times)
     print(f"  {'workers':46s}" + "".join(f"{it:>18d}" for it in numbers))
     for name in took[1]:
         one = min(took[1][name])
@@ -63,12 +68,13 @@ def idle(seconds):
 def main():
     words = argparse.ArgumentParser()
     words.add_argument("--runs", type=int, default=5)
+    words.add_argument("--rounds", type=int, default=3)
     words.add_argument("n", type=int)
     given = words.parse_args()
     print(f"{given.n} packages: milliseconds, and multiples of one worker's")
-    table(given.n, given.runs, NUMBERS, [])
+    table(given.n, given.runs, given.rounds, NUMBERS, [])
     print("on two processors")
-    table(given.n, given.runs, [1, 2, 16], ["taskset", "-c", "0,1"])
+    table(given.n, given.runs, given.rounds, [1, 2, 16], ["taskset", "-c", "0,1"])
     print("a cold load: milliseconds by the clock, and of a processor")
     shares(given.n, NUMBERS)
     print(f"16 workers, idle for 10 seconds: {idle(10):.0f} milliseconds of a processor")
