@@ -191,10 +191,10 @@ module _ (files : Files) (good : HasPaths files) where
     left = filter (is_open d) (glob.entered p (names_at d).directories)
 
     abbrev below : List ℕ → Value
-    below name = value.Glob (found (path_in d name) (segments (glob.pattern_below p)))
+    below name = value.Paths (found (path_in d name) (segments (glob.pattern_below p)))
 
     abbrev here : Value
-    here = value.Glob (found d (segments (glob.text_or_none (glob.other_segments p))))
+    here = value.Paths (found d (segments (glob.text_or_none (glob.other_segments p))))
 
     abbrev founds : List (List ℕ) → List Value
     founds names = cond (glob.asks_here p) (here ∷ map below names) (map below names)
@@ -345,7 +345,7 @@ module _ (files : Files) (good : HasPaths files) where
       go true (Some rest) h e = h rest refl
       go false o h e = absurd (false≢true e)
 
-  value_at : (n : ℕ) (d p : List ℕ) → NoSpace d → (256 - length d) + length p < n → Grounded next (read files) (glob_key d p) (value.Glob (found d (segments p)))
+  value_at : (n : ℕ) (d p : List ℕ) → NoSpace d → (256 - length d) + length p < n → Grounded next (read files) (glob_key d p) (value.Paths (found d (segments p)))
   value_at zero d p plain h = absurd (omega (arith, h))
   value_at (suc n) d p plain h =
       let same : (answers : List Value) → next (glob_key d p) answers ≡ glob.step d p answers = λ answers. λ i. glob.step (directory_back d p plain i) (pattern_back d p plain i) answers in
@@ -362,7 +362,7 @@ module _ (files : Files) (good : HasPaths files) where
       (subst (λ ns. AllGrounded next (read files) (glob.globs d p ns) (founds d p (left d p))) (sym open_are) (all_founds d p (left d p) own each)) listed in
       let end : sorted_names (glob.own_files p (glob.files_in (held d)) ++ glob.found_by p (glob.open_names (glob.entered p (glob.directories_in (held d))) looks) (founds d p (left d p))) ≡ found d (segments p) =
       (λ i. sorted_names (glob.own_files p (files_held (listing files d) i) ++ glob.found_by p (open_are i) (founds d p (left d p)))) ∙ whole d p in
-      subst (λ xs. Grounded next (read files) (glob_key d p) (value.Glob xs)) end (has_run refl run.1)
+      subst (λ xs. Grounded next (read files) (glob_key d p) (value.Paths xs)) end (has_run refl run.1)
 
-  pub glob_grounded : (d p : List ℕ) → NoSpace d → Grounded next (read files) (glob_key d p) (value.Glob (found d (segments p)))
+  pub glob_grounded : (d p : List ℕ) → NoSpace d → Grounded next (read files) (glob_key d p) (value.Paths (found d (segments p)))
   glob_grounded d p plain = value_at ((256 - length d) + length p + 1) d p plain (omega arith)

@@ -49,7 +49,7 @@ module _ (read : Key → Option Value) where
     left = open_names names looks
 
     abbrev end : Value
-    end = value.Glob (sorted_names (own_files pattern (files_in listing) ++ found_by pattern left founds))
+    end = value.Paths (sorted_names (own_files pattern (files_in listing) ++ found_by pattern left founds))
 
     module _ (k : Key) (same : (answers : List Value) → next k answers ≡ step directory pattern answers)
         (all_looks : AllGrounded next read (lookups directory names) looks) (all_founds : AllGrounded next read (globs directory pattern left) founds) where
@@ -74,7 +74,7 @@ module _ (read : Key → Option Value) where
       asks_globs : nat_lt 0 (length (globs directory pattern left)) ≡ true → next k (listing ∷ looks) ≡ Ask (globs directory pattern left)
       asks_globs h =
           ap (λ xs. next k (listing ∷ xs)) (sym (append-nil looks)) ∙ past_looks []
-          ∙ ap (λ b. cond b (asking (globs directory pattern left)) (ending (value.Glob (sorted_names (own_files pattern (files_in listing) ++ found_by pattern left []))))) h
+          ∙ ap (λ b. cond b (asking (globs directory pattern left)) (ending (value.Paths (sorted_names (own_files pattern (files_in listing) ++ found_by pattern left []))))) h
 
       is_end : next k (listing ∷ (looks ++ founds)) ≡ Done end
       is_end =

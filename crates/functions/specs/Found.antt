@@ -31,4 +31,4 @@ NamesHold = (files : Files) (name : List ℕ)
 -- a glob holds what its pattern finds among all paths that lead below the directory and into no package on the way
 abbrev pub GlobsHold : Type 0
 GlobsHold = (files : Files) (directory pattern : List ℕ) → HasPaths files → is_package_name directory ≡ true
-    → Holds files (glob_key directory pattern) (value.Glob (found_below (is_package files) (map.keys files) directory (segments pattern)))
+    → Holds files (glob_key directory pattern) (value.Paths (found_below (is_package files) (map.keys files) directory (segments pattern)))

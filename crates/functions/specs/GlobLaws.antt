@@ -154,7 +154,7 @@ step_differs directory pattern (listing ∷ answers) group e =
     let rest = drop (length names) answers in
     first_differs (nat_lt (length answers) (length names)) (lookups directory names) (after_lookups directory pattern (files_in listing) left rest) group (lookups_differ directory names differ)
     (last_differs (nat_lt (length rest) (length (globs directory pattern left))) (globs directory pattern left)
-    (value.Glob (sorted_names (own_files pattern (files_in listing) ++ found_by pattern left rest))) group (globs_differ directory pattern left (open_differ names answers differ))) e
+    (value.Paths (sorted_names (own_files pattern (files_in listing) ++ found_by pattern left rest))) group (globs_differ directory pattern left (open_differ names answers differ))) e
 
 plain_at : (u v : Value) → NoCycle u → ending u ≡ Done v → NoCycle v
 plain_at u v p e = let h : u ≡ v = cc in subst NoCycle h p
@@ -175,4 +175,4 @@ step_plain directory pattern (listing ∷ answers) v e =
     let rest = drop (length names) answers in
     first_plain (nat_lt (length answers) (length names)) (lookups directory names) (after_lookups directory pattern (files_in listing) left rest) v
     (last_plain (nat_lt (length rest) (length (globs directory pattern left))) (globs directory pattern left)
-    (value.Glob (sorted_names (own_files pattern (files_in listing) ++ found_by pattern left rest))) v tt) e
+    (value.Paths (sorted_names (own_files pattern (files_in listing) ++ found_by pattern left rest))) v tt) e

@@ -42,7 +42,7 @@ files_in (value.File text) = []
 files_in (value.Listing None) = []
 files_in (value.Listing (Some names)) = names.files
 files_in (value.Lookup name) = []
-files_in (value.Glob paths) = []
+files_in (value.Paths paths) = []
 files_in (value.Module loaded) = []
 files_in (value.Package targets) = []
 files_in (value.Fault fault) = []
@@ -53,7 +53,7 @@ directories_in (value.File text) = []
 directories_in (value.Listing None) = []
 directories_in (value.Listing (Some names)) = names.directories
 directories_in (value.Lookup name) = []
-directories_in (value.Glob paths) = []
+directories_in (value.Paths paths) = []
 directories_in (value.Module loaded) = []
 directories_in (value.Package targets) = []
 directories_in (value.Fault fault) = []
@@ -65,7 +65,7 @@ has_build (value.File text) = false
 has_build (value.Listing names) = false
 has_build (value.Lookup None) = false
 has_build (value.Lookup (Some name)) = true
-has_build (value.Glob paths) = false
+has_build (value.Paths paths) = false
 has_build (value.Module loaded) = false
 has_build (value.Package targets) = false
 has_build (value.Fault fault) = false
@@ -75,7 +75,7 @@ abbrev pub paths_of : Value → List (List ℕ)
 paths_of (value.File text) = []
 paths_of (value.Listing names) = []
 paths_of (value.Lookup name) = []
-paths_of (value.Glob paths) = paths
+paths_of (value.Paths paths) = paths
 paths_of (value.Module loaded) = []
 paths_of (value.Package targets) = []
 paths_of (value.Fault fault) = []
@@ -153,7 +153,7 @@ found_by pattern names answers = if asks_here pattern then found_here names answ
 abbrev pub after_lookups : List ℕ → List ℕ → List (List ℕ) → List (List ℕ) → List Value → Reply Key Value
 after_lookups directory pattern files names answers =
     if nat_lt (length answers) (length (globs directory pattern names)) then Ask (globs directory pattern names)
-    else Done (value.Glob (sorted_names (own_files pattern files ++ found_by pattern names answers)))
+    else Done (value.Paths (sorted_names (own_files pattern files ++ found_by pattern names answers)))
 
 abbrev pub after_listing : List ℕ → List ℕ → List (List ℕ) → List (List ℕ) → List Value → Reply Key Value
 after_listing directory pattern files names answers =

@@ -19,7 +19,7 @@ abbrev pub build_in : Value → Option BuildName
 build_in (value.File text) = None
 build_in (value.Listing names) = None
 build_in (value.Lookup build) = build
-build_in (value.Glob paths) = None
+build_in (value.Paths paths) = None
 build_in (value.Module loaded) = None
 build_in (value.Package targets) = None
 build_in (value.Fault f) = None

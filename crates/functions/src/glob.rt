@@ -49,7 +49,7 @@ fn paths_of(answer: &Value) -> &[Text]
     ensures { result.now ≡ specs.paths_of answer.now }
 {
     match answer {
-        Value::Glob(paths) => paths.as_slice(),
+        Value::Paths(paths) => paths.as_slice(),
         _ => &[],
     }
 }
@@ -191,7 +191,7 @@ fn after_lookups(
     let mut all = own_files(alloc, pattern, files)?;
     add_found(alloc, &mut all, pattern, names, answers)?;
     let paths = in_order(alloc, all.as_slice())?;
-    Ok(Reply::Done(Value::Glob(Paths::new(alloc, paths)?)))
+    Ok(Reply::Done(Value::Paths(Paths::new(alloc, paths)?)))
 }
 
 // What comes after the listing.

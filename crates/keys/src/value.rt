@@ -266,7 +266,7 @@ impl PartialEq for Value {
             (Value::File(a), Value::File(b)) => a == b,
             (Value::Listing(a), Value::Listing(b)) => a == b,
             (Value::Lookup(a), Value::Lookup(b)) => a == b,
-            (Value::Glob(a), Value::Glob(b)) => a == b,
+            (Value::Paths(a), Value::Paths(b)) => a == b,
             (Value::Module(a), Value::Module(b)) => a == b,
             (Value::Package(a), Value::Package(b)) => a == b,
             (Value::Fault(a), Value::Fault(b)) => a == b,

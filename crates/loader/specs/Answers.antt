@@ -44,7 +44,7 @@ abbrev pub package_shown : List ℕ → Value → Data
 package_shown name (value.File text) = null
 package_shown name (value.Listing names) = null
 package_shown name (value.Lookup build) = null
-package_shown name (value.Glob paths) = null
+package_shown name (value.Paths paths) = null
 package_shown name (value.Module m) = null
 package_shown name (value.Package targets) = package_data name targets
 package_shown name (value.Fault f) = faulty_package name (fault_data f.code f.path f.line)
@@ -55,7 +55,7 @@ abbrev pub module_shown : Value → Data
 module_shown (value.File text) = null
 module_shown (value.Listing names) = null
 module_shown (value.Lookup build) = null
-module_shown (value.Glob paths) = null
+module_shown (value.Paths paths) = null
 module_shown (value.Module m) = module_data m.body
 module_shown (value.Package targets) = null
 module_shown (value.Fault f) = faulty_module (fault_data f.code f.path f.line)

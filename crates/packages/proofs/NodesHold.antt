@@ -204,7 +204,7 @@ module _ (files : Files) (good : HasPaths files) (name : List ℕ) (is_name : is
   right_zip group values [] all asked = λ p below e. absurd cc
   right_zip group values (p ∷ ps) all asked =
       let answer = answered (glob_key name p) asked.0 all in
-      let held : answer.answer ≡ value.Glob (found_by p) = same_value next (read files) answer.holds.0 (glob_grounded files good name p (name_no_space name is_name)) refl in
+      let held : answer.answer ≡ value.Paths (found_by p) = same_value next (read files) answer.holds.0 (glob_grounded files good name p (name_no_space name is_name)) refl in
       right_pair p (paths_or_none (answer_at (glob_key name p) group values)) (ap (λ (o : Option Value). paths_or_none o) (answer.found ∙ ap (λ (w : Value). Some w) held)) (zip ps (paths_by group (glob_keys name ps) values)) (right_zip group values ps all asked.1)
 
   all_asked : (ps qs : List (List ℕ)) → AllByRecursion (λ p. has_key (glob_key name p) (glob_keys name qs) ≡ true) ps → AllByRecursion (λ p. has_key (glob_key name p) (glob_group name qs) ≡ true) ps
