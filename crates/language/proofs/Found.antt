@@ -13,7 +13,7 @@ use Rattle.labels.specs.Paths.{segments}
 use Rattle.filetree.specs.Listings.{alone, sorted_names}
 use Rattle.globs.specs.Globs.{sought, question, found_below, answer_below, some_matches}
 use Rattle.globs.proofs.Answer.{found_by_patterns}
-use Rattle.globs.proofs.Questions.{question_is_its_pattern}
+use Rattle.globs.proofs.Questions.{has_its_pattern}
 use Rattle.pattern.specs.Patterns.{is_pattern}
 use Rattle.language.specs.Sorting.{put_by, put, in_order}
 use Rattle.language.specs.Environment.{Answers}
@@ -63,7 +63,7 @@ right_at answers packages paths directory right q = go (answer_to q answers) ref
 -- what a pattern's question finds
 by_pattern : (packages : List ℕ → Bool) (paths : List (List ℕ)) (directory : List ℕ) (dirs : Bool) (p : List ℕ) → is_pattern p ≡ true
     → answer_below packages paths directory (question dirs p) ≡ found_below packages (sought dirs packages paths) directory (segments p)
-by_pattern packages paths directory dirs p good = let h = question_is_its_pattern dirs p good in
+by_pattern packages paths directory dirs p good = let h = has_its_pattern dirs p good in
     λ i. found_below packages (sought (h.1 i) packages paths) directory (segments (h.0 i))
 
 all_found : (answers : Answers) (packages : List ℕ → Bool) (paths : List (List ℕ)) (directory : List ℕ) (dirs : Bool) → AreRight answers packages paths directory
