@@ -97,7 +97,7 @@ fn glob(heap: &mut Heap, answers: &[Answer], xs: &[Val], ns: &[(Text, Val)]) -> 
         Ok(asked) => asked,
         Err(halt) => return Err(halt),
     };
-    let questions = questions(heap.alloc, &asked)?;
+    let questions = questions(heap.alloc, asked.directories, asked.includes.as_slice())?;
     let open = unanswered(heap.alloc, answers, questions.as_slice())?;
     if !open.is_empty() {
         return Ok(Called::Waits(open));

@@ -1,5 +1,5 @@
 //! What a call of `glob` asks for.
-ghost use Rattle.std.specs.Prelude.{◌≡◌, ◌||◌, IfOk, codes, if◌then◌else◌};
+ghost use Rattle.std.specs.Prelude.{◌≡◌, ◌||◌, IfOk, codes, map, if◌then◌else◌};
 ghost use Rattle.meaning.specs.Functions.{is_named};
 ghost use Rattle.std.specs.List.{list_all};
 ghost use Rattle.pattern.specs.Patterns.{is_pattern};
@@ -230,13 +230,16 @@ fn all_patterns(alloc: Global, texts: &[Bytes]) -> Result<Vec<Pattern>, Halt>
     Ok(all)
 }
 
-/// What is asked for each include, in their order: its pattern, and with directories a space and `dirs` behind it.
-pub fn questions(alloc: Global, asked: &Asked) -> Result<Vec<Text>, Memory>
-    ensures { IfOk result (λ v. v.items ≡ globs.questions (asked_of asked.now)) }
+/// What is asked for each pattern, in their order: the pattern, and with directories a space and `dirs` behind it.
+pub fn questions(
+    alloc: Global,
+    directories: bool,
+    patterns: &[Pattern],
+) -> Result<Vec<Text>, Memory>
+    ensures { IfOk result (λ v. v.items ≡ map (question directories) patterns.now) }
 {
-    let directories = asked.directories;
     let mut all = Vec::new(alloc);
-    for pattern in &asked.includes {
+    for pattern in patterns {
         all.push(question(alloc, directories, pattern.text())?)?;
     }
     Ok(all)
