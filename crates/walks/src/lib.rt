@@ -11,15 +11,15 @@
 #![tactic(auto)]
 
 mod build_files;
-mod glob;
+mod glob_node;
 mod glob_pattern;
-mod lookup;
+mod lookup_node;
 mod ordering;
 mod reply;
 
 pub use build_files::{build_path, candidates};
-pub use glob::{directories_in, glob, has_build};
+pub use glob_node::{directories_in, glob, has_build};
 pub use glob_pattern::path_in;
-pub use lookup::lookup;
+pub use lookup_node::lookup;
 pub use ordering::in_order;
 pub use reply::Reply;

@@ -1,7 +1,7 @@
 use Rattle.std.proofs.Common.{◌∙◌, subst, IfOk}
 use Rattle.walks.specs.Replies.{IsReply}
 use Rattle.walks.proofs.GlobSteps.{after_lookups_is}
-use Rattle.walks.proofs.glob.after_listing.Goals as goal
+use Rattle.walks.proofs.glob_node.after_listing.Goals as goal
 
 pub returns : goal.returns
 returns c =

@@ -1,8 +1,8 @@
 use Rattle.std.proofs.Common.{◌∷◌, ◌++◌, [], ℕ, List, ◌∙◌, ap, sym}
 use Rattle.walks.specs.Globs.{has_build}
 use Rattle.walks.proofs.GlobSteps.{passed_by, kept_one}
-use Rattle.walks.proofs.glob.open_names.Goals as goal
-use Rattle.walks.proofs.glob.open_names.Goals.{then-not-has_build+in_ok-share+in_ok-push, else-not-has_build}
+use Rattle.walks.proofs.glob_node.open_names.Goals as goal
+use Rattle.walks.proofs.glob_node.open_names.Goals.{then-not-has_build+in_ok-share+in_ok-push, else-not-has_build}
 
 pub loop-i-preserved : goal.loop-i-preserved
 loop-i-preserved c =

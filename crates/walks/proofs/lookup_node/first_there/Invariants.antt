@@ -1,7 +1,7 @@
 use Rattle.std.proofs.Common.{◌≡◌, drop}
 use Rattle.keys.specs.Turns.{values}
 use Rattle.walks.specs.Lookups.{first_there}
-use Rattle.walks.proofs.lookup.first_there.Given as goal
+use Rattle.walks.proofs.lookup_node.first_there.Given as goal
 
 -- none of the answers so far is a file
 abbrev pub invariant-loop-i : goal.invariant-loop-i

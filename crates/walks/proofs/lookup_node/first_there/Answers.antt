@@ -6,7 +6,7 @@ use Rattle.keys.specs.declared.value.Value.{Value}
 use Rattle.keys.specs.declared.value.BuildName.TheVariants.{BuildBazel}
 use Rattle.walks.specs.Lookups.{is_there}
 use Rattle.walks.proofs.Lookups.{passed, found, past_answers}
-use Rattle.walks.proofs.lookup.first_there.Goals as goal
+use Rattle.walks.proofs.lookup_node.first_there.Goals as goal
 
 pub returns-then-i-answers : goal.returns-then-i-answers
 returns-then-i-answers c = sym (c.loop-i.invariant ∙ past_answers _ c.args.answers.now c.loop-i.i c.if-i-answers.true)

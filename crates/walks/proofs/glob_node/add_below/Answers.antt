@@ -1,7 +1,7 @@
 use Rattle.std.proofs.Common.{◌++◌, ◌∷◌, ℕ, List, map, ◌∙◌, ap}
 use Rattle.walks.specs.Globs.{paths_of}
 use Rattle.walks.proofs.GlobSteps.{found_one}
-use Rattle.walks.proofs.glob.add_below.Goals as goal
+use Rattle.walks.proofs.glob_node.add_below.Goals as goal
 
 pub loop-i-preserved : goal.loop-i-preserved
 loop-i-preserved c =

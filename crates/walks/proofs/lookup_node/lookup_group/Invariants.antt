@@ -1,7 +1,7 @@
 use Rattle.std.proofs.Common.{◌≡◌, map, take}
 use Rattle.keys.specs.declared.key.Key.TheVariants as key
 use Rattle.walks.specs.Lookups.{build_path}
-use Rattle.walks.proofs.lookup.lookup_group.Given as goal
+use Rattle.walks.proofs.lookup_node.lookup_group.Given as goal
 
 -- the files of the names so far
 abbrev pub invariant-loop-name : goal.invariant-loop-name

@@ -2,7 +2,7 @@ use Rattle.std.proofs.Common.{◌∙◌, ap, subst, IfOk}
 use Rattle.walks.specs.Replies.{IsReply}
 use Rattle.walks.specs.Globs.{directory_of, pattern_of, files_in, directories_in, entered}
 use Rattle.walks.proofs.GlobSteps.{after_listing_is}
-use Rattle.walks.proofs.glob.glob.Goals as goal
+use Rattle.walks.proofs.glob_node.glob.Goals as goal
 
 pub returns-in_ok-names-in-Some : goal.returns-in_ok-names-in-Some
 returns-in_ok-names-in-Some c =
