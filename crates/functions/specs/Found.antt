@@ -13,7 +13,7 @@ use Rattle.keys.specs.declared.key.Key.{Key}
 use Rattle.keys.specs.declared.key.Key.TheVariants as key
 use Rattle.keys.specs.declared.value.Value.{Value}
 use Rattle.keys.specs.declared.value.Value.TheVariants as value
-use Rattle.functions.specs.Lookups.{build_of}
+use Rattle.walks.specs.Lookups.{build_of}
 use Rattle.functions.specs.Next.{next}
 use Rattle.leaves.specs.Leaves.{read, listed_of}
 

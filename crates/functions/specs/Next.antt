@@ -5,8 +5,8 @@ use Rattle.keys.specs.declared.key.Key.{Key}
 use Rattle.keys.specs.declared.key.Key.TheVariants as key
 use Rattle.keys.specs.declared.value.Value.{Value}
 use Rattle.keys.specs.declared.value.Value.TheVariants as value
-use Rattle.functions.specs.Globs as glob
-use Rattle.functions.specs.Lookups as lookup
+use Rattle.walks.specs.Globs as glob
+use Rattle.walks.specs.Lookups as lookup
 use Rattle.functions.specs.Modules as modules
 use Rattle.functions.specs.Packages as packages
 

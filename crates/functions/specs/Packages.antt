@@ -8,7 +8,7 @@ use Rattle.keys.specs.declared.value.BuildName.{BuildName}
 use Rattle.keys.specs.declared.value.Value.{Value}
 use Rattle.keys.specs.declared.value.Value.TheVariants as value
 use Rattle.functions.specs.declared.source.Source.{Source}
-use Rattle.functions.specs.Lookups.{build_path}
+use Rattle.walks.specs.Lookups.{build_path}
 use Rattle.functions.specs.Sources.{faulty, by_file}
 
 -- a BUILD file has no label

@@ -17,7 +17,7 @@ use Rattle.keys.specs.declared.value.Fault.{Fault}
 use Rattle.keys.specs.declared.value.Value.{Value}
 use Rattle.keys.specs.declared.value.Value.TheVariants as value
 use Rattle.functions.specs.declared.source.Source.{Source}
-use Rattle.functions.specs.Globs.{paths_of}
+use Rattle.walks.specs.Globs.{paths_of}
 use Rattle.functions.specs.Once.{once, answer_at, answer_in}
 
 -- ---- faults

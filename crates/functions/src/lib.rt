@@ -22,15 +22,10 @@
 
 ghost use Rattle.functions.specs.Found.{NamesHold, GlobsHold};
 
-mod build_files;
 mod evaluating;
 mod file_node;
-mod glob;
-mod glob_pattern;
 mod loading;
-mod lookup;
 mod once;
-mod ordering;
 mod reply;
 mod source;
 

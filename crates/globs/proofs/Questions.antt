@@ -1,13 +1,13 @@
 -- The pattern and the wish for directories, read back from a question.
-use Rattle.std.proofs.Common.{◌≡◌, ◌∙◌, ap, sym, refl, arith, ℕ, suc, ◌+◌, ◌<◌, ◌≤◌, Bool, true, false, cond, not, ◌&&◌, ◌||◌, ◌==◌, inl, inr, List, [], ◌∷◌, ◌++◌, length, take}
-use Rattle.std.specs.Prelude.{codes, bytes_eq, nat_le, nat_lt}
-use Rattle.std.specs.List.{list_all, onto_first, position_or_len, before_first}
+use Rattle.std.proofs.Common.{◌≡◌, ◌∙◌, ap, sym, refl, arith, ℕ, suc, ◌+◌, Bool, true, false, cond, not, ◌&&◌, ◌||◌, ◌==◌, inl, inr, List, [], ◌∷◌, ◌++◌, length, take}
+use Rattle.std.specs.Prelude.{codes, bytes_eq, nat_le}
+use Rattle.std.specs.List.{list_all, onto_first, position_or_len}
 use Rattle.std.proofs.lemmas.Bool.{and_parts, and_from, or_cases, eqb-true, false≢true, lt-ltb, le-ltb}
 use Rattle.std.proofs.lemmas.List.{take_at, take_all, length-append}
 use Rattle.labels.specs.Paths.{is_name_byte, segments}
 use Rattle.pattern.specs.Patterns.{is_star, is_double_star, has_two_stars, is_pattern_segment, is_pattern}
 use Rattle.globs.specs.Globs.{is_space, question, pattern_in, asks_directories, HasItsPattern}
-use Rattle.globs.proofs.Members.{same_bytes, or_right}
+use Rattle.globs.proofs.Members.{same_bytes}
 
 abbrev pub NoSpace : List ℕ → Type 0
 NoSpace text = list_all (λ b. not (is_space b)) text ≡ true

@@ -244,7 +244,7 @@ pub enum Value {
     /// Of a look-up: no BUILD file, or which.
     Lookup(Option<BuildName>),
     /// Of a glob: the paths that it finds, from its directory on.
-    Glob(Paths),
+    Paths(Paths),
     /// Of a module: what its file leaves, and all modules that it reaches.
     Module(Loaded),
     /// Of a package: its targets, in byte order of their names.

@@ -102,7 +102,12 @@ fn glob(heap: &mut Heap, answers: &[Answer], xs: &[Val], ns: &[(Text, Val)]) -> 
     if !open.is_empty() {
         return Ok(Called::Waits(open));
     }
-    let paths = found(heap.alloc, answers, questions.as_slice(), asked.excludes.as_slice())?;
+    let paths = found(
+        heap.alloc,
+        answers,
+        questions.as_slice(),
+        asked.excludes.as_slice(),
+    )?;
     match make_paths(heap, asked.allow_empty, paths.as_slice()) {
         Ok(made) => Ok(Called::Value(made)),
         Err(halt) => Err(halt),

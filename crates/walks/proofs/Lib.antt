@@ -1,0 +1,7 @@
+pub mod Lookups
+pub mod LookupValue
+pub mod NamesInOrder
+pub mod GlobSteps
+pub mod GlobTexts
+pub mod GlobTurns
+pub mod GlobFinds

@@ -1,0 +1,5 @@
+pub mod Lookups
+pub mod LookupLaws
+pub mod Globs
+pub mod GlobLaws
+pub mod Replies
