@@ -1,9 +1,5 @@
 -- The names in a directory, with the directories on the way to all files.
-<<<<<<< HEAD
-use Rattle.std.proofs.Common.{◌≡◌, ◌∙◌, ap, sym, refl, arith, subst, ℕ, ◌≤◌, Bool, true, false, cond, not, ◌&&◌, ◌||◌, ◌==◌, inl, inr, List, [], ◌∷◌, ◌++◌, length, Option, Some, None, map as each}
-=======
 use Rattle.std.proofs.Common.{◌≡◌, ◌∙◌, ap, sym, refl, arith, subst, ℕ, ◌≤◌, Bool, true, false, cond, not, ◌&&◌, ◌==◌, inl, inr, List, [], ◌∷◌, ◌++◌, length, Option, Some, None, map as each}
->>>>>>> 0dee6aeab50348da0dd8a5d9012080e162bae04c
 use Rattle.std.specs.Prelude.{nat_le, bytes_eq, is_some, flat_map, MatchOption}
 use Rattle.std.specs.List.{list_any, list_all, filter, filter_map}
 use Rattle.std.proofs.lemmas.Bool.{and_parts, and_from, or_cases, false≢true, eqb-true, leb-true, le-leb}
@@ -14,17 +10,10 @@ use Rattle.labels.specs.Labels.{ancestors}
 use Rattle.labels.proofs.Segments.{segments_joined}
 use Rattle.filetree.specs.Folders.{has_no_slash}
 use Rattle.filetree.specs.Listings.{Names, sorted_names, rest_below, first_name, names_in}
-<<<<<<< HEAD
-use Rattle.globs.specs.Globs.{path_in, sought, IsHeldWithDirectories}
-use Rattle.globs.proofs.Members.{In, own_bytes, same_bytes, in_any, any_in, in_all, bool_same, in_filter, filter_in, in_append, append_left, append_right, in_each, each_in, in_flat_map, flat_map_in, or_left, or_right}
-use Rattle.globs.proofs.Sorted.{sorted_same, in_sorted, sorted_in}
-use Rattle.globs.proofs.Paths.{rests_to, rests_from, rest_in, rest_path, is_deep}
-=======
 use Rattle.globs.specs.Globs.{path_in, IsHeldWithDirectories}
 use Rattle.globs.proofs.Members.{In, own_bytes, same_bytes, in_any, any_in, in_all, bool_same, in_filter, filter_in, in_append, append_left, append_right, in_each, each_in, in_flat_map, flat_map_in, or_left, or_right}
 use Rattle.globs.proofs.Sorted.{sorted_same, in_sorted, sorted_in}
 use Rattle.globs.proofs.Paths.{rest_in, rest_path}
->>>>>>> 0dee6aeab50348da0dd8a5d9012080e162bae04c
 use Rattle.globs.proofs.Walk.{files_of, directories_of, files_to, files_from, directories_to, directories_from}
 
 -- ---- the ancestors of a path are what stands before its slashes
@@ -178,19 +167,10 @@ pub held_with_directories : IsHeldWithDirectories
 held_with_directories packages paths directory good = (
   all_paths packages paths good,
   elim (list_any (is_below packages paths directory) paths) as (λ b. list_any (is_below packages paths directory) paths ≡ b
-<<<<<<< HEAD
-  → MatchOption (cond b (some_names (files_of directory paths) (directories_of directory paths)) None) (names_in directory (all packages paths) ≡ None)
-  (λ names. names_in directory (all packages paths)
-  ≡ Some (record { files = sorted_names (names.files ++ filter (λ name. not (packages (path_in directory name))) names.directories); directories = names.directories }))) [
-    | true ↦ λ e. λ i. cond ((same_there packages paths directory ∙ e) i) (some_names (same_files packages paths directory i) (same_directories packages paths directory i)) None
-    | false ↦ λ e. λ i. cond ((same_there packages paths directory ∙ e) i) (some_names (files_of directory (all packages paths)) (directories_of directory (all packages paths))) None
-  ] refl,
-=======
       → MatchOption (cond b (some_names (files_of directory paths) (directories_of directory paths)) None) (names_in directory (all packages paths) ≡ None)
       (λ names. names_in directory (all packages paths)
       ≡ Some (record { files = sorted_names (names.files ++ filter (λ name. not (packages (path_in directory name))) names.directories); directories = names.directories }))) [
         | true ↦ λ e. λ i. cond ((same_there packages paths directory ∙ e) i) (some_names (same_files packages paths directory i) (same_directories packages paths directory i)) None
         | false ↦ λ e. λ i. cond ((same_there packages paths directory ∙ e) i) (some_names (files_of directory (all packages paths)) (directories_of directory (all packages paths))) None
       ] refl,
->>>>>>> 0dee6aeab50348da0dd8a5d9012080e162bae04c
 )
