@@ -24,7 +24,7 @@ use Rattle.package_names.specs.Below.{packages_below}
 use Rattle.package_names.specs.Turns.{first_group, subdirectories, groups_below, own_name, names_in}
 use Rattle.package_names.specs.Finds.{HasTurns, LooksUp, HoldsPackages}
 use Rattle.package_names.proofs.Builds.{built_there}
-use Rattle.package_names.proofs.Directories.{Sub, held_in, sub_to, longer}
+use Rattle.package_names.proofs.Directories.{held_in, sub_to, longer}
 use Rattle.package_names.proofs.Steps.{found_by_step}
 
 abbrev asking : List Key → Reply Key Value

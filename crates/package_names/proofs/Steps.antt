@@ -12,9 +12,10 @@ use Rattle.filetree.specs.Listings.{sorted_names, rest_below}
 use Rattle.globs.specs.Globs.{path_in, is_package, is_open}
 use Rattle.globs.proofs.Members.{In, same_bytes, own_bytes, or_left, or_right, any_in, in_any, in_filter, filter_in, in_append, append_left, append_right, in_each, each_in, in_flat_map, flat_map_in}
 use Rattle.globs.proofs.Sorted.{sorted_same, in_sorted, sorted_in}
+use Rattle.globs.proofs.Walk.{Sub}
 use Rattle.globs.proofs.Paths.{cut, Cut, rests_to, rests_from, HasName, path_deep, has_name, open_name, open_deep}
 use Rattle.package_names.specs.Below.{directories_below, packages_below}
-use Rattle.package_names.proofs.Directories.{Sub, held_in, sub_to, sub_from}
+use Rattle.package_names.proofs.Directories.{held_in, sub_to, sub_from}
 
 -- A file lies further below, and q is a directory on the way: it would stand in the way if it alone were a package.
 record Passed (paths : List (List ℕ)) (directory q : List ℕ) : Type 0 where
@@ -101,30 +102,30 @@ module _ (files : Files) (good : HasPaths files) (directory : List ℕ) where
   entered q rest is there passed (inl plain) = absurd (false≢true (sym passed ∙ open_name (bytes_eq q) directory rest plain))
   entered q rest is there passed (inr (name, more, plain, whole)) =
       let lies : In (path_in directory (name ++ 47 ∷ more)) (map.keys files) = ap (λ x. list_any (bytes_eq (path_in directory x)) (map.keys files)) (sym whole) ∙ there in
-      let sub : Sub (map.keys files) directory name = record { rest = more; plain = plain; there = lies } in
+      let sub : Sub directory (map.keys files) name = (more, plain, lies) in
       flat_map_in below name q names (sorted_in name (held_in (map.keys files) directory) (sub_from (map.keys files) directory name sub))
       (deeper q name more is plain (has_name directory name more (map.keys files) good lies) lies (ap (is_open (bytes_eq q) directory) (sym whole) ∙ passed))
 
   -- ---- and back
 
-  risen_at : (q name : List ℕ) (sub : Sub (map.keys files) directory name) → HasName directory name → At files (path_in directory name) q → Passed (map.keys files) directory q
+  risen_at : (q name : List ℕ) (sub : Sub directory (map.keys files) name) → HasName directory name → At files (path_in directory name) q → Passed (map.keys files) directory q
   risen_at q name sub has (inl same) = record {
-    rest = name ++ 47 ∷ sub.rest;
-    there = sub.there;
-    passed = open_deep (bytes_eq q) directory name sub.rest sub.plain has
-        ∙ taken (bytes_eq q (path_in directory name)) (is_open (bytes_eq q) (path_in directory name) sub.rest) (ap (bytes_eq q) (sym same) ∙ own_bytes q);
+    rest = name ++ 47 ∷ sub.0;
+    there = sub.2;
+    passed = open_deep (bytes_eq q) directory name sub.0 sub.1 has
+        ∙ taken (bytes_eq q (path_in directory name)) (is_open (bytes_eq q) (path_in directory name) sub.0) (ap (bytes_eq q) (sym same) ∙ own_bytes q);
   }
   risen_at q name sub has (inr p) = record {
     rest = name ++ 47 ∷ p.rest;
     there = ap (λ x. list_any (bytes_eq x) (map.keys files)) (sym (path_deep directory name p.rest has)) ∙ p.there;
-    passed = open_deep (bytes_eq q) directory name p.rest sub.plain has ∙ never (bytes_eq q (path_in directory name)) (is_open (bytes_eq q) (path_in directory name) p.rest) p.passed;
+    passed = open_deep (bytes_eq q) directory name p.rest sub.1 has ∙ never (bytes_eq q (path_in directory name)) (is_open (bytes_eq q) (path_in directory name) p.rest) p.passed;
   }
 
   risen : (q name : List ℕ) → In name names → In q (below name) → In q (packages_below files directory)
   risen q name i h =
       let sub = sub_to (map.keys files) directory name (in_sorted name (held_in (map.keys files) directory) i) in
       let at = packages_to files (path_in directory name) q h in
-      packages_from files directory q at.0 (inr (risen_at q name sub (has_name directory name sub.rest (map.keys files) good sub.there) at.1))
+      packages_from files directory q at.0 (inr (risen_at q name sub (has_name directory name sub.0 (map.keys files) good sub.2) at.1))
 
   -- ---- the directory itself
 
