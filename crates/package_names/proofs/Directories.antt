@@ -10,7 +10,7 @@ use Rattle.filetree.specs.Listings.{Names, rest_below, names_in}
 use Rattle.globs.specs.Globs.{path_in}
 use Rattle.globs.proofs.Members.{In, any_in, in_all}
 use Rattle.globs.proofs.Paths.{rest_in, HasName, has_name}
-use Rattle.globs.proofs.Walk.{Sub, directories_of, directories_to, directories_from}
+use Rattle.globs.proofs.Walk.{Sub, directories_to, directories_from}
 use Rattle.keys.specs.declared.value.Value.TheVariants as value
 use Rattle.leaves.specs.Leaves.{listed_of}
 use Rattle.walks.specs.Globs.{directories_in}

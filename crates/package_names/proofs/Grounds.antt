@@ -1,6 +1,6 @@
 -- By any table with these turns the node holds the packages at and below its directory.
-use Rattle.std.proofs.Common.{◌≡◌, ◌∙◌, ap, sym, refl, subst, arith, ℕ, zero, suc, ◌+◌, ◌-◌, ◌<◌, Bool, true, false, cond, List, [], ◌∷◌, ◌++◌, length, map}
-use Rattle.std.specs.Prelude.{bytes_eq, flat_map, nat_lt}
+use Rattle.std.proofs.Common.{◌≡◌, ◌∙◌, ap, sym, refl, arith, ℕ, zero, suc, ◌+◌, ◌-◌, ◌<◌, cond, List, [], ◌∷◌, ◌++◌, length, map}
+use Rattle.std.specs.Prelude.{bytes_eq, flat_map}
 use Rattle.std.specs.Option.{option_map}
 use Rattle.std.specs.List.{list_any}
 use Rattle.std.specs.FinMap as map_of
@@ -11,7 +11,7 @@ use Rattle.evaluation.specs.Value.{Grounded, is_leaf, has_run, Turns, ends, asks
 use Rattle.filetree.specs.Files.{Files}
 use Rattle.filetree.specs.Lawful.{HasPaths}
 use Rattle.filetree.specs.Listings.{sorted_names, listing}
-use Rattle.globs.specs.Globs.{path_in, is_package}
+use Rattle.globs.specs.Globs.{path_in}
 use Rattle.globs.proofs.Members.{In, own_bytes, or_left, or_right}
 use Rattle.globs.proofs.Sorted.{in_sorted}
 use Rattle.keys.specs.declared.key.Key.{Key}
@@ -21,7 +21,7 @@ use Rattle.keys.specs.declared.value.Value.TheVariants as value
 use Rattle.leaves.specs.Leaves.{read, listed_of}
 use Rattle.walks.specs.Lookups.{build_of}
 use Rattle.package_names.specs.Below.{packages_below}
-use Rattle.package_names.specs.Turns.{first_group, subdirectories, groups_below, own_name, names_in}
+use Rattle.package_names.specs.Turns.{subdirectories, keys_below, own_name, names_in}
 use Rattle.package_names.specs.Finds.{HasTurns, LooksUp, HoldsPackages}
 use Rattle.package_names.proofs.Builds.{built_there}
 use Rattle.package_names.proofs.Directories.{held_in, sub_to, longer}
@@ -51,7 +51,7 @@ module _ (next : Key → List Value → Reply Key Value) (files : Files) (turns 
     below name = packages (path_in directory name)
 
     all_below : (names : List (List ℕ)) → ((name : List ℕ) → In name names → Grounded next (read files) (key.Under (path_in directory name)) (below name))
-        → AllGrounded next (read files) (groups_below directory names) (map below names)
+        → AllGrounded next (read files) (keys_below directory names) (map below names)
     all_below [] each = none
     all_below (name ∷ names) each =
         one (each name (or_left (bytes_eq name name) (list_any (bytes_eq name) names) (own_bytes name)))
@@ -70,23 +70,23 @@ module _ (next : Key → List Value → Reply Key Value) (files : Files) (turns 
     ended : (n : List (List ℕ)) → subdirectories (held directory) ≡ n → next (key.Under directory) (look directory ∷ held directory ∷ map below n) ≡ Done (packages directory)
     ended n e =
         turns directory (look directory ∷ held directory ∷ map below n)
-        ∙ ap (λ b. cond b (asking (groups_below directory names)) (ending (value.Paths (sorted_names (own_name directory (look directory) ++ names_in (map below n))))))
+        ∙ ap (λ b. cond b (asking (keys_below directory names)) (ending (value.Paths (sorted_names (own_name directory (look directory) ++ names_in (map below n))))))
         (le-ltb (length (map below n)) (length names) (omega (arith, ap length e, length-map n below)))
         ∙ ap (λ xs. ending (value.Paths xs)) (ap (λ ns. sorted_names (own_name directory (look directory) ++ names_in (map below ns))) (sym e) ∙ end_is)
 
     -- the second group is not asked where it is empty
-    behind : (n : List (List ℕ)) → subdirectories (held directory) ≡ n → AllGrounded next (read files) (groups_below directory n) (map below n)
+    behind : (n : List (List ℕ)) → subdirectories (held directory) ≡ n → AllGrounded next (read files) (keys_below directory n) (map below n)
         → (groups : List (List Key)) × Turns next (read files) (key.Under directory) (look directory ∷ held directory ∷ []) groups (packages directory)
     behind [] e all = ([], ends (ended [] e))
     behind (name ∷ n) e all =
-        let asked : next (key.Under directory) (look directory ∷ held directory ∷ []) ≡ Ask (groups_below directory (name ∷ n)) =
+        let asked : next (key.Under directory) (look directory ∷ held directory ∷ []) ≡ Ask (keys_below directory (name ∷ n)) =
         turns directory (look directory ∷ held directory ∷ [])
-        ∙ ap (λ b. cond b (asking (groups_below directory names)) (ending (value.Paths (sorted_names (own_name directory (look directory) ++ [])))))
+        ∙ ap (λ b. cond b (asking (keys_below directory names)) (ending (value.Paths (sorted_names (own_name directory (look directory) ++ [])))))
         (lt-ltb 0 (length names) (omega (arith, ap length e)))
-        ∙ ap (λ ns. asking (groups_below directory ns)) e in
-        (groups_below directory (name ∷ n) ∷ [], asks asked all (ends (ended (name ∷ n) e)))
+        ∙ ap (λ ns. asking (keys_below directory ns)) e in
+        (keys_below directory (name ∷ n) ∷ [], asks asked all (ends (ended (name ∷ n) e)))
 
-    run : AllGrounded next (read files) (groups_below directory names) (map below names) → Grounded next (read files) (key.Under directory) (packages directory)
+    run : AllGrounded next (read files) (keys_below directory names) (map below names) → Grounded next (read files) (key.Under directory) (packages directory)
     run all =
         let rest = behind names refl all in
         let listed : Grounded next (read files) (key.Listing directory) (held directory) = is_leaf refl in

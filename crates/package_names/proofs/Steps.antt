@@ -1,5 +1,5 @@
 -- The packages at and below a directory are itself, if it is one, and those at and below its subdirectories.
-use Rattle.std.proofs.Common.{◌≡◌, ◌∙◌, ap, sym, refl, ℕ, Bool, true, false, cond, not, ◌&&◌, ◌⊎◌, inl, inr, List, [], ◌∷◌, ◌++◌, map as each}
+use Rattle.std.proofs.Common.{◌≡◌, ◌∙◌, ap, sym, refl, ℕ, Bool, true, false, cond, not, ◌&&◌, ◌⊎◌, inl, inr, List, [], ◌∷◌, ◌++◌}
 use Rattle.std.specs.Prelude.{bytes_eq, filter, flat_map}
 use Rattle.std.specs.List.{list_any, filter_map}
 use Rattle.std.specs.FinMap as map
@@ -46,6 +46,10 @@ module _ (files : Files) (directory : List ℕ) where
   abbrev rests : List (List ℕ)
   rests = filter_map (rest_below directory) (map.keys files)
 
+  -- the directory itself, and those below it that lead to files
+  abbrev all : List (List ℕ)
+  all = directory ∷ directories_below files directory
+
   passed_to : (q : List ℕ) → In q (directories_below files directory) → Passed (map.keys files) directory q
   passed_to q h =
       let one = in_each (path_in directory) q (flat_map ancestors rests) h in
@@ -66,19 +70,21 @@ module _ (files : Files) (directory : List ℕ) where
 
   packages_to : (q : List ℕ) → In q (packages_below files directory) → (is_package files q ≡ true) × At q
   packages_to q h =
-      let kept = in_filter (is_package files) q (directory ∷ directories_below files directory) (in_sorted q (filter (is_package files) (directory ∷ directories_below files directory)) h) in
-      (kept.1, elim (or_cases (bytes_eq q directory) (list_any (bytes_eq q) (directories_below files directory)) kept.0) [
-        | inl here ↦ inl (same_bytes q directory here)
-        | inr there ↦ inr (passed_to q there)
-      ])
+      let kept = in_filter (is_package files) q all (in_sorted q (filter (is_package files) all) h) in (
+        kept.1,
+        elim (or_cases (bytes_eq q directory) (list_any (bytes_eq q) (directories_below files directory)) kept.0) [
+          | inl here ↦ inl (same_bytes q directory here)
+          | inr there ↦ inr (passed_to q there)
+        ],
+      )
 
-  at_in : (q : List ℕ) → At q → In q (directory ∷ directories_below files directory)
+  at_in : (q : List ℕ) → At q → In q all
   at_in q (inl same) = or_left (bytes_eq q directory) (list_any (bytes_eq q) (directories_below files directory)) (ap (bytes_eq q) (sym same) ∙ own_bytes q)
   at_in q (inr p) = or_right (bytes_eq q directory) (list_any (bytes_eq q) (directories_below files directory)) (passed_from q p)
 
   packages_from : (q : List ℕ) → is_package files q ≡ true → At q → In q (packages_below files directory)
   packages_from q is at =
-      sorted_in q (filter (is_package files) (directory ∷ directories_below files directory)) (filter_in (is_package files) q (directory ∷ directories_below files directory) (at_in q at) is)
+      sorted_in q (filter (is_package files) all) (filter_in (is_package files) q all (at_in q at) is)
 
 module _ (files : Files) (good : HasPaths files) (directory : List ℕ) where
   abbrev names : List (List ℕ)
@@ -163,7 +169,6 @@ module _ (files : Files) (good : HasPaths files) (directory : List ℕ) where
   -- what the node ends with is what is found among all paths
   pub found_by_step : sorted_names (own ++ flat_map below names) ≡ packages_below files directory
   found_by_step =
-      let all = directory ∷ directories_below files directory in
-      sorted_same (own ++ flat_map below names) (filter (is_package files) (directory ∷ directories_below files directory))
-      (λ q h. in_sorted q (filter (is_package files) (directory ∷ directories_below files directory)) (step_from q h))
-      (λ q h. step_to q (sorted_in q (filter (is_package files) (directory ∷ directories_below files directory)) h))
+      sorted_same (own ++ flat_map below names) (filter (is_package files) (all files directory))
+      (λ q h. in_sorted q (filter (is_package files) (all files directory)) (step_from q h))
+      (λ q h. step_to q (sorted_in q (filter (is_package files) (all files directory)) h))

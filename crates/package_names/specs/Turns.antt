@@ -18,8 +18,8 @@ abbrev pub subdirectories : Value → List (List ℕ)
 subdirectories listing = sorted_names (directories_in listing)
 
 -- the packages at and below each of these subdirectories
-abbrev pub groups_below : List ℕ → List (List ℕ) → List Key
-groups_below directory names = map (λ name. key.Under (path_in directory name)) names
+abbrev pub keys_below : List ℕ → List (List ℕ) → List Key
+keys_below directory names = map (λ name. key.Under (path_in directory name)) names
 
 -- the directory itself, if its look-up found a build file
 abbrev pub own_name : List ℕ → Value → List (List ℕ)
@@ -32,7 +32,7 @@ names_in answers = flat_map paths_of answers
 -- what comes after the first group, from these subdirectories on; an empty group is not asked
 abbrev pub after_listing : List ℕ → Value → List (List ℕ) → List Value → Reply Key Value
 after_listing directory lookup names answers =
-    if nat_lt (length answers) (length names) then Ask (groups_below directory names)
+    if nat_lt (length answers) (length names) then Ask (keys_below directory names)
     else Done (value.Paths (sorted_names (own_name directory lookup ++ names_in answers)))
 
 -- the look-up and the listing of the directory, then the packages at and below each subdirectory

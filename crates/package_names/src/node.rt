@@ -9,7 +9,7 @@ use keys::{Key, Paths, Value};
 use std::alloc::Global;
 use std::sync::Arc;
 use texts::{Memory, Text};
-use walks::{directories_in, has_build, in_order, path_in, Reply};
+use walks::{Reply, directories_in, has_build, in_order, path_in};
 
 // The look-up and the listing of the directory.
 fn first_group(alloc: Global, directory: &Text) -> Result<Vec<Key>, Memory>
@@ -21,8 +21,8 @@ fn first_group(alloc: Global, directory: &Text) -> Result<Vec<Key>, Memory>
 }
 
 // The names at and below each subdirectory.
-fn groups_below(alloc: Global, directory: &Text, names: &[Text]) -> Result<Vec<Key>, Memory>
-    ensures { IfOk result (λ g. g.items ≡ specs.groups_below directory.now names.now) }
+fn keys_below(alloc: Global, directory: &Text, names: &[Text]) -> Result<Vec<Key>, Memory>
+    ensures { IfOk result (λ g. g.items ≡ specs.keys_below directory.now names.now) }
 {
     let mut group = Vec::new(alloc);
     for name in names {
@@ -84,7 +84,7 @@ fn after_listing(
     ensures { IfOk result (IsReply (specs.after_listing directory.now lookup.now names.now (values answers.now))) }
 {
     if answers.len() < names.len() {
-        return Ok(Reply::Ask(groups_below(alloc, directory, names)?));
+        return Ok(Reply::Ask(keys_below(alloc, directory, names)?));
     }
     let mut all = own_name(alloc, directory, lookup)?;
     add_answers(&mut all, answers)?;
