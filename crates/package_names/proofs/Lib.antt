@@ -1,0 +1,4 @@
+pub mod Builds
+pub mod Directories
+pub mod Steps
+pub mod Grounds
