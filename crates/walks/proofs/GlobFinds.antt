@@ -523,7 +523,7 @@ module _ (next : Key → List Value → Reply Key Value) (by_lookup : (d : List 
       let end : sorted_names (glob.own_found w p (glob.files_in (held d)) (glob.open_names (glob.asked_names w p (glob.directories_in (held d))) looks)
       ++ glob.found_by p (glob.entered w p (glob.open_names (glob.asked_names w p (glob.directories_in (held d))) looks)) (founds w d p (names w d p w))) ≡ found w d (segments p) =
       (λ i. sorted_names (glob.own_found w p (files_held (listing files d) i) (free_are i) ++ glob.found_by p (glob.entered w p (free_are i)) (founds w d p (names w d p w)))) ∙ whole w d p in
-      subst (λ xs. Grounded next (read files) k (value.Paths xs)) end (has_run unread run.1)
+      subst (λ xs. Grounded next (read files) k (value.Paths xs)) end (has_run {groups = run.0} unread run.1)
 
   pub glob_grounded : (d asked : List ℕ) → NoSpace d → Grounded next (read files) (glob_key d asked) (value.Paths (answer_below (is_package files) (map_of.keys files) d asked))
   glob_grounded d asked plain =
