@@ -9,7 +9,8 @@ use Rattle.keys.specs.declared.value.Value.{Value}
 use Rattle.std.proofs.lemmas.Bool.{le-ltb}
 use Rattle.evaluation.specs.Reply.{Reply, Ask}
 use Rattle.keys.specs.declared.key.Key.{Key}
-use Rattle.walks.specs.Globs.{directory_of, pattern_of, files_in, directories_in, entered, lookups, has_build, open_names, paths_of, found_below, after_lookups, after_listing, next}
+use Rattle.globs.specs.Globs.{pattern_in, asks_directories}
+use Rattle.walks.specs.Globs.{directory_of, question_of, files_in, directories_in, asked_names, lookups, has_build, open_names, paths_of, found_below, by_open, after_listing, next}
 use Rattle.walks.proofs.NamesInOrder.{drop_item}
 
 module _ (names : List (List ℕ)) (answers : List (Arc Value Global)) (i : ℕ) (name : List ℕ) (answer : Arc Value Global)
@@ -46,18 +47,19 @@ abbrev asking : List Key → Reply Key Value
 asking group = Ask group
 
 -- what comes after the look-ups, where they are all answered
-pub after_lookups_is : (directory pattern : List ℕ) (files names left : List (List ℕ)) (answers : List (Arc Value Global)) → length names ≤ length answers → left ≡ open_names names (values answers)
-    → after_lookups directory pattern files left (values (take (length answers - length names) (drop (length names) answers))) ≡ after_listing directory pattern files names (values answers)
-after_lookups_is directory pattern files names left answers h e =
-    (λ i. after_lookups directory pattern files (e i) (values (take_all (length answers - length names) (drop (length names) answers) (omega (arith, length-drop (length names) answers)) i)))
-    ∙ (λ i. after_lookups directory pattern files (open_names names (values answers)) (sym (drop-map (λ (x : Arc Value Global). arc_value x) (length names) answers) i))
-    ∙ sym (ap (λ b. cond b (asking (lookups directory names)) (after_lookups directory pattern files (open_names names (values answers)) (drop (length names) (values answers))))
+pub by_open_is : (directory : List ℕ) (directories : Bool) (pattern : List ℕ) (files names free : List (List ℕ)) (answers : List (Arc Value Global)) → length names ≤ length answers → free ≡ open_names names (values answers)
+    → by_open directory directories pattern files free (values (take (length answers - length names) (drop (length names) answers))) ≡ after_listing directory directories pattern files names (values answers)
+by_open_is directory directories pattern files names free answers h e =
+    (λ i. by_open directory directories pattern files (e i) (values (take_all (length answers - length names) (drop (length names) answers) (omega (arith, length-drop (length names) answers)) i)))
+    ∙ (λ i. by_open directory directories pattern files (open_names names (values answers)) (sym (drop-map (λ (x : Arc Value Global). arc_value x) (length names) answers) i))
+    ∙ sym (ap (λ b. cond b (asking (lookups directory names)) (by_open directory directories pattern files (open_names names (values answers)) (drop (length names) (values answers))))
     (le-ltb (length (values answers)) (length names) (omega (arith, h, length-map answers (λ (x : Arc Value Global). arc_value x)))))
 
 -- and what comes after the listing
-pub after_listing_is : (text directory pattern : List ℕ) (files names : List (List ℕ)) (answers rest : List (Arc Value Global)) (listing : Arc Value Global)
-    → directory ≡ directory_of text → pattern ≡ pattern_of text → files ≡ files_in (arc_value listing) → names ≡ entered pattern (directories_in (arc_value listing)) → answers ≡ listing ∷ rest
-    → after_listing directory pattern files names (values rest) ≡ next text (values answers)
-after_listing_is text directory pattern files names answers rest listing d p f n e =
-    let n' : names ≡ entered (pattern_of text) (directories_in (arc_value listing)) = n ∙ ap (λ q. entered q (directories_in (arc_value listing))) p in
-    (λ i. after_listing (d i) (p i) (f i) (n' i) (values rest)) ∙ sym (ap (λ xs. next text (values xs)) e)
+pub after_listing_is : (text directory : List ℕ) (directories : Bool) (pattern : List ℕ) (files names : List (List ℕ)) (answers rest : List (Arc Value Global)) (listing : Arc Value Global)
+    → directory ≡ directory_of text → directories ≡ asks_directories (question_of text) → pattern ≡ pattern_in (question_of text)
+    → files ≡ files_in (arc_value listing) → names ≡ asked_names directories pattern (directories_in (arc_value listing)) → answers ≡ listing ∷ rest
+    → after_listing directory directories pattern files names (values rest) ≡ next text (values answers)
+after_listing_is text directory directories pattern files names answers rest listing d w p f n e =
+    let n' : names ≡ asked_names (asks_directories (question_of text)) (pattern_in (question_of text)) (directories_in (arc_value listing)) = n ∙ (λ i. asked_names (w i) (p i) (directories_in (arc_value listing))) in
+    (λ i. after_listing (d i) (w i) (p i) (f i) (n' i) (values rest)) ∙ sym (ap (λ xs. next text (values xs)) e)

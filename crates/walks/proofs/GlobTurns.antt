@@ -1,5 +1,5 @@
 -- The turns of a glob, from the values of what it asks.
-use Rattle.std.proofs.Common.{◌≡◌, ◌∙◌, ap, sym, refl, subst, arith, ℕ, suc, true, false, cond, List, [], ◌∷◌, ◌++◌, length, drop, Option}
+use Rattle.std.proofs.Common.{◌≡◌, ◌∙◌, ap, sym, refl, subst, arith, ℕ, suc, Bool, true, false, cond, List, [], ◌∷◌, ◌++◌, length, drop, Option}
 use Rattle.std.specs.Prelude.{nat_lt}
 use Rattle.std.proofs.lemmas.Bool.{le-ltb, lt-ltb}
 use Rattle.std.proofs.lemmas.List.{append-nil, drop_at, length-map, length-append}
@@ -11,7 +11,7 @@ use Rattle.keys.specs.declared.key.Key.{Key}
 use Rattle.keys.specs.declared.key.Key.TheVariants as key
 use Rattle.keys.specs.declared.value.Value.{Value}
 use Rattle.keys.specs.declared.value.Value.TheVariants as value
-use Rattle.walks.specs.Globs.{files_in, directories_in, has_build, own_files, entered, lookups, open_names, globs, found_by, after_lookups, step}
+use Rattle.walks.specs.Globs.{files_in, directories_in, has_build, own_found, asked_names, entered, lookups, open_names, globs, found_by, by_open, step}
 
 abbrev asking : List Key → Reply Key Value
 asking group = Ask group
@@ -40,51 +40,54 @@ module _ (next : Key → List Value → Reply Key Value) (read : Key → Option 
   after k answers v [] [] none asked rest = subst (λ (b : List Value). Goes k b v) (append-nil answers) rest
   after k answers v (j ∷ group) values all asked rest = ((j ∷ group) ∷ rest.0, asks (asked (lt-ltb 0 (length (j ∷ group)) (omega arith))) all rest.1)
 
-  module _ (directory pattern : List ℕ) (listing : Value) (looks founds : List Value) where
+  module _ (directory : List ℕ) (directories : Bool) (pattern : List ℕ) (listing : Value) (looks founds : List Value) where
+    abbrev asked : List (List ℕ)
+    asked = asked_names directories pattern (directories_in listing)
+
+    abbrev free : List (List ℕ)
+    free = open_names asked looks
+
     abbrev names : List (List ℕ)
-    names = entered pattern (directories_in listing)
+    names = entered directories pattern free
 
-    abbrev left : List (List ℕ)
-    left = open_names names looks
+    abbrev end : List Value → Value
+    end answers = value.Paths (sorted_names (own_found directories pattern (files_in listing) free ++ found_by pattern names answers))
 
-    abbrev end : Value
-    end = value.Paths (sorted_names (own_files pattern (files_in listing) ++ found_by pattern left founds))
+    module _ (k : Key) (same : (answers : List Value) → next k answers ≡ step directory directories pattern answers)
+        (all_looks : AllGrounded next read (lookups directory asked) looks) (all_founds : AllGrounded next read (globs directory directories pattern names) founds) where
+      looks_many : length looks ≡ length asked
+      looks_many = as_many all_looks ∙ length-map asked (λ name. key.Lookup (path_in directory name))
 
-    module _ (k : Key) (same : (answers : List Value) → next k answers ≡ step directory pattern answers)
-        (all_looks : AllGrounded next read (lookups directory names) looks) (all_founds : AllGrounded next read (globs directory pattern left) founds) where
-      looks_many : length looks ≡ length names
-      looks_many = as_many all_looks ∙ length-map names (λ name. key.Lookup (path_in directory name))
+      enough_looks : (more : List Value) → nat_lt (length (looks ++ more)) (length asked) ≡ false
+      enough_looks more = le-ltb (length (looks ++ more)) (length asked) (omega (arith, looks_many, length-append looks more))
 
-      enough_looks : (more : List Value) → nat_lt (length (looks ++ more)) (length names) ≡ false
-      enough_looks more = le-ltb (length (looks ++ more)) (length names) (omega (arith, looks_many, length-append looks more))
-
-      asks_looks : nat_lt 0 (length (lookups directory names)) ≡ true → next k (listing ∷ []) ≡ Ask (lookups directory names)
+      asks_looks : nat_lt 0 (length (lookups directory asked)) ≡ true → next k (listing ∷ []) ≡ Ask (lookups directory asked)
       asks_looks h =
           same (listing ∷ [])
-          ∙ ap (λ b. cond b (asking (lookups directory names)) (after_lookups directory pattern (files_in listing) (open_names names []) (drop (length names) [])))
-          (sym (ap (nat_lt 0) (length-map names (λ name. key.Lookup (path_in directory name)))) ∙ h)
+          ∙ ap (λ b. cond b (asking (lookups directory asked)) (by_open directory directories pattern (files_in listing) (open_names asked []) (drop (length asked) [])))
+          (sym (ap (nat_lt 0) (length-map asked (λ name. key.Lookup (path_in directory name)))) ∙ h)
 
-      past_looks : (more : List Value) → next k (listing ∷ (looks ++ more)) ≡ after_lookups directory pattern (files_in listing) left more
+      past_looks : (more : List Value) → next k (listing ∷ (looks ++ more)) ≡ by_open directory directories pattern (files_in listing) free more
       past_looks more =
           same (listing ∷ (looks ++ more))
-          ∙ ap (λ b. cond b (asking (lookups directory names)) (after_lookups directory pattern (files_in listing) (open_names names (looks ++ more)) (drop (length names) (looks ++ more)))) (enough_looks more)
-          ∙ (λ i. after_lookups directory pattern (files_in listing) (open_more names looks more looks_many i) (drop_at looks more (length names) looks_many i))
+          ∙ ap (λ b. cond b (asking (lookups directory asked)) (by_open directory directories pattern (files_in listing) (open_names asked (looks ++ more)) (drop (length asked) (looks ++ more)))) (enough_looks more)
+          ∙ (λ i. by_open directory directories pattern (files_in listing) (open_more asked looks more looks_many i) (drop_at looks more (length asked) looks_many i))
 
-      asks_globs : nat_lt 0 (length (globs directory pattern left)) ≡ true → next k (listing ∷ looks) ≡ Ask (globs directory pattern left)
+      asks_globs : nat_lt 0 (length (globs directory directories pattern names)) ≡ true → next k (listing ∷ looks) ≡ Ask (globs directory directories pattern names)
       asks_globs h =
           ap (λ xs. next k (listing ∷ xs)) (sym (append-nil looks)) ∙ past_looks []
-          ∙ ap (λ b. cond b (asking (globs directory pattern left)) (ending (value.Paths (sorted_names (own_files pattern (files_in listing) ++ found_by pattern left []))))) h
+          ∙ ap (λ b. cond b (asking (globs directory directories pattern names)) (ending (end []))) h
 
-      is_end : next k (listing ∷ (looks ++ founds)) ≡ Done end
+      is_end : next k (listing ∷ (looks ++ founds)) ≡ Done (end founds)
       is_end =
           past_looks founds
-          ∙ ap (λ b. cond b (asking (globs directory pattern left)) (ending end)) (le-ltb (length founds) (length (globs directory pattern left)) (omega (arith, as_many all_founds)))
+          ∙ ap (λ b. cond b (asking (globs directory directories pattern names)) (ending (end founds))) (le-ltb (length founds) (length (globs directory directories pattern names)) (omega (arith, as_many all_founds)))
 
       asks_listing : next k [] ≡ Ask (key.Listing directory ∷ [])
       asks_listing = same []
 
-      pub glob_turns : Grounded next read (key.Listing directory) listing → Goes k [] end
+      pub glob_turns : Grounded next read (key.Listing directory) listing → Goes k [] (end founds)
       glob_turns g =
-          after k [] end (key.Listing directory ∷ []) (listing ∷ []) (one g none) (λ _. asks_listing)
-          (after k (listing ∷ []) end (lookups directory names) looks all_looks asks_looks
-          (after k (listing ∷ looks) end (globs directory pattern left) founds all_founds asks_globs ([], ends is_end)))
+          after k [] (end founds) (key.Listing directory ∷ []) (listing ∷ []) (one g none) (λ _. asks_listing)
+          (after k (listing ∷ []) (end founds) (lookups directory asked) looks all_looks asks_looks
+          (after k (listing ∷ looks) (end founds) (globs directory directories pattern names) founds all_founds asks_globs ([], ends is_end)))

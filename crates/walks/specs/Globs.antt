@@ -1,12 +1,12 @@
 -- What a glob asks, and what it finds.
-use Rattle.std.specs.Prelude.{ℕ, List, [], ◌∷◌, ◌++◌, drop, length, map, filter, is_some, nat_lt, Bool, true, false, ◌&&◌, ◌||◌, ◌==◌, if◌then◌else◌, Option, Some, None}
+use Rattle.std.specs.Prelude.{ℕ, List, [], ◌∷◌, ◌++◌, drop, length, map, filter, is_some, nat_lt, Bool, true, false, ◌&&◌, ◌||◌, if◌then◌else◌, Option, Some, None}
 use Rattle.std.specs.List.{list_all, position_or_len, before_first, after_first}
 use Rattle.evaluation.specs.Reply.{Reply, Ask, Done}
 use Rattle.labels.specs.Labels.{is_slash}
 use Rattle.labels.specs.Paths.{segments}
 use Rattle.filetree.specs.Listings.{sorted_names}
 use Rattle.pattern.specs.Patterns.{is_double_star, segment_matches}
-use Rattle.globs.specs.Globs.{path_in}
+use Rattle.globs.specs.Globs.{path_in, is_space, question, pattern_in, asks_directories}
 use Rattle.keys.specs.Keys.{glob_key}
 use Rattle.keys.specs.declared.key.Key.{Key}
 use Rattle.keys.specs.declared.key.Key.TheVariants as key
@@ -15,15 +15,13 @@ use Rattle.keys.specs.declared.value.Value.TheVariants as value
 
 -- ---- the key
 
-abbrev pub is_space : ℕ → Bool
-is_space b = b == 32
-
--- what stands before the first space of the key's text, and behind it
+-- What stands before the first space of the key's text, and behind it. What stands behind it is the question: the
+-- pattern, and with directories a space and `dirs`.
 abbrev pub directory_of : List ℕ → List ℕ
 directory_of text = before_first is_space text
 
-abbrev pub pattern_of : List ℕ → List ℕ
-pattern_of text = after_first is_space text
+abbrev pub question_of : List ℕ → List ℕ
+question_of text = after_first is_space text
 
 -- the first segment of a pattern, and the pattern of the others, if there are others
 abbrev pub first_segment : List ℕ → List ℕ
@@ -88,21 +86,29 @@ abbrev pub ends_here : Option (List ℕ) → Bool
 ends_here None = true
 ends_here (Some rest) = list_all is_double_star (segments rest)
 
--- a file of the directory that the first segment takes
+-- a name in the directory that the first segment takes as the last one
 abbrev pub takes : List ℕ → List ℕ → Bool
 takes pattern name = ends_here (other_segments pattern) && segment_matches (first_segment pattern) name
 
--- The files of the directory that a pattern finds. Those of `**` before other segments are found by the other segments.
-abbrev pub own_files : List ℕ → List (List ℕ) → List (List ℕ)
-own_files pattern files = if is_deep pattern then (if is_some (other_segments pattern) then [] else files) else filter (takes pattern) files
+-- The names in the directory that a pattern finds. Those of `**` before other segments are found by the other segments.
+abbrev pub own_names : List ℕ → List (List ℕ) → List (List ℕ)
+own_names pattern names = if is_deep pattern then (if is_some (other_segments pattern) then [] else names) else filter (takes pattern) names
+
+-- these of the files, and with directories of the subdirectories that are no packages
+abbrev pub own_found : Bool → List ℕ → List (List ℕ) → List (List ℕ) → List (List ℕ)
+own_found directories pattern files free = own_names pattern files ++ (if directories then own_names pattern free else [])
 
 -- a subdirectory that would be gone into, if it is no package
 abbrev pub enters : List ℕ → List ℕ → Bool
 enters pattern name = is_deep pattern || is_some (other_segments pattern) && segment_matches (first_segment pattern) name
 
--- these subdirectories, in byte order
-abbrev pub entered : List ℕ → List (List ℕ) → List (List ℕ)
-entered pattern names = sorted_names (filter (enters pattern) names)
+-- the subdirectories of which it has to be known whether they are packages, in byte order
+abbrev pub asked_names : Bool → List ℕ → List (List ℕ) → List (List ℕ)
+asked_names directories pattern names = sorted_names (filter (λ name. enters pattern name || directories && takes pattern name) names)
+
+-- those that are gone into, of the subdirectories that are no packages; without directories all are
+abbrev pub entered : Bool → List ℕ → List (List ℕ) → List (List ℕ)
+entered directories pattern free = if directories then filter (enters pattern) free else free
 
 abbrev pub lookups : List ℕ → List (List ℕ) → List Key
 lookups directory names = map (λ name. key.Lookup (path_in directory name)) names
@@ -126,10 +132,13 @@ abbrev pub asks_here : List ℕ → Bool
 asks_here pattern = is_deep pattern && is_some (other_segments pattern)
 
 abbrev pub globs_below : List ℕ → List ℕ → List (List ℕ) → List Key
-globs_below directory pattern names = map (λ name. glob_key (path_in directory name) (pattern_below pattern)) names
+globs_below directory asked names = map (λ name. glob_key (path_in directory name) asked) names
 
-abbrev pub globs : List ℕ → List ℕ → List (List ℕ) → List Key
-globs directory pattern names = if asks_here pattern then glob_key directory (text_or_none (other_segments pattern)) ∷ globs_below directory pattern names else globs_below directory pattern names
+abbrev pub globs : List ℕ → Bool → List ℕ → List (List ℕ) → List Key
+globs directory directories pattern names =
+    if asks_here pattern
+    then glob_key directory (question directories (text_or_none (other_segments pattern))) ∷ globs_below directory (question directories (pattern_below pattern)) names
+    else globs_below directory (question directories (pattern_below pattern)) names
 
 -- ---- what is found
 
@@ -150,21 +159,25 @@ found_by pattern names answers = if asks_here pattern then found_here names answ
 -- ---- the turns
 
 -- an empty group is not asked
-abbrev pub after_lookups : List ℕ → List ℕ → List (List ℕ) → List (List ℕ) → List Value → Reply Key Value
-after_lookups directory pattern files names answers =
-    if nat_lt (length answers) (length (globs directory pattern names)) then Ask (globs directory pattern names)
-    else Done (value.Paths (sorted_names (own_files pattern files ++ found_by pattern names answers)))
+abbrev pub after_lookups : List ℕ → Bool → List ℕ → List (List ℕ) → List (List ℕ) → List (List ℕ) → List Value → Reply Key Value
+after_lookups directory directories pattern files free names answers =
+    if nat_lt (length answers) (length (globs directory directories pattern names)) then Ask (globs directory directories pattern names)
+    else Done (value.Paths (sorted_names (own_found directories pattern files free ++ found_by pattern names answers)))
 
-abbrev pub after_listing : List ℕ → List ℕ → List (List ℕ) → List (List ℕ) → List Value → Reply Key Value
-after_listing directory pattern files names answers =
+abbrev pub by_open : List ℕ → Bool → List ℕ → List (List ℕ) → List (List ℕ) → List Value → Reply Key Value
+by_open directory directories pattern files free answers = after_lookups directory directories pattern files free (entered directories pattern free) answers
+
+abbrev pub after_listing : List ℕ → Bool → List ℕ → List (List ℕ) → List (List ℕ) → List Value → Reply Key Value
+after_listing directory directories pattern files names answers =
     if nat_lt (length answers) (length names) then Ask (lookups directory names)
-    else after_lookups directory pattern files (open_names names answers) (drop (length names) answers)
+    else by_open directory directories pattern files (open_names names answers) (drop (length names) answers)
 
--- The listing of the directory, then the look-ups of the subdirectories that would be gone into, then the globs below: that
--- of the directory itself first, and those of the subdirectories that are no packages.
-abbrev pub step : List ℕ → List ℕ → List Value → Reply Key Value
-step directory pattern [] = Ask (key.Listing directory ∷ [])
-step directory pattern (listing ∷ answers) = after_listing directory pattern (files_in listing) (entered pattern (directories_in listing)) answers
+-- The listing of the directory, then the look-ups of the subdirectories that would be gone into, and with directories of
+-- those that would be found. Then come the globs below: that of the directory itself first, and those of the subdirectories
+-- that are no packages.
+abbrev pub step : List ℕ → Bool → List ℕ → List Value → Reply Key Value
+step directory directories pattern [] = Ask (key.Listing directory ∷ [])
+step directory directories pattern (listing ∷ answers) = after_listing directory directories pattern (files_in listing) (asked_names directories pattern (directories_in listing)) answers
 
 abbrev pub next : List ℕ → List Value → Reply Key Value
-next text answers = step (directory_of text) (pattern_of text) answers
+next text answers = step (directory_of text) (asks_directories (question_of text)) (pattern_in (question_of text)) answers

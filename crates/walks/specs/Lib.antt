@@ -3,3 +3,4 @@ pub mod LookupLaws
 pub mod Globs
 pub mod GlobLaws
 pub mod Replies
+pub mod Found

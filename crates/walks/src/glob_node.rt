@@ -5,10 +5,11 @@ ghost use Rattle.walks.specs.Globs as specs;
 ghost use Rattle.walks.specs.Replies.{IsReply};
 
 use crate::glob_pattern::{
-    asks_here, entered, others_of, own_files, path_in, pattern_below, split_text,
+    add_all, all_entered, asked_names, asks_here, others_of, own_found, path_in, pattern_below,
 };
 use crate::ordering::in_order;
 use crate::reply::Reply;
+use crate::search::{Search, question_of, search_of};
 use keys::{Key, Paths, Value};
 use std::alloc::Global;
 use std::sync::Arc;
@@ -82,44 +83,35 @@ fn open_names(alloc: Global, names: &[Text], answers: &[Arc<Value>]) -> Result<V
     Ok(all)
 }
 
-// The globs below subdirectories, behind those of a group.
+// The globs of a question below subdirectories, behind those of a group.
 fn add_globs(
     alloc: Global,
     group: &mut Vec<Key>,
     directory: &str,
-    pattern: &str,
+    question: &str,
     names: &[Text],
 ) -> Result<(), Memory>
-    ensures { OnOk result (group.new.items ≡ group.old.items ++ specs.globs_below directory.now pattern.now names.now) }
+    ensures { OnOk result (group.new.items ≡ group.old.items ++ specs.globs_below directory.now question.now names.now) }
 {
-    let below = pattern_below(pattern);
     for name in names {
         let path = path_in(alloc, directory, name.as_str())?;
-        group.push(Key::glob_of(alloc, path.as_str(), below)?)?;
+        group.push(Key::glob_of(alloc, path.as_str(), question)?)?;
     }
     Ok(())
 }
 
 // The globs that a glob asks.
-fn globs(alloc: Global, directory: &str, pattern: &str, names: &[Text]) -> Result<Vec<Key>, Memory>
-    ensures { IfOk result (λ g. g.items ≡ specs.globs directory.now pattern.now names.now) }
+fn globs(alloc: Global, search: Search<'_>, names: &[Text]) -> Result<Vec<Key>, Memory>
+    ensures { IfOk result (λ g. g.items ≡ specs.globs search.entry.directory.now search.entry.directories search.entry.pattern.now names.now) }
 {
     let mut group = Vec::new(alloc);
-    if asks_here(pattern) {
-        group.push(Key::glob_of(alloc, directory, others_of(pattern))?)?;
+    if asks_here(search.pattern) {
+        let others = question_of(alloc, search.directories, others_of(search.pattern))?;
+        group.push(Key::glob_of(alloc, search.directory, others.as_str())?)?;
     }
-    add_globs(alloc, &mut group, directory, pattern, names)?;
+    let below = question_of(alloc, search.directories, pattern_below(search.pattern))?;
+    add_globs(alloc, &mut group, search.directory, below.as_str(), names)?;
     Ok(group)
-}
-
-// Adds paths, shared.
-fn add_paths(all: &mut Vec<Text>, paths: &[Text]) -> Result<(), Memory>
-    ensures { OnOk result (all.new.items ≡ all.old.items ++ paths.now) }
-{
-    for path in paths {
-        all.push(path.share()?)?;
-    }
-    Ok(())
 }
 
 // Adds the paths in a subdirectory.
@@ -167,54 +159,69 @@ fn add_found(
     match answers.split_first() {
         None => Ok(()),
         Some((own, answers)) => {
-            add_paths(all, paths_of(own))?;
+            add_all(all, paths_of(own))?;
             add_below(alloc, all, names, answers)
         }
     }
 }
 
-// What comes after the look-ups.
+// What comes after the look-ups, from the subdirectories that are no packages and those that are gone into.
 fn after_lookups(
     alloc: Global,
-    directory: &str,
-    pattern: &str,
+    search: Search<'_>,
     files: &[Text],
+    free: &[Text],
     names: &[Text],
     answers: &[Arc<Value>],
 ) -> Result<Reply, Memory>
-    ensures { IfOk result (IsReply (specs.after_lookups directory.now pattern.now files.now names.now (values answers.now))) }
+    ensures { IfOk result (IsReply (specs.after_lookups search.entry.directory.now search.entry.directories search.entry.pattern.now files.now free.now names.now (values answers.now))) }
 {
-    let group = globs(alloc, directory, pattern, names)?;
+    let group = globs(alloc, search, names)?;
     if answers.len() < group.len() {
         return Ok(Reply::Ask(group));
     }
-    let mut all = own_files(alloc, pattern, files)?;
-    add_found(alloc, &mut all, pattern, names, answers)?;
+    let mut all = own_found(alloc, search, files, free)?;
+    add_found(alloc, &mut all, search.pattern, names, answers)?;
     let paths = in_order(alloc, all.as_slice())?;
     Ok(Reply::Done(Value::Paths(Paths::new(alloc, paths)?)))
+}
+
+// What comes after the look-ups, from the subdirectories that are no packages. Without directories all are gone into.
+fn by_open(
+    alloc: Global,
+    search: Search<'_>,
+    files: &[Text],
+    free: &[Text],
+    answers: &[Arc<Value>],
+) -> Result<Reply, Memory>
+    ensures { IfOk result (IsReply (specs.by_open search.entry.directory.now search.entry.directories search.entry.pattern.now files.now free.now (values answers.now))) }
+{
+    if !search.directories {
+        return after_lookups(alloc, search, files, free, free, answers);
+    }
+    let names = all_entered(alloc, search.pattern, free)?;
+    after_lookups(alloc, search, files, free, names.as_slice(), answers)
 }
 
 // What comes after the listing.
 fn after_listing(
     alloc: Global,
-    directory: &str,
-    pattern: &str,
+    search: Search<'_>,
     files: &[Text],
     names: &[Text],
     answers: &[Arc<Value>],
 ) -> Result<Reply, Memory>
-    ensures { IfOk result (IsReply (specs.after_listing directory.now pattern.now files.now names.now (values answers.now))) }
+    ensures { IfOk result (IsReply (specs.after_listing search.entry.directory.now search.entry.directories search.entry.pattern.now files.now names.now (values answers.now))) }
 {
     if answers.len() < names.len() {
-        return Ok(Reply::Ask(lookups(alloc, directory, names)?));
+        return Ok(Reply::Ask(lookups(alloc, search.directory, names)?));
     }
-    let open = open_names(alloc, names, answers)?;
-    after_lookups(
+    let free = open_names(alloc, names, answers)?;
+    by_open(
         alloc,
-        directory,
-        pattern,
+        search,
         files,
-        open.as_slice(),
+        free.as_slice(),
         &answers[names.len()..],
     )
 }
@@ -223,16 +230,15 @@ fn after_listing(
 pub fn glob(alloc: Global, text: &Text, answers: &[Arc<Value>]) -> Result<Reply, Memory>
     ensures { IfOk result (IsReply (specs.next text.now (values answers.now))) }
 {
-    let (directory, pattern) = split_text(text.as_str());
+    let search = search_of(text.as_str());
     match answers.split_first() {
         None => {
-            let listing = Key::Listing(Text::new(alloc, directory)?);
+            let listing = Key::Listing(Text::new(alloc, search.directory)?);
             Ok(Reply::Ask(vec![in alloc; listing]?))
         }
         Some((listing, answers)) => {
-            let names = entered(alloc, pattern, directories_in(listing))?;
-            let files = files_in(listing);
-            after_listing(alloc, directory, pattern, files, names.as_slice(), answers)
+            let names = asked_names(alloc, search, directories_in(listing))?;
+            after_listing(alloc, search, files_in(listing), names.as_slice(), answers)
         }
     }
 }

@@ -1,5 +1,5 @@
 //! One step of a glob by its pattern.
-ghost use Rattle.std.specs.Prelude.{◌≡◌, is_some, IfOk, filter};
+ghost use Rattle.std.specs.Prelude.{◌≡◌, ◌++◌, ◌&&◌, ◌||◌, is_some, IfOk, OnOk, filter};
 ghost use Rattle.std.specs.Option.{option_copied};
 ghost use Rattle.std.specs.String.{string_bytes};
 ghost use Rattle.std.specs.List.{list_all};
@@ -9,20 +9,10 @@ ghost use Rattle.pattern.specs.Patterns as patterns;
 ghost use Rattle.walks.specs.Globs as specs;
 
 use crate::ordering::in_order;
+use crate::search::Search;
 use pattern::{is_double_star, segment_matches};
 use std::alloc::Global;
 use texts::{Memory, Text};
-
-/// The directory and the pattern that the text of a glob's key names.
-pub fn split_text(text: &str) -> (&str, &str)
-    ensures directory { result.0.now ≡ specs.directory_of text.now }
-    ensures pattern { result.1.now ≡ specs.pattern_of text.now }
-{
-    match text.split_once(' ') {
-        Some((directory, pattern)) => (directory, pattern),
-        None => (text, ""),
-    }
-}
 
 // The first segment of a pattern, and the pattern of the others.
 fn split_pattern(pattern: &str) -> (&str, Option<&str>)
@@ -66,7 +56,7 @@ fn is_deep(pattern: &str) -> bool
     is_double_star(split_pattern(pattern).0)
 }
 
-// Whether a pattern takes a file of the directory by its first segment.
+// Whether a pattern takes a name in the directory by its first segment.
 fn takes(pattern: &str, name: &str) -> bool
     ensures { result ≡ specs.takes pattern.now name.now }
 {
@@ -116,45 +106,60 @@ pub fn pattern_below(pattern: &str) -> &str
     }
 }
 
-// The names that the first segment takes, shared.
-fn taken(alloc: Global, pattern: &str, names: &[Text]) -> Result<Vec<Text>, Memory>
-    ensures { IfOk result (λ v. v.items ≡ filter (specs.takes pattern.now) names.now) }
+/// Adds names, shared.
+pub fn add_all(all: &mut Vec<Text>, names: &[Text]) -> Result<(), Memory>
+    ensures { OnOk result (all.new.items ≡ all.old.items ++ names.now) }
 {
-    let mut all = Vec::new(alloc);
+    for name in names {
+        all.push(name.share()?)?;
+    }
+    Ok(())
+}
+
+// Adds the names that the first segment takes, shared.
+fn add_taken(all: &mut Vec<Text>, pattern: &str, names: &[Text]) -> Result<(), Memory>
+    ensures { OnOk result (all.new.items ≡ all.old.items ++ filter (specs.takes pattern.now) names.now) }
+{
     for name in names {
         if takes(pattern, name.as_str()) {
             all.push(name.share()?)?;
         }
     }
-    Ok(all)
+    Ok(())
 }
 
-// The same names, shared.
-fn share_all(alloc: Global, names: &[Text]) -> Result<Vec<Text>, Memory>
-    ensures { IfOk result (λ v. v.items ≡ names.now) }
-{
-    let mut all = Vec::new(alloc);
-    for name in names {
-        all.push(name.share()?)?;
-    }
-    Ok(all)
-}
-
-/// The files of the directory that a pattern finds there.
-pub fn own_files(alloc: Global, pattern: &str, files: &[Text]) -> Result<Vec<Text>, Memory>
-    ensures { IfOk result (λ v. v.items ≡ specs.own_files pattern.now files.now) }
+// Adds the names in the directory that a pattern finds there.
+fn add_own(all: &mut Vec<Text>, pattern: &str, names: &[Text]) -> Result<(), Memory>
+    ensures { OnOk result (all.new.items ≡ all.old.items ++ specs.own_names pattern.now names.now) }
 {
     if !is_deep(pattern) {
-        return taken(alloc, pattern, files);
+        return add_taken(all, pattern, names);
     }
     if has_others(pattern) {
-        return Ok(Vec::new(alloc));
+        return Ok(());
     }
-    share_all(alloc, files)
+    add_all(all, names)
 }
 
-// The names that a pattern goes into.
-fn all_entered(alloc: Global, pattern: &str, names: &[Text]) -> Result<Vec<Text>, Memory>
+/// The names in the directory that a search finds there, of its files and of its subdirectories that are no packages.
+pub fn own_found(
+    alloc: Global,
+    search: Search<'_>,
+    files: &[Text],
+    free: &[Text],
+) -> Result<Vec<Text>, Memory>
+    ensures { IfOk result (λ v. v.items ≡ specs.own_found search.entry.directories search.entry.pattern.now files.now free.now) }
+{
+    let mut all = Vec::new(alloc);
+    add_own(&mut all, search.pattern, files)?;
+    if search.directories {
+        add_own(&mut all, search.pattern, free)?;
+    }
+    Ok(all)
+}
+
+/// The names that a pattern goes into.
+pub fn all_entered(alloc: Global, pattern: &str, names: &[Text]) -> Result<Vec<Text>, Memory>
     ensures { IfOk result (λ v. v.items ≡ filter (specs.enters pattern.now) names.now) }
 {
     let mut all = Vec::new(alloc);
@@ -166,11 +171,31 @@ fn all_entered(alloc: Global, pattern: &str, names: &[Text]) -> Result<Vec<Text>
     Ok(all)
 }
 
-/// The subdirectories that a pattern goes into if they are no packages, in byte order.
-pub fn entered(alloc: Global, pattern: &str, names: &[Text]) -> Result<Vec<Text>, Memory>
-    ensures { IfOk result (λ v. v.items ≡ specs.entered pattern.now names.now) }
+// Whether a search has to know of a subdirectory whether it is a package.
+fn asks(search: Search<'_>, name: &str) -> bool
+    ensures { result ≡ specs.enters search.entry.pattern.now name.now || search.entry.directories && specs.takes search.entry.pattern.now name.now }
 {
-    let all = all_entered(alloc, pattern, names)?;
+    enters(search.pattern, name) || (search.directories && takes(search.pattern, name))
+}
+
+// The names of these subdirectories.
+fn all_asked(alloc: Global, search: Search<'_>, names: &[Text]) -> Result<Vec<Text>, Memory>
+    ensures { IfOk result (λ v. v.items ≡ filter (λ name. specs.enters search.entry.pattern.now name || search.entry.directories && specs.takes search.entry.pattern.now name) names.now) }
+{
+    let mut all = Vec::new(alloc);
+    for name in names {
+        if asks(search, name.as_str()) {
+            all.push(name.share()?)?;
+        }
+    }
+    Ok(all)
+}
+
+/// The subdirectories of which a search has to know whether they are packages, in byte order.
+pub fn asked_names(alloc: Global, search: Search<'_>, names: &[Text]) -> Result<Vec<Text>, Memory>
+    ensures { IfOk result (λ v. v.items ≡ specs.asked_names search.entry.directories search.entry.pattern.now names.now) }
+{
+    let all = all_asked(alloc, search, names)?;
     in_order(alloc, all.as_slice())
 }
 
