@@ -3,11 +3,9 @@ ghost use Rattle.std.specs.Prelude.{◌≡◌, List, IfOk};
 ghost use Rattle.keys.specs.declared.key.Key.{Key};
 ghost use Rattle.keys.specs.declared.value.Value.{Value};
 ghost use Rattle.keys.specs.Turns.{values};
-ghost use Rattle.functions.specs.Goes.{IsMade, MayGoOn, table_of};
+ghost use Rattle.functions.specs.Goes.{IsMade, Table, MayGoOn, table_of};
 ghost use Rattle.functions.specs.Held.{HoldsFrom};
 ghost use Rattle.functions.specs.Next as table;
-ghost use Rattle.functions.specs.Replies.{IsReply};
-ghost use Rattle.evaluation.specs.Reply.{Reply as Answered};
 ghost use Rattle.walks.specs.Replies.{IsReply as IsWalked};
 
 use crate::evaluating::go_further;
@@ -15,6 +13,7 @@ use crate::file_node::{after_loads, of_module, of_package};
 use crate::reply::{Continuation, Reply};
 use count::Count;
 use keys::{Key, Rules, Turn, Value};
+use package_names::package_names;
 use std::alloc::Global;
 use std::sync::Arc;
 use texts::Memory;
@@ -41,9 +40,9 @@ pub struct Kept {
     held: Option<Held>,
 }
 
-// The reply of a look-up or a glob, of which nothing waits.
+// The reply of a node that goes by directories, of which nothing waits.
 fn plain(reply: walks::Reply) -> Reply
-    ensures { (next : Answered Key Value) → IsWalked next reply → IsReply next result }
+    ensures { (next : Table) (answers : List Value) → IsWalked (next answers) reply → IsMade next answers result }
 {
     match reply {
         walks::Reply::Ask(group) => Reply::Ask(group),
@@ -62,6 +61,7 @@ fn from_start(alloc: Global, key: &Key, answers: &[Arc<Value>]) -> Result<Reply,
         Key::Glob(text) => Ok(plain(glob(alloc, text, answers)?)),
         Key::Module(label) => of_module(alloc, label, answers),
         Key::Package(name) => of_package(alloc, name, answers),
+        Key::Under(directory) => Ok(plain(package_names(alloc, directory, answers)?)),
     }
 }
 
