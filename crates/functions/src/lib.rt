@@ -9,6 +9,8 @@
 //!   goes into, and then the globs below: with a pattern that begins with `**` that of the other segments in the same
 //!   directory, and one in each of the subdirectories that are no packages. It ends with the paths that are found, from the
 //!   directory on, in byte order.
+//! * `Glob(directory pattern dirs)` finds directories too, those that are no packages. It also asks the look-ups of the
+//!   subdirectories that the pattern would find, and its globs below end with ` dirs` as well.
 //! * `Module(label)` asks the look-ups of its package and of each directory between the package and the file, then the
 //!   file, and then the modules of all its loads. It ends with what the evaluation of the file leaves, or with the first
 //!   fault: its package is none, a directory on the way is a package, the file is absent, its text is none of the language,
