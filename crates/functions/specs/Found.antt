@@ -29,11 +29,12 @@ NamesHold = (files : Files) (name : List ℕ)
     × Holds files (key.Listing name) (value.Listing (option_map listed_of (listing files name)))
     × Holds files (key.Lookup name) (value.Lookup (build_of files name))
 
--- a glob holds what its question finds among all paths that lead below the directory and into no package on the way
+-- A glob holds what its question finds: among all paths that lead below the directory and into no package on the way, and
+-- with directories among those of the directories too that are no packages.
 abbrev pub GlobsHold : Type 0
 GlobsHold = (files : Files) (directory asked : List ℕ) → HasPaths files → is_package_name directory ≡ true
     → Holds files (glob_key directory asked) (value.Paths (answer_below (is_package files) (map.keys files) directory asked))
 
--- the names under a directory are those of all packages at and below it
-abbrev pub UndersHold : Type 0
-UndersHold = (files : Files) (directory : List ℕ) → HasPaths files → Holds files (key.Under directory) (value.Paths (packages_below files directory))
+-- the names of the packages at and below a directory
+abbrev pub PackagesHold : Type 0
+PackagesHold = (files : Files) (directory : List ℕ) → HasPaths files → Holds files (key.Under directory) (value.Paths (packages_below files directory))

@@ -7,9 +7,9 @@ use Rattle.keys.specs.declared.value.Value.{Value}
 use Rattle.keys.specs.declared.value.Value.TheVariants as value
 use Rattle.walks.specs.Globs as glob
 use Rattle.walks.specs.Lookups as lookup
+use Rattle.package_names.specs.Turns as names
 use Rattle.functions.specs.Modules as modules
 use Rattle.functions.specs.Packages as packages
-use Rattle.package_names.specs.Turns as names
 
 -- the table of turns, from all answers so far; a leaf needs none
 abbrev pub next : Key → List Value → Reply Key Value

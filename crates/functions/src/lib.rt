@@ -18,13 +18,13 @@
 //! * `Package(package)` asks its look-up, the BUILD file, the modules of all its loads, and then, at each call of `glob`
 //!   that stops the evaluation, the globs of the patterns that have no answer. It ends with its targets, or with the first
 //!   fault.
-//! * `Under(directory)` asks the look-up and the listing of the directory, and then `Under` of each of its subdirectories.
-//!   It ends with the names of all packages at and below the directory, in byte order.
+//! * `Under(directory)` asks the look-up and the listing of the directory, and then the names at and below each of its
+//!   subdirectories. It ends with the names of all packages at and below the directory, in byte order.
 //!
 //! An empty group is not asked, and a key that repeats in a group is asked once, at its first place.
 #![tactic(auto)]
 
-ghost use Rattle.functions.specs.Found.{NamesHold, GlobsHold, UndersHold};
+ghost use Rattle.functions.specs.Found.{NamesHold, GlobsHold, PackagesHold};
 
 mod evaluating;
 mod file_node;
@@ -42,14 +42,14 @@ pub fn leaves_and_look_ups_hold()
 {}
 
 /// The law of the globs: at files whose names are paths the node of a directory and a question holds the paths that the
-/// question finds among all paths of the files, below the directory and into no package on the way, in byte order. A
-/// question that ends with ` dirs` finds directories too that are no packages.
+/// question finds among all paths of the files, below the directory and into no package on the way, in byte order. Where
+/// it asks for directories, those that are no packages are found too.
 pub fn globs_hold_what_they_find()
     ensures { GlobsHold }
 {}
 
-/// The law of the packages under a directory: at files whose names are paths the node holds the names of all packages at
-/// and below its directory, in byte order.
-pub fn unders_hold_the_packages_below()
-    ensures { UndersHold }
+/// The law of the packages below a directory: at files whose names are paths the node of a directory holds the names of
+/// all packages at and below it, in byte order.
+pub fn packages_below_are_held()
+    ensures { PackagesHold }
 {}

@@ -3,11 +3,9 @@ ghost use Rattle.std.specs.Prelude.{◌≡◌, List, IfOk};
 ghost use Rattle.keys.specs.declared.key.Key.{Key};
 ghost use Rattle.keys.specs.declared.value.Value.{Value};
 ghost use Rattle.keys.specs.Turns.{values};
-ghost use Rattle.functions.specs.Goes.{IsMade, MayGoOn, table_of};
+ghost use Rattle.functions.specs.Goes.{IsMade, Table, MayGoOn, table_of};
 ghost use Rattle.functions.specs.Held.{HoldsFrom};
 ghost use Rattle.functions.specs.Next as table;
-ghost use Rattle.functions.specs.Replies.{IsReply};
-ghost use Rattle.evaluation.specs.Reply.{Reply as Answered};
 ghost use Rattle.walks.specs.Replies.{IsReply as IsWalked};
 
 use crate::evaluating::go_further;
@@ -15,9 +13,9 @@ use crate::file_node::{after_loads, of_module, of_package};
 use crate::reply::{Continuation, Reply};
 use count::Count;
 use keys::{Key, Rules, Turn, Value};
+use package_names::package_names;
 use std::alloc::Global;
 use std::sync::Arc;
-use package_names::package_names;
 use texts::Memory;
 use walks::{glob, lookup};
 
@@ -44,7 +42,7 @@ pub struct Kept {
 
 // The reply of a node that goes by directories, of which nothing waits.
 fn plain(reply: walks::Reply) -> Reply
-    ensures { (next : Answered Key Value) → IsWalked next reply → IsReply next result }
+    ensures { (next : Table) (answers : List Value) → IsWalked (next answers) reply → IsMade next answers result }
 {
     match reply {
         walks::Reply::Ask(group) => Reply::Ask(group),

@@ -11,7 +11,7 @@ use Rattle.walks.specs.Globs.{has_build}
 use Rattle.functions.specs.Modules as modules
 use Rattle.functions.specs.Next.{next}
 use Rattle.leaves.specs.Leaves.{read}
-use Rattle.walks.proofs.GlobFinds.{built_there}
+use Rattle.walks.proofs.Builds.{built_there}
 use Rattle.packages.proofs.Walked.{lookup_value}
 use Rattle.packages.proofs.Boundaries.{look_up}
 use Rattle.packages.proofs.Runs as runs

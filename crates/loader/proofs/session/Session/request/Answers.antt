@@ -13,12 +13,12 @@ pub returns-clause-text : goal.returns-clause-text
 returns-clause-text c =
     let files = files_of c.args.self.now in
     let request = request_seen c.args.request.now in
-    let held : AreHeld files c.as_slice-2.result.now c.self-2.inside.graph
-    = held_in files c.as_slice.result.now c.as_slice-2.result.now c.settle.new.self.graph c.self-2.inside.graph
-    (c.as_slice.ensures.value ∙ sym c.as_slice-2.ensures.value) (sym (ap (λ (x : Held). x.graph) c.self-2.view_is)) c.in_ok-runs.ensures.held in
+    let held : AreHeld files c.as_slice.result.now c.self-2.inside.graph
+    = held_in files c.in_ok-roots.roots.items c.as_slice.result.now c.evaluated.new.self.graph c.self-2.inside.graph
+    (sym c.as_slice.ensures.value) (sym (ap (λ (x : Held). x.graph) c.self-2.view_is)) c.in_ok-roots.ensures.held in
     let good : HasPaths files = subst (λ (f : Files). HasPaths f) (c.self.invariant.0 ∙ ap files_of c.self.view_is) c.self.invariant.2 in
     let accepted : request_refusal request ≡ None = sym c.in_ok-n.ensures ∙ c.in_default.is in
-    let told : Tells (IsValueOf request files) (string_bytes c.in_ok-text.text) = c.in_ok-text.ensures files good accepted (c.as_slice-2.ensures.value ∙ c.in_ok-roots.ensures) held in
+    let told : Tells (IsValueOf request files) (string_bytes c.in_ok-text.text) = c.in_ok-text.ensures files good accepted (c.as_slice.ensures.value ∙ c.in_ok-roots.ensures.roots) held in
     text_told request files (string_bytes c.in_ok-text.text) accepted told
 
 pub returns-in-Some-clause-text : goal.returns-in-Some-clause-text

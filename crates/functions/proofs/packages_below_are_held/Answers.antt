@@ -1,10 +1,10 @@
 use Rattle.std.proofs.Common.{refl}
 use Rattle.evaluation.proofs.Unique.{same_value}
-use Rattle.functions.specs.Next.{next}
 use Rattle.leaves.specs.Leaves.{read}
+use Rattle.functions.specs.Next.{next}
 use Rattle.walks.proofs.LookupValue.{lookup_grounded}
 use Rattle.package_names.proofs.Grounds.{packages_held}
-use Rattle.functions.proofs.unders_hold_the_packages_below.Goals as goal
+use Rattle.functions.proofs.packages_below_are_held.Goals as goal
 
 pub returns : goal.returns
 returns c = λ files directory good.
