@@ -1,20 +1,16 @@
 -- What a glob finds at the files is what its pattern finds among all paths.
-use Rattle.std.proofs.Common.{◌≡◌, ◌∙◌, ap, sym, refl, subst, arith, ℕ, zero, suc, ◌+◌, ◌-◌, ◌<◌, ◌≤◌, Bool, true, false, not, cond, ◌&&◌, ◌||◌, inl, inr, List, [], ◌∷◌, ◌++◌, length, map, Option, Some, None, codes}
+use Rattle.std.proofs.Common.{◌≡◌, ◌∙◌, ap, sym, refl, subst, arith, ℕ, zero, suc, ◌+◌, ◌-◌, ◌<◌, ◌≤◌, Bool, true, false, not, cond, ◌&&◌, ◌||◌, inl, inr, List, [], ◌∷◌, ◌++◌, length, map, Option, Some, None}
 use Rattle.std.specs.Prelude.{nat_le, is_some, filter, flat_map, MatchOption, bytes_eq}
 use Rattle.std.specs.Option.{option_map}
 use Rattle.std.specs.List.{list_any, list_all}
 use Rattle.std.specs.FinMap as map_of
-use Rattle.std.specs.Ordering.{nat_cmp, eq_by_cmp}
-use Rattle.std.specs.Cmp.Lexicographic.{slice_cmp}
-use Rattle.std.proofs.lemmas.Bool.{and_parts, and_from, or_cases, false≢true, leb-true}
+use Rattle.std.proofs.lemmas.Bool.{and_parts, and_from, false≢true, leb-true}
 use Rattle.std.proofs.lemmas.List.{append_assoc, length-append}
-use Rattle.std.proofs.lemmas.Map.Lookups.{exact_bytes}
-use Rattle.std.proofs.lemmas.Map.Views.{tells_apart}
 use Rattle.evaluation.specs.Reply.{Reply}
 use Rattle.evaluation.proofs.Unique.{same_value}
 use Rattle.evaluation.specs.Value.{Grounded, is_leaf, has_run, AllGrounded, none, one}
 use Rattle.labels.specs.Paths.{segments, is_path, is_package_name}
-use Rattle.filetree.specs.Files.{Files, is_file}
+use Rattle.filetree.specs.Files.{Files}
 use Rattle.filetree.specs.Lawful.{HasPaths}
 use Rattle.filetree.specs.Listings.{Names, sorted_names, rest_below, names_in, listing}
 use Rattle.pattern.specs.Patterns.{is_double_star, segment_matches, path_matches}
@@ -29,8 +25,6 @@ use Rattle.globs.proofs.Questions.{NoSpace, question_back, before_has_none}
 use Rattle.keys.specs.Keys.{glob_key}
 use Rattle.keys.specs.declared.key.Key.{Key}
 use Rattle.keys.specs.declared.key.Key.TheVariants as key
-use Rattle.keys.specs.declared.value.BuildName.{BuildName}
-use Rattle.keys.specs.declared.value.BuildName.TheVariants.{BuildBazel, Build}
 use Rattle.keys.specs.declared.value.Value.{Value}
 use Rattle.keys.specs.declared.value.Value.TheVariants as value
 use Rattle.walks.specs.Lookups as lookup
@@ -38,6 +32,7 @@ use Rattle.walks.specs.Lookups.{file_name, build_path, is_short, has_file, build
 use Rattle.walks.specs.Globs as glob
 use Rattle.walks.specs.Found.{GlobsHold}
 use Rattle.leaves.specs.Leaves.{read, listed_of}
+use Rattle.walks.proofs.Builds.{built_there}
 use Rattle.walks.proofs.LookupValue.{lookup_grounded}
 use Rattle.walks.proofs.NamesInOrder.{none_sorted}
 use Rattle.walks.proofs.GlobTexts.{path_no_space, name_no_space, front_no_space, others_no_space, below_no_space, directory_back, asked_back, cut_pattern, shorter, ends_match}
@@ -92,25 +87,6 @@ no_longer pattern = go (glob.is_deep pattern) (glob.other_segments pattern) (sho
     go false None h = omega arith
     go false (Some rest) h = omega (arith, h rest refl)
 
--- a path among others
-key_path : (q : List ℕ) (ks : List (List ℕ)) → list_any (eq_by_cmp (slice_cmp nat_cmp) q) ks ≡ true → list_all is_path ks ≡ true → is_path q ≡ true
-key_path q [] h all = absurd (false≢true h)
-key_path q (k ∷ ks) h all =
-    let both = and_parts (is_path k) (list_all is_path ks) all in
-    elim (or_cases (eq_by_cmp (slice_cmp nat_cmp) q k) (list_any (eq_by_cmp (slice_cmp nat_cmp) q) ks) h) [
-      | inl here ↦ ap is_path (tells_apart exact_bytes q k here) ∙ both.0
-      | inr there ↦ key_path q ks there both.1
-    ]
-
-built : (a b : Bool) → glob.has_build (value.Lookup (cond a (Some BuildBazel) (cond b (Some Build) None))) ≡ a || b
-built true b = refl
-built false true = refl
-built false false = refl
-
-build_at : (directory : List ℕ) (name : BuildName) → build_path directory name ≡ path_in directory (file_name name)
-build_at [] name = refl
-build_at (d ∷ ds) name = append_assoc (d ∷ ds) (codes "/") (file_name name)
-
 -- names of which a subdirectory goes by its look-up
 kept_by : (t : Bool) (name : List ℕ) (xs : List (List ℕ)) → cond t xs (name ∷ xs) ≡ cond (not t) (name ∷ xs) xs
 kept_by true name xs = refl
@@ -135,24 +111,6 @@ free_directories is_free (Some names) more h = ap (λ o. (names_or_none o).direc
 or_none : (a : Bool) → a || false ≡ true → a ≡ true
 or_none true h = refl
 or_none false h = h
-
--- ---- which directories are packages
-
-module _ (files : Files) (good : HasPaths files) where
-  abbrev paths : List (List ℕ)
-  paths = map_of.keys files
-
-  short_there : (q : List ℕ) (name : BuildName) → has_file files q name ≡ is_file files (path_in q (file_name name))
-  short_there q name = go (is_file files (build_path q name)) refl ∙ ap (is_file files) (build_at q name)
-    where
-      go : (t : Bool) → is_file files (build_path q name) ≡ t → is_short q name && is_file files (build_path q name) ≡ is_file files (build_path q name)
-      go true e =
-          let path = key_path (build_path q name) paths (sym (map_of.contains_key-keys files (build_path q name)) ∙ e) good in
-          ap (λ b. b && is_file files (build_path q name)) (and_parts (nat_le (length (build_path q name)) 255) (list_all Rattle.labels.specs.Paths.is_segment (segments (build_path q name))) path).0
-      go false e = ap (λ b. is_short q name && b) e ∙ and_never (is_short q name) ∙ sym e
-
-  pub built_there : (q : List ℕ) → glob.has_build (value.Lookup (build_of files q)) ≡ is_package files q
-  built_there q = built (has_file files q BuildBazel) (has_file files q Build) ∙ (λ i. short_there q BuildBazel i || short_there q Build i)
 
 -- ---- what is found
 

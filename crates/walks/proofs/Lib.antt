@@ -1,5 +1,6 @@
 pub mod Lookups
 pub mod LookupValue
+pub mod Builds
 pub mod NamesInOrder
 pub mod GlobSteps
 pub mod GlobTexts
