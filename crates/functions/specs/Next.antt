@@ -9,6 +9,7 @@ use Rattle.walks.specs.Globs as glob
 use Rattle.walks.specs.Lookups as lookup
 use Rattle.functions.specs.Modules as modules
 use Rattle.functions.specs.Packages as packages
+use Rattle.package_names.specs.Turns as names
 
 -- the table of turns, from all answers so far; a leaf needs none
 abbrev pub next : Key → List Value → Reply Key Value
@@ -18,3 +19,4 @@ next (key.Lookup directory) answers = lookup.next directory answers
 next (key.Glob text) answers = glob.next text answers
 next (key.Module label) answers = modules.next label answers
 next (key.Package name) answers = packages.next name answers
+next (key.Under directory) answers = names.next directory answers

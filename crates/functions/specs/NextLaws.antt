@@ -10,6 +10,7 @@ use Rattle.keys.specs.declared.value.Value.TheVariants as value
 use Rattle.keys.specs.Turns.{NoCycle}
 use Rattle.walks.specs.LookupLaws.{lookup_differs, lookup_plain}
 use Rattle.walks.specs.GlobLaws.{glob_differs, glob_plain}
+use Rattle.package_names.specs.TurnLaws.{under_differs, under_plain}
 use Rattle.functions.specs.SourceLaws.{good_module, good_package}
 use Rattle.functions.specs.Next.{next}
 
@@ -20,6 +21,7 @@ groups_differ (key.Lookup name) answers group e = lookup_differs name answers gr
 groups_differ (key.Glob text) answers group e = glob_differs text answers group e
 groups_differ (key.Module label) answers group e = (good_module label answers).differ group e
 groups_differ (key.Package name) answers group e = (good_package name answers).differ group e
+groups_differ (key.Under directory) answers group e = under_differs directory answers group e
 
 abbrev ending : Value → Reply Key Value
 ending v = Done v
@@ -34,3 +36,4 @@ ends_plain (key.Lookup name) answers v p e = lookup_plain name answers v e
 ends_plain (key.Glob text) answers v p e = glob_plain text answers v e
 ends_plain (key.Module label) answers v p e = (good_module label answers).plain v e
 ends_plain (key.Package name) answers v p e = (good_package name answers).plain v e
+ends_plain (key.Under directory) answers v p e = under_plain directory answers v e

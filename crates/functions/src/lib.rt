@@ -16,11 +16,13 @@
 //! * `Package(package)` asks its look-up, the BUILD file, the modules of all its loads, and then, at each call of `glob`
 //!   that stops the evaluation, the globs of the patterns that have no answer. It ends with its targets, or with the first
 //!   fault.
+//! * `Under(directory)` asks the look-up and the listing of the directory, and then `Under` of each of its subdirectories.
+//!   It ends with the names of all packages at and below the directory, in byte order.
 //!
 //! An empty group is not asked, and a key that repeats in a group is asked once, at its first place.
 #![tactic(auto)]
 
-ghost use Rattle.functions.specs.Found.{NamesHold, GlobsHold};
+ghost use Rattle.functions.specs.Found.{NamesHold, GlobsHold, UndersHold};
 
 mod evaluating;
 mod file_node;
@@ -37,8 +39,15 @@ pub fn leaves_and_look_ups_hold()
     ensures { NamesHold }
 {}
 
-/// The law of the globs: at files whose names are paths the node of a directory and a pattern holds the paths that the
-/// pattern finds among all paths of the files, below the directory and into no package on the way, in byte order.
+/// The law of the globs: at files whose names are paths the node of a directory and a question holds the paths that the
+/// question finds among all paths of the files, below the directory and into no package on the way, in byte order. A
+/// question that ends with ` dirs` finds directories too that are no packages.
 pub fn globs_hold_what_they_find()
     ensures { GlobsHold }
+{}
+
+/// The law of the packages under a directory: at files whose names are paths the node holds the names of all packages at
+/// and below its directory, in byte order.
+pub fn unders_hold_the_packages_below()
+    ensures { UndersHold }
 {}

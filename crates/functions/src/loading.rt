@@ -17,6 +17,7 @@ use count::Count;
 use keys::{Key, Rules, Turn, Value};
 use std::alloc::Global;
 use std::sync::Arc;
+use package_names::package_names;
 use texts::Memory;
 use walks::{glob, lookup};
 
@@ -41,7 +42,7 @@ pub struct Kept {
     held: Option<Held>,
 }
 
-// The reply of a look-up or a glob, of which nothing waits.
+// The reply of a node that goes by directories, of which nothing waits.
 fn plain(reply: walks::Reply) -> Reply
     ensures { (next : Answered Key Value) → IsWalked next reply → IsReply next result }
 {
@@ -62,6 +63,7 @@ fn from_start(alloc: Global, key: &Key, answers: &[Arc<Value>]) -> Result<Reply,
         Key::Glob(text) => Ok(plain(glob(alloc, text, answers)?)),
         Key::Module(label) => of_module(alloc, label, answers),
         Key::Package(name) => of_package(alloc, name, answers),
+        Key::Under(directory) => Ok(plain(package_names(alloc, directory, answers)?)),
     }
 }
 
