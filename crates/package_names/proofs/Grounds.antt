@@ -20,10 +20,10 @@ use Rattle.keys.specs.declared.value.Value.{Value}
 use Rattle.keys.specs.declared.value.Value.TheVariants as value
 use Rattle.leaves.specs.Leaves.{read, listed_of}
 use Rattle.walks.specs.Lookups.{build_of}
+use Rattle.walks.proofs.Builds.{built_there}
 use Rattle.package_names.specs.Below.{packages_below}
 use Rattle.package_names.specs.Turns.{subdirectories, keys_below, own_name, names_in}
 use Rattle.package_names.specs.Finds.{HasTurns, LooksUp, HoldsPackages}
-use Rattle.package_names.proofs.Builds.{built_there}
 use Rattle.package_names.proofs.Directories.{held_in, sub_to, longer}
 use Rattle.package_names.proofs.Steps.{found_by_step}
 

@@ -1,4 +1,4 @@
-pub mod Builds
+pub mod Names
 pub mod Directories
 pub mod Steps
 pub mod Grounds

@@ -1,7 +1,9 @@
 -- What the node holds at the files.
-use Rattle.std.specs.Prelude.{◌≡◌, ℕ, List}
+use Rattle.std.specs.Prelude.{◌≡◌, ℕ, List, true}
+use Rattle.std.specs.List.{list_all}
 use Rattle.evaluation.specs.Reply.{Reply}
 use Rattle.evaluation.specs.Value.{Grounded}
+use Rattle.labels.specs.Paths.{is_package_name}
 use Rattle.filetree.specs.Files.{Files}
 use Rattle.filetree.specs.Lawful.{HasPaths}
 use Rattle.keys.specs.declared.key.Key.{Key}
@@ -25,3 +27,7 @@ LooksUp next files = (directory : List ℕ) → Grounded next (read files) (key.
 abbrev pub HoldsPackages : Type 0
 HoldsPackages = (next : Key → List Value → Reply Key Value) (files : Files) → HasTurns next → LooksUp next files → HasPaths files
     → (directory : List ℕ) → Grounded next (read files) (key.Under directory) (value.Paths (packages_below files directory))
+
+-- where files have paths, these are names of packages, whatever the directory
+abbrev pub HavePackageNames : Type 0
+HavePackageNames = (files : Files) → HasPaths files → (directory : List ℕ) → list_all is_package_name (packages_below files directory) ≡ true

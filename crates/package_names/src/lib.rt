@@ -5,7 +5,7 @@
 //! not asked.
 #![tactic(auto)]
 
-ghost use Rattle.package_names.specs.Finds.{HoldsPackages};
+ghost use Rattle.package_names.specs.Finds.{HoldsPackages, HavePackageNames};
 
 mod node;
 
@@ -16,4 +16,10 @@ pub use node::package_names;
 /// directory.
 pub fn packages_are_held()
     ensures { HoldsPackages }
+{}
+
+/// The law of the names: at files whose names are paths each name of a package at and below a directory is a package
+/// name, whatever the directory.
+pub fn packages_have_package_names()
+    ensures { HavePackageNames }
 {}
