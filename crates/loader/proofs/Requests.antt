@@ -10,7 +10,7 @@ use Rattle.leaves.specs.Leaves.{read}
 use Rattle.leaves.proofs.LeafReads.{leaf_stays}
 use Rattle.walks.proofs.LookupValue.{lookup_grounded}
 use Rattle.package_names.proofs.Grounds.{packages_held as names_held}
-use Rattle.package_names.proofs.Named.{names_are_package_names}
+use Rattle.package_names.proofs.Names.{package_names}
 use Rattle.evaluation.proofs.Plain.{one_value}
 use Rattle.keys.specs.Cycles.{cycle}
 use Rattle.keys.proofs.CycleLaws.{turned}
@@ -152,16 +152,12 @@ names_told files directory roots graph found good by only held =
     let same : there.0 ≡ value.Paths (packages_below files directory) = one_value next (read files) cycle turned there.1.1 means.1 in
     by directory (packages_below files directory) only (there.2 ∙ ap (λ (v : Value). Some v) same)
 
-name_accepted : (b : Bool) → cond {A = Option ℕ} b None (Some 5) ≡ None → b ≡ true
-name_accepted true e = refl
-name_accepted false e = absurd cc
-
 -- the answer with these packages, from what is held of them
-pub under_told : (files : Files) (directory : List ℕ) (roots : List Key) (graph : Recorded) (d : Data) → HasPaths files → request_refusal (under directory) ≡ None
+pub under_told : (files : Files) (directory : List ℕ) (roots : List Key) (graph : Recorded) (d : Data) → HasPaths files
     → roots ≡ package_roots (packages_below files directory) → d ≡ packages_data (map (λ k. package_told k (present (record_at graph k))) roots) → AreHeld files roots graph → IsValueOf (under directory) files d
-under_told files directory roots graph d good accepted only is held = (
+under_told files directory roots graph d good only is held = (
   map (λ k. package_told k (present (record_at graph k))) (map (λ n. key.Package n) (packages_below files directory)),
-  packages_held files graph (packages_below files directory) good (names_are_package_names files directory good (name_accepted (is_package_name directory) accepted)) (subst (λ (ks : List Key). AreHeld files ks graph) only held),
+  packages_held files graph (packages_below files directory) good (package_names files good directory) (subst (λ (ks : List Key). AreHeld files ks graph) only held),
   is ∙ ap (λ (ks : List Key). packages_data (map (λ k. package_told k (present (record_at graph k))) ks)) only,
 )
 

@@ -40,5 +40,5 @@ returns-in-Under c =
     let shown = map (λ k. package_told k (present (record_at c.args.graph.now k))) c.args.roots.now in
     if_ok (λ (text : String Global). string_bytes text ≡ compact_text (packages_data shown)) _ c.packages_text-2.result (λ text is. λ files good accepted only held.
     let told = under_told files c.in-Under.field-0.now c.args.roots.now c.args.graph.now (packages_data shown) good
-    (ap (λ (r : Request). request_refusal (request_seen r)) (sym c.in-Under.is) ∙ accepted) (only ∙ ap (λ (r : Request). told_roots (request_seen r) files) c.in-Under.is) refl held in
+    (only ∙ ap (λ (r : Request). told_roots (request_seen r) files) c.in-Under.is) refl held in
     subst (λ (r : Request). Tells (IsValueOf (request_seen r) files) (string_bytes text)) (sym c.in-Under.is) (packages_data shown, told, is)) c.packages_text-2.ensures
