@@ -38,7 +38,8 @@ use Rattle.functions.specs.Modules as modules
 use Rattle.functions.specs.Packages as packages
 use Rattle.packages.specs.Loads.{Node, of_module, of_package, File, loaded_by, with_loads, parsed, of_text, loads_in, file_of, build_file, loads}
 use Rattle.packages.proofs.Walked.{lookup_grounded, lookup_value, glob_grounded}
-use Rattle.walks.proofs.GlobTexts.{NoSpace, name_no_space}
+use Rattle.globs.proofs.Questions.{NoSpace}
+use Rattle.walks.proofs.GlobTexts.{name_no_space}
 use Rattle.packages.proofs.Runs as runs
 use Rattle.packages.proofs.Runs.{AllOf, same_length, enough, rest_of, taken}
 use Rattle.packages.proofs.KeysAsked.{load_of, one_key}

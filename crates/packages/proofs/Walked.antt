@@ -10,7 +10,7 @@ use Rattle.keys.specs.declared.key.Key.TheVariants as key
 use Rattle.keys.specs.declared.value.Value.{Value}
 use Rattle.keys.specs.declared.value.Value.TheVariants as value
 use Rattle.walks.specs.Lookups.{build_of}
-use Rattle.walks.proofs.GlobTexts.{NoSpace}
+use Rattle.globs.proofs.Questions.{NoSpace}
 use Rattle.walks.proofs.LookupValue as looked
 use Rattle.walks.proofs.GlobFinds as finds
 use Rattle.functions.specs.Next.{next}
