@@ -72,9 +72,9 @@ module _ {budget : ℕ} (files : ℕ → Files) (paths : ℕ → List (List ℕ)
       (subst (λ (xs : List Run). IsToldBy files paths budget b.graph ((requests ++ request ∷ []) ++ later ∷ []) xs) (append_assoc runs front rest ∙ ap (λ x. runs ++ x) (sym is)) two)
 
 -- the session's history stays
-each_began : {a b : Held} {own : List Run} (request : Asked) (later : Option Asked) → EvaluatesEach request later a b own → (b.began ≡ a.began) × (b.edits ≡ a.edits)
-each_began request None e = (e.0, e.1)
-each_began request (Some later) (mid, front, rest, lawful, is, e, f) = (f.0 ∙ e.0, f.1 ∙ e.1)
+each_began : (a b : Held) (own : List Run) (request : Asked) (later : Option Asked) → EvaluatesEach request later a b own → (b.began ≡ a.began) × (b.edits ≡ a.edits)
+each_began a b own request None e = (e.0, e.1)
+each_began a b own request (Some later) (mid, front, rest, lawful, is, e, f) = (f.0 ∙ e.0, f.1 ∙ e.1)
 
 module _ (budget : ℕ) (h h' : Held) (lines : List (List ℕ)) (runs own : List Run) (line : List ℕ) (kept : IsKept budget h lines runs) (law : IsLawful h') (within : turns_of own ≤ budget) where
   abbrev so_far : List Effect
@@ -127,10 +127,10 @@ module _ (budget : ℕ) (h h' : Held) (lines : List (List ℕ)) (runs own : List
       rs = ap requests_in split ∙ requests_more so_far (edited edit) ∙ append-nil (requests_in so_far)
   by_effect (asked request later) q m = record {
     lawful = law;
-    began = (each_began request later m).0 ∙ kept.began;
-    edits = (each_began request later m).1 ∙ kept.edits ∙ sym es;
+    began = (each_began h h' own request later m).0 ∙ kept.began;
+    edits = (each_began h h' own request later m).1 ∙ kept.edits ∙ sym es;
     told = λ files paths history.
-        let before = subst (λ (x : List Edit). IsHistory files paths 0 x) (each_began request later m).1 history in
+        let before = subst (λ (x : List Edit). IsHistory files paths 0 x) (each_began h h' own request later m).1 history in
         subst (λ (rs : List Asked). IsToldBy files paths budget h'.graph rs (runs ++ own)) (sym rs)
         (each_more files paths h h' kept.lawful kept.began before request later own m within (requests_in so_far) runs (kept.told files paths before));
   }

@@ -38,7 +38,7 @@ returns-in-Module c =
 pub returns-in-Under : goal.returns-in-Under
 returns-in-Under c =
     let shown = map (λ k. package_told k (present (record_at c.args.graph.now k))) c.args.roots.now in
-    if_ok (λ (text : String Global). string_bytes text ≡ compact_text (packages_data shown)) _ c.packages_text-2.result (λ text is. λ files good accepted only held.
+    if_ok (λ (text : String Global). string_bytes text ≡ compact_text (packages_data shown)) _ c.packages_text-in-Under.result (λ text is. λ files good accepted only held.
     let told = under_told files c.in-Under.field-0.now c.args.roots.now c.args.graph.now (packages_data shown) good
     (only ∙ ap (λ (r : Request). told_roots (request_seen r) files) c.in-Under.is) refl held in
-    subst (λ (r : Request). Tells (IsValueOf (request_seen r) files) (string_bytes text)) (sym c.in-Under.is) (packages_data shown, told, is)) c.packages_text-2.ensures
+    subst (λ (r : Request). Tells (IsValueOf (request_seen r) files) (string_bytes text)) (sym c.in-Under.is) (packages_data shown, told, is)) c.packages_text-in-Under.ensures
