@@ -1,12 +1,34 @@
 -- The evaluations of a request: how they move the session, and where they stop.
 use Rattle.std.proofs.Common.{◌≡◌, ◌∙◌, ap, sym, subst, refl, inl, inr, ℕ, List, ◌++◌, Some, None}
-use Rattle.std.specs.Prelude.{Option, option_map}
+use Rattle.std.specs.Prelude.{Ok, Option, option_map}
+use Rattle.functions.specs.Next.{next}
+use Rattle.leaves.specs.Leaves.{read}
+use Rattle.filetree.specs.Files.{Files}
+use Rattle.node.specs.Graphs.{Recorded}
+use Rattle.round.specs.Call.{Calls}
 use Rattle.keys.specs.declared.key.Key.{Key}
 use Rattle.open_nodes.specs.declared.run.Run.{Run}
 use Rattle.commands.specs.Commands.{Request}
 use Rattle.loader.specs.Journal.{Asked}
 use Rattle.loader.specs.Held.{Held, IsLawful, files_of, state_of}
-use Rattle.loader.specs.Effects.{Moves, Evaluates, EvaluatesEach, StopsAfter, StopsIn, StopsRequest, at_version, evaluations, request_roots, later_roots}
+use Rattle.loader.specs.Effects.{AreHeld, Moves, Evaluates, EvaluatesEach, StopsAfter, StopsIn, StopsRequest, at_version, evaluations, request_roots, later_roots}
+
+-- a call of the keys is an evaluation of them
+pub evaluates : (version : ℕ) (roots keys : List Key) (old new : Held) (runs : List Run) → version ≡ old.graph.version → roots ≡ keys → (new.began ≡ old.began) × (new.edits ≡ old.edits)
+    → Calls next (read (files_of old)) roots old.graph new.graph (Ok runs) → Evaluates (at_version version keys) old new runs
+evaluates version roots keys old new runs at are history law =
+    (history.0, history.1, at, subst (λ (ks : List Key). Calls next (read (files_of old)) ks old.graph new.graph (Ok runs)) are law)
+
+-- a stop in an evaluation of the keys
+pub stops_of : (roots keys : List Key) (old new : Held) → roots ≡ keys → StopsAfter roots old new → StopsAfter keys old new
+stops_of roots keys old new are s = subst (λ (ks : List Key). StopsAfter ks old new) are s
+
+-- the files stay where the edits do
+pub same_files : (old new : Held) → new.edits ≡ old.edits → files_of new ≡ files_of old
+same_files old new edits = ap (λ es. files_of (record { began = old.began; edits = es; graph = new.graph })) edits
+
+pub held_of : (files others : Files) (roots keys : List Key) (graph : Recorded) → files ≡ others → roots ≡ keys → AreHeld files roots graph → AreHeld others keys graph
+held_of files others roots keys graph same are held = subst (λ (f : Files). AreHeld f keys graph) same (subst (λ (ks : List Key). AreHeld files ks graph) are held)
 
 -- an evaluation that went well leaves what a stop leaves
 pub ended_stops : (request : Asked) (old new : Held) (runs : List Run) → Evaluates request old new runs → StopsAfter request.roots old new
