@@ -6,7 +6,9 @@ use Rattle.filetree.specs.Lawful.{HasPaths}
 use Rattle.commands.specs.Refusals.{request_refusal}
 use Rattle.loader.specs.Effects.{AreHeld}
 use Rattle.loader.specs.Held.{Held, files_of}
+use Rattle.loader.proofs.Steps.{on_err}
 use Rattle.loader.proofs.Requests.{text_told, held_in}
+use Rattle.loader.proofs.Evaluating.{moved_stops}
 use Rattle.loader.proofs.session.Session.request.Goals as goal
 
 pub returns-clause-text : goal.returns-clause-text
@@ -26,3 +28,7 @@ returns-in-Some-clause-text c =
     let files = files_of c.args.self.now in
     let request = request_seen c.args.request.now in
     (refused c.in-Some.n, subst (λ (m : Option ℕ). IsUnlessRefused m (IsValueOf request files) (refused c.in-Some.n)) (sym (sym c.in_ok-n.ensures ∙ c.in-Some.is)) refl, c.in_ok-refused.ensures)
+
+pub returns-in_err-text-clause-stopped : goal.returns-in_err-text-clause-stopped
+returns-in_err-text-clause-stopped c =
+    on_err _ (moved_stops (request_seen c.args.request.now) c.args.self.now c.evaluated.new.self c.in_ok-roots.runs.items c.in_ok-roots.ensures.moves)
