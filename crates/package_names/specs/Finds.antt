@@ -28,6 +28,6 @@ abbrev pub HoldsPackages : Type 0
 HoldsPackages = (next : Key → List Value → Reply Key Value) (files : Files) → HasTurns next → LooksUp next files → HasPaths files
     → (directory : List ℕ) → Grounded next (read files) (key.Under directory) (value.Paths (packages_below files directory))
 
--- where files have paths, each name of a package at and below a directory is a package name, whatever the directory
+-- where files have paths, these are names of packages, whatever the directory
 abbrev pub HavePackageNames : Type 0
 HavePackageNames = (files : Files) → HasPaths files → (directory : List ℕ) → list_all is_package_name (packages_below files directory) ≡ true
