@@ -4,7 +4,7 @@
 PROGRAM := crates/cli/out/cli
 EXAMPLE := examples/session.jsonl
 
-.PHONY: quick run build trials measures shelf-trials readers overlaps test lint digests wrong-bodies limits allocations workers batches hostile bench
+.PHONY: quick run build trials measures shelf-trials readers overlaps test lint digests wrong-bodies limits allocations workers batches under hostile bench
 
 # Shows each line of an example with its answer. It proves nothing: the kit interprets the program.
 quick:
@@ -81,6 +81,10 @@ workers: build
 # Batches of edits and the same edits one by one, over 10,000 random scripts.
 batches: build
 	python3 tests/batches.py
+
+# All packages under a directory, and globs with directories, over 2,000 random trees, compared with plain models.
+under: build
+	python3 tests/under.py
 
 # Deep and wide sources by 1 and 16 workers, the stack that they take, and the costs of lines at their limits.
 hostile: build

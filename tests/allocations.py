@@ -3,7 +3,8 @@
 allocations`.
 
 The journal is wanted too. What the program writes is then a beginning of the answers. It says `stop: memory`, and its
-status is 3. The scripts have packages, globs, equal values that stop a change, cycles that are mended, and restarts.
+status is 3. The scripts have packages, globs, all packages under a directory, equal values that stop a change, cycles
+that are mended, and restarts.
 """
 import os
 import sys
@@ -20,6 +21,7 @@ SCRIPTS = [
     "scripts/packages.jsonl",
     "scripts/batches.jsonl",
     "scripts/globs.jsonl",
+    "scripts/under.jsonl",
     "scripts/pruning.jsonl",
     "scripts/cycles.jsonl",
     "scripts/restarts.jsonl",

@@ -48,15 +48,22 @@ def module_text(chance):
 
 
 def patterns(chance):
-    many = ["*", "**", "*.c", "**/*.c", "b/*.c", "m.bzl", "?*/**"]
+    many = ["*", "**", "*.c", "**/*.c", "b/*.c", "m.bzl", "?*/**", "b", "*/*"]
     return json.dumps(chance.sample(many, chance.randint(1, 2)))
+
+
+def glob_with_directories(chance):
+    """A call of `glob`, most of the time one that finds directories too."""
+    last = chance.choice(["0"] * 6 + ["1", "2", "True"])
+    excludes = chance.choice(["[]", patterns(chance)])
+    return f"glob({patterns(chance)}, exclude = {excludes}, exclude_directories = {last})"
 
 
 def package_text(chance):
     lines = [load_statement(chance) for _ in range(chance.choice([0, 1, 1, 2]))]
     for number in range(chance.randint(0, 3)):
         sources = chance.choice([f"glob({patterns(chance)})", f"glob({patterns(chance)}, exclude = {patterns(chance)})",
-                                 chance.choice(LETTERS + LETTERS.lower()), '["x.c"]', "[]"])
+                                 glob_with_directories(chance), chance.choice(LETTERS + LETTERS.lower()), '["x.c"]', "[]"])
         lines.append(f'filegroup(name = "t{number}", srcs = {sources})\n')
     return "".join(lines)
 
@@ -79,8 +86,10 @@ def command(chance):
         return {"op": "del", "path": path(chance, ["BUILD", "BUILD.bazel", "m.bzl", "n.bzl", "f.c", "g.c"])}
     if kind < 0.65:
         return {"op": "find", "name": chance.choice(DIRECTORIES)}
-    if kind < 0.75:
+    if kind < 0.73:
         return {"op": "module", "label": module_label(chance)}
+    if kind < 0.8:
+        return {"op": "under", "dir": chance.choice([*DIRECTORIES, "b", "a/"])}
     return {"op": "load", "names": [chance.choice(DIRECTORIES) for _ in range(chance.randint(1, 5))]}
 
 

@@ -306,8 +306,23 @@ def lay_out(room, name, uses):
                     subprocess.run(["cp", "-a", *paths], check=True)
 
 
-def check(room, name, texts):
-    """Checks the crate with these texts in place of its own: the status, what the prover said, and its user seconds."""
+def full_names(name, batch):
+    """The prover's names of the functions of these edits; nothing where one is of no function, or can't be told."""
+    found = set()
+    for path, owner, function in set().union(*(it.functions for it in batch)):
+        text = batch[0].texts.get(path, "")
+        own = [it for it in functions(path, text) if (it.owner, it.name) == (owner, function)]
+        above = item_around(text.split("\n"), own[0].last - 1) if len(own) == 1 else ""
+        trait = re.match(r"impl(?:<[^{]*?>)? (\w+)(?:<.*>)? for ", above)
+        if not function or len(own) != 1 or bool(owner) != above.startswith("impl") or " as " in above:
+            return []
+        found.add("::".join([name, *module_of(path), *([owner + (trait[1] if trait else "")] if owner else []), function]))
+    return sorted(found)
+
+
+def check(room, name, texts, only=()):
+    """Checks the crate with these texts in place of its own, or only some functions of it and what they call: the status,
+    what the prover said, and its user seconds."""
     folder = f"{room}/crates/{name}"
     shutil.rmtree(f"{folder}/src")
     shutil.copytree(f"{ROOT}/crates/{name}/src", f"{folder}/src")
@@ -315,7 +330,8 @@ def check(room, name, texts):
         with open(f"{folder}/{path}", "w", encoding="utf-8") as out:
             out.write(text)
     with tempfile.TemporaryFile("w+", errors="replace") as out:
-        ran = subprocess.Popen(["rt", "check", "--jobs", "1"], cwd=folder, stdin=subprocess.DEVNULL, stdout=out, stderr=out)
+        words = ["rt", "check", "--jobs", "1", *(it for name in only for it in ("--only", name))]
+        ran = subprocess.Popen(words, cwd=folder, stdin=subprocess.DEVNULL, stdout=out, stderr=out)
         _, status, used = os.wait4(ran.pid, 0)
         ran.returncode = os.waitstatus_to_exitcode(status)
         out.seek(0)
@@ -341,7 +357,7 @@ def judge_alone(status, said, crate, edit):
     if status == 0:
         return "the crate is still proved with it"
     unread = [it for it in said if is_unread(it)]
-    if unread or not any(it.startswith("logic=not-proved") for it in said):
+    if unread or not any(it.startswith(("logic=not-proved", "only=")) for it in said):
         return f"the prover did not read it: {(unread or [it for it in said if it.strip()] or [''])[0][:200]}"
     if not is_refused_alone(said, crate, edit):
         return "no goal of its own function is refused for the contract"
@@ -359,14 +375,18 @@ def keep_log(name, batch, said):
 def try_batch(name, room, batch, say):
     """Tries edits in one check: those to be tried again together, those to be tried alone, and those that are not
     refused, each with why."""
-    status, said, used = check(room, name, batch[0].texts)
-    say(f"{name}: {len(batch)} in one check, {used:.0f} s")
+    only = full_names(name, batch)
+    status, said, used = check(room, name, batch[0].texts, only)
+    if only and not any(it.startswith("only=") for it in said):
+        only = []
+        status, said, used = check(room, name, batch[0].texts)
+    say(f"{name}: {len(batch)} in one check{' of their functions' if only else ''}, {used:.0f} s")
     keep_log(name, batch, said)
     if len(batch) == 1:
         why = judge_alone(status, said, name, batch[0])
         return [], [], [(batch[0].file, why)] if why else []
     unread = [it for it in said if is_unread(it)]
-    if unread or not any(it.startswith("logic=") for it in said):
+    if unread or not any(it.startswith(("logic=", "only=")) for it in said):
         bad = [it for it in batch if any(at_source(line, it) for line in unread)] or batch
         return [it.file for it in batch if it not in bad], [it.file for it in bad], []
     refused = refused_in(batch, said, name) if status == 1 else []
@@ -435,13 +455,16 @@ def newest(files):
     return max((os.path.getmtime(it) for it in files if os.path.exists(it)), default=0)
 
 
+def is_newer(name, part):
+    """Whether what stands in a part of a crate's folder is newer than its sources."""
+    return newest(glob.glob(f"{ROOT}/crates/{name}/{part}/**", recursive=True)) > newest(files_of(name, PARTS, ""))
+
+
 def is_kept(name, uses):
-    """Whether the work that `rt check` kept of a crate, and the libraries below it, are newer than their sources."""
-    wanted = [(name, "out/incremental"), *((it, "out/rlib") for it in below(name, uses))]
-    return all(
-        newest(glob.glob(f"{ROOT}/crates/{it}/{part}/**", recursive=True)) > newest(files_of(it, PARTS, ""))
-        for it, part in wanted
-    )
+    """Whether a crate is known to be proved, by the work that `rt check` kept or by its library, and the libraries below
+    it are newer than their sources."""
+    own = any(is_newer(name, part) for part in ("out/incremental", "out/rlib"))
+    return own and all(is_newer(it, "out/rlib") for it in below(name, uses))
 
 
 def keep_work(names, uses):

@@ -20,12 +20,13 @@ changes_of (batch cs) = cs
 abbrev pub paths_of : Edit → List (List ℕ)
 paths_of edit = map path_of (changes_of edit)
 
--- a question about the present files: the build file of a package, the packages of these names, or what the module with
--- a label exports
+-- a question about the present files: the build file of a package, the packages of these names, what the module with a
+-- label exports, or all packages at and below a directory
 pub data Request : Type 0 where
   find : List ℕ → Request
   load : List (List ℕ) → Request
   module_of : List ℕ → Request
+  under : List ℕ → Request
 
 pub data Command : Type 0 where
   change : Edit → Command
@@ -98,6 +99,9 @@ load_in d = option_map (λ names. ask (load names)) (texts_at (codes "names") d)
 abbrev pub module_in : Data → Option Command
 module_in d = option_map (λ label. ask (module_of label)) (text_at (codes "label") d)
 
+abbrev pub under_in : Data → Option Command
+under_in d = option_map (λ directory. ask (under directory)) (text_at (codes "dir") d)
+
 -- the command of that name, where the object has just the members of its form
 abbrev pub command_named : List ℕ → Data → Option Command
 command_named op d =
@@ -106,7 +110,8 @@ command_named op d =
     if bytes_eq op (codes "edit") && member_count d == 2 then edits_in d else
     if bytes_eq op (codes "find") && member_count d == 2 then find_in d else
     if bytes_eq op (codes "load") && member_count d == 2 then load_in d else
-    if bytes_eq op (codes "module") && member_count d == 2 then module_in d else None
+    if bytes_eq op (codes "module") && member_count d == 2 then module_in d else
+    if bytes_eq op (codes "under") && member_count d == 2 then under_in d else None
 
 abbrev pub command_of : Data → Option Command
 command_of d = option_and_then (λ op. command_named op d) (text_at (codes "op") d)

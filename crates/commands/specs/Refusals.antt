@@ -3,7 +3,7 @@ use Rattle.std.specs.Prelude.{ℕ, List, [], length, ◌||◌, ◌==◌, nat_lt,
 use Rattle.std.specs.List.{list_all, starts_with}
 use Rattle.labels.specs.Labels.{Target, label_of, is_module}
 use Rattle.labels.specs.Paths.{is_package_name}
-use Rattle.commands.specs.Commands.{Request, find, load, module_of}
+use Rattle.commands.specs.Commands.{Request, find, load, module_of, under}
 
 -- 9 where there are not 1 to 256 names, then 5 for one that is no package name
 abbrev pub load_refusal : List (List ℕ) → Option ℕ
@@ -26,3 +26,4 @@ abbrev pub request_refusal : Request → Option ℕ
 request_refusal (find name) = if is_package_name name then None else Some 5
 request_refusal (load names) = load_refusal names
 request_refusal (module_of label) = refusal_without (module_label label)
+request_refusal (under directory) = if is_package_name directory then None else Some 5

@@ -6,7 +6,7 @@ use Rattle.commands.specs.Commands as commands
 use Rattle.commands.specs.declared.command.Edit.{Edit}
 use Rattle.commands.specs.declared.command.Edit.TheVariants.{Put, Del, Batch}
 use Rattle.commands.specs.declared.command.Request.{Request}
-use Rattle.commands.specs.declared.command.Request.TheVariants.{Find, Load, Module}
+use Rattle.commands.specs.declared.command.Request.TheVariants.{Find, Load, Module, Under}
 use Rattle.commands.specs.declared.command.Command.{Command}
 use Rattle.commands.specs.declared.command.Command.TheVariants.{Change, Ask}
 
@@ -23,6 +23,7 @@ abbrev pub request_seen : Request → commands.Request
 request_seen (Find name) = commands.find name.now
 request_seen (Load names) = commands.load (texts_seen names.items)
 request_seen (Module label) = commands.module_of label.now
+request_seen (Under directory) = commands.under directory.now
 
 abbrev pub command_seen : Command → commands.Command
 command_seen (Change edit) = commands.change (edit_seen edit)

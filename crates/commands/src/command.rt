@@ -21,6 +21,8 @@ pub enum Request<'a> {
     Load(Vec<&'a str>),
     /// What a module exports, by its label.
     Module(&'a str),
+    /// All packages at and below a directory, by the directory's name, which is empty for the root.
+    Under(&'a str),
 }
 
 /// What a line asks for.

@@ -154,6 +154,13 @@ fn module_in(value: &Value) -> Option<Command<'_>>
     Some(Command::Ask(Request::Module(label)))
 }
 
+fn under_in(value: &Value) -> Option<Command<'_>>
+    ensures { option_map command_seen result ≡ commands.under_in (view value.now) }
+{
+    let directory = text_at(value, "dir")?;
+    Some(Command::Ask(Request::Under(directory)))
+}
+
 /// The command with exactly these members.
 pub fn command_of(alloc: Global, value: &Value) -> Result<Option<Command<'_>>, Memory>
     ensures { IfOk result (λ found. option_map command_seen found ≡ commands.command_of (view value.now)) }
@@ -179,6 +186,9 @@ pub fn command_of(alloc: Global, value: &Value) -> Result<Option<Command<'_>>, M
     }
     if op == "module" && count == 2 {
         return Ok(module_in(value));
+    }
+    if op == "under" && count == 2 {
+        return Ok(under_in(value));
     }
     Ok(None)
 }

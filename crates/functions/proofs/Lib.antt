@@ -1,10 +1,3 @@
-pub mod Lookups
-pub mod LookupValue
-pub mod NamesInOrder
-pub mod GlobSteps
-pub mod GlobTexts
-pub mod GlobTurns
-pub mod GlobFinds
 pub mod Parses
 pub mod SourceSteps
 pub mod Further

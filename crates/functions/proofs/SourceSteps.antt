@@ -15,7 +15,7 @@ use Rattle.labels.specs.Labels.{Target, label_file}
 use Rattle.functions.specs.Gathered.{behind}
 use Rattle.functions.specs.Modules.{lookups, is_in_package, is_crossed, source_of, after_lookups, by_lookups}
 use Rattle.functions.specs.Sources.{before, each_or_fault, faulty, by_file}
-use Rattle.functions.proofs.NamesInOrder.{drop_item}
+use Rattle.walks.proofs.NamesInOrder.{drop_item}
 
 module _ {A B : Type 0} (f : A → Result B Fault) where
   good_front : (all : List B) (y : B) (rest : Result (List B) Fault) → behind (all ++ y ∷ []) rest ≡ behind all (before (Ok y) rest)

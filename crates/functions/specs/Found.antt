@@ -3,17 +3,18 @@ use Rattle.std.specs.Prelude.{◌≡◌, ℕ, List, true}
 use Rattle.std.specs.FinMap as map
 use Rattle.std.specs.Option.{option_map}
 use Rattle.evaluation.specs.Value.{Grounded}
-use Rattle.labels.specs.Paths.{segments, is_package_name}
+use Rattle.labels.specs.Paths.{is_package_name}
 use Rattle.filetree.specs.Files.{Files}
 use Rattle.filetree.specs.Lawful.{HasPaths}
 use Rattle.filetree.specs.Listings.{listing}
-use Rattle.globs.specs.Globs.{is_package, found_below}
+use Rattle.globs.specs.Globs.{is_package, answer_below}
 use Rattle.keys.specs.Keys.{glob_key}
 use Rattle.keys.specs.declared.key.Key.{Key}
 use Rattle.keys.specs.declared.key.Key.TheVariants as key
 use Rattle.keys.specs.declared.value.Value.{Value}
 use Rattle.keys.specs.declared.value.Value.TheVariants as value
-use Rattle.functions.specs.Lookups.{build_of}
+use Rattle.walks.specs.Lookups.{build_of}
+use Rattle.package_names.specs.Below.{packages_below}
 use Rattle.functions.specs.Next.{next}
 use Rattle.leaves.specs.Leaves.{read, listed_of}
 
@@ -28,7 +29,12 @@ NamesHold = (files : Files) (name : List ℕ)
     × Holds files (key.Listing name) (value.Listing (option_map listed_of (listing files name)))
     × Holds files (key.Lookup name) (value.Lookup (build_of files name))
 
--- a glob holds what its pattern finds among all paths that lead below the directory and into no package on the way
+-- A glob holds what its question finds: among all paths that lead below the directory and into no package on the way, and
+-- with directories among those of the directories too that are no packages.
 abbrev pub GlobsHold : Type 0
-GlobsHold = (files : Files) (directory pattern : List ℕ) → HasPaths files → is_package_name directory ≡ true
-    → Holds files (glob_key directory pattern) (value.Glob (found_below (is_package files) (map.keys files) directory (segments pattern)))
+GlobsHold = (files : Files) (directory asked : List ℕ) → HasPaths files → is_package_name directory ≡ true
+    → Holds files (glob_key directory asked) (value.Paths (answer_below (is_package files) (map.keys files) directory asked))
+
+-- the names of the packages at and below a directory
+abbrev pub PackagesHold : Type 0
+PackagesHold = (files : Files) (directory : List ℕ) → HasPaths files → Holds files (key.Under directory) (value.Paths (packages_below files directory))

@@ -1,6 +1,3 @@
-pub mod Lookups
-pub mod Globs
-pub mod GlobLaws
 pub mod Once
 pub mod Sources
 pub mod SourceLaws

@@ -8,7 +8,7 @@ use Rattle.keys.specs.declared.key.Key.{Key}
 use Rattle.keys.specs.declared.key.Key.TheVariants as key
 use Rattle.keys.specs.declared.value.Value.{Value}
 use Rattle.functions.specs.declared.source.Source.{Source}
-use Rattle.functions.specs.Globs.{has_build}
+use Rattle.walks.specs.Globs.{has_build}
 use Rattle.functions.specs.Once.{once}
 use Rattle.functions.specs.Sources.{faulty, by_file}
 

@@ -5,8 +5,9 @@ use Rattle.keys.specs.declared.key.Key.{Key}
 use Rattle.keys.specs.declared.key.Key.TheVariants as key
 use Rattle.keys.specs.declared.value.Value.{Value}
 use Rattle.keys.specs.declared.value.Value.TheVariants as value
-use Rattle.functions.specs.Globs as glob
-use Rattle.functions.specs.Lookups as lookup
+use Rattle.walks.specs.Globs as glob
+use Rattle.walks.specs.Lookups as lookup
+use Rattle.package_names.specs.Turns as names
 use Rattle.functions.specs.Modules as modules
 use Rattle.functions.specs.Packages as packages
 
@@ -18,3 +19,4 @@ next (key.Lookup directory) answers = lookup.next directory answers
 next (key.Glob text) answers = glob.next text answers
 next (key.Module label) answers = modules.next label answers
 next (key.Package name) answers = packages.next name answers
+next (key.Under directory) answers = names.next directory answers

@@ -8,7 +8,7 @@ use Rattle.keys.specs.declared.value.BuildName.{BuildName}
 use Rattle.keys.specs.declared.value.Value.{Value}
 use Rattle.keys.specs.declared.value.Value.TheVariants as value
 use Rattle.functions.specs.declared.source.Source.{Source}
-use Rattle.functions.specs.Lookups.{build_path}
+use Rattle.walks.specs.Lookups.{build_path}
 use Rattle.functions.specs.Sources.{faulty, by_file}
 
 -- a BUILD file has no label
@@ -19,7 +19,7 @@ abbrev pub build_in : Value → Option BuildName
 build_in (value.File text) = None
 build_in (value.Listing names) = None
 build_in (value.Lookup build) = build
-build_in (value.Glob paths) = None
+build_in (value.Paths paths) = None
 build_in (value.Module loaded) = None
 build_in (value.Package targets) = None
 build_in (value.Fault f) = None

@@ -17,7 +17,7 @@ use Rattle.keys.specs.declared.value.Fault.{Fault}
 use Rattle.keys.specs.declared.value.Value.{Value}
 use Rattle.keys.specs.declared.value.Value.TheVariants as value
 use Rattle.functions.specs.declared.source.Source.{Source}
-use Rattle.functions.specs.Globs.{paths_of}
+use Rattle.walks.specs.Globs.{paths_of}
 use Rattle.functions.specs.Once.{once, answer_at, answer_in}
 
 -- ---- faults
@@ -54,7 +54,7 @@ module_in path None = Err (fault_at 16 path 0)
 module_in path (Some (value.File text)) = Err (fault_at 16 path 0)
 module_in path (Some (value.Listing names)) = Err (fault_at 16 path 0)
 module_in path (Some (value.Lookup name)) = Err (fault_at 16 path 0)
-module_in path (Some (value.Glob paths)) = Err (fault_at 16 path 0)
+module_in path (Some (value.Paths paths)) = Err (fault_at 16 path 0)
 module_in path (Some (value.Module loaded)) = Ok loaded
 module_in path (Some (value.Package targets)) = Err (fault_at 16 path 0)
 module_in path (Some (value.Fault f)) = Err f
@@ -144,7 +144,7 @@ abbrev pub text_in : Value → Option (List ℕ)
 text_in (value.File text) = text
 text_in (value.Listing names) = None
 text_in (value.Lookup name) = None
-text_in (value.Glob paths) = None
+text_in (value.Paths paths) = None
 text_in (value.Module loaded) = None
 text_in (value.Package targets) = None
 text_in (value.Fault f) = None

@@ -49,7 +49,7 @@ fn paths_at(alloc: Global, answer: Option<&Value>) -> Result<Arc<Vec<Text>, Glob
     ensures { IfOk result (λ a. shared_texts a ≡ specs.paths_or_none (option_map (λ v. v.now) answer.entry)) }
 {
     match answer {
-        Some(Value::Glob(paths)) => paths.share_items(),
+        Some(Value::Paths(paths)) => paths.share_items(),
         _ => {
             let none = Arc::new(alloc, Vec::new(alloc))?;
             Ok(none)

@@ -3,7 +3,7 @@ ghost use Rattle.std.specs.Prelude.{◌≡◌, ◌++◌, IfOk, OnOk, Ok, Some, m
 ghost use Rattle.keys.specs.declared.key.Key.TheVariants as key;
 ghost use Rattle.std.specs.Arc.{arc_value};
 ghost use Rattle.std.specs.List.{list_any};
-ghost use Rattle.functions.specs.Globs.{has_build as holds_build};
+ghost use Rattle.walks.specs.Globs.{has_build as holds_build};
 ghost use Rattle.tree.specs.Statements.{file_of};
 ghost use Rattle.evaluation.specs.Reply.{Ask};
 ghost use Rattle.keys.specs.Turns.{values};
@@ -14,9 +14,7 @@ ghost use Rattle.functions.specs.Goes.{IsMade, table_of};
 ghost use Rattle.functions.specs.declared.reply.Continuation.TheVariants as continuation;
 ghost use Rattle.functions.specs.Replies.{IsReply};
 
-use crate::build_files::build_path;
 use crate::evaluating::evaluated;
-use crate::glob::has_build;
 use crate::once::once;
 use crate::reply::{Continuation, Parsed, Reply};
 use crate::source::{Source, all_modules, fault_at, load_keys, read_tree};
@@ -26,6 +24,7 @@ use std::alloc::Global;
 use std::sync::Arc;
 use syntax::{File, FileKind};
 use texts::{Memory, Text};
+use walks::{build_path, has_build};
 
 // Ends with a fault.
 fn faulty(code: u8, path: &Text, line: usize) -> Result<Reply, Memory>

@@ -9,6 +9,8 @@
 //!   goes into, and then the globs below: with a pattern that begins with `**` that of the other segments in the same
 //!   directory, and one in each of the subdirectories that are no packages. It ends with the paths that are found, from the
 //!   directory on, in byte order.
+//! * `Glob(directory pattern dirs)` finds directories too, those that are no packages. It also asks the look-ups of the
+//!   subdirectories that the pattern would find, and its globs below end with ` dirs` as well.
 //! * `Module(label)` asks the look-ups of its package and of each directory between the package and the file, then the
 //!   file, and then the modules of all its loads. It ends with what the evaluation of the file leaves, or with the first
 //!   fault: its package is none, a directory on the way is a package, the file is absent, its text is none of the language,
@@ -16,21 +18,18 @@
 //! * `Package(package)` asks its look-up, the BUILD file, the modules of all its loads, and then, at each call of `glob`
 //!   that stops the evaluation, the globs of the patterns that have no answer. It ends with its targets, or with the first
 //!   fault.
+//! * `Under(directory)` asks the look-up and the listing of the directory, and then the names at and below each of its
+//!   subdirectories. It ends with the names of all packages at and below the directory, in byte order.
 //!
 //! An empty group is not asked, and a key that repeats in a group is asked once, at its first place.
 #![tactic(auto)]
 
-ghost use Rattle.functions.specs.Found.{NamesHold, GlobsHold};
+ghost use Rattle.functions.specs.Found.{NamesHold, GlobsHold, PackagesHold};
 
-mod build_files;
 mod evaluating;
 mod file_node;
-mod glob;
-mod glob_pattern;
 mod loading;
-mod lookup;
 mod once;
-mod ordering;
 mod reply;
 mod source;
 
@@ -42,8 +41,15 @@ pub fn leaves_and_look_ups_hold()
     ensures { NamesHold }
 {}
 
-/// The law of the globs: at files whose names are paths the node of a directory and a pattern holds the paths that the
-/// pattern finds among all paths of the files, below the directory and into no package on the way, in byte order.
+/// The law of the globs: at files whose names are paths the node of a directory and a question holds the paths that the
+/// question finds among all paths of the files, below the directory and into no package on the way, in byte order. Where
+/// it asks for directories, those that are no packages are found too.
 pub fn globs_hold_what_they_find()
     ensures { GlobsHold }
+{}
+
+/// The law of the packages below a directory: at files whose names are paths the node of a directory holds the names of
+/// all packages at and below it, in byte order.
+pub fn packages_below_are_held()
+    ensures { PackagesHold }
 {}

@@ -3,20 +3,21 @@ ghost use Rattle.std.specs.Prelude.{◌≡◌, List, IfOk};
 ghost use Rattle.keys.specs.declared.key.Key.{Key};
 ghost use Rattle.keys.specs.declared.value.Value.{Value};
 ghost use Rattle.keys.specs.Turns.{values};
-ghost use Rattle.functions.specs.Goes.{IsMade, MayGoOn, table_of};
+ghost use Rattle.functions.specs.Goes.{IsMade, Table, MayGoOn, table_of};
 ghost use Rattle.functions.specs.Held.{HoldsFrom};
 ghost use Rattle.functions.specs.Next as table;
+ghost use Rattle.walks.specs.Replies.{IsReply as IsWalked};
 
 use crate::evaluating::go_further;
 use crate::file_node::{after_loads, of_module, of_package};
-use crate::glob::glob;
-use crate::lookup::lookup;
 use crate::reply::{Continuation, Reply};
 use count::Count;
 use keys::{Key, Rules, Turn, Value};
+use package_names::package_names;
 use std::alloc::Global;
 use std::sync::Arc;
 use texts::Memory;
+use walks::{glob, lookup};
 
 /// Rules whose turns are the table of this crate, `specs/Next`.
 pub trait LoadRules: Rules {
@@ -39,6 +40,16 @@ pub struct Kept {
     held: Option<Held>,
 }
 
+// The reply of a node that goes by directories, of which nothing waits.
+fn plain(reply: walks::Reply) -> Reply
+    ensures { (next : Table) (answers : List Value) → IsWalked (next answers) reply → IsMade next answers result }
+{
+    match reply {
+        walks::Reply::Ask(group) => Reply::Ask(group),
+        walks::Reply::Done(value) => Reply::Done(value),
+    }
+}
+
 // A turn of a node of which nothing is kept.
 fn from_start(alloc: Global, key: &Key, answers: &[Arc<Value>]) -> Result<Reply, Memory>
     ensures { IfOk result (IsMade (table.next key.now) (values answers.now)) }
@@ -46,10 +57,11 @@ fn from_start(alloc: Global, key: &Key, answers: &[Arc<Value>]) -> Result<Reply,
     match key {
         Key::File(_) => Ok(Reply::Done(Value::File(None))),
         Key::Listing(_) => Ok(Reply::Done(Value::Listing(None))),
-        Key::Lookup(directory) => lookup(alloc, directory, answers),
-        Key::Glob(text) => glob(alloc, text, answers),
+        Key::Lookup(directory) => Ok(plain(lookup(alloc, directory, answers)?)),
+        Key::Glob(text) => Ok(plain(glob(alloc, text, answers)?)),
         Key::Module(label) => of_module(alloc, label, answers),
         Key::Package(name) => of_package(alloc, name, answers),
+        Key::Under(directory) => Ok(plain(package_names(alloc, directory, answers)?)),
     }
 }
 

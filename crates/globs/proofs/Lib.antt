@@ -3,3 +3,5 @@ pub mod Sorted
 pub mod Paths
 pub mod Walk
 pub mod Answer
+pub mod Directories
+pub mod Questions

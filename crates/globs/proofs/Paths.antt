@@ -46,12 +46,12 @@ drop_behind : (front rest : List ℕ) → drop (length front + 1) (front ++ 47 �
 drop_behind front rest = ap (drop (length front + 1)) (sym (append_assoc front (47 ∷ []) rest)) ∙ drop_at (front ++ 47 ∷ []) rest (length front + 1) (length-append front (47 ∷ []))
 
 -- the rest of a path in a directory
-rest_in : (directory q : List ℕ) → rest_below directory (path_in directory q) ≡ Some q
+pub rest_in : (directory q : List ℕ) → rest_below directory (path_in directory q) ≡ Some q
 rest_in [] q = refl
 rest_in (d ∷ ds) q =
     ap (λ b. cond b (Some (drop (length (d ∷ ds) + 1) ((d ∷ ds) ++ 47 ∷ q))) None) (ancestor_of (d ∷ ds) q) ∙ ap Some (drop_behind (d ∷ ds) q)
 
-rest_path : (directory path q : List ℕ) → rest_below directory path ≡ Some q → path ≡ path_in directory q
+pub rest_path : (directory path q : List ℕ) → rest_below directory path ≡ Some q → path ≡ path_in directory q
 rest_path [] path q h = cc
 rest_path (d ∷ ds) path q h =
     elim (is_ancestor (d ∷ ds) path) as (λ b. is_ancestor (d ∷ ds) path ≡ b → cond b (Some (drop (length (d ∷ ds) + 1) path)) None ≡ Some q → path ≡ (d ∷ ds) ++ 47 ∷ q) [

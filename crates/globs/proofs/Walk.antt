@@ -41,16 +41,16 @@ files_of directory paths = sorted_names (filter has_no_slash (filter_map (rest_b
 abbrev pub directories_of : List ℕ → List (List ℕ) → List (List ℕ)
 directories_of directory paths = sorted_names (each first_name (filter (λ rest. not (has_no_slash rest)) (filter_map (rest_below directory) paths)))
 
-files_to : (directory : List ℕ) (paths : List (List ℕ)) (n : List ℕ) → In n (files_of directory paths) → In (path_in directory n) paths × (has_no_slash n ≡ true)
+pub files_to : (directory : List ℕ) (paths : List (List ℕ)) (n : List ℕ) → In n (files_of directory paths) → In (path_in directory n) paths × (has_no_slash n ≡ true)
 files_to directory paths n h =
     let kept = in_filter has_no_slash n (filter_map (rest_below directory) paths) (in_sorted n (filter has_no_slash (filter_map (rest_below directory) paths)) h) in
     (rests_to directory n paths kept.0, kept.1)
 
-files_from : (directory : List ℕ) (paths : List (List ℕ)) (n : List ℕ) → In (path_in directory n) paths → has_no_slash n ≡ true → In n (files_of directory paths)
+pub files_from : (directory : List ℕ) (paths : List (List ℕ)) (n : List ℕ) → In (path_in directory n) paths → has_no_slash n ≡ true → In n (files_of directory paths)
 files_from directory paths n h plain =
     sorted_in n (filter has_no_slash (filter_map (rest_below directory) paths)) (filter_in has_no_slash n (filter_map (rest_below directory) paths) (rests_from directory n paths h) plain)
 
-abbrev Sub : List ℕ → List (List ℕ) → List ℕ → Type 0
+abbrev pub Sub : List ℕ → List (List ℕ) → List ℕ → Type 0
 Sub directory paths n = (q : List ℕ) × (has_no_slash n ≡ true) × In (path_in directory (n ++ 47 ∷ q)) paths
 
 sub_at : (directory : List ℕ) (paths : List (List ℕ)) (n rest : List ℕ) → n ≡ first_name rest → not (has_no_slash rest) ≡ true → In (path_in directory rest) paths → Cut rest → Sub directory paths n
@@ -62,14 +62,14 @@ sub_at directory paths n rest is deep there (inr (name, more, plain, joined)) =
       ap (λ m. list_any (bytes_eq (path_in directory (m ++ 47 ∷ more))) paths) same ∙ ap (λ r. list_any (bytes_eq (path_in directory r)) paths) (sym joined) ∙ there,
     )
 
-directories_to : (directory : List ℕ) (paths : List (List ℕ)) (n : List ℕ) → In n (directories_of directory paths) → Sub directory paths n
+pub directories_to : (directory : List ℕ) (paths : List (List ℕ)) (n : List ℕ) → In n (directories_of directory paths) → Sub directory paths n
 directories_to directory paths n h =
     let rests = filter_map (rest_below directory) paths in
     let one = in_each first_name n (filter (λ rest. not (has_no_slash rest)) rests) (in_sorted n (each first_name (filter (λ rest. not (has_no_slash rest)) rests)) h) in
     let kept = in_filter (λ rest. not (has_no_slash rest)) one.0 rests one.1 in
     sub_at directory paths n one.0 one.2 kept.1 (rests_to directory one.0 paths kept.0) (cut one.0)
 
-directories_from : (directory : List ℕ) (paths : List (List ℕ)) (n q : List ℕ) → has_no_slash n ≡ true → In (path_in directory (n ++ 47 ∷ q)) paths → In n (directories_of directory paths)
+pub directories_from : (directory : List ℕ) (paths : List (List ℕ)) (n q : List ℕ) → has_no_slash n ≡ true → In (path_in directory (n ++ 47 ∷ q)) paths → In n (directories_of directory paths)
 directories_from directory paths n q plain there =
     let rests = filter_map (rest_below directory) paths in
     let kept = filter_in (λ rest. not (has_no_slash rest)) (n ++ 47 ∷ q) rests (rests_from directory (n ++ 47 ∷ q) paths there) (is_deep n q) in

@@ -1,12 +1,12 @@
 -- The answer of a glob, by all paths of the files, and a step of the walk that finds it.
-use Rattle.std.specs.Prelude.{◌≡◌, ℕ, List, [], ◌∷◌, ◌++◌, Bool, true, false, ◌&&◌, ◌||◌, not, codes, MatchOption, map as each, flat_map, if◌then◌else◌}
-use Rattle.std.specs.List.{list_any, list_all, filter, filter_map}
+use Rattle.std.specs.Prelude.{◌≡◌, ℕ, List, [], ◌∷◌, ◌++◌, length, Bool, true, false, ◌&&◌, ◌||◌, ◌==◌, not, nat_lt, codes, Some, None, MatchOption, map as each, flat_map, if◌then◌else◌}
+use Rattle.std.specs.List.{list_any, list_all, filter, filter_map, before_first, position_or_len}
 use Rattle.std.specs.FinMap as map
 use Rattle.labels.specs.Paths.{is_path, segments}
 use Rattle.labels.specs.Labels.{ancestors}
 use Rattle.filetree.specs.Files.{Files, is_file}
 use Rattle.filetree.specs.Listings.{Names, sorted_names, rest_below, names_in}
-use Rattle.pattern.specs.Patterns.{is_double_star, segment_matches, path_matches}
+use Rattle.pattern.specs.Patterns.{is_double_star, segment_matches, path_matches, is_pattern}
 
 -- a path in a directory; the root's name is empty
 abbrev pub path_in : List ℕ → List ℕ → List ℕ
@@ -20,6 +20,12 @@ is_package files directory = is_file files (path_in directory (codes "BUILD.baze
 -- no proper directory of the rest of a path is a package; `packages` tells which directories are
 abbrev pub is_open : (List ℕ → Bool) → List ℕ → List ℕ → Bool
 is_open packages directory rest = not (list_any (λ d. packages (path_in directory d)) (ancestors rest))
+
+-- The paths among which a glob looks: those of all files; and where directories are asked for too, the directories on the
+-- way to them that are no packages.
+abbrev pub sought : Bool → (List ℕ → Bool) → List (List ℕ) → List (List ℕ)
+sought false packages paths = paths
+sought true packages paths = paths ++ filter (λ d. not (packages d)) (flat_map ancestors paths)
 
 -- What a pattern finds below a directory: the rests of the paths that lead there which the pattern
 -- matches and which no package stands before, in byte order, without repeats.
@@ -37,9 +43,29 @@ abbrev pub glob_below : (List ℕ → Bool) → List (List ℕ) → List ℕ →
 glob_below packages paths directory includes excludes =
     sorted_names (filter (λ rest. some_matches includes rest && not (some_matches excludes rest) && is_open packages directory rest) (filter_map (rest_below directory) paths))
 
--- the answer of a glob of the files in a package
-abbrev pub glob : Files → List ℕ → List (List (List ℕ)) → List (List (List ℕ)) → List (List ℕ)
-glob files package_name includes excludes = glob_below (is_package files) (map.keys files) package_name includes excludes
+-- the answer of a glob of the files in a package, and with directories of its directories too
+abbrev pub glob : Bool → Files → List ℕ → List (List (List ℕ)) → List (List (List ℕ)) → List (List ℕ)
+glob directories files package_name includes excludes = glob_below (is_package files) (sought directories (is_package files) (map.keys files)) package_name includes excludes
+
+-- ---- what is asked for a pattern, as a text: the pattern, and with directories a space and `dirs` behind it
+
+abbrev pub is_space : ℕ → Bool
+is_space b = b == 32
+
+abbrev pub question : Bool → List ℕ → List ℕ
+question false pattern = pattern
+question true pattern = pattern ++ codes " dirs"
+
+-- the pattern, which has no space, and whether directories are asked for too
+abbrev pub pattern_in : List ℕ → List ℕ
+pattern_in asked = before_first is_space asked
+
+abbrev pub asks_directories : List ℕ → Bool
+asks_directories asked = nat_lt (position_or_len is_space asked) (length asked)
+
+-- what is found by a question
+abbrev pub answer_below : (List ℕ → Bool) → List (List ℕ) → List ℕ → List ℕ → List (List ℕ)
+answer_below packages paths directory asked = found_below packages (sought (asks_directories asked) packages paths) directory (segments (pattern_in asked))
 
 abbrev pub is_last : List (List ℕ) → Bool
 is_last [] = true
@@ -68,6 +94,20 @@ abbrev pub IsFoundByWalk : Type 0
 IsFoundByWalk = (packages : List ℕ → Bool) (paths : List (List ℕ)) (directory segment : List ℕ) (rest : List (List ℕ)) → list_all is_path paths ≡ true
     → MatchOption (names_in directory paths) (found_below packages paths directory (segment ∷ rest) ≡ [])
     (λ names. found_below packages paths directory (segment ∷ rest) ≡ walk_step packages (found_below packages paths) directory names segment rest)
+
+-- With directories a directory holds the names that it held, and its subdirectories that are no packages as files do; and
+-- where no file lies below it, there is none either.
+abbrev pub IsHeldWithDirectories : Type 0
+IsHeldWithDirectories = (packages : List ℕ → Bool) (paths : List (List ℕ)) (directory : List ℕ) → list_all is_path paths ≡ true
+    → (list_all is_path (sought true packages paths) ≡ true)
+    × MatchOption (names_in directory paths) (names_in directory (sought true packages paths) ≡ None)
+    (λ names. names_in directory (sought true packages paths)
+    ≡ Some (record { files = sorted_names (names.files ++ filter (λ name. not (packages (path_in directory name))) names.directories); directories = names.directories }))
+
+-- a question has the pattern for which it asks
+abbrev pub HasItsPattern : Type 0
+HasItsPattern = (directories : Bool) (pattern : List ℕ) → is_pattern pattern ≡ true
+    → (pattern_in (question directories pattern) ≡ pattern) × (asks_directories (question directories pattern) ≡ directories)
 
 -- the answer of a glob is what its included patterns find, without what an excluded one matches
 abbrev pub IsFoundByPatterns : Type 0

@@ -1,7 +1,7 @@
 //! The answer of a glob, and the laws of the walk that finds it pattern by pattern and directory by directory.
 #![tactic(auto)]
 
-ghost use Rattle.globs.specs.Globs.{IsFoundByWalk, IsFoundByPatterns};
+ghost use Rattle.globs.specs.Globs.{IsFoundByWalk, IsFoundByPatterns, IsHeldWithDirectories, HasItsPattern};
 
 /// The law of the walk, for all files, packages, directories and patterns: what a pattern finds below a
 /// directory is what one step makes of the names in the directory, of which subdirectories are packages,
@@ -14,4 +14,16 @@ pub fn pattern_is_found_by_walk()
 /// matches.
 pub fn glob_is_found_by_patterns()
     ensures { IsFoundByPatterns }
+{}
+
+/// The law of directories: a glob that finds directories too looks among the paths of the files and the
+/// directories on the way to them that are no packages. In a directory these are its files and its open
+/// subdirectories, so each step of the walk finds the names that it found, and the open subdirectories.
+pub fn directories_are_held()
+    ensures { IsHeldWithDirectories }
+{}
+
+/// The law of questions: the pattern and the wish for directories are read back from the text.
+pub fn question_has_its_pattern()
+    ensures { HasItsPattern }
 {}

@@ -3,7 +3,7 @@ use Rattle.std.proofs.Common.{◌≡◌, ℕ, List, [], ◌∷◌, ◌++◌, Som
 use Rattle.evaluation.specs.Value.{AllDiffer}
 use Rattle.evaluation.proofs.Rotating.{loop_labels_turned}
 use Rattle.keys.specs.declared.key.Key.{Key}
-use Rattle.keys.specs.declared.key.Key.TheVariants.{File, Listing, Lookup, Glob, Module, Package}
+use Rattle.keys.specs.declared.key.Key.TheVariants.{File, Listing, Lookup, Glob, Module, Package, Under}
 use Rattle.keys.specs.declared.value.Value.TheVariants as value
 use Rattle.keys.specs.Cycles.{label_of, cycle}
 
@@ -14,12 +14,14 @@ labels_injective (Listing p) k t e f = cc
 labels_injective (Lookup p) k t e f = cc
 labels_injective (Glob p) k t e f = cc
 labels_injective (Package p) k t e f = cc
+labels_injective (Under p) k t e f = cc
 labels_injective (Module p) (File q) t e f = cc
 labels_injective (Module p) (Listing q) t e f = cc
 labels_injective (Module p) (Lookup q) t e f = cc
 labels_injective (Module p) (Glob q) t e f = cc
 labels_injective (Module p) (Module q) t e f = cc
 labels_injective (Module p) (Package q) t e f = cc
+labels_injective (Module p) (Under q) t e f = cc
 
 pub turned : (x : Key) (xs : List Key) → AllDiffer (x ∷ xs) → cycle (x ∷ xs) ≡ cycle (xs ++ x ∷ [])
 turned x xs d = ap value.Cycle (loop_labels_turned label_of labels_injective x xs d)

@@ -8,7 +8,7 @@ use lib.Pointwise.{pointwise_decides}
 use Rattle.std.proofs.lemmas.Cmp.{then_total, on_total}
 use Rattle.std.proofs.lemmas.Map.Lookups.{CmpEqualImpliesEq, exact_bytes, exact_pairs, exact_unsigned}
 use Rattle.keys.specs.declared.key.Key.{Key}
-use Rattle.keys.specs.declared.key.Key.TheVariants.{File, Listing, Lookup, Glob, Module, Package}
+use Rattle.keys.specs.declared.key.Key.TheVariants.{File, Listing, Lookup, Glob, Module, Package, Under}
 use Rattle.keys.specs.Keys.{kind, name_of, key_cmp, key_eq}
 
 pub keys_total : IsTotalOrder key_cmp
@@ -21,36 +21,49 @@ same_parts (File p) (Lookup q) h e = cc
 same_parts (File p) (Glob q) h e = cc
 same_parts (File p) (Module q) h e = cc
 same_parts (File p) (Package q) h e = cc
+same_parts (File p) (Under q) h e = cc
 same_parts (Listing p) (File q) h e = cc
 same_parts (Listing p) (Listing q) h e = ap Listing e
 same_parts (Listing p) (Lookup q) h e = cc
 same_parts (Listing p) (Glob q) h e = cc
 same_parts (Listing p) (Module q) h e = cc
 same_parts (Listing p) (Package q) h e = cc
+same_parts (Listing p) (Under q) h e = cc
 same_parts (Lookup p) (File q) h e = cc
 same_parts (Lookup p) (Listing q) h e = cc
 same_parts (Lookup p) (Lookup q) h e = ap Lookup e
 same_parts (Lookup p) (Glob q) h e = cc
 same_parts (Lookup p) (Module q) h e = cc
 same_parts (Lookup p) (Package q) h e = cc
+same_parts (Lookup p) (Under q) h e = cc
 same_parts (Glob p) (File q) h e = cc
 same_parts (Glob p) (Listing q) h e = cc
 same_parts (Glob p) (Lookup q) h e = cc
 same_parts (Glob p) (Glob q) h e = ap Glob e
 same_parts (Glob p) (Module q) h e = cc
 same_parts (Glob p) (Package q) h e = cc
+same_parts (Glob p) (Under q) h e = cc
 same_parts (Module p) (File q) h e = cc
 same_parts (Module p) (Listing q) h e = cc
 same_parts (Module p) (Lookup q) h e = cc
 same_parts (Module p) (Glob q) h e = cc
 same_parts (Module p) (Module q) h e = ap Module e
 same_parts (Module p) (Package q) h e = cc
+same_parts (Module p) (Under q) h e = cc
 same_parts (Package p) (File q) h e = cc
 same_parts (Package p) (Listing q) h e = cc
 same_parts (Package p) (Lookup q) h e = cc
 same_parts (Package p) (Glob q) h e = cc
 same_parts (Package p) (Module q) h e = cc
 same_parts (Package p) (Package q) h e = ap Package e
+same_parts (Package p) (Under q) h e = cc
+same_parts (Under p) (File q) h e = cc
+same_parts (Under p) (Listing q) h e = cc
+same_parts (Under p) (Lookup q) h e = cc
+same_parts (Under p) (Glob q) h e = cc
+same_parts (Under p) (Module q) h e = cc
+same_parts (Under p) (Package q) h e = cc
+same_parts (Under p) (Under q) h e = ap Under e
 
 pub exact_keys : CmpEqualImpliesEq key_cmp
 exact_keys a b h =

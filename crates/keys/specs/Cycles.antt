@@ -2,7 +2,7 @@
 use Rattle.std.specs.Prelude.{ℕ, List, Option, Some, None}
 use Rattle.evaluation.specs.Rotated.{loop_labels}
 use Rattle.keys.specs.declared.key.Key.{Key}
-use Rattle.keys.specs.declared.key.Key.TheVariants.{File, Listing, Lookup, Glob, Module, Package}
+use Rattle.keys.specs.declared.key.Key.TheVariants.{File, Listing, Lookup, Glob, Module, Package, Under}
 use Rattle.keys.specs.declared.value.Value.{Value}
 use Rattle.keys.specs.declared.value.Value.TheVariants as value
 
@@ -14,6 +14,7 @@ label_of (Lookup name) = None
 label_of (Glob text) = None
 label_of (Module label) = Some label
 label_of (Package name) = None
+label_of (Under directory) = None
 
 -- the labels of the loop's members, turned so that the least by bytes stands first
 abbrev pub cycle : List Key → Value

@@ -4,7 +4,7 @@ use Rattle.std.specs.declared.cmp.Ordering.{Ordering}
 use Rattle.std.specs.Ordering.{nat_cmp, on, then_cmp, eq_of_both}
 use Rattle.std.specs.Cmp.Lexicographic.{slice_cmp, pointwise}
 use Rattle.keys.specs.declared.key.Key.{Key}
-use Rattle.keys.specs.declared.key.Key.TheVariants.{File, Listing, Lookup, Glob, Module, Package}
+use Rattle.keys.specs.declared.key.Key.TheVariants.{File, Listing, Lookup, Glob, Module, Package, Under}
 
 -- the place of its kind in the order
 abbrev pub kind : Key → ℕ
@@ -14,6 +14,7 @@ kind (Lookup name) = 2
 kind (Glob text) = 3
 kind (Module label) = 4
 kind (Package name) = 5
+kind (Under directory) = 6
 
 -- the path, or the name of the directory or the package; of a glob the directory's name, a space and the pattern; of a
 -- module its label
@@ -24,6 +25,7 @@ name_of (Lookup name) = name
 name_of (Glob text) = text
 name_of (Module label) = label
 name_of (Package name) = name
+name_of (Under directory) = directory
 
 -- what a pattern finds below a directory
 abbrev pub glob_key : List ℕ → List ℕ → Key
@@ -37,6 +39,7 @@ prefix (Lookup name) = codes "lookup //"
 prefix (Glob text) = codes "glob //"
 prefix (Module label) = codes "module "
 prefix (Package name) = codes "package //"
+prefix (Under directory) = codes "under //"
 
 -- the key as it is written
 abbrev pub key_text : Key → List ℕ

@@ -28,7 +28,7 @@ abbrev pub NoCycle : Value → Type 0
 NoCycle (value.File t) = ⊤
 NoCycle (value.Listing l) = ⊤
 NoCycle (value.Lookup b) = ⊤
-NoCycle (value.Glob paths) = ⊤
+NoCycle (value.Paths paths) = ⊤
 NoCycle (value.Module loaded) = ⊤
 NoCycle (value.Package targets) = ⊤
 NoCycle (value.Fault fault) = ⊤

@@ -8,7 +8,7 @@ use Rattle.keys.specs.declared.value.BuildName.{BuildName}
 use Rattle.keys.specs.declared.value.BuildName.TheVariants.{BuildBazel, Build}
 use Rattle.keys.specs.declared.value.Fault as fault
 use Rattle.keys.specs.declared.value.Value.{Value}
-use Rattle.keys.specs.declared.value.Value.TheVariants.{File, Listing, Lookup, Glob, Module, Package, Fault, Cycle}
+use Rattle.keys.specs.declared.value.Value.TheVariants.{File, Listing, Lookup, Paths, Module, Package, Fault, Cycle}
 
 -- texts with the same bytes
 abbrev pub text_eq : List ℕ → List ℕ → Bool
@@ -33,7 +33,7 @@ abbrev pub value_eq : Value → Value → Bool
 value_eq (File s) (File t) = option_eq text_eq s t
 value_eq (File s) (Listing m) = false
 value_eq (File s) (Lookup b) = false
-value_eq (File s) (Glob qs) = false
+value_eq (File s) (Paths qs) = false
 value_eq (File s) (Module n) = false
 value_eq (File s) (Package ys) = false
 value_eq (File s) (Fault g) = false
@@ -41,7 +41,7 @@ value_eq (File s) (Cycle ts) = false
 value_eq (Listing l) (File t) = false
 value_eq (Listing l) (Listing m) = option_eq listed_eq l m
 value_eq (Listing l) (Lookup b) = false
-value_eq (Listing l) (Glob qs) = false
+value_eq (Listing l) (Paths qs) = false
 value_eq (Listing l) (Module n) = false
 value_eq (Listing l) (Package ys) = false
 value_eq (Listing l) (Fault g) = false
@@ -49,23 +49,23 @@ value_eq (Listing l) (Cycle ts) = false
 value_eq (Lookup a) (File t) = false
 value_eq (Lookup a) (Listing m) = false
 value_eq (Lookup a) (Lookup b) = option_eq build_eq a b
-value_eq (Lookup a) (Glob qs) = false
+value_eq (Lookup a) (Paths qs) = false
 value_eq (Lookup a) (Module n) = false
 value_eq (Lookup a) (Package ys) = false
 value_eq (Lookup a) (Fault g) = false
 value_eq (Lookup a) (Cycle ts) = false
-value_eq (Glob ps) (File t) = false
-value_eq (Glob ps) (Listing m) = false
-value_eq (Glob ps) (Lookup b) = false
-value_eq (Glob ps) (Glob qs) = pointwise text_eq ps qs
-value_eq (Glob ps) (Module n) = false
-value_eq (Glob ps) (Package ys) = false
-value_eq (Glob ps) (Fault g) = false
-value_eq (Glob ps) (Cycle ts) = false
+value_eq (Paths ps) (File t) = false
+value_eq (Paths ps) (Listing m) = false
+value_eq (Paths ps) (Lookup b) = false
+value_eq (Paths ps) (Paths qs) = pointwise text_eq ps qs
+value_eq (Paths ps) (Module n) = false
+value_eq (Paths ps) (Package ys) = false
+value_eq (Paths ps) (Fault g) = false
+value_eq (Paths ps) (Cycle ts) = false
 value_eq (Module m) (File t) = false
 value_eq (Module m) (Listing l) = false
 value_eq (Module m) (Lookup b) = false
-value_eq (Module m) (Glob qs) = false
+value_eq (Module m) (Paths qs) = false
 value_eq (Module m) (Module n) = loaded_eq m n
 value_eq (Module m) (Package ys) = false
 value_eq (Module m) (Fault g) = false
@@ -73,7 +73,7 @@ value_eq (Module m) (Cycle ts) = false
 value_eq (Package xs) (File t) = false
 value_eq (Package xs) (Listing m) = false
 value_eq (Package xs) (Lookup b) = false
-value_eq (Package xs) (Glob qs) = false
+value_eq (Package xs) (Paths qs) = false
 value_eq (Package xs) (Module n) = false
 value_eq (Package xs) (Package ys) = pointwise target_eq xs ys
 value_eq (Package xs) (Fault g) = false
@@ -81,7 +81,7 @@ value_eq (Package xs) (Cycle ts) = false
 value_eq (Fault f) (File t) = false
 value_eq (Fault f) (Listing m) = false
 value_eq (Fault f) (Lookup b) = false
-value_eq (Fault f) (Glob qs) = false
+value_eq (Fault f) (Paths qs) = false
 value_eq (Fault f) (Module n) = false
 value_eq (Fault f) (Package ys) = false
 value_eq (Fault f) (Fault g) = fault_eq f g
@@ -89,7 +89,7 @@ value_eq (Fault f) (Cycle ts) = false
 value_eq (Cycle ss) (File t) = false
 value_eq (Cycle ss) (Listing m) = false
 value_eq (Cycle ss) (Lookup b) = false
-value_eq (Cycle ss) (Glob qs) = false
+value_eq (Cycle ss) (Paths qs) = false
 value_eq (Cycle ss) (Module n) = false
 value_eq (Cycle ss) (Package ys) = false
 value_eq (Cycle ss) (Fault g) = false

@@ -22,16 +22,19 @@ pub enum Key {
     Listing(Text),
     /// Which BUILD file a package has, by the package's name, which is empty for the root.
     Lookup(Text),
-    /// What a pattern finds below a directory: the directory's name, a space and the pattern.
+    /// What a pattern finds below a directory: the directory's name, a space and the pattern, and behind them a space and
+    /// `dirs` where it finds directories too.
     Glob(Text),
     /// What the evaluation of a .bzl file leaves, by the text of its label.
     Module(Text),
     /// The targets of a package, by its name, which is empty for the root.
     Package(Text),
+    /// The names of all packages at and below a directory, by its name, which is empty for the root.
+    Under(Text),
 }
 
 impl Key {
-    /// What a pattern finds below a directory.
+    /// What a pattern finds below a directory. The pattern may have ` dirs` behind it.
     pub fn glob_of(alloc: Global, directory: &str, pattern: &str) -> Result<Key, Memory>
         ensures { IfOk result (λ k. k ≡ glob_key directory.now pattern.now) }
     {
@@ -52,6 +55,7 @@ impl Key {
             Key::Glob(text) => Ok(Key::Glob(text.share()?)),
             Key::Module(label) => Ok(Key::Module(label.share()?)),
             Key::Package(package) => Ok(Key::Package(package.share()?)),
+            Key::Under(directory) => Ok(Key::Under(directory.share()?)),
         }
     }
 
@@ -66,6 +70,7 @@ impl Key {
             Key::Glob(_) => 3,
             Key::Module(_) => 4,
             Key::Package(_) => 5,
+            Key::Under(_) => 6,
         }
     }
 
@@ -80,11 +85,12 @@ impl Key {
             Key::Glob(_) => "glob //",
             Key::Module(_) => "module ",
             Key::Package(_) => "package //",
+            Key::Under(_) => "under //",
         }
     }
 
-    /// The path, or the name of the directory or the package; of a glob the directory's name, a space and the pattern;
-    /// of a module its label.
+    /// The path, or the name of the directory or the package; of a glob the directory's name, a space and the pattern,
+    /// perhaps with ` dirs`; of a module its label.
     pub fn name(&self) -> &Text
         ensures { result.now ≡ name_of self.now }
     {
@@ -95,11 +101,12 @@ impl Key {
             Key::Glob(text) => text,
             Key::Module(label) => label,
             Key::Package(package) => package,
+            Key::Under(directory) => directory,
         }
     }
 
-    /// The key as it is written: `file PATH`, `listing //DIRECTORY`, `lookup //PACKAGE`, `glob //DIRECTORY PATTERN`,
-    /// `module LABEL` or `package //PACKAGE`.
+    /// The key as it is written: `file PATH`, `listing //DIRECTORY`, `lookup //PACKAGE`, `glob //DIRECTORY PATTERN`
+    /// or `glob //DIRECTORY PATTERN dirs`, `module LABEL`, `package //PACKAGE` or `under //DIRECTORY`.
     pub fn text(&self, alloc: Global) -> Result<String, Memory>
         ensures { IfOk result (λ t. string_bytes t ≡ key_text self.now) }
     {

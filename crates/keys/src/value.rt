@@ -244,7 +244,7 @@ pub enum Value {
     /// Of a look-up: no BUILD file, or which.
     Lookup(Option<BuildName>),
     /// Of a glob: the paths that it finds, from its directory on.
-    Glob(Paths),
+    Paths(Paths),
     /// Of a module: what its file leaves, and all modules that it reaches.
     Module(Loaded),
     /// Of a package: its targets, in byte order of their names.
@@ -266,7 +266,7 @@ impl PartialEq for Value {
             (Value::File(a), Value::File(b)) => a == b,
             (Value::Listing(a), Value::Listing(b)) => a == b,
             (Value::Lookup(a), Value::Lookup(b)) => a == b,
-            (Value::Glob(a), Value::Glob(b)) => a == b,
+            (Value::Paths(a), Value::Paths(b)) => a == b,
             (Value::Module(a), Value::Module(b)) => a == b,
             (Value::Package(a), Value::Package(b)) => a == b,
             (Value::Fault(a), Value::Fault(b)) => a == b,

@@ -1,6 +1,8 @@
 -- What a call of `glob` finds by right answers.
 use Rattle.std.proofs.Common.{◌≡◌, ◌∙◌, ap, sym, refl, arith, ℕ, Bool, true, List, [], ◌∷◌, length, map as each, Option, Some, None}
 use Rattle.std.specs.Prelude.{is_some, filter, flat_map, not}
+use Rattle.std.specs.List.{list_all}
+use Rattle.std.proofs.lemmas.Bool.{and_parts}
 use Rattle.std.specs.FinMap as map
 use Rattle.std.specs.FinMap.Entries.{by_order}
 use Rattle.std.specs.Ordering.{nat_cmp}
@@ -9,11 +11,13 @@ use Rattle.std.specs.declared.cmp.Ordering.{Ordering}
 use Rattle.std.specs.declared.cmp.Ordering.TheVariants.{Less, Equal, Greater}
 use Rattle.labels.specs.Paths.{segments}
 use Rattle.filetree.specs.Listings.{alone, sorted_names}
-use Rattle.globs.specs.Globs.{found_below, some_matches}
+use Rattle.globs.specs.Globs.{sought, question, found_below, answer_below, some_matches}
 use Rattle.globs.proofs.Answer.{found_by_patterns}
+use Rattle.globs.proofs.Questions.{has_its_pattern}
+use Rattle.pattern.specs.Patterns.{is_pattern}
 use Rattle.language.specs.Sorting.{put_by, put, in_order}
 use Rattle.language.specs.Environment.{Answers}
-use Rattle.language.specs.Globs.{answer_to, unanswered, found_or_none}
+use Rattle.language.specs.Globs.{answer_to, questions, unanswered, found_or_none}
 use Rattle.language.specs.Laws.{AreRight, GlobsFindFiles}
 use Rattle.language.proofs.MoreAnswers.{first_answered}
 
@@ -49,21 +53,30 @@ in_order_sorted (n ∷ ns) =
 -- ---- right answers
 
 right_at : (answers : Answers) (packages : List ℕ → Bool) (paths : List (List ℕ)) (directory : List ℕ) → AreRight answers packages paths directory
-    → (p : List ℕ) → is_some (answer_to p answers) ≡ true → found_or_none (answer_to p answers) ≡ found_below packages paths directory (segments p)
-right_at answers packages paths directory right p = go (answer_to p answers) refl
+    → (q : List ℕ) → is_some (answer_to q answers) ≡ true → found_or_none (answer_to q answers) ≡ answer_below packages paths directory q
+right_at answers packages paths directory right q = go (answer_to q answers) refl
   where
-    go : (a : Option (List (List ℕ))) → answer_to p answers ≡ a → is_some a ≡ true → found_or_none a ≡ found_below packages paths directory (segments p)
+    go : (a : Option (List (List ℕ))) → answer_to q answers ≡ a → is_some a ≡ true → found_or_none a ≡ answer_below packages paths directory q
     go None e h = cc
-    go (Some below) e h = right p below e
+    go (Some below) e h = right q below e
 
-all_found : (answers : Answers) (packages : List ℕ → Bool) (paths : List (List ℕ)) (directory : List ℕ) → AreRight answers packages paths directory
-    → (ps : List (List ℕ)) → unanswered answers [] ps ≡ [] → flat_map (λ p. found_or_none (answer_to p answers)) ps ≡ flat_map (found_below packages paths directory) (each segments ps)
-all_found answers packages paths directory right [] e = refl
-all_found answers packages paths directory right (p ∷ ps) e = let h = first_answered answers p ps e in
-    rw (right_at answers packages paths directory right p h.0, all_found answers packages paths directory right ps h.1) refl
+-- what a pattern's question finds
+by_pattern : (packages : List ℕ → Bool) (paths : List (List ℕ)) (directory : List ℕ) (dirs : Bool) (p : List ℕ) → is_pattern p ≡ true
+    → answer_below packages paths directory (question dirs p) ≡ found_below packages (sought dirs packages paths) directory (segments p)
+by_pattern packages paths directory dirs p good = let h = has_its_pattern dirs p good in
+    λ i. found_below packages (sought (h.1 i) packages paths) directory (segments (h.0 i))
+
+all_found : (answers : Answers) (packages : List ℕ → Bool) (paths : List (List ℕ)) (directory : List ℕ) (dirs : Bool) → AreRight answers packages paths directory
+    → (ps : List (List ℕ)) → list_all is_pattern ps ≡ true → unanswered answers [] (each (question dirs) ps) ≡ []
+    → flat_map (λ q. found_or_none (answer_to q answers)) (each (question dirs) ps) ≡ flat_map (found_below packages (sought dirs packages paths) directory) (each segments ps)
+all_found answers packages paths directory dirs right [] good e = refl
+all_found answers packages paths directory dirs right (p ∷ ps) good e =
+    let h = first_answered answers (question dirs p) (each (question dirs) ps) e in
+    let both = and_parts (is_pattern p) (list_all is_pattern ps) good in
+    rw (right_at answers packages paths directory right (question dirs p) h.0 ∙ by_pattern packages paths directory dirs p both.0, all_found answers packages paths directory dirs right ps both.1 h.1) refl
 
 pub globs_find : GlobsFindFiles
-globs_find answers packages paths directory g right e =
-    in_order_sorted (filter (λ path. not (some_matches (each segments g.excludes) path)) (flat_map (λ p. found_or_none (answer_to p answers)) g.includes))
-    ∙ ap (λ xs. sorted_names (filter (λ path. not (some_matches (each segments g.excludes) path)) xs)) (all_found answers packages paths directory right g.includes e)
-    ∙ sym (found_by_patterns packages paths directory (each segments g.includes) (each segments g.excludes))
+globs_find answers packages paths directory g good right e =
+    in_order_sorted (filter (λ path. not (some_matches (each segments g.excludes) path)) (flat_map (λ q. found_or_none (answer_to q answers)) (questions g)))
+    ∙ ap (λ xs. sorted_names (filter (λ path. not (some_matches (each segments g.excludes) path)) xs)) (all_found answers packages paths directory g.directories right g.includes good e)
+    ∙ sym (found_by_patterns packages (sought g.directories packages paths) directory (each segments g.includes) (each segments g.excludes))

@@ -15,7 +15,7 @@ use Rattle.language.specs.World.{World, Here, on_heap, or_fault}
 use Rattle.grammar.specs.declared.kind.FileKind.TheVariants as k
 use Rattle.language.specs.Names.{first_named, package_functions}
 use Rattle.language.specs.Environment.{Env, Answers}
-use Rattle.language.specs.Globs.{Glob, answer_to, unanswered, found_or_none, answered, read_call, glob}
+use Rattle.language.specs.Globs.{Glob, questions, answer_to, unanswered, found_or_none, answered, read_call, glob}
 use Rattle.language.specs.Packages.{in_package, package_call}
 use Rattle.language.specs.Expressions.{Call, call_builtin, call_object, apply, Receiver, native, receiver, apply_method}
 use Rattle.language.specs.Laws.{KnowsMore, MoreBehind, with_answers, IsAsked}
@@ -69,15 +69,15 @@ module _ (env : Env) (more : Answers) (knows : KnowsMore env.globs more) where
   abbrev env' : Env
   env' = with_answers more env
 
-  answered_below : (patterns : List (List ℕ)) (g : Glob) → env.kind ≡ k.Build → unanswered env.globs [] g.includes ≡ patterns → (here : Here) (w : World)
-      → Below (IsAsked env) (answered patterns env.globs g here w) (answered (unanswered env'.globs [] g.includes) env'.globs g here w)
+  answered_below : (patterns : List (List ℕ)) (g : Glob) → env.kind ≡ k.Build → unanswered env.globs [] (questions g) ≡ patterns → (here : Here) (w : World)
+      → Below (IsAsked env) (answered patterns env.globs g here w) (answered (unanswered env'.globs [] (questions g)) env'.globs g here w)
   answered_below [] g b e here w =
-      rw (none_unanswered env.globs more knows g.includes e, same_paths env.globs more knows g.includes e) (same _ (search quiet))
-  answered_below (p ∷ ps) g b e here w = waiting (p ∷ ps) _ (asked env g.includes p ps b e)
+      rw (none_unanswered env.globs more knows (questions g) e, same_paths env.globs more knows (questions g) e) (same _ (search quiet))
+  answered_below (p ∷ ps) g b e here w = waiting (p ∷ ps) _ (asked env (questions g) p ps b e)
 
   glob_below : env.kind ≡ k.Build → (xs : List Val) (ns : Named) (here : Here) (w : World) → Below (IsAsked env) (glob env.globs xs ns here w) (glob env'.globs xs ns here w)
   unfolding glob
-  glob_below b xs ns here w = after (on_heap here (λ s. checked (read_call xs ns s) s) w) (search quiet) λ g u. answered_below (unanswered env.globs [] g.includes) g b refl here u
+  glob_below b xs ns here w = after (on_heap here (λ s. checked (read_call xs ns s) s) w) (search quiet) λ g u. answered_below (unanswered env.globs [] (questions g)) g b refl here u
 
   in_package_below : env.kind ≡ k.Build → (f : Builtin) (xs : List Val) (ns : Named) (here : Here) (w : World) → Below (IsAsked env) (in_package env f xs ns here w) (in_package env' f xs ns here w)
   in_package_below h b.PackageName [] [] here w = same _ (search quiet)

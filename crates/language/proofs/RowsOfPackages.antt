@@ -73,7 +73,7 @@ in_byte_order = refl
 
 -- the answers of some patterns in a package, and a BUILD file with the paths that it finds as its tags
 answers : Answers
-answers = (codes "*.c", texts ("x.c" ∷ "a.c" ∷ [])) ∷ (codes "**", texts ("BUILD" ∷ "x.c" ∷ "a.c" ∷ "d/m.h" ∷ "d/m1" ∷ [])) ∷ (codes "none", []) ∷ []
+answers = (codes "*.c", texts ("x.c" ∷ "a.c" ∷ [])) ∷ (codes "**", texts ("BUILD" ∷ "x.c" ∷ "a.c" ∷ "d/m.h" ∷ "d/m1" ∷ [])) ∷ (codes "none", []) ∷ (codes "s/* dirs", texts ("s/d" ∷ "s/x" ∷ [])) ∷ []
 
 globbed : String → Shown
 unfolding build outcome shown answers
@@ -118,6 +118,14 @@ globs : AllGlob
     ∷ ("glob(exclude = [])", at_build 25 1)
     ∷ ("glob(include = [], include = [])", at_build 25 1)
     ∷ ("glob(5, bogus = 1)", at_build 25 1)
+    ∷ ("glob([\"*.c\"], exclude_directories = 1)", tags (texts ("a.c" ∷ "x.c" ∷ [])))
+    ∷ ("glob([\"q\", \"*.c\"], exclude_directories = 0)", needs (texts ("q dirs" ∷ "*.c dirs" ∷ [])))
+    ∷ ("glob([\"s/*\"], [\"s/x\"], exclude_directories = 0)", tags (texts ("s/d" ∷ [])))
+    ∷ ("glob([], [], True, 0)", at_build 25 1)
+    ∷ ("glob([], exclude_directories = False)", at_build 5 1)
+    ∷ ("glob([\"//\"], exclude_directories = 2)", at_build 25 1)
+    ∷ ("glob([\"//\"], allow_empty = 1, exclude_directories = 2)", at_build 5 1)
+    ∷ ("glob([\"//\"], exclude_directories = 0)", at_build 21 1)
     ∷ [])
 unfolding globbed
 globs = refl

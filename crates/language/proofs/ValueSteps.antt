@@ -22,7 +22,7 @@ use Rattle.meaning.specs.Methods.{makes_texts, method}
 use Rattle.language.specs.World.{World, Block, Here, Ends, Runs, then_runs, ended, on_heap, tick, pure, with_block, without_block, ◌>>=◌}
 use Rattle.language.specs.Names.{is_native_name, first_named, package_functions, new_block, clause_names}
 use Rattle.language.specs.Environment.{Env, Answers}
-use Rattle.language.specs.Globs.{Glob, read_call, found, makes_paths, answered, unanswered, glob}
+use Rattle.language.specs.Globs.{Glob, read_call, questions, found, makes_paths, answered, unanswered, glob}
 use Rattle.language.specs.Packages.{in_package, if_build, package_call}
 use Rattle.language.specs.Loops.{Gathered, nothing_yet, one_more, one_entry, gather, over, locks, unlocks}
 use Rattle.language.specs.Expressions.{Call, between, both, operator_of, call_builtin, call_object, apply, Receiver, native, receiver, apply_method, value, values, each_value, entries, bound_value, aim, aims, comprehension, clauses, clause}
@@ -51,7 +51,7 @@ answered_sinks (p ∷ ps) answers g here w = waits_sink (p ∷ ps) _
 
 glob_sinks : (answers : Answers) (xs : List Val) (ns : Named) (here : Here) → Sinking (glob answers xs ns here)
 unfolding glob
-glob_sinks answers xs ns here w = also (heap_sinks here (λ s. checked (read_call xs ns s) s) (λ s. d_checked (read_call xs ns s) s) w) λ g u. answered_sinks (unanswered answers [] g.includes) answers g here u
+glob_sinks answers xs ns here w = also (heap_sinks here (λ s. checked (read_call xs ns s) s) (λ s. d_checked (read_call xs ns s) s) w) λ g u. answered_sinks (unanswered answers [] (questions g)) answers g here u
 
 in_package_sinks : (env : Env) (f : Builtin) (xs : List Val) (ns : Named) (here : Here) → Sinking (in_package env f xs ns here)
 in_package_sinks env b.PackageName xs ns here w = package_name_sinks env xs ns here w

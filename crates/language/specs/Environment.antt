@@ -11,7 +11,7 @@ use Rattle.language.specs.Modules.{body_at, all_bodies}
 use Rattle.language.specs.World.{World, Block, Names, Here, Runs, ◌>>=◌, pure, on_heap, ended}
 use Rattle.language.specs.Names.{names_at}
 
--- the paths that each pattern that has an answer finds in the package
+-- the paths that are found in the package by each question of a glob that has an answer
 abbrev pub Answers : Type 0
 Answers = List (List ℕ × List (List ℕ))
 

@@ -1,10 +1,11 @@
--- `glob(include, exclude = [], allow_empty = True)`.
+-- `glob(include, exclude = [], allow_empty = True, exclude_directories = 1)`.
 --
--- Tested in order: the arguments (25), their types (5), the patterns (21); then it waits for the includes that have no
--- answer yet; then the size (13), and an empty result that is not allowed (22).
-use Rattle.std.specs.Prelude.{ℕ, ◌&&◌, ◌||◌, Bool, true, false, not, nat_le, List, [], ◌∷◌, length, map, filter, flat_map, Option, Some, None, is_some, if◌then◌else◌, slice_get, codes}
+-- Tested in order: the arguments (25), their types (5), that `exclude_directories` is 0 or 1 (25), the patterns (21); then
+-- it waits for the includes that have no answer yet; then the size (13), and an empty result that is not allowed (22).
+use Rattle.std.specs.Prelude.{ℕ, ℤ, pos, ◌&&◌, ◌||◌, Bool, true, false, not, nat_le, List, [], ◌∷◌, length, map, filter, flat_map, Option, Some, None, is_some, if◌then◌else◌, slice_get, codes}
 use Rattle.std.specs.List.{list_all}
-use Rattle.globs.specs.Globs.{some_matches}
+use Rattle.std.specs.Ordering.{int_eq}
+use Rattle.globs.specs.Globs.{some_matches, question}
 use Rattle.labels.specs.Paths.{segments}
 use Rattle.pattern.specs.Patterns.{is_pattern}
 use Rattle.meaning.specs.declared.val.Val.{Val}
@@ -21,10 +22,13 @@ use Rattle.language.specs.Names.{or_else, has_name}
 use Rattle.language.specs.Environment.{Answers}
 use Rattle.language.specs.Arguments.{value_named}
 
--- ---- the arguments, plain or named
+-- ---- the arguments, plain or named; `exclude_directories` by its name only
+
+abbrev pub plain_parameters : List (List ℕ)
+plain_parameters = codes "include" ∷ codes "exclude" ∷ codes "allow_empty" ∷ []
 
 abbrev pub parameters : List (List ℕ)
-parameters = codes "include" ∷ codes "exclude" ∷ codes "allow_empty" ∷ []
+parameters = codes "include" ∷ codes "exclude" ∷ codes "allow_empty" ∷ codes "exclude_directories" ∷ []
 
 abbrev pub are_known : Named → List (List ℕ) → Bool
 are_known [] names = true
@@ -41,8 +45,8 @@ argument i name xs ns = or_else (slice_get xs i) (value_named name ns)
 
 abbrev pub are_arguments : List Val → Named → Bool
 are_arguments xs ns =
-    nat_le (length xs) (length parameters) && not (is_twice ns) && are_known ns parameters
-    && not (given_twice xs parameters ns) && is_some (argument 0 (codes "include") xs ns)
+    nat_le (length xs) (length plain_parameters) && not (is_twice ns) && are_known ns parameters
+    && not (given_twice xs plain_parameters ns) && is_some (argument 0 (codes "include") xs ns)
 
 -- ---- their types
 
@@ -68,17 +72,30 @@ truth_or other None = good other
 truth_or other (Some (v.Bool b)) = good b
 truth_or other (Some x) = bad 5
 
+abbrev pub int_or : ℤ → Option Val → Checked ℤ
+int_or other None = good other
+int_or other (Some (v.Int n)) = good n
+int_or other (Some x) = bad 5
+
+-- 1 leaves directories out, and 0 does not
+abbrev pub with_directories : ℤ → Checked Bool
+with_directories n = if int_eq n (pos 0) then good true else if int_eq n (pos 1) then good false else bad 25
+
 pub record Glob : Type 0 where
   pub includes : List (List ℕ)
   pub excludes : List (List ℕ)
   pub allow_empty : Bool
+  -- whether it finds directories too
+  pub directories : Bool
 
 abbrev pub typed : List Val → Named → Store → Checked Glob
 typed xs ns s =
     then_checked (texts_or_none (argument 0 (codes "include") xs ns) s) (λ includes.
     then_checked (texts_or_none (argument 1 (codes "exclude") xs ns) s) (λ excludes.
     then_checked (truth_or true (argument 2 (codes "allow_empty") xs ns)) (λ allow_empty.
-    good (record { includes = includes; excludes = excludes; allow_empty = allow_empty }))))
+    then_checked (int_or (pos 1) (value_named (codes "exclude_directories") ns)) (λ n.
+    then_checked (with_directories n) (λ directories.
+    good (record { includes = includes; excludes = excludes; allow_empty = allow_empty; directories = directories }))))))
 
 abbrev pub with_patterns : Glob → Checked Glob
 with_patterns g = if list_all is_pattern g.includes && list_all is_pattern g.excludes then good g else bad 21
@@ -89,11 +106,15 @@ read_call xs ns s = if are_arguments xs ns then then_checked (typed xs ns s) wit
 
 -- ---- the answer
 
+-- what is asked for the includes, in their order
+abbrev pub questions : Glob → List (List ℕ)
+questions g = map (question g.directories) g.includes
+
 abbrev pub answer_to : List ℕ → Answers → Option (List (List ℕ))
 answer_to pattern [] = None
 answer_to pattern (a ∷ answers) = if same_text pattern a.0 then Some a.1 else answer_to pattern answers
 
--- the patterns that have no answer, in order, each once
+-- the questions that have no answer, in order, each once
 abbrev pub unanswered : Answers → List (List ℕ) → List (List ℕ) → List (List ℕ)
 unanswered answers seen [] = []
 unanswered answers seen (p ∷ ps) = if is_some (answer_to p answers) || has_name p seen then unanswered answers seen ps else p ∷ unanswered answers (p ∷ seen) ps
@@ -104,7 +125,7 @@ found_or_none (Some paths) = paths
 
 -- the paths that some include finds and no exclude matches, in byte order, without repeats
 abbrev pub found : Answers → Glob → List (List ℕ)
-found answers g = in_order (λ path. path) (filter (λ path. not (some_matches (map segments g.excludes) path)) (flat_map (λ p. found_or_none (answer_to p answers)) g.includes))
+found answers g = in_order (λ path. path) (filter (λ path. not (some_matches (map segments g.excludes) path)) (flat_map (λ q. found_or_none (answer_to q answers)) (questions g)))
 
 -- a new list that may be changed
 abbrev pub makes_paths : Bool → List (List ℕ) → Does Store Val
@@ -116,4 +137,4 @@ answered [] answers g here = on_heap here (makes_paths g.allow_empty (found answ
 answered (p ∷ ps) answers g here = λ w. waits (p ∷ ps)
 
 unfoldable pub glob : Answers → List Val → Named → Here → Runs Val
-glob answers xs ns here = on_heap here (λ s. checked (read_call xs ns s) s) >>= λ g. answered (unanswered answers [] g.includes) answers g here
+glob answers xs ns here = on_heap here (λ s. checked (read_call xs ns s) s) >>= λ g. answered (unanswered answers [] (questions g)) answers g here

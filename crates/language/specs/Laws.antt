@@ -1,14 +1,15 @@
 -- Laws of the definitions.
-use Rattle.std.specs.Prelude.{◌≡◌, ◌≢◌, ◌≤◌, ℕ, Bool, List, [], ◌∷◌, ◌++◌, false, is_some, map, Some}
-use Rattle.std.specs.List.{AllByRecursion}
+use Rattle.std.specs.Prelude.{◌≡◌, ◌≢◌, ◌≤◌, ℕ, Bool, List, [], ◌∷◌, ◌++◌, true, false, is_some, map, Some}
+use Rattle.std.specs.List.{AllByRecursion, list_all}
 use Rattle.language.specs.Sorting.{Rises}
 use Rattle.module_values.specs.Values.{Target}
 use Rattle.language.specs.World.{World, Names, ended}
 use Rattle.language.specs.Names.{file_slot, names_at}
 use Rattle.meaning.specs.declared.val.Val.{Val}
 use Rattle.labels.specs.Paths.{segments}
-use Rattle.globs.specs.Globs.{found_below, glob_below}
-use Rattle.language.specs.Globs.{answer_to, Glob, unanswered, found}
+use Rattle.globs.specs.Globs.{sought, answer_below, glob_below}
+use Rattle.pattern.specs.Patterns.{is_pattern}
+use Rattle.language.specs.Globs.{answer_to, Glob, questions, unanswered, found}
 use Rattle.grammar.specs.declared.kind.FileKind.TheVariants as k
 use Rattle.language.specs.Environment.{Env, Answers}
 use Rattle.language.specs.Files.{Outcome, a_package, a_need, whole_file, evaluate}
@@ -38,7 +39,7 @@ abbrev pub AllDiffer : List (List ℕ) → Type 0
 AllDiffer [] = Unit {0}
 AllDiffer (p ∷ ps) = AllByRecursion (λ q. p ≢ q) ps × AllDiffer ps
 
--- some patterns, none of which has an answer, each once; and only a BUILD file waits for answers
+-- some questions, none of which has an answer, each once; and only a BUILD file waits for answers
 pub record IsAsked (env : Env) (patterns : List (List ℕ)) : Type 0 where
   pub in_build : env.kind ≡ k.Build
   pub some : patterns ≢ []
@@ -57,16 +58,17 @@ ModulesDoNotWait = (env : Env) → env.kind ≡ k.Bzl → IsFinished (evaluate e
 abbrev pub TargetsRise : Type 0
 TargetsRise = (env : Env) (targets : List Target) → evaluate env ≡ a_package targets → Rises (map (λ t. t.name) targets)
 
--- the answers are right below a directory: each is what the pattern finds there. `packages` tells which directories are
+-- the answers are right below a directory: each is what its question finds there. `packages` tells which directories are
 -- packages, and `paths` are those of all files
 abbrev pub AreRight : Answers → (List ℕ → Bool) → List (List ℕ) → List ℕ → Type 0
-AreRight answers packages paths directory = (p : List ℕ) (below : List (List ℕ)) → answer_to p answers ≡ Some below → below ≡ found_below packages paths directory (segments p)
+AreRight answers packages paths directory = (q : List ℕ) (below : List (List ℕ)) → answer_to q answers ≡ Some below → below ≡ answer_below packages paths directory q
 
--- by right answers to all its includes a call of `glob` finds what a glob finds among all files
+-- By right answers to all its questions a call of `glob`, whose includes are patterns, finds what a glob finds among all
+-- files, and with directories among them and the directories on the way to them.
 abbrev pub GlobsFindFiles : Type 0
-GlobsFindFiles = (answers : Answers) (packages : List ℕ → Bool) (paths : List (List ℕ)) (directory : List ℕ) (g : Glob) → AreRight answers packages paths directory
-    → unanswered answers [] g.includes ≡ []
-    → found answers g ≡ glob_below packages paths directory (map segments g.includes) (map segments g.excludes)
+GlobsFindFiles = (answers : Answers) (packages : List ℕ → Bool) (paths : List (List ℕ)) (directory : List ℕ) (g : Glob) → list_all is_pattern g.includes ≡ true → AreRight answers packages paths directory
+    → unanswered answers [] (questions g) ≡ []
+    → found answers g ≡ glob_below packages (sought g.directories packages paths) directory (map segments g.includes) (map segments g.excludes)
 
 -- a file's evaluation ends with no more steps than it began with
 abbrev pub StepsAreSpent : Type 0

@@ -32,6 +32,7 @@ leaf_stays files later (key.Lookup directory) v e = cc
 leaf_stays files later (key.Glob text) v e = cc
 leaf_stays files later (key.Module label) v e = cc
 leaf_stays files later (key.Package name) v e = cc
+leaf_stays files later (key.Under directory) v e = cc
 
 -- the same bytes
 abbrev same : List ℕ → List ℕ → Bool
@@ -135,6 +136,7 @@ put_reads files path text (key.Lookup directory) n = refl
 put_reads files path text (key.Glob walk) n = refl
 put_reads files path text (key.Module label) n = refl
 put_reads files path text (key.Package name) n = refl
+put_reads files path text (key.Under directory) n = refl
 
 pub del_reads : (files : Files) (path : List ℕ) (k : Key) → (touches path k → ⊥) → read (map_of.remove files path) k ≡ read files k
 del_reads files path (key.File q) n =
@@ -146,6 +148,7 @@ del_reads files path (key.Lookup directory) n = refl
 del_reads files path (key.Glob walk) n = refl
 del_reads files path (key.Module label) n = refl
 del_reads files path (key.Package name) n = refl
+del_reads files path (key.Under directory) n = refl
 
 change_reads : (files : Files) (c : Change) (k : Key) → (touches (path_of c) k → ⊥) → read (changed c files) k ≡ read files k
 change_reads files (put path text) k n = put_reads files path text k n

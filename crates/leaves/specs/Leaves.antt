@@ -17,6 +17,7 @@ is_leaf (key.Lookup directory) = false
 is_leaf (key.Glob text) = false
 is_leaf (key.Module label) = false
 is_leaf (key.Package name) = false
+is_leaf (key.Under directory) = false
 
 -- the names in a directory, as a value has them
 abbrev pub listed_of : Names → Listed
@@ -30,3 +31,4 @@ read files (key.Lookup directory) = None
 read files (key.Glob text) = None
 read files (key.Module label) = None
 read files (key.Package name) = None
+read files (key.Under directory) = None

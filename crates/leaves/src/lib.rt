@@ -22,6 +22,7 @@ pub fn is_leaf(key: &Key) -> bool
         Key::Glob(_) => false,
         Key::Module(_) => false,
         Key::Package(_) => false,
+        Key::Under(_) => false,
     }
 }
 
@@ -55,5 +56,6 @@ pub fn read_leaf(_alloc: Global, tree: &Tree, key: &Key) -> Result<Value, Memory
         Key::Glob(_) => unreachable!(),
         Key::Module(_) => unreachable!(),
         Key::Package(_) => unreachable!(),
+        Key::Under(_) => unreachable!(),
     }
 }

@@ -1,6 +1,6 @@
 -- A session and the journal so far, over one more line.
-use Rattle.std.proofs.Common.{◌≡◌, ℕ, ◌+◌, ◌≤◌, List, [], ◌∷◌, ◌++◌, length, refl, sym, ◌∙◌, ap, subst, arith, length-append}
-use Rattle.std.specs.Prelude.{Ok}
+use Rattle.std.proofs.Common.{◌≡◌, ℕ, ◌+◌, ◌≤◌, List, [], ◌∷◌, ◌++◌, length, refl, sym, ◌∙◌, ap, subst, arith, length-append, append_assoc}
+use Rattle.std.specs.Prelude.{Ok, Option, None}
 use Rattle.std.proofs.lemmas.List.{append-nil}
 use Rattle.filetree.specs.Files.{Files}
 use Rattle.functions.specs.Next.{next}
@@ -21,12 +21,13 @@ use Rattle.loader.specs.State.{State, start, Edit}
 use Rattle.loader.specs.Held.{Held, IsHistory, IsLawful, state_of, paths_of, files_at, paths_at}
 use Rattle.loader.specs.Answers.{line_state, state_after}
 use Rattle.loader.specs.Journal.{Asked}
-use Rattle.loader.specs.Effects.{Effect, nothing, edited, asked, line_effect, effects, edits_in, requests_in, Moves}
+use Rattle.loader.specs.Effects.{Effect, nothing, edited, asked, line_effect, effects, edits_in, and_later, requests_in, Evaluates, EvaluatesEach, Moves}
 use Rattle.loader.specs.Linked.{IsToldBy}
 use Rattle.loader.specs.Kept.{IsKept, IsJournalOf}
 use Rattle.loader.proofs.Histories.{history_before, history_of, last_files}
 use Rattle.loader.proofs.Calling.{past_of}
 use Rattle.loader.proofs.Telling.{told_edit, told_call}
+use Rattle.loader.proofs.Counts.{turns_append}
 
 effects_more : (s : State) (lines : List (List ℕ)) (line : List ℕ) → effects s (lines ++ line ∷ []) ≡ effects s lines ++ line_effect line (state_after s lines) ∷ []
 effects_more s [] line = refl
@@ -36,13 +37,44 @@ edits_more : (es : List Effect) (e : Effect) → edits_in (es ++ e ∷ []) ≡ e
 edits_more [] e = refl
 edits_more (nothing ∷ es) e = edits_more es e
 edits_more (edited edit ∷ es) e = ap (λ r. edit ∷ r) (edits_more es e)
-edits_more (asked request ∷ es) e = edits_more es e
+edits_more (asked request later ∷ es) e = edits_more es e
 
 requests_more : (es : List Effect) (e : Effect) → requests_in (es ++ e ∷ []) ≡ requests_in es ++ requests_in (e ∷ [])
 requests_more [] e = refl
 requests_more (nothing ∷ es) e = requests_more es e
 requests_more (edited edit ∷ es) e = requests_more es e
-requests_more (asked request ∷ es) e = ap (λ r. request ∷ r) (requests_more es e)
+requests_more (asked request later ∷ es) e =
+    ap (λ r. and_later request later ++ r) (requests_more es e) ∙ sym (append_assoc (and_later request later) (requests_in es) (requests_in (e ∷ [])))
+
+-- ---- evaluations of a session that began at version 0
+
+module _ {budget : ℕ} (files : ℕ → Files) (paths : ℕ → List (List ℕ)) where
+  -- one more is told
+  one_more : (a b : Held) → IsLawful a → a.began ≡ 0 → IsHistory files paths 0 a.edits → (request : Asked) (own : List Run) → Evaluates request a b own → turns_of own ≤ budget
+      → (requests : List Asked) (runs : List Run) → IsToldBy files paths budget a.graph requests runs → IsToldBy files paths budget b.graph (requests ++ request ∷ []) (runs ++ own)
+  one_more a b law began history request own e within requests runs t =
+      let from_began = subst (λ (n : ℕ). IsHistory files paths n a.edits) (sym began) history in
+      let present = last_files files paths a law.version from_began in
+      let calls = subst (λ (f : Files). Calls next (read f) request.roots a.graph b.graph (Ok own)) (sym present) e.3 in
+      let call = calls (past_of files paths a.graph request.roots) (record { at_entry = refl; of_roots = refl; lawful = law.lawful files paths from_began }) in
+      subst (λ (r : Asked). IsToldBy files paths budget b.graph (requests ++ r ∷ []) (runs ++ own)) (λ i. record { version = sym e.2 i; roots = request.roots })
+      (told_call files paths budget a.graph b.graph request.roots requests runs own t call within)
+
+  -- and two
+  each_more : (a b : Held) → IsLawful a → a.began ≡ 0 → IsHistory files paths 0 a.edits → (request : Asked) (later : Option Asked) (own : List Run) → EvaluatesEach request later a b own → turns_of own ≤ budget
+      → (requests : List Asked) (runs : List Run) → IsToldBy files paths budget a.graph requests runs → IsToldBy files paths budget b.graph (requests ++ and_later request later) (runs ++ own)
+  each_more a b law began history request None own e within requests runs t = one_more a b law began history request own e within requests runs t
+  each_more a b law began history request (Some later) own (mid, front, rest, lawful, is, e, f) within requests runs t =
+      let sum = ap turns_of is ∙ turns_append front rest in
+      let one = one_more a mid law began history request front e (omega (arith, within, sum)) requests runs t in
+      let two = one_more mid b lawful (e.0 ∙ began) (subst (λ (x : List Edit). IsHistory files paths 0 x) (sym e.1) history) later rest f (omega (arith, within, sum)) (requests ++ request ∷ []) (runs ++ front) one in
+      subst (λ (rs : List Asked). IsToldBy files paths budget b.graph rs (runs ++ own)) (append_assoc requests (request ∷ []) (later ∷ []))
+      (subst (λ (xs : List Run). IsToldBy files paths budget b.graph ((requests ++ request ∷ []) ++ later ∷ []) xs) (append_assoc runs front rest ∙ ap (λ x. runs ++ x) (sym is)) two)
+
+-- the session's history stays
+each_began : (a b : Held) (own : List Run) (request : Asked) (later : Option Asked) → EvaluatesEach request later a b own → (b.began ≡ a.began) × (b.edits ≡ a.edits)
+each_began a b own request None e = (e.0, e.1)
+each_began a b own request (Some later) (mid, front, rest, lawful, is, e, f) = (f.0 ∙ e.0, f.1 ∙ e.1)
 
 module _ (budget : ℕ) (h h' : Held) (lines : List (List ℕ)) (runs own : List Run) (line : List ℕ) (kept : IsKept budget h lines runs) (law : IsLawful h') (within : turns_of own ≤ budget) where
   abbrev so_far : List Effect
@@ -93,32 +125,24 @@ module _ (budget : ℕ) (h h' : Held) (lines : List (List ℕ)) (runs own : List
 
       rs : requests_in all ≡ requests_in so_far
       rs = ap requests_in split ∙ requests_more so_far (edited edit) ∙ append-nil (requests_in so_far)
-  by_effect (asked request) q m = record {
+  by_effect (asked request later) q m = record {
     lawful = law;
-    began = m.0 ∙ kept.began;
-    edits = m.1 ∙ kept.edits ∙ sym es;
+    began = (each_began h h' own request later m).0 ∙ kept.began;
+    edits = (each_began h h' own request later m).1 ∙ kept.edits ∙ sym es;
     told = λ files paths history.
-        let before = subst (λ (x : List Edit). IsHistory files paths 0 x) m.1 history in
-        let t = kept.told files paths before in
-        let from_began = subst (λ (b : ℕ). IsHistory files paths b h.edits) (sym kept.began) before in
-        let present = last_files files paths h kept.lawful.version from_began in
-        let calls = subst (λ (f : Files). Calls next (read f) request.roots h.graph h'.graph (Ok own)) (sym present) m.3 in
-        let call = calls (past_of files paths h.graph request.roots) (record { at_entry = refl; of_roots = refl; lawful = kept.lawful.lawful files paths from_began }) in
+        let before = subst (λ (x : List Edit). IsHistory files paths 0 x) (each_began h h' own request later m).1 history in
         subst (λ (rs : List Asked). IsToldBy files paths budget h'.graph rs (runs ++ own)) (sym rs)
-        (told_call files paths budget h.graph h'.graph request.roots (requests_in so_far) runs own t call within);
+        (each_more files paths h h' kept.lawful kept.began before request later own m within (requests_in so_far) runs (kept.told files paths before));
   }
     where
-      split : all ≡ so_far ++ asked request ∷ []
+      split : all ≡ so_far ++ asked request later ∷ []
       split = effects_more start lines line ∙ ap (λ e. so_far ++ e ∷ []) q
 
       es : edits_in all ≡ edits_in so_far
-      es = ap edits_in split ∙ edits_more so_far (asked request) ∙ append-nil (edits_in so_far)
+      es = ap edits_in split ∙ edits_more so_far (asked request later) ∙ append-nil (edits_in so_far)
 
-      same : request ≡ record { version = h.graph.version; roots = request.roots }
-      same = λ i. record { version = m.2 i; roots = request.roots }
-
-      rs : requests_in all ≡ requests_in so_far ++ (record { version = h.graph.version; roots = request.roots }) ∷ []
-      rs = ap requests_in split ∙ requests_more so_far (asked request) ∙ ap (λ x. requests_in so_far ++ x ∷ []) same
+      rs : requests_in all ≡ requests_in so_far ++ and_later request later
+      rs = ap requests_in split ∙ requests_more so_far (asked request later) ∙ ap (λ x. requests_in so_far ++ x) (append-nil (and_later request later))
 
   -- one more line
   pub kept_line : state_of h ≡ state_after start lines → Moves (line_effect line (state_of h)) h h' own → IsKept budget h' (lines ++ line ∷ []) (runs ++ own)

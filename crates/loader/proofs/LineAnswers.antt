@@ -37,7 +37,7 @@ same_state old new edits version = ap (λ h. record { files = files_of (record {
 
 -- one that asks something, where the session was not moved before
 pub asking_line : (whole : List ℕ) (request : Request) (old mid new : Held) (text line : List ℕ) (runs : List Run) → is_too_long whole ≡ false → option_and_then command_of (data_of whole) ≡ Some (ask request) → mid ≡ old
-    → Tells (IsRequestAnswer request (files_of mid)) text → line ≡ text ++ 10 ∷ [] → new.edits ≡ mid.edits → new.graph.version ≡ mid.graph.version → Moves (request_effect request mid.graph.version) mid new runs
+    → Tells (IsRequestAnswer request (files_of mid)) text → line ≡ text ++ 10 ∷ [] → new.edits ≡ mid.edits → new.graph.version ≡ mid.graph.version → Moves (request_effect request (state_of mid)) mid new runs
     → AnswersLine whole old new line runs
 asking_line whole request old mid new text line runs short holds same tells is edits version moves =
     subst (λ (h : Held). AnswersLine whole h new line runs) same

@@ -6,10 +6,11 @@ use Rattle.lines.specs.Lines.{lines_of, IsWhole, is_too_long}
 use Rattle.lines.proofs.Cuts.{whole_append}
 use Rattle.filetree.specs.Files.{Files}
 use Rattle.labels.specs.Labels.{Target}
+use Rattle.package_names.specs.Below.{packages_below}
 use Rattle.packages.proofs.OneHeld.{one_module_held, one_package_held}
 use Rattle.answers.specs.Answers.{packages_data}
 use Rattle.serde_json.specs.Data.{Data}
-use Rattle.commands.specs.Commands.{Command, change, ask, Request, find, load, module_of, data_of, command_of}
+use Rattle.commands.specs.Commands.{Command, change, ask, Request, find, load, module_of, under, data_of, command_of}
 use Rattle.commands.specs.Refusals.{request_refusal, module_label}
 use Rattle.loader.specs.State.{State, start}
 use Rattle.loader.specs.Answers.{package_shown, module_shown, IsPackageShown, ArePackagesShown, IsModuleShown, IsValueOf, IsUnlessRefused, IsAnswerTo, IsAnswerIf, IsAnswerOf, AreAnswers, line_state, state_after, answer_text, texts}
@@ -36,6 +37,7 @@ module _ (files : Files) where
   one_value (find name) d e a b = a ∙ sym b
   one_value (load names) d e a b = a.2 ∙ ap packages_data (each_package names a.0 b.0 a.1 b.1) ∙ sym b.2
   one_value (module_of label) d e a b = one_module (module_label label) d e a b
+  one_value (under directory) d e a b = a.2 ∙ ap packages_data (each_package (packages_below files directory) a.0 b.0 a.1 b.1) ∙ sym b.2
 
 one_unless_refused : (o : Option ℕ) (P : Data → Type 0) (d e : Data) → (P d → P e → d ≡ e) → IsUnlessRefused o P d → IsUnlessRefused o P e → d ≡ e
 one_unless_refused (Some n) P d e one a b = a ∙ sym b

@@ -3,11 +3,14 @@ use Rattle.std.proofs.Common.{◌≡◌, ℕ, List, [], ◌∷◌, map, length, 
 use Rattle.std.specs.Prelude.{Result, Ok, Err, IfOk, Option, option_map, codes, false, nat_lt, nat_eq}
 use Rattle.evaluation.specs.Value.{In, first, after as further, Grounded, is_leaf, has_run, HasValue, leaf, run}
 use Rattle.filetree.specs.Files.{Files}
-use Rattle.functions.specs.Lookups.{build_of}
+use Rattle.walks.specs.Lookups.{build_of}
+use Rattle.package_names.specs.Below.{packages_below}
 use Rattle.functions.specs.Next.{next}
 use Rattle.leaves.specs.Leaves.{read}
 use Rattle.leaves.proofs.LeafReads.{leaf_stays}
-use Rattle.functions.proofs.LookupValue.{lookup_grounded}
+use Rattle.walks.proofs.LookupValue.{lookup_grounded}
+use Rattle.package_names.proofs.Grounds.{packages_held as names_held}
+use Rattle.package_names.proofs.Names.{package_names}
 use Rattle.evaluation.proofs.Plain.{one_value}
 use Rattle.keys.specs.Cycles.{cycle}
 use Rattle.keys.proofs.CycleLaws.{turned}
@@ -22,7 +25,7 @@ use Rattle.round.specs.Call.{Calls, IsHistory as IsPast}
 use Rattle.round.specs.declared.stop.Stop.{Stop}
 use Rattle.loader.specs.Held.{Held, IsHistory, IsLawful, files_of}
 use Rattle.loader.specs.Answers.{one_member, build_text, ArePackagesShown, IsModuleShown, IsValueOf, IsUnlessRefused, IsRequestAnswer, Tells}
-use Rattle.loader.specs.Effects.{AreHeld, StopsAfter, module_roots}
+use Rattle.loader.specs.Effects.{AreHeld, StopsAfter, module_roots, package_roots, request_roots, later_roots}
 use Rattle.loader.specs.Told.{package_told, module_told}
 use Rattle.loader.specs.State.{Edit, one, batch, Refusal, plain, files_refusal, changed_files}
 use Rattle.edits.specs.Edits.{refusal_at}
@@ -35,7 +38,7 @@ use Rattle.answers.specs.Answers.{packages_data}
 use Rattle.packages.proofs.Held.{packages_hold, modules_hold}
 use Rattle.std.proofs.lemmas.Bool.{and_parts}
 use Rattle.std.specs.List.{list_all, starts_with}
-use Rattle.commands.specs.Commands.{Request, find, load, module_of}
+use Rattle.commands.specs.Commands.{Request, find, load, module_of, under}
 use Rattle.commands.specs.Refusals.{request_refusal, load_refusal, module_label, if_module, refusal_without}
 use Rattle.keys.specs.declared.value.BuildName.{BuildName}
 use Rattle.keys.specs.declared.value.BuildName.TheVariants.{BuildBazel, Build}
@@ -93,7 +96,7 @@ module _ (h : Held) (law : IsLawful h) (tree : Files) (is : tree ≡ files_of h)
 
 -- the value of a look-up
 pub build_value : (files : Files) (name : List ℕ) → HasValue next (read files) cycle (key.Lookup name) (value.Lookup (build_of files name))
-build_value files name = grounded_value files (lookup_grounded files name)
+build_value files name = grounded_value files (lookup_grounded next (λ d answers. refl) files name)
 
 -- the answer to a find, from what is held of its look-up
 pub find_told : (files : Files) (name : List ℕ) (roots : List Key) (graph : Recorded) (found : Option BuildName) (d : Data)
@@ -136,6 +139,25 @@ pub load_told : (files : Files) (names : List (List ℕ)) (roots : List Key) (gr
 load_told files names roots graph d good accepted only is held = (
   map (λ k. package_told k (present (record_at graph k))) (map (λ n. key.Package n) names),
   packages_held files graph names good (load_accepted names accepted) (subst (λ (ks : List Key). AreHeld files ks graph) only held),
+  is ∙ ap (λ (ks : List Key). packages_data (map (λ k. package_told k (present (record_at graph k))) ks)) only,
+)
+
+-- the names of the packages at and below a directory, from what is held of its key
+pub names_told : (files : Files) (directory : List ℕ) (roots : List Key) (graph : Recorded) (found : List (List ℕ)) → HasPaths files
+    → ((d : List ℕ) (names : List (List ℕ)) → roots ≡ key.Under d ∷ [] → present (record_at graph (key.Under d)) ≡ Some (value.Paths names) → found ≡ names)
+    → roots ≡ key.Under directory ∷ [] → AreHeld files roots graph → found ≡ packages_below files directory
+names_told files directory roots graph found good by only held =
+    let there = held (key.Under directory) (subst (In (key.Under directory)) (sym only) first) in
+    let means = grounded_value files (names_held next files (λ d answers. refl) (lookup_grounded next (λ d answers. refl) files) good directory) in
+    let same : there.0 ≡ value.Paths (packages_below files directory) = one_value next (read files) cycle turned there.1.1 means.1 in
+    by directory (packages_below files directory) only (there.2 ∙ ap (λ (v : Value). Some v) same)
+
+-- the answer with these packages, from what is held of them
+pub under_told : (files : Files) (directory : List ℕ) (roots : List Key) (graph : Recorded) (d : Data) → HasPaths files
+    → roots ≡ package_roots (packages_below files directory) → d ≡ packages_data (map (λ k. package_told k (present (record_at graph k))) roots) → AreHeld files roots graph → IsValueOf (under directory) files d
+under_told files directory roots graph d good only is held = (
+  map (λ k. package_told k (present (record_at graph k))) (map (λ n. key.Package n) (packages_below files directory)),
+  packages_held files graph (packages_below files directory) good (package_names files good directory) (subst (λ (ks : List Key). AreHeld files ks graph) only held),
   is ∙ ap (λ (ks : List Key). packages_data (map (λ k. package_told k (present (record_at graph k))) ks)) only,
 )
 

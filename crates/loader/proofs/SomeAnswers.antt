@@ -3,12 +3,13 @@ use Rattle.std.proofs.Common.{refl, ℕ, List, [], ◌∷◌, Bool, true, false}
 use Rattle.std.specs.Prelude.{Option, Some, None, option_and_then}
 use Rattle.lines.specs.Lines.{is_too_long}
 use Rattle.filetree.specs.Files.{Files}
-use Rattle.functions.specs.Lookups.{build_of}
+use Rattle.walks.specs.Lookups.{build_of}
+use Rattle.package_names.specs.Below.{packages_below}
 use Rattle.labels.specs.Labels.{Target}
 use Rattle.packages.proofs.SomeHeld.{some_module_held, some_package_held}
 use Rattle.answers.specs.Answers.{packages_data}
 use Rattle.serde_json.specs.Data.{Data}
-use Rattle.commands.specs.Commands.{Command, change, ask, Request, find, load, module_of, data_of, command_of}
+use Rattle.commands.specs.Commands.{Command, change, ask, Request, find, load, module_of, under, data_of, command_of}
 use Rattle.commands.specs.Refusals.{request_refusal, refusal_without, module_label}
 use Rattle.std.specs.Prelude.{codes}
 use Rattle.loader.specs.State.{State, refusal_of}
@@ -35,6 +36,7 @@ request_answered : (files : Files) (request : Request) → (d : Data) × IsUnles
 request_answered files (find name) = unless_refused (request_refusal (find name)) (IsValueOf (find name) files) (one_member (codes "build") (build_text (build_of files name))) refl
 request_answered files (load names) = let there = packages_there files names in unless_refused (request_refusal (load names)) (IsValueOf (load names) files) (packages_data there.0) (there.0, there.1, refl)
 request_answered files (module_of label) = module_there files (module_label label) (IsValueOf (module_of label) files) (λ d is. is)
+request_answered files (under directory) = let there = packages_there files (packages_below files directory) in unless_refused (request_refusal (under directory)) (IsValueOf (under directory) files) (packages_data there.0) (there.0, there.1, refl)
 
 command_answered : (command : Command) (s : State) → (d : Data) × IsAnswerTo command s d
 command_answered (change edit) s = (edit_answer s (refusal_of edit s), refl)

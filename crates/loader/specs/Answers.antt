@@ -7,14 +7,15 @@ use Rattle.keys.specs.declared.value.BuildName.TheVariants.{BuildBazel, Build}
 use Rattle.labels.specs.Labels.{Target}
 use Rattle.keys.specs.declared.value.Value.{Value}
 use Rattle.keys.specs.declared.value.Value.TheVariants as value
-use Rattle.functions.specs.Lookups.{build_of}
+use Rattle.walks.specs.Lookups.{build_of}
+use Rattle.package_names.specs.Below.{packages_below}
 use Rattle.packages.specs.Loaded.{HoldsPackage, HoldsModule}
 use Rattle.answers.specs.Answers.{package_data, faulty_package, packages_data, fault_data, cycle_data, module_data, faulty_module}
 use Rattle.serde_json.specs.Data.{Data, null, string, number, unsigned, object, no_members, member}
 use Rattle.serde_json.specs.Written.{compact_text}
 use Rattle.loader.specs.State.{State, Edit, Refusal, plain, at_change, refusal_of, changed}
 use Rattle.commands.specs.Refusals.{request_refusal, module_label}
-use Rattle.commands.specs.Commands.{Command, change, ask, Request, find, load, module_of, data_of, command_of}
+use Rattle.commands.specs.Commands.{Command, change, ask, Request, find, load, module_of, under, data_of, command_of}
 
 abbrev pub one_member : List ℕ → Data → Data
 one_member key d = object (member key d no_members)
@@ -44,7 +45,7 @@ abbrev pub package_shown : List ℕ → Value → Data
 package_shown name (value.File text) = null
 package_shown name (value.Listing names) = null
 package_shown name (value.Lookup build) = null
-package_shown name (value.Glob paths) = null
+package_shown name (value.Paths paths) = null
 package_shown name (value.Module m) = null
 package_shown name (value.Package targets) = package_data name targets
 package_shown name (value.Fault f) = faulty_package name (fault_data f.code f.path f.line)
@@ -55,7 +56,7 @@ abbrev pub module_shown : Value → Data
 module_shown (value.File text) = null
 module_shown (value.Listing names) = null
 module_shown (value.Lookup build) = null
-module_shown (value.Glob paths) = null
+module_shown (value.Paths paths) = null
 module_shown (value.Module m) = module_data m.body
 module_shown (value.Package targets) = null
 module_shown (value.Fault f) = faulty_module (fault_data f.code f.path f.line)
@@ -82,6 +83,7 @@ abbrev pub IsValueOf : Request → Files → Data → Type 0
 IsValueOf (find name) files d = d ≡ one_member (codes "build") (build_text (build_of files name))
 IsValueOf (load names) files d = (ds : List Data) × ArePackagesShown files names ds × (d ≡ packages_data ds)
 IsValueOf (module_of label) files d = IsModuleShown files (module_label label) d
+IsValueOf (under directory) files d = (ds : List Data) × ArePackagesShown files (packages_below files directory) ds × (d ≡ packages_data ds)
 
 abbrev pub IsUnlessRefused : Option ℕ → (Data → Type 0) → Data → Type 0
 IsUnlessRefused (Some n) P d = d ≡ refused n

@@ -1,9 +1,10 @@
--- What a line does: nothing to files and graph, an accepted edit, or a request that is evaluated.
-use Rattle.std.specs.Prelude.{◌≡◌, ℕ, List, [], ◌∷◌, ◌++◌, map, Option, Some, None, option_and_then, Ok, if◌then◌else◌}
+-- What a line does: nothing to files and graph, an accepted edit, or a request that is evaluated, once or twice.
+use Rattle.std.specs.Prelude.{◌≡◌, ◌⊎◌, ℕ, List, [], ◌∷◌, ◌++◌, map, Option, Some, None, option_and_then, option_map, Ok, if◌then◌else◌}
 use Rattle.evaluation.specs.Graph.{Marks}
 use Rattle.evaluation.specs.Value.{HasValue, In}
 use Rattle.labels.specs.Labels.{Target, label_text}
 use Rattle.filetree.specs.Files.{Files}
+use Rattle.package_names.specs.Below.{packages_below}
 use Rattle.functions.specs.Next.{next}
 use Rattle.leaves.specs.Leaves.{read}
 use Rattle.keys.specs.Cycles.{cycle}
@@ -17,34 +18,61 @@ use Rattle.node.specs.Laws.{IsLawfulFor}
 use Rattle.open_nodes.specs.Truths.{Past, IsAfter}
 use Rattle.round.specs.Call.{Calls}
 use Rattle.loader.specs.State.{State, Edit, Refusal, refusal_of}
-use Rattle.loader.specs.Held.{Held, files_of, paths_of}
+use Rattle.loader.specs.Held.{Held, IsLawful, files_of, paths_of}
 use Rattle.commands.specs.Refusals.{request_refusal, module_label}
-use Rattle.commands.specs.Commands.{Command, change, ask, Request, find, load, module_of, data_of, command_of}
+use Rattle.commands.specs.Commands.{Command, change, ask, Request, find, load, module_of, under, data_of, command_of}
 use Rattle.loader.specs.Answers.{line_state}
 use Rattle.loader.specs.Journal.{Asked}
 
 pub data Effect : Type 0 where
   nothing : Effect
   edited : Edit → Effect
-  asked : Asked → Effect
+  asked : Asked → Option Asked → Effect
 
 abbrev pub module_roots : Option Target → List Key
 module_roots None = []
 module_roots (Some t) = key.Module (label_text t) ∷ []
 
--- the keys that a request asks for: of `find` a look-up, of `load` a package for each name, of `module` the module
+abbrev pub package_roots : List (List ℕ) → List Key
+package_roots names = map (λ name. key.Package name) names
+
+-- the keys that a request asks for: of `find` a look-up, of `load` a package for each name, of `module` the module, of
+-- `under` the names of all packages at and below the directory
 abbrev pub request_roots : Request → List Key
 request_roots (find name) = key.Lookup name ∷ []
-request_roots (load names) = map (λ name. key.Package name) names
+request_roots (load names) = package_roots names
 request_roots (module_of label) = module_roots (module_label label)
+request_roots (under directory) = key.Under directory ∷ []
+
+-- the keys that it asks for then: of `under` those packages
+abbrev pub later_roots : Request → Files → Option (List Key)
+later_roots (find name) files = None
+later_roots (load names) files = None
+later_roots (module_of label) files = None
+later_roots (under directory) files = Some (package_roots (packages_below files directory))
+
+abbrev pub last_roots : List Key → Option (List Key) → List Key
+last_roots roots None = roots
+last_roots roots (Some later) = later
+
+-- the keys of which it tells
+abbrev pub told_roots : Request → Files → List Key
+told_roots request files = last_roots (request_roots request) (later_roots request files)
 
 abbrev pub unless_refused : Option ℕ → Effect → Effect
 unless_refused (Some n) effect = nothing
 unless_refused None effect = effect
 
+abbrev pub at_version : ℕ → List Key → Asked
+at_version version roots = record { version = version; roots = roots }
+
+-- its first evaluation, and the second where it has one
+abbrev pub evaluations : Request → State → Effect
+evaluations request s = asked (at_version s.version (request_roots request)) (option_map (at_version s.version) (later_roots request s.files))
+
 -- a refused request is not evaluated
-abbrev pub request_effect : Request → ℕ → Effect
-request_effect request version = unless_refused (request_refusal request) (asked (record { version = version; roots = request_roots request }))
+abbrev pub request_effect : Request → State → Effect
+request_effect request s = unless_refused (request_refusal request) (evaluations request s)
 
 abbrev pub edit_effect : Edit → Option Refusal → Effect
 edit_effect edit None = edited edit
@@ -52,7 +80,7 @@ edit_effect edit (Some r) = nothing
 
 abbrev pub command_effect : Command → State → Effect
 command_effect (change edit) s = edit_effect edit (refusal_of edit s)
-command_effect (ask request) s = request_effect request s.version
+command_effect (ask request) s = request_effect request s
 
 abbrev pub effect_if : Option Command → State → Effect
 effect_if None s = nothing
@@ -71,22 +99,35 @@ abbrev pub edits_in : List Effect → List Edit
 edits_in [] = []
 edits_in (nothing ∷ effects) = edits_in effects
 edits_in (edited edit ∷ effects) = edit ∷ edits_in effects
-edits_in (asked request ∷ effects) = edits_in effects
+edits_in (asked request later ∷ effects) = edits_in effects
 
--- the requests that are evaluated
+abbrev pub and_later : Asked → Option Asked → List Asked
+and_later request None = request ∷ []
+and_later request (Some later) = request ∷ later ∷ []
+
+-- the evaluations of requests
 abbrev pub requests_in : List Effect → List Asked
 requests_in [] = []
 requests_in (nothing ∷ effects) = requests_in effects
 requests_in (edited edit ∷ effects) = requests_in effects
-requests_in (asked request ∷ effects) = request ∷ requests_in effects
+requests_in (asked request later ∷ effects) = and_later request later ++ requests_in effects
+
+-- one evaluation: the law of a call holds on the graph, and nothing else changes
+abbrev pub Evaluates : Asked → Held → Held → List Run → Type 0
+Evaluates request old new runs = (new.began ≡ old.began) × (new.edits ≡ old.edits) × (request.version ≡ old.graph.version) × Calls next (read (files_of old)) request.roots old.graph new.graph (Ok runs)
+
+-- one evaluation, or two, the second from where the first ends
+abbrev pub EvaluatesEach : Asked → Option Asked → Held → Held → List Run → Type 0
+EvaluatesEach request None old new runs = Evaluates request old new runs
+EvaluatesEach request (Some later) old new runs =
+    (mid : Held) × (first rest : List Run) × IsLawful mid × (runs ≡ first ++ rest) × Evaluates request old mid first × Evaluates later mid new rest
 
 -- what an effect makes of a session, with these runs
 abbrev pub Moves : Effect → Held → Held → List Run → Type 0
 Moves nothing old new runs = (new ≡ old) × (runs ≡ [])
 -- what the edit's paths reach is marked in the graph
 Moves (edited edit) old new runs = (runs ≡ []) × (new.began ≡ old.began) × (new.edits ≡ old.edits ++ edit ∷ []) × Marks (record_at old.graph) (record_at new.graph) (IsTouched (paths_of edit))
--- the law of a call holds on the graph
-Moves (asked request) old new runs = (new.began ≡ old.began) × (new.edits ≡ old.edits) × (request.version ≡ old.graph.version) × Calls next (read (files_of old)) request.roots old.graph new.graph (Ok runs)
+Moves (asked request later) old new runs = EvaluatesEach request later old new runs
 
 -- each of these keys has a value at the files, and it is held
 abbrev pub AreHeld : Files → List Key → Recorded → Type 0
@@ -95,3 +136,13 @@ AreHeld files keys graph = (k : Key) → In k keys → (v : Value) × HasValue n
 -- after a stop the graph is lawful for each history for which it was, no record is lost, and none that was settled has changed
 abbrev pub StopsAfter : List Key → Held → Held → Type 0
 StopsAfter roots old new = (past : Past (read (files_of old))) → past.entry ≡ old.graph → past.roots ≡ roots → IsLawfulFor next past.reads past.edits old.graph → IsAfter next (read (files_of old)) past new.graph
+
+-- after a stop of the first evaluation, or of a second one after the first went well
+abbrev pub StopsIn : List Key → Option (List Key) → Held → Held → Type 0
+StopsIn roots None old new = StopsAfter roots old new
+StopsIn roots (Some later) old new =
+    StopsAfter roots old new ⊎ ((mid : Held) × (runs : List Run) × Evaluates (at_version old.graph.version roots) old mid runs × IsLawful mid × StopsAfter later mid new)
+
+-- after a stop of a request
+abbrev pub StopsRequest : Request → Held → Held → Type 0
+StopsRequest request old new = StopsIn (request_roots request) (later_roots request (files_of old)) old new

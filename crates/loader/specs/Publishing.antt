@@ -7,7 +7,7 @@ use Rattle.keys.specs.declared.key.Key.TheVariants as key
 use Rattle.node.specs.Graphs.{Recorded, record_at, present}
 use Rattle.serde_json.specs.Data.{Data}
 use Rattle.serde_json.specs.Written.{compact_text}
-use Rattle.commands.specs.Commands.{Request, find, load, module_of}
+use Rattle.commands.specs.Commands.{Request, find, load, module_of, under}
 use Rattle.commands.specs.Refusals.{request_refusal}
 use Rattle.shelf.specs.declared.publish.Publish.{Publish}
 use Rattle.shelf.specs.declared.keeper.Keeper.{Keeper}
@@ -41,6 +41,7 @@ abbrev pub names_loaded : Request → Option (List (List ℕ))
 names_loaded (find name) = None
 names_loaded (load names) = Some names
 names_loaded (module_of label) = None
+names_loaded (under directory) = None
 
 abbrev pub names_unless : Option ℕ → Option (List (List ℕ)) → Option (List (List ℕ))
 names_unless (Some n) names = None

@@ -12,6 +12,7 @@ mod serving;
 mod session;
 mod shown;
 mod told;
+mod turns;
 mod workers;
 mod written;
 

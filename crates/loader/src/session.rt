@@ -8,13 +8,14 @@ ghost use Rattle.leaves.specs.Leaves.{read};
 ghost use Rattle.open_nodes.specs.Counted.{turns_of};
 ghost use Rattle.round.specs.Call.{Calls};
 ghost use Rattle.loader.specs.Answers as answers;
-ghost use Rattle.loader.specs.Effects.{AreHeld, Moves, StopsAfter, request_effect, request_roots};
+ghost use Rattle.loader.specs.Effects.{AreHeld, Moves, StopsAfter, StopsRequest, evaluations, request_effect, told_roots};
 ghost use Rattle.loader.specs.State as state;
 ghost use Rattle.loader.specs.Held.{state_of, files_of, paths_of, IsLawful};
 ghost use Rattle.commands.specs.Seen.{edit_seen, request_seen};
 
 use crate::reply::Reply;
-use crate::told::{roots_of, told};
+use crate::told::{later_roots, roots_of, told};
+use crate::turns::{joined, turns_left};
 use crate::workers::evaluate_with;
 use crate::written::refused;
 use commands::{Request, refusal};
@@ -121,9 +122,9 @@ impl Session {
     /// request is answered as from nothing.
     pub fn request(&mut self, request: &Request<'_>, budget: u64) -> Result<Reply, Stop>
         ensures text { IfOk result (λ reply. answers.Tells (answers.IsRequestAnswer (request_seen request.now) (files_of self.old)) (string_bytes reply.text)) }
-        ensures moves { IfOk result (λ reply. Moves (request_effect (request_seen request.now) self.old.graph.version) self.old self.new reply.runs.items) }
+        ensures moves { IfOk result (λ reply. Moves (request_effect (request_seen request.now) (state_of self.old)) self.old self.new reply.runs.items) }
         ensures turns { IfOk result (λ reply. turns_of reply.runs.items ≤ budget) }
-        ensures stopped { OnErr result (StopsAfter (request_roots (request_seen request.now)) self.old self.new) }
+        ensures stopped { OnErr result (StopsRequest (request_seen request.now) self.old self.new) }
         ensures history { (self.new.began ≡ self.old.began) × (self.new.edits ≡ self.old.edits) }
         ensures version { self.new.graph.version ≡ self.old.graph.version }
         ensures lawful { IsLawful self.new }
@@ -134,8 +135,7 @@ impl Session {
                 runs: Vec::new(self.alloc),
             });
         }
-        let roots = roots_of(self.alloc, request)?;
-        let runs = self.settle(roots.as_slice(), budget)?;
+        let (roots, runs) = self.evaluated(request, budget)?;
         let text = told(self.alloc, &self.graph, request, roots.as_slice())?;
         Ok(Reply { text, runs })
     }
@@ -154,9 +154,9 @@ impl Session {
         ensures hands { IfOk result (λ done. length done.0.items ≡ length hands.items) }
         ensures counted { IfOk result (λ done. total R.turns done.0.items ≡ total R.turns hands.items + turns_of done.1.runs.items) }
         ensures text { IfOk result (λ done. answers.Tells (answers.IsRequestAnswer (request_seen request.now) (files_of self.old)) (string_bytes done.1.text)) }
-        ensures moves { IfOk result (λ done. Moves (request_effect (request_seen request.now) self.old.graph.version) self.old self.new done.1.runs.items) }
+        ensures moves { IfOk result (λ done. Moves (request_effect (request_seen request.now) (state_of self.old)) self.old self.new done.1.runs.items) }
         ensures turns { IfOk result (λ done. turns_of done.1.runs.items ≤ budget) }
-        ensures stopped { OnErr result (StopsAfter (request_roots (request_seen request.now)) self.old self.new) }
+        ensures stopped { OnErr result (StopsRequest (request_seen request.now) self.old self.new) }
         ensures history { (self.new.began ≡ self.old.began) × (self.new.edits ≡ self.old.edits) }
         ensures version { self.new.graph.version ≡ self.old.graph.version }
         ensures lawful { IsLawful self.new }
@@ -168,10 +168,67 @@ impl Session {
             };
             return Ok((hands, reply));
         }
-        let roots = roots_of(self.alloc, request)?;
-        let (hands, runs) = self.settle_with(runtime, roots.as_slice(), hands, budget)?;
+        let (hands, roots, runs) = self.evaluated_with(runtime, request, hands, budget)?;
         let line = told(self.alloc, &self.graph, request, roots.as_slice())?;
         Ok((hands, Reply { text: line, runs }))
+    }
+
+    // Evaluates what a request asks for, and then the packages that it names, both in one budget. Answers the keys of which
+    // it is told, and what both ran.
+    fn evaluated(
+        &mut self,
+        request: &Request<'_>,
+        budget: u64,
+    ) -> Result<(Vec<Key>, Vec<Run>), Stop>
+        ensures roots { IfOk result (λ done. done.0.items ≡ told_roots (request_seen request.now) (files_of self.old)) }
+        ensures held { IfOk result (λ done. AreHeld (files_of self.old) done.0.items self.new.graph) }
+        ensures moves { IfOk result (λ done. Moves (evaluations (request_seen request.now) (state_of self.old)) self.old self.new done.1.items) }
+        ensures turns { IfOk result (λ done. turns_of done.1.items ≤ budget) }
+        ensures stopped { OnErr result (StopsRequest (request_seen request.now) self.old self.new) }
+        ensures history { (self.new.began ≡ self.old.began) × (self.new.edits ≡ self.old.edits) }
+        ensures version { self.new.graph.version ≡ self.old.graph.version }
+        ensures lawful { IsLawful self.new }
+    {
+        let roots = roots_of(self.alloc, request)?;
+        let runs = self.settle(roots.as_slice(), budget)?;
+        let Some(later) = later_roots(self.alloc, &self.graph, request, roots.as_slice())? else {
+            return Ok((roots, runs));
+        };
+        let left = turns_left(budget, runs.as_slice());
+        let more = self.settle(later.as_slice(), left)?;
+        let all = joined(runs, more)?;
+        Ok((later, all))
+    }
+
+    // The same by worker threads.
+    fn evaluated_with<R: LoadRules + Send + Drop, T: Threads + Wait + Sync>(
+        &mut self,
+        runtime: &T,
+        request: &Request<'_>,
+        hands: Vec<R>,
+        budget: u64,
+    ) -> Result<(Vec<R>, Vec<Key>, Vec<Run>), Stop>
+        requires { (1 ≤ length hands.items) × (length hands.items ≤ 16) }
+        ensures hands { IfOk result (λ done. length done.0.items ≡ length hands.items) }
+        ensures counted { IfOk result (λ done. total R.turns done.0.items ≡ total R.turns hands.items + turns_of done.2.items) }
+        ensures roots { IfOk result (λ done. done.1.items ≡ told_roots (request_seen request.now) (files_of self.old)) }
+        ensures held { IfOk result (λ done. AreHeld (files_of self.old) done.1.items self.new.graph) }
+        ensures moves { IfOk result (λ done. Moves (evaluations (request_seen request.now) (state_of self.old)) self.old self.new done.2.items) }
+        ensures turns { IfOk result (λ done. turns_of done.2.items ≤ budget) }
+        ensures stopped { OnErr result (StopsRequest (request_seen request.now) self.old self.new) }
+        ensures history { (self.new.began ≡ self.old.began) × (self.new.edits ≡ self.old.edits) }
+        ensures version { self.new.graph.version ≡ self.old.graph.version }
+        ensures lawful { IsLawful self.new }
+    {
+        let roots = roots_of(self.alloc, request)?;
+        let (hands, runs) = self.settle_with(runtime, roots.as_slice(), hands, budget)?;
+        let Some(later) = later_roots(self.alloc, &self.graph, request, roots.as_slice())? else {
+            return Ok((hands, roots, runs));
+        };
+        let left = turns_left(budget, runs.as_slice());
+        let (hands, more) = self.settle_with(runtime, later.as_slice(), hands, left)?;
+        let all = joined(runs, more)?;
+        Ok((hands, later, all))
     }
 
     // Evaluates keys over the graph, in at most `budget` turns, and answers what that ran. Each of them that has a value for

@@ -29,7 +29,7 @@ pub fn write_package_shown(
         Value::File(_) => out.null(),
         Value::Listing(_) => out.null(),
         Value::Lookup(_) => out.null(),
-        Value::Glob(_) => out.null(),
+        Value::Paths(_) => out.null(),
         Value::Module(_) => out.null(),
     }
 }
@@ -45,7 +45,7 @@ pub fn write_module_shown(alloc: Global, out: &mut Draft, value: &Value) -> Resu
         Value::File(_) => out.null(),
         Value::Listing(_) => out.null(),
         Value::Lookup(_) => out.null(),
-        Value::Glob(_) => out.null(),
+        Value::Paths(_) => out.null(),
         Value::Package(_) => out.null(),
     }
 }

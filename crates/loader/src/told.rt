@@ -14,7 +14,8 @@ ghost use Rattle.answers.specs.Tokens.{tokens_of};
 ghost use Rattle.commands.specs.Seen.{request_seen, texts_seen};
 ghost use Rattle.commands.specs.Refusals.{request_refusal, module_label};
 ghost use Rattle.loader.specs.Answers as answers;
-ghost use Rattle.loader.specs.Effects.{AreHeld, request_roots, module_roots};
+ghost use Rattle.loader.specs.Effects as effects;
+ghost use Rattle.loader.specs.Effects.{AreHeld, request_roots, told_roots, module_roots, package_roots};
 ghost use Rattle.loader.specs.Told.{package_told, module_told};
 
 use crate::shown::{write_module_shown, write_package_shown};
@@ -61,6 +62,66 @@ pub fn roots_of(alloc: Global, request: &Request<'_>) -> Result<Vec<Key>, Memory
         }
         Request::Load(names) => package_keys(alloc, names.as_slice()),
         Request::Module(label) => module_keys(alloc, label),
+        Request::Under(directory) => {
+            let mut roots = Vec::new(alloc);
+            roots.push(Key::Under(Text::new(alloc, directory)?))?;
+            Ok(roots)
+        }
+    }
+}
+
+/// The keys that a request asks for then, by what is held of the first: of all packages at and below a directory their
+/// keys. Other requests ask for no more.
+pub fn later_roots(
+    alloc: Global,
+    graph: &Graph,
+    request: &Request<'_>,
+    roots: &[Key],
+) -> Result<Option<Vec<Key>>, Memory>
+    ensures { IfOk result (λ found. (files : Files) → HasPaths files → roots.now ≡ request_roots (request_seen request.now) → AreHeld files roots.now graph.now → option_map (λ keys. keys.items) found ≡ effects.later_roots (request_seen request.now) files) }
+{
+    match request {
+        Request::Find(_) => Ok(None),
+        Request::Load(_) => Ok(None),
+        Request::Module(_) => Ok(None),
+        Request::Under(_) => {
+            let keys = named_keys(alloc, names_held(graph, roots))?;
+            Ok(Some(keys))
+        }
+    }
+}
+
+// The key of each package.
+fn named_keys(alloc: Global, names: &[Text]) -> Result<Vec<Key>, Memory>
+    ensures { IfOk result (λ roots. roots.items ≡ package_roots names.now) }
+{
+    let mut roots = Vec::new(alloc);
+    for name in names {
+        roots.push(Key::Package(name.share()?))?;
+    }
+    Ok(roots)
+}
+
+// The names that are held of the first of these keys.
+fn names_held<'a>(graph: &'a Graph, roots: &[Key]) -> &'a [Text]
+    ensures { (directory : List ℕ) (names : List (List ℕ)) → roots.now ≡ keys.Under directory ∷ [] → present (record_at graph.now (keys.Under directory)) ≡ Some (values.Paths names) → result.now ≡ names }
+{
+    match roots.first() {
+        Some(root) => held_names(graph.get(root)),
+        None => &[],
+    }
+}
+
+// The names that a value holds.
+fn held_names(value: Option<&Arc<Value>>) -> &[Text]
+    ensures { (names : List (List ℕ)) → option_map (λ v. arc_value v.now) value.entry ≡ Some (values.Paths names) → result.now ≡ names }
+{
+    match value {
+        None => &[],
+        Some(value) => match &**value {
+            Value::Paths(names) => names.as_slice(),
+            _ => &[],
+        },
     }
 }
 
@@ -71,12 +132,13 @@ pub fn told(
     request: &Request<'_>,
     roots: &[Key],
 ) -> Result<String, Memory>
-    ensures { IfOk result (λ text. (files : Files) → HasPaths files → request_refusal (request_seen request.now) ≡ None → roots.now ≡ request_roots (request_seen request.now) → AreHeld files roots.now graph.now → answers.Tells (answers.IsValueOf (request_seen request.now) files) (string_bytes text)) }
+    ensures { IfOk result (λ text. (files : Files) → HasPaths files → request_refusal (request_seen request.now) ≡ None → roots.now ≡ told_roots (request_seen request.now) files → AreHeld files roots.now graph.now → answers.Tells (answers.IsValueOf (request_seen request.now) files) (string_bytes text)) }
 {
     match request {
         Request::Find(_) => build_text(alloc, found_by(graph, roots)),
         Request::Load(_) => packages_text(alloc, graph, roots),
         Request::Module(_) => module_text(alloc, graph, roots),
+        Request::Under(_) => packages_text(alloc, graph, roots),
     }
 }
 

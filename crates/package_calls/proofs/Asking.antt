@@ -13,23 +13,23 @@ use Rattle.meaning.specs.Functions.{Named}
 use Rattle.meaning.specs.Methods.{makes_texts}
 use Rattle.language.specs.World.{World, Here, ended, waits, then_runs, at_site}
 use Rattle.language.specs.Environment.{Answers}
-use Rattle.language.specs.Globs.{Glob, read_call, unanswered, found, makes_paths, answered, glob}
+use Rattle.language.specs.Globs.{Glob, read_call, questions, unanswered, found, makes_paths, answered, glob}
 use Rattle.language.proofs.HeapSteps.{HeapAtMost, Lowers, d_if, d_then, d_list, d_fault}
 use Rattle.language.proofs.MethodSteps.{makes_texts_down}
 use Rattle.package_calls.specs.Asked.{asked_of}
 use Rattle.package_calls.specs.View.{EndsAs, ChecksAs}
 
 module _ (answers : Answers) (xs : List Val) (ns : Named) (here : Here) (w : World) (s : Store) (e : w.store ≡ s) where
-  ends : (r : Checked Glob) → read_call xs ns s ≡ r → glob answers xs ns here w ≡ then_runs (at_site here.site w (checked r w.store)) (λ g. answered (unanswered answers [] g.includes) answers g here)
+  ends : (r : Checked Glob) → read_call xs ns s ≡ r → glob answers xs ns here w ≡ then_runs (at_site here.site w (checked r w.store)) (λ g. answered (unanswered answers [] (questions g)) answers g here)
   unfolding glob
-  ends r h = ap (λ r. then_runs (at_site here.site w (checked r w.store)) (λ g. answered (unanswered answers [] g.includes) answers g here)) (ap (read_call xs ns) e ∙ h)
+  ends r h = ap (λ r. then_runs (at_site here.site w (checked r w.store)) (λ g. answered (unanswered answers [] (questions g)) answers g here)) (ap (read_call xs ns) e ∙ h)
 
   pub reads_not : (halt : Halt) (u : World) → ChecksAs asked_of (read_call xs ns s) (Err halt) → EndsAs here.site (glob answers xs ns here w) (Err halt) u
   reads_not (Code c) u h = ends (bad c) h
   reads_not Memory u h = tt
 
   -- the patterns in memory, and what they are read from
-  module _ (g : Glob) (reads : read_call xs ns s ≡ good g) (patterns includes : List (List ℕ)) (are : patterns ≡ unanswered answers [] includes) (from : includes ≡ g.includes) where
+  module _ (g : Glob) (reads : read_call xs ns s ≡ good g) (patterns asked : List (List ℕ)) (are : patterns ≡ unanswered answers [] asked) (from : asked ≡ questions g) where
     goes_on : glob answers xs ns here w ≡ answered patterns answers g here w
     goes_on = ends (good g) reads ∙ ap (λ ps. answered ps answers g here w) (sym (are ∙ ap (unanswered answers []) from))
 

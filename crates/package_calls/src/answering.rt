@@ -5,14 +5,13 @@ ghost use Rattle.globs.specs.Globs.{some_matches};
 ghost use Rattle.meaning.specs.Methods.{makes_texts};
 ghost use Rattle.meaning.specs.Heap.{makes_text};
 ghost use Rattle.language.specs.Names.{has_name};
+ghost use Rattle.language.specs.Sorting.{in_order};
 ghost use Rattle.language.specs.Globs as globs;
 ghost use Rattle.language.specs.Globs.{answer_to, found_or_none, makes_paths};
 ghost use Rattle.heap.specs.View.{store_of, Says, SaysItems};
-ghost use Rattle.package_calls.specs.Asked.{asked_of};
 ghost use Rattle.package_calls.specs.Gathered.{kept_of, found_all, with_unanswered};
 ghost use Rattle.package_calls.specs.View.{answers_of};
 
-use crate::globbing::Asked;
 use crate::kinds::Answer;
 use crate::ordering::in_order;
 use heap::{Bytes, Halt, Heap, LONGEST, Object, Val};
@@ -20,12 +19,12 @@ use pattern::Pattern;
 use std::alloc::Global;
 use texts::{Memory, Text};
 
-// The paths that a pattern finds, where it is answered.
-fn answer_to<'a>(answers: &'a [Answer], pattern: &Text) -> Option<&'a [Text]>
-    ensures { option_map (λ paths. paths.now) result ≡ answer_to pattern.now (answers_of answers.now) }
+// The paths that a question finds, where it is answered.
+fn answer_to<'a>(answers: &'a [Answer], question: &Text) -> Option<&'a [Text]>
+    ensures { option_map (λ paths. paths.now) result ≡ answer_to question.now (answers_of answers.now) }
 {
     for answer in answers {
-        if *pattern == answer.pattern {
+        if *question == answer.pattern {
             return Some(answer.paths.as_slice());
         }
     }
@@ -44,75 +43,75 @@ fn has_name(x: &Text, texts: &[Text]) -> bool
     false
 }
 
-/// The patterns that have no answer, in order and each once.
+/// The questions that have no answer, in order and each once.
 pub fn unanswered(
     alloc: Global,
     answers: &[Answer],
-    patterns: &[Pattern],
+    questions: &[Text],
 ) -> Result<Vec<Text>, Memory>
-    ensures { IfOk result (λ v. v.items ≡ globs.unanswered (answers_of answers.now) [] patterns.now) }
+    ensures { IfOk result (λ v. v.items ≡ globs.unanswered (answers_of answers.now) [] questions.now) }
 {
     let mut all = Vec::new(alloc);
-    for pattern in patterns {
-        add_unanswered(&mut all, answers, pattern.text())?;
+    for question in questions {
+        add_unanswered(&mut all, answers, question)?;
     }
     Ok(all)
 }
 
-// Adds a pattern that has no answer and is not there.
-fn add_unanswered(all: &mut Vec<Text>, answers: &[Answer], pattern: &Text) -> Result<(), Memory>
-    ensures { OnOk result (all.new.items ≡ with_unanswered pattern.now (answers_of answers.now) all.old.items) }
+// Adds a question that has no answer and is not there.
+fn add_unanswered(all: &mut Vec<Text>, answers: &[Answer], question: &Text) -> Result<(), Memory>
+    ensures { OnOk result (all.new.items ≡ with_unanswered question.now (answers_of answers.now) all.old.items) }
 {
-    if answer_to(answers, pattern).is_some() {
+    if answer_to(answers, question).is_some() {
         return Ok(());
     }
-    if has_name(pattern, all.as_slice()) {
+    if has_name(question, all.as_slice()) {
         return Ok(());
     }
-    all.push(pattern.share()?)?;
+    all.push(question.share()?)?;
     Ok(())
 }
 
-/// The paths that a call finds by its answers, in byte order and without repeats.
-pub fn found(alloc: Global, answers: &[Answer], asked: &Asked) -> Result<Vec<Text>, Memory>
-    ensures { IfOk result (λ v. v.items ≡ globs.found (answers_of answers.now) (asked_of asked.now)) }
+/// The paths that a call's questions find by their answers and that no exclude matches, in byte order and without repeats.
+pub fn found(
+    alloc: Global,
+    answers: &[Answer],
+    questions: &[Text],
+    excludes: &[Pattern],
+) -> Result<Vec<Text>, Memory>
+    ensures { IfOk result (λ v. v.items ≡ in_order (λ path. path) (kept_of excludes.now (found_all (answers_of answers.now) questions.now))) }
 {
-    let all = gathered(
-        alloc,
-        answers,
-        asked.includes.as_slice(),
-        asked.excludes.as_slice(),
-    )?;
+    let all = gathered(alloc, answers, questions, excludes)?;
     let sorted = in_order(alloc, all.as_slice())?;
     Ok(sorted)
 }
 
-// The paths that some include finds and no exclude matches, as they are found.
+// The paths that some question finds and no exclude matches, as they are found.
 fn gathered(
     alloc: Global,
     answers: &[Answer],
-    includes: &[Pattern],
+    questions: &[Text],
     excludes: &[Pattern],
 ) -> Result<Vec<Text>, Memory>
-    ensures { IfOk result (λ v. v.items ≡ kept_of excludes.now (found_all (answers_of answers.now) includes.now)) }
+    ensures { IfOk result (λ v. v.items ≡ kept_of excludes.now (found_all (answers_of answers.now) questions.now)) }
 {
     let mut all = Vec::new(alloc);
-    for pattern in includes {
-        add_found(&mut all, answers, pattern.text(), excludes)?;
+    for question in questions {
+        add_found(&mut all, answers, question, excludes)?;
     }
     Ok(all)
 }
 
-// Adds what an included pattern finds.
+// Adds what a question finds.
 fn add_found(
     all: &mut Vec<Text>,
     answers: &[Answer],
-    pattern: &Text,
+    question: &Text,
     excludes: &[Pattern],
 ) -> Result<(), Memory>
-    ensures { OnOk result (all.new.items ≡ all.old.items ++ kept_of excludes.now (found_or_none (answer_to pattern.now (answers_of answers.now)))) }
+    ensures { OnOk result (all.new.items ≡ all.old.items ++ kept_of excludes.now (found_or_none (answer_to question.now (answers_of answers.now)))) }
 {
-    match answer_to(answers, pattern) {
+    match answer_to(answers, question) {
         Some(paths) => {
             add_paths(all, paths, excludes)?;
             Ok(())

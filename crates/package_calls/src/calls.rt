@@ -12,7 +12,7 @@ ghost use Rattle.package_calls.specs.View.{IsOf, EndsAs, IfWaits, answers_of};
 
 use crate::answering::{found, make_paths, make_text, unanswered};
 use crate::arguments::{named_part, plain_part};
-use crate::globbing::read_call;
+use crate::globbing::{questions, read_call};
 use crate::kinds::{Answer, Called, Package};
 use crate::rules::rule;
 use grammar::FileKind;
@@ -20,7 +20,7 @@ use heap::{Builtin, Halt, Heap, Val};
 use names::State;
 use texts::Text;
 
-/// A package call. The last arguments have the names. It gives a value, or waits for the paths of patterns: then nothing
+/// A package call. The last arguments have the names. It gives a value, or waits for the answers to questions: then nothing
 /// has changed, and the same call is made again once they are answered. Faults 23 in a .bzl file; 25, 5, 15 and 20 of a
 /// rule; 25, 5, 21, 13 and 22 of `glob`; 25 and 13 of `package_name`.
 pub fn package_call(
@@ -97,11 +97,17 @@ fn glob(heap: &mut Heap, answers: &[Answer], xs: &[Val], ns: &[(Text, Val)]) -> 
         Ok(asked) => asked,
         Err(halt) => return Err(halt),
     };
-    let patterns = unanswered(heap.alloc, answers, asked.includes.as_slice())?;
-    if !patterns.is_empty() {
-        return Ok(Called::Waits(patterns));
+    let questions = questions(heap.alloc, asked.directories, asked.includes.as_slice())?;
+    let open = unanswered(heap.alloc, answers, questions.as_slice())?;
+    if !open.is_empty() {
+        return Ok(Called::Waits(open));
     }
-    let paths = found(heap.alloc, answers, &asked)?;
+    let paths = found(
+        heap.alloc,
+        answers,
+        questions.as_slice(),
+        asked.excludes.as_slice(),
+    )?;
     match make_paths(heap, asked.allow_empty, paths.as_slice()) {
         Ok(made) => Ok(Called::Value(made)),
         Err(halt) => Err(halt),

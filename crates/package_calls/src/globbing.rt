@@ -1,12 +1,13 @@
 //! What a call of `glob` asks for.
-ghost use Rattle.std.specs.Prelude.{◌≡◌, ◌||◌, IfOk, codes, if◌then◌else◌};
+ghost use Rattle.std.specs.Prelude.{◌≡◌, ◌||◌, IfOk, codes, map, if◌then◌else◌};
 ghost use Rattle.meaning.specs.Functions.{is_named};
 ghost use Rattle.std.specs.List.{list_all};
 ghost use Rattle.pattern.specs.Patterns.{is_pattern};
 ghost use Rattle.meaning.specs.Outcome.{good, bad};
 ghost use Rattle.language.specs.Names.{has_name};
 ghost use Rattle.language.specs.Globs as globs;
-ghost use Rattle.language.specs.Globs.{parameters, texts_or_none, truth_or};
+ghost use Rattle.globs.specs.Globs.{question};
+ghost use Rattle.language.specs.Globs.{parameters, plain_parameters, texts_or_none, truth_or, int_or};
 ghost use Rattle.heap.specs.View.{store_of, Checks, ChecksItems};
 ghost use Rattle.package_calls.specs.Asked.{asked_of, written_of};
 ghost use Rattle.package_calls.specs.View.{ChecksAs};
@@ -25,6 +26,8 @@ pub struct Asked {
     pub includes: Vec<Pattern>,
     pub excludes: Vec<Pattern>,
     pub allow_empty: bool,
+    /// Whether it finds directories too.
+    pub directories: bool,
 }
 
 /// The same, before its patterns are read.
@@ -33,6 +36,7 @@ pub struct Written {
     pub includes: Vec<Bytes>,
     pub excludes: Vec<Bytes>,
     pub allow_empty: bool,
+    pub directories: bool,
 }
 
 /// What a call asks for, or fault 25, 5 or 21.
@@ -85,12 +89,15 @@ fn is_parameter(name: &str) -> bool
     if name == "exclude" {
         return true;
     }
-    name == "allow_empty"
+    if name == "allow_empty" {
+        return true;
+    }
+    name == "exclude_directories"
 }
 
 // Whether a plain argument's parameter is named too.
 fn is_given_twice(xs: &[Val], ns: &[(Text, Val)]) -> bool
-    ensures { result ≡ globs.given_twice xs.now parameters ns.now }
+    ensures { result ≡ globs.given_twice xs.now plain_parameters ns.now }
 {
     match xs.len() {
         0 => false,
@@ -137,10 +144,13 @@ fn typed(heap: &Heap, xs: &[Val], ns: &[(Text, Val)]) -> Result<Written, Halt>
     let includes = texts_or_none(heap, argument(0, "include", xs, ns))?;
     let excludes = texts_or_none(heap, argument(1, "exclude", xs, ns))?;
     let allow_empty = truth_or(true, argument(2, "allow_empty", xs, ns))?;
+    let number = int_or(1, value_named("exclude_directories", ns))?;
+    let directories = with_directories(number)?;
     Ok(Written {
         includes,
         excludes,
         allow_empty,
+        directories,
     })
 }
 
@@ -168,6 +178,30 @@ fn truth_or(other: bool, x: Option<Val>) -> Result<bool, Halt>
     }
 }
 
+// An int, another where it is not given, or fault 5.
+fn int_or(other: i64, x: Option<Val>) -> Result<i64, Halt>
+    ensures { Checks (int_or other x) result }
+{
+    match x {
+        None => Ok(other),
+        Some(Val::Int(n)) => Ok(n),
+        Some(_) => Err(Halt::Code(5)),
+    }
+}
+
+// Whether directories are found too: 1 leaves them out, and 0 does not. Any other number is fault 25.
+fn with_directories(n: i64) -> Result<bool, Halt>
+    ensures { Checks (globs.with_directories n) result }
+{
+    if n == 0 {
+        return Ok(true);
+    }
+    if n == 1 {
+        return Ok(false);
+    }
+    Err(Halt::Code(25))
+}
+
 // The texts as patterns, or fault 21.
 fn with_patterns(alloc: Global, written: &Written) -> Result<Asked, Halt>
     ensures { ChecksAs asked_of (globs.with_patterns (written_of written.now)) result }
@@ -178,6 +212,7 @@ fn with_patterns(alloc: Global, written: &Written) -> Result<Asked, Halt>
         includes,
         excludes,
         allow_empty: written.allow_empty,
+        directories: written.directories,
     })
 }
 
@@ -193,4 +228,31 @@ fn all_patterns(alloc: Global, texts: &[Bytes]) -> Result<Vec<Pattern>, Halt>
         }
     }
     Ok(all)
+}
+
+/// What is asked for each pattern, in their order: the pattern, and with directories a space and `dirs` behind it.
+pub fn questions(
+    alloc: Global,
+    directories: bool,
+    patterns: &[Pattern],
+) -> Result<Vec<Text>, Memory>
+    ensures { IfOk result (λ v. v.items ≡ map (question directories) patterns.now) }
+{
+    let mut all = Vec::new(alloc);
+    for pattern in patterns {
+        all.push(question(alloc, directories, pattern.text())?)?;
+    }
+    Ok(all)
+}
+
+// What is asked for a pattern.
+fn question(alloc: Global, directories: bool, pattern: &Text) -> Result<Text, Memory>
+    ensures { IfOk result (λ t. t ≡ question directories pattern.now) }
+{
+    if !directories {
+        return pattern.share();
+    }
+    let mut text = String::from_str(alloc, pattern.as_str())?;
+    text.push_str(" dirs")?;
+    Text::new(alloc, text.as_str())
 }

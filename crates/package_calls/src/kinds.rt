@@ -6,7 +6,8 @@ use std::alloc::Global;
 use std::sync::Arc;
 use texts::Text;
 
-/// A pattern with the paths that it finds, in the package.
+/// What is asked for a pattern, with the paths that are found in the package: the pattern, and where directories are asked
+/// for too, a space and `dirs` behind it.
 #[derive(Drop)]
 pub struct Answer {
     pub pattern: Text,
@@ -22,7 +23,7 @@ pub struct Package {
     pub answers: Vec<Answer>,
 }
 
-/// How a package call ends: with a value, or waiting for the paths of patterns, in order and each once.
+/// How a package call ends: with a value, or waiting for the paths of patterns, asked for as in `Answer`, in order and each once.
 #[derive(Drop)]
 pub enum Called {
     Value(Val),

@@ -12,7 +12,7 @@ use Rattle.meaning.specs.Functions.{Named}
 use Rattle.language.specs.World.{World, Here, on_heap, or_fault}
 use Rattle.language.specs.Names.{first_named, package_functions}
 use Rattle.language.specs.Environment.{Env, Answers}
-use Rattle.language.specs.Globs.{Glob, unanswered, read_call, answered, glob}
+use Rattle.language.specs.Globs.{Glob, questions, unanswered, read_call, answered, glob}
 use Rattle.language.specs.Packages.{package_name, in_package, package_call}
 use Rattle.language.specs.Expressions.{Call, call_builtin, call_object, apply, Receiver, native, receiver, apply_method}
 use Rattle.language.specs.Laws.{KnowsMore, with_answers}
@@ -25,22 +25,22 @@ answer_quiet : (a : Answers) (g : Glob) (here : Here) (w : World) → Quiet (ans
 answer_quiet a g here w = search quiet
 
 module _ (found : List ℕ → List (List ℕ)) where
-  answer_stays : (g : Glob) (here : Here) (w : World) (a b : Answers) → KnowsMore a b → (ps : List (List ℕ)) → unanswered a [] g.includes ≡ ps → DoesNotWait (answered ps a g here w)
-      → answered (unanswered b [] g.includes) b g here w ≡ answered ps a g here w
-  answer_stays g here w a b more [] e done = rw (none_unanswered a b more g.includes e, same_paths a b more g.includes e) refl
+  answer_stays : (g : Glob) (here : Here) (w : World) (a b : Answers) → KnowsMore a b → (ps : List (List ℕ)) → unanswered a [] (questions g) ≡ ps → DoesNotWait (answered ps a g here w)
+      → answered (unanswered b [] (questions g)) b g here w ≡ answered ps a g here w
+  answer_stays g here w a b more [] e done = rw (none_unanswered a b more (questions g) e, same_paths a b more (questions g) e) refl
   answer_stays g here w a b more (p ∷ ps) e done = absurd done
 
-  -- a call of `glob` is answered once each of its includes is
-  answered_closes : (g : Glob) (here : Here) (w : World) → Closes found (λ a. answered (unanswered a [] g.includes) a g here w)
+  -- a call of `glob` is answered once each of its questions is
+  answered_closes : (g : Glob) (here : Here) (w : World) → Closes found (λ a. answered (unanswered a [] (questions g)) a g here w)
   answered_closes g here w = record {
-    stays = λ a b more done. answer_stays g here w a b more (unanswered a [] g.includes) refl done;
+    stays = λ a b more done. answer_stays g here w a b more (unanswered a [] (questions g)) refl done;
     closes = λ a right.
-        let known = with_found found g.includes a in
+        let known = with_found found (questions g) a in
         record {
           answers = known;
-          right = all_right found g.includes a right;
-          knows = all_known found g.includes a right;
-          ends = subst (λ (ps : List (List ℕ)). DoesNotWait (answered ps known g here w)) (sym (none_left g.includes known (all_answered found g.includes a))) (answer_quiet known g here w).at;
+          right = all_right found (questions g) a right;
+          knows = all_known found (questions g) a right;
+          ends = subst (λ (ps : List (List ℕ)). DoesNotWait (answered ps known g here w)) (sym (none_left (questions g) known (all_answered found (questions g) a))) (answer_quiet known g here w).at;
         };
   }
 

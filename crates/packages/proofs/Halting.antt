@@ -29,7 +29,7 @@ use Rattle.keys.specs.declared.value.Fault.{Fault}
 use Rattle.keys.specs.declared.value.Value.{Value}
 use Rattle.keys.specs.declared.value.Value.TheVariants as value
 use Rattle.functions.specs.declared.source.Source.{Source}
-use Rattle.functions.specs.Lookups.{build_of}
+use Rattle.walks.specs.Lookups.{build_of}
 use Rattle.functions.specs.Next.{next}
 use Rattle.leaves.specs.Leaves.{read}
 use Rattle.functions.specs.Once.{has_key, once_behind, once}
@@ -37,9 +37,9 @@ use Rattle.functions.specs.Sources.{fault_at, before, each_or_fault, load_key, a
 use Rattle.functions.specs.Modules as modules
 use Rattle.functions.specs.Packages as packages
 use Rattle.packages.specs.Loads.{Node, of_module, of_package, File, loaded_by, with_loads, parsed, of_text, loads_in, file_of, build_file, loads}
-use Rattle.functions.proofs.LookupValue.{lookup_grounded, lookup_value}
-use Rattle.functions.proofs.GlobTexts.{NoSpace, name_no_space}
-use Rattle.functions.proofs.GlobFinds.{glob_grounded}
+use Rattle.packages.proofs.Walked.{lookup_grounded, lookup_value, glob_grounded}
+use Rattle.globs.proofs.Questions.{NoSpace}
+use Rattle.walks.proofs.GlobTexts.{name_no_space}
 use Rattle.packages.proofs.Runs as runs
 use Rattle.packages.proofs.Runs.{AllOf, same_length, enough, rest_of, taken}
 use Rattle.packages.proofs.KeysAsked.{load_of, one_key}

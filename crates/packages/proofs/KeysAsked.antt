@@ -36,6 +36,7 @@ same_kind_name (key.Lookup a) (key.Lookup b) e h = ap (λ (x : List ℕ). key.Lo
 same_kind_name (key.Glob a) (key.Glob b) e h = ap (λ (x : List ℕ). key.Glob x) h
 same_kind_name (key.Module a) (key.Module b) e h = ap (λ (x : List ℕ). key.Module x) h
 same_kind_name (key.Package a) (key.Package b) e h = ap (λ (x : List ℕ). key.Package x) h
+same_kind_name (key.Under a) (key.Under b) e h = ap (λ (x : List ℕ). key.Under x) h
 same_kind_name j k e h = absurd (omega (arith, e))
 
 -- equal keys are one

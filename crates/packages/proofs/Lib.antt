@@ -1,4 +1,5 @@
 pub mod Runs
+pub mod Walked
 pub mod KeysAsked
 pub mod LoadsRead
 pub mod Boundaries

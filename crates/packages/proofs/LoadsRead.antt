@@ -121,6 +121,7 @@ module _ (files : Files) where
   IsOfFiles (key.Glob text) v = Unit {0}
   IsOfFiles (key.Module text) v = (t : Target) → text ≡ label_text t → IsValid t → (m : Module) × IsModule files t m × (v ≡ module_value m)
   IsOfFiles (key.Package name) v = is_package_name name ≡ true → (p : Package) × IsPackage files name p × (v ≡ package_value p)
+  IsOfFiles (key.Under directory) v = Unit {0}
 
   abbrev pub IsHeld : Key → Value → Type 0
   IsHeld k v = Grounded next (read files) k v × IsOfFiles k v

@@ -7,12 +7,12 @@ use Rattle.filetree.specs.Files.{Files}
 use Rattle.filetree.specs.Lawful.{HasPaths}
 use Rattle.globs.specs.Globs.{is_package}
 use Rattle.keys.specs.declared.value.Value.{Value}
-use Rattle.functions.specs.Globs.{has_build}
+use Rattle.walks.specs.Globs.{has_build}
 use Rattle.functions.specs.Modules as modules
 use Rattle.functions.specs.Next.{next}
 use Rattle.leaves.specs.Leaves.{read}
-use Rattle.functions.proofs.GlobFinds.{built_there}
-use Rattle.functions.proofs.LookupValue.{lookup_value}
+use Rattle.walks.proofs.Builds.{built_there}
+use Rattle.packages.proofs.Walked.{lookup_value}
 use Rattle.packages.proofs.Boundaries.{look_up}
 use Rattle.packages.proofs.Runs as runs
 use Rattle.packages.proofs.Runs.{AllOf}

@@ -9,12 +9,12 @@ use Rattle.meaning.specs.Comparing.{same_text}
 use Rattle.evaluation.specs.Reply.{Reply, Ask, Done}
 use Rattle.evaluation.specs.Value.{Grounded}
 use Rattle.evaluation.proofs.Unique.{same_value}
-use Rattle.labels.specs.Paths.{is_package_name, segments}
+use Rattle.labels.specs.Paths.{is_package_name}
 use Rattle.labels.specs.Labels.{Target, label_of, label_text, label_file, boundaries}
 use Rattle.labels.proofs.Segments.{reads_back}
 use Rattle.filetree.specs.Files.{Files}
 use Rattle.filetree.specs.Lawful.{HasPaths}
-use Rattle.globs.specs.Globs.{is_package, found_below}
+use Rattle.globs.specs.Globs.{is_package, answer_below}
 use Rattle.grammar.specs.declared.kind.FileKind.{FileKind}
 use Rattle.grammar.specs.declared.kind.FileKind.TheVariants as k
 use Rattle.module_values.specs.Values.{Loaded, Target as Made}
@@ -31,7 +31,7 @@ use Rattle.keys.specs.declared.value.BuildName.{BuildName}
 use Rattle.keys.specs.declared.value.Fault.{Fault}
 use Rattle.keys.specs.declared.value.Value.{Value}
 use Rattle.keys.specs.declared.value.Value.TheVariants as value
-use Rattle.functions.specs.Lookups.{build_of}
+use Rattle.walks.specs.Lookups.{build_of}
 use Rattle.functions.specs.Next.{next}
 use Rattle.leaves.specs.Leaves.{read}
 use Rattle.functions.specs.Once.{has_key, answer_at}
@@ -40,9 +40,8 @@ use Rattle.functions.specs.Modules as modules
 use Rattle.functions.specs.Packages as packages
 use Rattle.packages.specs.Loads.{of_module, of_package, File, file_of, build_file}
 use Rattle.packages.specs.Loaded.{Module, Package, IsModule, IsPackage, of_file, of_load, evaluated, module_env, package_env, LeavesModule, LeavesPackage, a_value, faulty}
-use Rattle.functions.proofs.LookupValue.{lookup_value}
-use Rattle.functions.proofs.GlobTexts.{name_no_space}
-use Rattle.functions.proofs.GlobFinds.{glob_grounded}
+use Rattle.packages.proofs.Walked.{lookup_value, glob_grounded}
+use Rattle.walks.proofs.GlobTexts.{name_no_space}
 use Rattle.packages.proofs.Runs as runs
 use Rattle.packages.proofs.Runs.{AllOf, all_first, Runs, shifted, run_ended, run_asked, same_length, enough, rest_of, taken, all_hold}
 use Rattle.packages.proofs.KeysAsked.{module_value, own_key, asked_once, answered, same_answer, either_left, either_right}
@@ -177,7 +176,7 @@ some_asked name (p ∷ ps) some = omega arith
 
 module _ (files : Files) (good : HasPaths files) (name : List ℕ) (is_name : is_package_name name ≡ true) where
   abbrev found_by : List ℕ → List (List ℕ)
-  found_by p = found_below (is_package files) (map_of.keys files) name (segments p)
+  found_by p = answer_below (is_package files) (map_of.keys files) name p
 
   abbrev Right : Answers → Type 0
   Right answers = AreRight answers (is_package files) (map_of.keys files) name
@@ -204,7 +203,7 @@ module _ (files : Files) (good : HasPaths files) (name : List ℕ) (is_name : is
   right_zip group values [] all asked = λ p below e. absurd cc
   right_zip group values (p ∷ ps) all asked =
       let answer = answered (glob_key name p) asked.0 all in
-      let held : answer.answer ≡ value.Glob (found_by p) = same_value next (read files) answer.holds.0 (glob_grounded files good name p (name_no_space name is_name)) refl in
+      let held : answer.answer ≡ value.Paths (found_by p) = same_value next (read files) answer.holds.0 (glob_grounded files good name p (name_no_space name is_name)) refl in
       right_pair p (paths_or_none (answer_at (glob_key name p) group values)) (ap (λ (o : Option Value). paths_or_none o) (answer.found ∙ ap (λ (w : Value). Some w) held)) (zip ps (paths_by group (glob_keys name ps) values)) (right_zip group values ps all asked.1)
 
   all_asked : (ps qs : List (List ℕ)) → AllByRecursion (λ p. has_key (glob_key name p) (glob_keys name qs) ≡ true) ps → AllByRecursion (λ p. has_key (glob_key name p) (glob_group name qs) ≡ true) ps
@@ -340,6 +339,7 @@ module _ (files : Files) (good : HasPaths files) where
   read_leaf (key.Glob text) v e = tt
   read_leaf (key.Module label) v e = absurd cc
   read_leaf (key.Package name) v e = absurd cc
+  read_leaf (key.Under directory) v e = absurd cc
 
   ran : (j : Key) (v : Value) (n : ℕ) → read files j ≡ None → Runs (IsHeld files) (next j) [] n v → IsOfFiles files j v
   ran (key.File path) v n e run = tt
@@ -348,6 +348,7 @@ module _ (files : Files) (good : HasPaths files) where
   ran (key.Glob text) v n e run = tt
   ran (key.Module label) v n e run = λ t same valid. module_runs files good t v valid n (subst (λ (l : List ℕ). Runs (IsHeld files) (next (key.Module l)) [] n v) same run)
   ran (key.Package name) v n e run = λ is_name. package_runs files good name is_name v n run
+  ran (key.Under directory) v n e run = tt
 
   -- each node that is grounded holds what the files mean
   pub grounded_means : {j : Key} {v : Value} → Grounded next (read files) j v → IsOfFiles files j v

@@ -16,7 +16,7 @@ use Rattle.grammar.specs.declared.kind.FileKind.TheVariants as k
 use Rattle.grammar.specs.Files.{parse_of}
 use Rattle.keys.specs.declared.value.Fault.{Fault}
 use Rattle.keys.specs.declared.value.BuildName.{BuildName}
-use Rattle.functions.specs.Lookups.{build_of, build_path}
+use Rattle.walks.specs.Lookups.{build_of, build_path}
 use Rattle.functions.specs.Sources.{fault_at, each_or_fault}
 use Rattle.packages.specs.Loads.{Node, of_module, of_package, File, loaded_by, with_loads, parsed, of_text, loads_in, build_file, loads, FirstCyclic, at_head, further, Follows, once, more, ShowsCycle}
 use Rattle.packages.specs.LoadedLaws.{OneCycle}

@@ -21,7 +21,7 @@ module _ (files : Files) where
   module_or_cycle t (value.File text) h = absurd h
   module_or_cycle t (value.Listing names) h = absurd h
   module_or_cycle t (value.Lookup build) h = absurd h
-  module_or_cycle t (value.Glob paths) h = absurd h
+  module_or_cycle t (value.Paths paths) h = absurd h
   module_or_cycle t (value.Module m) h = inl (Ok m, h, refl)
   module_or_cycle t (value.Package targets) h = absurd h
   module_or_cycle t (value.Fault fault) h = inl (Err fault, h, refl)
@@ -34,7 +34,7 @@ module _ (files : Files) where
   package_or_cycle name (value.File text) h = absurd h
   package_or_cycle name (value.Listing names) h = absurd h
   package_or_cycle name (value.Lookup build) h = absurd h
-  package_or_cycle name (value.Glob paths) h = absurd h
+  package_or_cycle name (value.Paths paths) h = absurd h
   package_or_cycle name (value.Module m) h = absurd h
   package_or_cycle name (value.Package targets) h = inl (Ok targets, h, refl)
   package_or_cycle name (value.Fault fault) h = inl (Err fault, h, refl)

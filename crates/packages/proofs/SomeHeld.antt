@@ -1,10 +1,9 @@
 -- Each label has a module or a cycle, and each name a package or a cycle.
 use Rattle.std.proofs.Common.{◌≡◌, ℕ, List, [], inl, inr, Result, Ok, Err, refl, sym, subst}
 use Rattle.std.specs.FinMap as map_of
-use Rattle.labels.specs.Paths.{segments}
 use Rattle.labels.specs.Labels.{Target}
 use Rattle.filetree.specs.Files.{Files}
-use Rattle.globs.specs.Globs.{is_package, found_below}
+use Rattle.globs.specs.Globs.{is_package, answer_below}
 use Rattle.module_values.specs.Values.{Loaded}
 use Rattle.language.specs.Files.{Outcome, a_module, a_package, a_need, a_fault, evaluate}
 use Rattle.language.specs.Laws.{IsFinished}
@@ -39,9 +38,9 @@ module _ (files : Files) (name : List ℕ) where
   package_held (Ok targets) is = (value.Package targets, is)
   package_held (Err fault) is = (value.Fault fault, is)
 
-  -- what a pattern finds
+  -- what a question finds
   abbrev found : List ℕ → List (List ℕ)
-  found p = found_below (is_package files) (map_of.keys files) name (segments p)
+  found p = answer_below (is_package files) (map_of.keys files) name p
 
   -- a name whose loads have modules has a package
   package_of : (f : File) (modules : List Module) → file_of files (of_package name) ≡ Ok f → AreModules files f.loads modules → Held

@@ -81,7 +81,7 @@ module _ (files : Files) where
   HoldsModule t (value.File text) = ⊥
   HoldsModule t (value.Listing names) = ⊥
   HoldsModule t (value.Lookup build) = ⊥
-  HoldsModule t (value.Glob paths) = ⊥
+  HoldsModule t (value.Paths paths) = ⊥
   HoldsModule t (value.Module m) = IsModule t (Ok m)
   HoldsModule t (value.Package targets) = ⊥
   HoldsModule t (value.Fault fault) = IsModule t (Err fault)
@@ -92,7 +92,7 @@ module _ (files : Files) where
   HoldsPackage name (value.File text) = ⊥
   HoldsPackage name (value.Listing names) = ⊥
   HoldsPackage name (value.Lookup build) = ⊥
-  HoldsPackage name (value.Glob paths) = ⊥
+  HoldsPackage name (value.Paths paths) = ⊥
   HoldsPackage name (value.Module m) = ⊥
   HoldsPackage name (value.Package targets) = IsPackage name (Ok targets)
   HoldsPackage name (value.Fault fault) = IsPackage name (Err fault)

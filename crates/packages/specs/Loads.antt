@@ -14,7 +14,7 @@ use Rattle.evaluation.specs.Value.{In, AllDiffer}
 use Rattle.evaluation.specs.Rotated.{rotated}
 use Rattle.keys.specs.declared.value.Fault.{Fault}
 use Rattle.keys.specs.declared.value.BuildName.{BuildName}
-use Rattle.functions.specs.Lookups.{build_of, build_path}
+use Rattle.walks.specs.Lookups.{build_of, build_path}
 use Rattle.functions.specs.Sources.{fault_at, each_or_fault}
 
 -- what is evaluated: the file of a module, or the BUILD file of a package

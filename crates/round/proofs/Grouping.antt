@@ -40,7 +40,7 @@ pub no_cycle_is : (v : Value) → is_cycle v ≡ false → NoCycle v
 no_cycle_is (value.File t) e = tt
 no_cycle_is (value.Listing l) e = tt
 no_cycle_is (value.Lookup b) e = tt
-no_cycle_is (value.Glob paths) e = tt
+no_cycle_is (value.Paths paths) e = tt
 no_cycle_is (value.Module loaded) e = tt
 no_cycle_is (value.Package targets) e = tt
 no_cycle_is (value.Fault fault) e = tt
@@ -50,7 +50,7 @@ pub cycle_is : (v : Value) → is_cycle v ≡ true → NoCycle v → ⊥
 cycle_is (value.File t) e p = cc
 cycle_is (value.Listing l) e p = cc
 cycle_is (value.Lookup b) e p = cc
-cycle_is (value.Glob paths) e p = cc
+cycle_is (value.Paths paths) e p = cc
 cycle_is (value.Module loaded) e p = cc
 cycle_is (value.Package targets) e p = cc
 cycle_is (value.Fault fault) e p = cc

@@ -279,6 +279,7 @@ no_leaf files (key.Lookup directory) e = refl
 no_leaf files (key.Glob text) e = refl
 no_leaf files (key.Module label) e = refl
 no_leaf files (key.Package name) e = refl
+no_leaf files (key.Under directory) e = refl
 
 -- after a stop
 pub leads_err : {X E : Type 0} (added : List (Choice Key)) (next : Key → List Value → Reply Key Value) (read : Key → Option Value) (old new : Recorded) (before later : Table) (r : Result X E) → IsErr r

@@ -31,7 +31,7 @@ abbrev pub is_cycle : Value → Bool
 is_cycle (value.File t) = false
 is_cycle (value.Listing l) = false
 is_cycle (value.Lookup b) = false
-is_cycle (value.Glob paths) = false
+is_cycle (value.Paths paths) = false
 is_cycle (value.Module loaded) = false
 is_cycle (value.Package targets) = false
 is_cycle (value.Fault fault) = false

@@ -64,6 +64,7 @@ fn label(key: &Key) -> Option<&Text>
         Key::Glob(_) => None,
         Key::Module(label) => Some(label),
         Key::Package(_) => None,
+        Key::Under(_) => None,
     }
 }
 

@@ -27,6 +27,7 @@ fn root(alloc: Global, request: &Request<'_>) -> Result<Key> {
     match request {
         Request::Find(name) => Ok(Key::Lookup(Text::new(alloc, name)?)),
         Request::Module(label) => Ok(Key::Module(Text::new(alloc, label)?)),
+        Request::Under(directory) => Ok(Key::Under(Text::new(alloc, directory)?)),
         Request::Load(names) => match names.as_slice() {
             [name] => Ok(Key::Package(Text::new(alloc, name)?)),
             _ => bail!("a row asks for one package a line"),

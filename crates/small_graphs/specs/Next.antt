@@ -14,7 +14,7 @@ abbrev pub text_of : Value → Option (List ℕ)
 text_of (value.File text) = text
 text_of (value.Listing names) = None
 text_of (value.Lookup name) = None
-text_of (value.Glob paths) = None
+text_of (value.Paths paths) = None
 text_of (value.Module loaded) = None
 text_of (value.Package targets) = None
 text_of (value.Fault fault) = None
@@ -68,6 +68,7 @@ next (key.Listing directory) answers = Done (with_text None)
 next (key.Glob text) answers = Done (with_text None)
 next (key.Module label) answers = Done (with_text None)
 next (key.Package name) answers = Done (with_text None)
+next (key.Under directory) answers = Done (with_text None)
 
 abbrev pub fits : Kept → Key → List Value → Type 0
 fits state k answers = state.key ≡ k

@@ -64,6 +64,7 @@ groups_differ (key.Listing directory) answers group e = cc
 groups_differ (key.Glob text) answers group e = cc
 groups_differ (key.Module label) answers group e = cc
 groups_differ (key.Package name) answers group e = cc
+groups_differ (key.Under directory) answers group e = cc
 
 abbrev ending : Value → Reply Key Value
 ending v = Done v
@@ -88,3 +89,4 @@ ends_plain (key.Listing directory) answers v p e = plain_text None v e
 ends_plain (key.Glob text) answers v p e = plain_text None v e
 ends_plain (key.Module label) answers v p e = plain_text None v e
 ends_plain (key.Package name) answers v p e = plain_text None v e
+ends_plain (key.Under directory) answers v p e = plain_text None v e

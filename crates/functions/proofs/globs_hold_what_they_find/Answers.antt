@@ -1,12 +1,7 @@
 use Rattle.std.proofs.Common.{refl}
-use Rattle.evaluation.proofs.Unique.{same_value}
 use Rattle.functions.specs.Next.{next}
-use Rattle.leaves.specs.Leaves.{read}
-use Rattle.functions.proofs.GlobTexts.{name_no_space}
-use Rattle.functions.proofs.GlobFinds.{glob_grounded}
+use Rattle.walks.proofs.GlobFinds.{glob_held}
 use Rattle.functions.proofs.globs_hold_what_they_find.Goals as goal
 
 pub returns : goal.returns
-returns c = λ files directory pattern good name.
-    let held = glob_grounded files good directory pattern (name_no_space directory name) in
-    (held, λ w g. same_value next (read files) g held refl)
+returns c = glob_held next (λ directory answers. refl) (λ text answers. refl)

@@ -8,7 +8,7 @@ use Rattle.keys.specs.declared.key.Key.TheVariants as key
 use Rattle.keys.specs.declared.value.Value.TheVariants as value
 use Rattle.functions.specs.Next.{next}
 use Rattle.leaves.specs.Leaves.{read, listed_of}
-use Rattle.functions.proofs.LookupValue.{lookup_grounded, lookup_value}
+use Rattle.walks.proofs.LookupValue.{lookup_grounded, lookup_value}
 use Rattle.functions.proofs.leaves_and_look_ups_hold.Goals as goal
 
 pub returns : goal.returns
@@ -17,5 +17,5 @@ returns c = λ files name.
     let names : Grounded next (read files) (key.Listing name) (value.Listing (option_map listed_of (listing files name))) = is_leaf refl in (
       (file, λ w g. same_value next (read files) g file refl),
       (names, λ w g. same_value next (read files) g names refl),
-      (lookup_grounded files name, lookup_value files name),
+      (lookup_grounded next (λ directory answers. refl) files name, lookup_value next (λ directory answers. refl) files name),
     )

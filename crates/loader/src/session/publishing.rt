@@ -7,8 +7,8 @@ ghost use Rattle.commands.specs.Seen.{request_seen, texts_seen};
 ghost use Rattle.shelf.specs.Lists.{version_of};
 ghost use Rattle.shelf.specs.Shelves.{published_by, shown_by, shelf_of};
 ghost use Rattle.loader.specs.Answers as answers;
-ghost use Rattle.loader.specs.Effects.{Moves, StopsAfter, request_effect, request_roots};
-ghost use Rattle.loader.specs.Held.{files_of, IsLawful};
+ghost use Rattle.loader.specs.Effects.{Moves, StopsAfter, StopsRequest, request_effect, request_roots};
+ghost use Rattle.loader.specs.Held.{state_of, files_of, IsLawful};
 ghost use Rattle.loader.specs.Publishing.{AreEntries, Publishes, Shows, names_to_publish};
 
 use super::Session;
@@ -36,9 +36,9 @@ impl Session {
     ) -> Result<(Reply, Option<Told>), Stop>
         requires { version_of (published_by keeper.old) ≤ self.old.graph.version }
         ensures text { IfOk result (λ r. answers.Tells (answers.IsRequestAnswer (request_seen request.now) (files_of self.old)) (string_bytes r.0.text)) }
-        ensures moves { IfOk result (λ r. Moves (request_effect (request_seen request.now) self.old.graph.version) self.old self.new r.0.runs.items) }
+        ensures moves { IfOk result (λ r. Moves (request_effect (request_seen request.now) (state_of self.old)) self.old self.new r.0.runs.items) }
         ensures turns { IfOk result (λ r. turns_of r.0.runs.items ≤ budget) }
-        ensures stopped { OnErr result (StopsAfter (request_roots (request_seen request.now)) self.old self.new) }
+        ensures stopped { OnErr result (StopsRequest (request_seen request.now) self.old self.new) }
         ensures history { (self.new.began ≡ self.old.began) × (self.new.edits ≡ self.old.edits) }
         ensures version { self.new.graph.version ≡ self.old.graph.version }
         ensures lawful { IsLawful self.new }
@@ -64,7 +64,7 @@ impl Session {
         requires { request_refusal (load (texts_seen names.now)) ≡ None }
         ensures text { IfOk result (λ r. answers.Tells (answers.IsRequestAnswer (load (texts_seen names.now)) (files_of self.old)) (string_bytes r.0.text)) }
         ensures entries { IfOk result (λ r. AreEntries (files_of self.old) (texts_seen names.now) r.1.items) }
-        ensures moves { IfOk result (λ r. Moves (request_effect (load (texts_seen names.now)) self.old.graph.version) self.old self.new r.0.runs.items) }
+        ensures moves { IfOk result (λ r. Moves (request_effect (load (texts_seen names.now)) (state_of self.old)) self.old self.new r.0.runs.items) }
         ensures turns { IfOk result (λ r. turns_of r.0.runs.items ≤ budget) }
         ensures stopped { OnErr result (StopsAfter (request_roots (load (texts_seen names.now))) self.old self.new) }
         ensures history { (self.new.began ≡ self.old.began) × (self.new.edits ≡ self.old.edits) }

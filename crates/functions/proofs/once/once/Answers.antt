@@ -1,6 +1,6 @@
 use Rattle.std.proofs.Common.{◌∙◌, sym}
 use Rattle.functions.specs.Once.{once}
-use Rattle.functions.proofs.NamesInOrder.{drop_item}
+use Rattle.walks.proofs.NamesInOrder.{drop_item}
 use Rattle.functions.proofs.OnceSteps.{once_step, holds_step}
 use Rattle.functions.proofs.once.once.Goals as goal
 

@@ -1,6 +1,7 @@
+use Rattle.std.proofs.Common.{refl}
 use Rattle.package_calls.specs.View.{answers_of}
 use Rattle.package_calls.proofs.Gathering.{unanswered_step}
 use Rattle.package_calls.proofs.answering.unanswered.Goals as goal
 
-pub loop-pattern-preserved : goal.loop-pattern-preserved
-loop-pattern-preserved c = unanswered_step (answers_of c.args.answers.now) c.args.patterns.now c.loop-pattern.pattern-index c.pattern-item.result c.text.result.now c.loop-pattern.all.items _ _ c.loop-pattern-test.true c.pattern-item.is c.text.ensures.value c.in_ok-add_unanswered.ensures c.loop-pattern.invariant
+pub loop-question-preserved : goal.loop-question-preserved
+loop-question-preserved c = unanswered_step (answers_of c.args.answers.now) c.args.questions.now c.loop-question.question-index c.question-item.result c.question-item.result c.loop-question.all.items _ _ c.loop-question-test.true c.question-item.is refl c.in_ok-add_unanswered.ensures c.loop-question.invariant

@@ -4,8 +4,8 @@ use Rattle.commands.specs.Refusals.{request_refusal}
 use Rattle.commands.specs.Seen.{request_seen, texts_seen}
 use Rattle.shelf.specs.Lists.{then_published}
 use Rattle.shelf.specs.Shelves.{published_by}
-use Rattle.loader.specs.Effects.{StopsAfter, request_roots}
-use Rattle.loader.specs.Held.{files_of}
+use Rattle.loader.specs.Effects.{StopsRequest}
+use Rattle.loader.specs.Held.{state_of, files_of}
 use Rattle.loader.specs.Publishing.{Publishes, Shows, names_to_publish}
 use Rattle.loader.proofs.Steps.{on_err}
 use Rattle.loader.proofs.Taken.{none_left, names_are, published_so, stopped_so}
@@ -16,8 +16,8 @@ returns-in_err-told-clause-stopped g c =
     let names = texts_seen c.as_slice.result.now in
     let loaded : request_seen c.args.request.now ≡ load names = ap request_seen c.in-Load.is ∙ ap (λ ns. load (texts_seen ns)) (sym c.as_slice.ensures.value) in
     let accepted : request_refusal (load names) ≡ None = ap request_refusal (sym loaded) ∙ (sym c.in_ok-refusal.ensures ∙ none_left c.in_ok-refusal.field-0 (sym c.is_some.ensures ∙ c.if-is_some.false)) in
-    on_err c.from_residual-in_err-told.result (subst (λ r. StopsAfter (request_roots r) c.args.self.now c.load.new.self) (sym loaded)
-    (stopped_so names accepted c.args.self.now c.load.new.self c.in_ok-reply.reply.runs.items c.args.self.now.graph.version c.in_ok-reply.ensures.moves))
+    on_err c.from_residual-in_err-told.result (subst (λ r. StopsRequest r c.args.self.now c.load.new.self) (sym loaded)
+    (stopped_so names accepted c.args.self.now c.load.new.self c.in_ok-reply.reply.runs.items (state_of c.args.self.now) c.in_ok-reply.ensures.moves))
 
 pub returns-in_err-told-clause-refused : goal.returns-in_err-told-clause-refused
 returns-in_err-told-clause-refused g c =

@@ -1,6 +1,0 @@
-use Rattle.std.proofs.Common.{◌≡◌, ◌++◌, drop}
-use Rattle.functions.specs.Globs.{globs_below}
-use Rattle.functions.proofs.glob.add_globs.Given as goal
-
-abbrev pub invariant-loop-name : goal.invariant-loop-name
-invariant-loop-name l = l.group.items ++ globs_below l.directory l.pattern (drop l.name-index l.names) ≡ l.fn.group.items ++ globs_below l.directory l.pattern l.names

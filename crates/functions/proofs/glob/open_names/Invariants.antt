@@ -1,7 +1,0 @@
-use Rattle.std.proofs.Common.{◌≡◌, ◌++◌, drop}
-use Rattle.keys.specs.Turns.{values}
-use Rattle.functions.specs.Globs.{open_names}
-use Rattle.functions.proofs.glob.open_names.Given as goal
-
-abbrev pub invariant-loop-i : goal.invariant-loop-i
-invariant-loop-i l = l.all.items ++ open_names (drop l.i l.names) (drop l.i (values l.answers)) ≡ open_names l.names (values l.answers)

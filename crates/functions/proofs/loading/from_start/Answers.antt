@@ -1,0 +1,20 @@
+use Rattle.std.proofs.Common.{sym, subst}
+use Rattle.keys.specs.Turns.{values}
+use Rattle.walks.specs.Replies.{IsReply}
+use Rattle.functions.specs.Next.{next}
+use Rattle.functions.proofs.loading.from_start.Goals as goal
+
+pub returns-in_ok-lookup-in-Lookup : goal.returns-in_ok-lookup-in-Lookup
+returns-in_ok-lookup-in-Lookup c =
+    let answers = values c.args.answers.now in
+    c.plain.ensures (next c.args.key.now) answers (subst (λ k. IsReply (next k answers) c.in_ok-lookup-in-Lookup.field-0) (sym c.in-Lookup.is) c.in_ok-lookup-in-Lookup.ensures)
+
+pub returns-in_ok-glob-in-Glob : goal.returns-in_ok-glob-in-Glob
+returns-in_ok-glob-in-Glob c =
+    let answers = values c.args.answers.now in
+    c.plain-in-Glob.ensures (next c.args.key.now) answers (subst (λ k. IsReply (next k answers) c.in_ok-glob-in-Glob.field-0) (sym c.in-Glob.is) c.in_ok-glob-in-Glob.ensures)
+
+pub returns-in_ok-package_names-in-Under : goal.returns-in_ok-package_names-in-Under
+returns-in_ok-package_names-in-Under c =
+    let answers = values c.args.answers.now in
+    c.plain-in-Under.ensures (next c.args.key.now) answers (subst (λ k. IsReply (next k answers) c.in_ok-package_names-in-Under.field-0) (sym c.in-Under.is) c.in_ok-package_names-in-Under.ensures)

@@ -1,0 +1,12 @@
+use Rattle.std.proofs.Common.{refl}
+use Rattle.evaluation.proofs.Unique.{same_value}
+use Rattle.leaves.specs.Leaves.{read}
+use Rattle.functions.specs.Next.{next}
+use Rattle.walks.proofs.LookupValue.{lookup_grounded}
+use Rattle.package_names.proofs.Grounds.{packages_held}
+use Rattle.functions.proofs.packages_below_are_held.Goals as goal
+
+pub returns : goal.returns
+returns c = λ files directory good.
+    let held = packages_held next files (λ d answers. refl) (lookup_grounded next (λ d answers. refl) files) good directory in
+    (held, λ w g. same_value next (read files) g held refl)

@@ -1,0 +1,6 @@
+use Rattle.std.proofs.Common.{◌≡◌, ◌+◌, drop}
+use Rattle.open_nodes.specs.Counted.{turns_of}
+use Rattle.loader.proofs.turns.turns_left.Given as goal
+
+abbrev pub invariant-loop-run : goal.invariant-loop-run
+invariant-loop-run l = l.left + turns_of l.runs ≡ l.budget + turns_of (drop l.run-index l.runs)

@@ -1,0 +1,4 @@
+pub mod Names
+pub mod Directories
+pub mod Steps
+pub mod Grounds

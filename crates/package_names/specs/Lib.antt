@@ -1,0 +1,4 @@
+pub mod Below
+pub mod Turns
+pub mod TurnLaws
+pub mod Finds

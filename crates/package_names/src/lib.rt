@@ -1,0 +1,25 @@
+//! The node function of the names of all packages at and below a directory.
+//!
+//! `Under(directory)` asks the look-up and the listing of the directory, and then the names at and below each of its
+//! subdirectories. It ends with all these names in byte order, its own among them if it is a package. An empty group is
+//! not asked.
+#![tactic(auto)]
+
+ghost use Rattle.package_names.specs.Finds.{HoldsPackages, HavePackageNames};
+
+mod node;
+
+pub use node::package_names;
+
+/// The law of the node: take any table of turns that has these, and by which look-ups hold what they are to hold. At
+/// files whose names are paths the node holds the names of all packages at and below its directory, whatever the
+/// directory.
+pub fn packages_are_held()
+    ensures { HoldsPackages }
+{}
+
+/// The law of the names: at files whose names are paths each name of a package at and below a directory is a package
+/// name, whatever the directory.
+pub fn packages_have_package_names()
+    ensures { HavePackageNames }
+{}

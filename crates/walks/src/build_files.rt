@@ -1,0 +1,64 @@
+//! The BUILD files of a package.
+ghost use Rattle.std.specs.Prelude.{◌≡◌, ◌≤◌, ◌++◌, length, IfOk};
+ghost use Rattle.std.specs.String.{string_bytes};
+ghost use Rattle.walks.specs.Lookups as specs;
+
+use keys::BuildName;
+use std::alloc::Global;
+use texts::{Memory, Text};
+
+// The most bytes of a path.
+const PATH_LIMIT: usize = 255;
+
+static BOTH: [BuildName; 2] = [BuildName::BuildBazel, BuildName::Build];
+
+static SHORTER: [BuildName; 1] = [BuildName::Build];
+
+// The name of the file.
+fn file_name(name: BuildName) -> &'static str
+    ensures name { result.now ≡ specs.file_name name }
+    ensures short { length result.now ≤ 11 }
+{
+    match name {
+        BuildName::BuildBazel => "BUILD.bazel",
+        BuildName::Build => "BUILD",
+    }
+}
+
+/// Where the file of the package is.
+pub fn build_path(alloc: Global, directory: &Text, name: BuildName) -> Result<String, Memory>
+    ensures { IfOk result (λ p. string_bytes p ≡ specs.build_path directory.now name) }
+{
+    let mut path = String::from_str(alloc, directory.as_str())?;
+    if !path.is_empty() {
+        path.push_str("/")?;
+    }
+    path.push_str(file_name(name))?;
+    Ok(path)
+}
+
+// Whether that path is short enough to be one.
+fn is_short(directory: &Text, name: BuildName) -> bool
+    ensures { result ≡ specs.is_short directory.now name }
+{
+    let directory = directory.as_str();
+    let own = file_name(name).len();
+    if directory.is_empty() {
+        own <= PATH_LIMIT
+    } else {
+        directory.len() <= PATH_LIMIT - 1 - own
+    }
+}
+
+/// The files that are asked for, the one that wins first.
+pub fn candidates(directory: &Text) -> &'static [BuildName]
+    ensures { result.now ≡ specs.candidates directory.now }
+{
+    if is_short(directory, BuildName::BuildBazel) {
+        &BOTH
+    } else if is_short(directory, BuildName::Build) {
+        &SHORTER
+    } else {
+        &[]
+    }
+}

@@ -1,0 +1,244 @@
+//! The node function of a glob.
+ghost use Rattle.std.specs.Prelude.{◌≡◌, ◌∷◌, ◌++◌, IfOk, OnOk, map};
+ghost use Rattle.keys.specs.Turns.{values};
+ghost use Rattle.walks.specs.Globs as specs;
+ghost use Rattle.walks.specs.Replies.{IsReply};
+
+use crate::glob_pattern::{
+    add_all, all_entered, asked_names, asks_here, others_of, own_found, path_in, pattern_below,
+};
+use crate::ordering::in_order;
+use crate::reply::Reply;
+use crate::search::{Search, question_of, search_of};
+use keys::{Key, Paths, Value};
+use std::alloc::Global;
+use std::sync::Arc;
+use texts::{Memory, Text};
+
+// The names of the files in a listing.
+fn files_in(listing: &Value) -> &[Text]
+    ensures { result.now ≡ specs.files_in listing.now }
+{
+    match listing {
+        Value::Listing(Some(names)) => names.files(),
+        _ => &[],
+    }
+}
+
+/// The names of the subdirectories in a listing.
+pub fn directories_in(listing: &Value) -> &[Text]
+    ensures { result.now ≡ specs.directories_in listing.now }
+{
+    match listing {
+        Value::Listing(Some(names)) => names.directories(),
+        _ => &[],
+    }
+}
+
+/// Whether a look-up found a BUILD file.
+pub fn has_build(answer: &Value) -> bool
+    ensures { result ≡ specs.has_build answer.now }
+{
+    match answer {
+        Value::Lookup(Some(_)) => true,
+        _ => false,
+    }
+}
+
+// The paths that a glob found.
+fn paths_of(answer: &Value) -> &[Text]
+    ensures { result.now ≡ specs.paths_of answer.now }
+{
+    match answer {
+        Value::Paths(paths) => paths.as_slice(),
+        _ => &[],
+    }
+}
+
+// The look-ups of subdirectories.
+fn lookups(alloc: Global, directory: &str, names: &[Text]) -> Result<Vec<Key>, Memory>
+    ensures { IfOk result (λ g. g.items ≡ specs.lookups directory.now names.now) }
+{
+    let mut group = Vec::new(alloc);
+    for name in names {
+        let path = path_in(alloc, directory, name.as_str())?;
+        group.push(Key::Lookup(Text::new(alloc, path.as_str())?))?;
+    }
+    Ok(group)
+}
+
+// The subdirectories that are no packages.
+fn open_names(alloc: Global, names: &[Text], answers: &[Arc<Value>]) -> Result<Vec<Text>, Memory>
+    ensures { IfOk result (λ v. v.items ≡ specs.open_names names.now (values answers.now)) }
+{
+    let mut all = Vec::new(alloc);
+    for (i, name) in names.iter().enumerate() {
+        if i >= answers.len() {
+            return Ok(all);
+        }
+        if !has_build(&answers[i]) {
+            all.push(name.share()?)?;
+        }
+    }
+    Ok(all)
+}
+
+// The globs of a question below subdirectories, behind those of a group.
+fn add_globs(
+    alloc: Global,
+    group: &mut Vec<Key>,
+    directory: &str,
+    question: &str,
+    names: &[Text],
+) -> Result<(), Memory>
+    ensures { OnOk result (group.new.items ≡ group.old.items ++ specs.globs_below directory.now question.now names.now) }
+{
+    for name in names {
+        let path = path_in(alloc, directory, name.as_str())?;
+        group.push(Key::glob_of(alloc, path.as_str(), question)?)?;
+    }
+    Ok(())
+}
+
+// The globs that a glob asks.
+fn globs(alloc: Global, search: Search<'_>, names: &[Text]) -> Result<Vec<Key>, Memory>
+    ensures { IfOk result (λ g. g.items ≡ specs.globs search.entry.directory.now search.entry.directories search.entry.pattern.now names.now) }
+{
+    let mut group = Vec::new(alloc);
+    if asks_here(search.pattern) {
+        let others = question_of(alloc, search.directories, others_of(search.pattern))?;
+        group.push(Key::glob_of(alloc, search.directory, others.as_str())?)?;
+    }
+    let below = question_of(alloc, search.directories, pattern_below(search.pattern))?;
+    add_globs(alloc, &mut group, search.directory, below.as_str(), names)?;
+    Ok(group)
+}
+
+// Adds the paths in a subdirectory.
+fn add_under(alloc: Global, all: &mut Vec<Text>, name: &Text, paths: &[Text]) -> Result<(), Memory>
+    ensures { OnOk result (all.new.items ≡ all.old.items ++ map (λ path. name.now ++ 47 ∷ path) paths.now) }
+{
+    for path in paths {
+        let text = format!(in alloc; "{}/{}", name.as_str(), path.as_str())?;
+        all.push(Text::new(alloc, text.as_str())?)?;
+    }
+    Ok(())
+}
+
+// Adds the paths that are found below subdirectories.
+fn add_below(
+    alloc: Global,
+    all: &mut Vec<Text>,
+    names: &[Text],
+    answers: &[Arc<Value>],
+) -> Result<(), Memory>
+    ensures { OnOk result (all.new.items ≡ all.old.items ++ specs.found_below names.now (values answers.now)) }
+{
+    for (i, name) in names.iter().enumerate() {
+        if i >= answers.len() {
+            return Ok(());
+        }
+        add_under(alloc, all, name, paths_of(&answers[i]))?;
+    }
+    Ok(())
+}
+
+// Adds the paths that the answers of a glob's globs find.
+fn add_found(
+    alloc: Global,
+    all: &mut Vec<Text>,
+    pattern: &str,
+    names: &[Text],
+    answers: &[Arc<Value>],
+) -> Result<(), Memory>
+    ensures { OnOk result (all.new.items ≡ all.old.items ++ specs.found_by pattern.now names.now (values answers.now)) }
+{
+    if !asks_here(pattern) {
+        return add_below(alloc, all, names, answers);
+    }
+    match answers.split_first() {
+        None => Ok(()),
+        Some((own, answers)) => {
+            add_all(all, paths_of(own))?;
+            add_below(alloc, all, names, answers)
+        }
+    }
+}
+
+// What comes after the look-ups, from the subdirectories that are no packages and those that are gone into.
+fn after_lookups(
+    alloc: Global,
+    search: Search<'_>,
+    files: &[Text],
+    free: &[Text],
+    names: &[Text],
+    answers: &[Arc<Value>],
+) -> Result<Reply, Memory>
+    ensures { IfOk result (IsReply (specs.after_lookups search.entry.directory.now search.entry.directories search.entry.pattern.now files.now free.now names.now (values answers.now))) }
+{
+    let group = globs(alloc, search, names)?;
+    if answers.len() < group.len() {
+        return Ok(Reply::Ask(group));
+    }
+    let mut all = own_found(alloc, search, files, free)?;
+    add_found(alloc, &mut all, search.pattern, names, answers)?;
+    let paths = in_order(alloc, all.as_slice())?;
+    Ok(Reply::Done(Value::Paths(Paths::new(alloc, paths)?)))
+}
+
+// What comes after the look-ups, from the subdirectories that are no packages. Without directories all are gone into.
+fn by_open(
+    alloc: Global,
+    search: Search<'_>,
+    files: &[Text],
+    free: &[Text],
+    answers: &[Arc<Value>],
+) -> Result<Reply, Memory>
+    ensures { IfOk result (IsReply (specs.by_open search.entry.directory.now search.entry.directories search.entry.pattern.now files.now free.now (values answers.now))) }
+{
+    if !search.directories {
+        return after_lookups(alloc, search, files, free, free, answers);
+    }
+    let names = all_entered(alloc, search.pattern, free)?;
+    after_lookups(alloc, search, files, free, names.as_slice(), answers)
+}
+
+// What comes after the listing.
+fn after_listing(
+    alloc: Global,
+    search: Search<'_>,
+    files: &[Text],
+    names: &[Text],
+    answers: &[Arc<Value>],
+) -> Result<Reply, Memory>
+    ensures { IfOk result (IsReply (specs.after_listing search.entry.directory.now search.entry.directories search.entry.pattern.now files.now names.now (values answers.now))) }
+{
+    if answers.len() < names.len() {
+        return Ok(Reply::Ask(lookups(alloc, search.directory, names)?));
+    }
+    let free = open_names(alloc, names, answers)?;
+    by_open(
+        alloc,
+        search,
+        files,
+        free.as_slice(),
+        &answers[names.len()..],
+    )
+}
+
+/// What a glob asks or ends with.
+pub fn glob(alloc: Global, text: &Text, answers: &[Arc<Value>]) -> Result<Reply, Memory>
+    ensures { IfOk result (IsReply (specs.next text.now (values answers.now))) }
+{
+    let search = search_of(text.as_str());
+    match answers.split_first() {
+        None => {
+            let listing = Key::Listing(Text::new(alloc, search.directory)?);
+            Ok(Reply::Ask(vec![in alloc; listing]?))
+        }
+        Some((listing, answers)) => {
+            let names = asked_names(alloc, search, directories_in(listing))?;
+            after_listing(alloc, search, files_in(listing), names.as_slice(), answers)
+        }
+    }
+}

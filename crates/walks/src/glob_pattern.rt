@@ -1,0 +1,212 @@
+//! One step of a glob by its pattern.
+ghost use Rattle.std.specs.Prelude.{◌≡◌, ◌++◌, ◌&&◌, ◌||◌, is_some, IfOk, OnOk, filter};
+ghost use Rattle.std.specs.Option.{option_copied};
+ghost use Rattle.std.specs.String.{string_bytes};
+ghost use Rattle.std.specs.List.{list_all};
+ghost use Rattle.labels.specs.Paths.{segments};
+ghost use Rattle.globs.specs.Globs.{path_in};
+ghost use Rattle.pattern.specs.Patterns as patterns;
+ghost use Rattle.walks.specs.Globs as specs;
+
+use crate::ordering::in_order;
+use crate::search::Search;
+use pattern::{is_double_star, segment_matches};
+use std::alloc::Global;
+use texts::{Memory, Text};
+
+// The first segment of a pattern, and the pattern of the others.
+fn split_pattern(pattern: &str) -> (&str, Option<&str>)
+    ensures first { result.0.now ≡ specs.first_segment pattern.now }
+    ensures others { option_copied result.1 ≡ specs.other_segments pattern.now }
+{
+    match pattern.split_once('/') {
+        Some((first, others)) => (first, Some(others)),
+        None => (pattern, None),
+    }
+}
+
+// Whether a segment stands for any number of segments.
+fn is_any(segment: &str) -> bool
+    ensures { result ≡ patterns.is_double_star segment.now }
+{
+    is_double_star(segment)
+}
+
+// Whether all segments of a pattern stand for any number of segments.
+fn are_any(pattern: &str) -> bool
+    ensures { result ≡ list_all patterns.is_double_star (segments pattern.now) }
+{
+    pattern.split('/').all(is_any)
+}
+
+// Whether no segment is left but `**`.
+fn ends_here(rest: Option<&str>) -> bool
+    ensures { result ≡ specs.ends_here (option_copied rest.entry) }
+{
+    match rest {
+        None => true,
+        Some(rest) => are_any(rest),
+    }
+}
+
+// Whether the first segment is `**`.
+fn is_deep(pattern: &str) -> bool
+    ensures { result ≡ specs.is_deep pattern.now }
+{
+    is_double_star(split_pattern(pattern).0)
+}
+
+// Whether a pattern takes a name in the directory by its first segment.
+fn takes(pattern: &str, name: &str) -> bool
+    ensures { result ≡ specs.takes pattern.now name.now }
+{
+    let (first, others) = split_pattern(pattern);
+    ends_here(others) && segment_matches(first, name)
+}
+
+// Whether a pattern has more than one segment.
+fn has_others(pattern: &str) -> bool
+    ensures { result ≡ is_some (specs.other_segments pattern.now) }
+{
+    split_pattern(pattern).1.is_some()
+}
+
+// Whether a pattern goes into a subdirectory that is no package.
+fn enters(pattern: &str, name: &str) -> bool
+    ensures { result ≡ specs.enters pattern.now name.now }
+{
+    is_deep(pattern) || (has_others(pattern) && segment_matches(split_pattern(pattern).0, name))
+}
+
+/// Whether the others of a pattern are looked for in the directory itself too.
+pub fn asks_here(pattern: &str) -> bool
+    ensures { result ≡ specs.asks_here pattern.now }
+{
+    is_deep(pattern) && has_others(pattern)
+}
+
+/// The pattern of the segments behind the first, or the empty text.
+pub fn others_of(pattern: &str) -> &str
+    ensures { result.now ≡ specs.text_or_none (specs.other_segments pattern.now) }
+{
+    match split_pattern(pattern).1 {
+        Some(others) => others,
+        None => "",
+    }
+}
+
+/// The pattern that is looked for below a subdirectory.
+pub fn pattern_below(pattern: &str) -> &str
+    ensures { result.now ≡ specs.pattern_below pattern.now }
+{
+    if is_deep(pattern) {
+        pattern
+    } else {
+        others_of(pattern)
+    }
+}
+
+/// Adds names, shared.
+pub fn add_all(all: &mut Vec<Text>, names: &[Text]) -> Result<(), Memory>
+    ensures { OnOk result (all.new.items ≡ all.old.items ++ names.now) }
+{
+    for name in names {
+        all.push(name.share()?)?;
+    }
+    Ok(())
+}
+
+// Adds the names that the first segment takes, shared.
+fn add_taken(all: &mut Vec<Text>, pattern: &str, names: &[Text]) -> Result<(), Memory>
+    ensures { OnOk result (all.new.items ≡ all.old.items ++ filter (specs.takes pattern.now) names.now) }
+{
+    for name in names {
+        if takes(pattern, name.as_str()) {
+            all.push(name.share()?)?;
+        }
+    }
+    Ok(())
+}
+
+// Adds the names in the directory that a pattern finds there.
+fn add_own(all: &mut Vec<Text>, pattern: &str, names: &[Text]) -> Result<(), Memory>
+    ensures { OnOk result (all.new.items ≡ all.old.items ++ specs.own_names pattern.now names.now) }
+{
+    if !is_deep(pattern) {
+        return add_taken(all, pattern, names);
+    }
+    if has_others(pattern) {
+        return Ok(());
+    }
+    add_all(all, names)
+}
+
+/// The names in the directory that a search finds there, of its files and of its subdirectories that are no packages.
+pub fn own_found(
+    alloc: Global,
+    search: Search<'_>,
+    files: &[Text],
+    free: &[Text],
+) -> Result<Vec<Text>, Memory>
+    ensures { IfOk result (λ v. v.items ≡ specs.own_found search.entry.directories search.entry.pattern.now files.now free.now) }
+{
+    let mut all = Vec::new(alloc);
+    add_own(&mut all, search.pattern, files)?;
+    if search.directories {
+        add_own(&mut all, search.pattern, free)?;
+    }
+    Ok(all)
+}
+
+/// The names that a pattern goes into.
+pub fn all_entered(alloc: Global, pattern: &str, names: &[Text]) -> Result<Vec<Text>, Memory>
+    ensures { IfOk result (λ v. v.items ≡ filter (specs.enters pattern.now) names.now) }
+{
+    let mut all = Vec::new(alloc);
+    for name in names {
+        if enters(pattern, name.as_str()) {
+            all.push(name.share()?)?;
+        }
+    }
+    Ok(all)
+}
+
+// Whether a search has to know of a subdirectory whether it is a package.
+fn asks(search: Search<'_>, name: &str) -> bool
+    ensures { result ≡ specs.enters search.entry.pattern.now name.now || search.entry.directories && specs.takes search.entry.pattern.now name.now }
+{
+    enters(search.pattern, name) || (search.directories && takes(search.pattern, name))
+}
+
+// The names of these subdirectories.
+fn all_asked(alloc: Global, search: Search<'_>, names: &[Text]) -> Result<Vec<Text>, Memory>
+    ensures { IfOk result (λ v. v.items ≡ filter (λ name. specs.enters search.entry.pattern.now name || search.entry.directories && specs.takes search.entry.pattern.now name) names.now) }
+{
+    let mut all = Vec::new(alloc);
+    for name in names {
+        if asks(search, name.as_str()) {
+            all.push(name.share()?)?;
+        }
+    }
+    Ok(all)
+}
+
+/// The subdirectories of which a search has to know whether they are packages, in byte order.
+pub fn asked_names(alloc: Global, search: Search<'_>, names: &[Text]) -> Result<Vec<Text>, Memory>
+    ensures { IfOk result (λ v. v.items ≡ specs.asked_names search.entry.directories search.entry.pattern.now names.now) }
+{
+    let all = all_asked(alloc, search, names)?;
+    in_order(alloc, all.as_slice())
+}
+
+/// A name in a directory; the root's name is empty.
+pub fn path_in(alloc: Global, directory: &str, name: &str) -> Result<String, Memory>
+    ensures { IfOk result (λ p. string_bytes p ≡ path_in directory.now name.now) }
+{
+    let mut path = String::from_str(alloc, directory)?;
+    if !path.is_empty() {
+        path.push_str("/")?;
+    }
+    path.push_str(name)?;
+    Ok(path)
+}

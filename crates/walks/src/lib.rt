@@ -1,0 +1,44 @@
+//! The node functions that go by directories: look-ups of BUILD files, and globs.
+//!
+//! * `Lookup(package)` asks one group, the files `BUILD.bazel` and `BUILD` of the package, but none whose path has more
+//!   than 255 bytes, and ends with the first that is there. With no path short enough it ends at once.
+//! * `Glob(directory pattern)` asks the listing of the directory, then the look-ups of the subdirectories that the pattern
+//!   goes into, and then the globs below: with a pattern that begins with `**` that of the other segments in the same
+//!   directory, and one in each of the subdirectories that are no packages. It ends with the paths that are found, from the
+//!   directory on, in byte order.
+//! * `Glob(directory pattern dirs)` finds directories too, those that are no packages. It also asks the look-ups of the
+//!   subdirectories that the pattern would find, and its globs below end with ` dirs` as well.
+//!
+//! An empty group is not asked, and a key that repeats in a group is asked once, at its first place.
+#![tactic(auto)]
+
+ghost use Rattle.walks.specs.Found.{LookupsHold, GlobsHold};
+
+mod build_files;
+mod glob_node;
+mod glob_pattern;
+mod lookup_node;
+mod ordering;
+mod reply;
+mod search;
+
+pub use build_files::{build_path, candidates};
+pub use glob_node::{directories_in, glob, has_build};
+pub use glob_pattern::path_in;
+pub use lookup_node::lookup;
+pub use ordering::in_order;
+pub use reply::Reply;
+
+/// The law of the look-ups: at each state of the files a look-up's node holds which BUILD file wins, or none. It holds
+/// for any node functions whose look-ups are those of this crate.
+pub fn look_ups_hold()
+    ensures { LookupsHold }
+{}
+
+/// The law of the globs: at files whose names are paths the node of a directory and a question holds what the question
+/// finds among all paths of the files, below the directory and into no package on the way, in byte order. Where it asks
+/// for directories, those that are no packages are found too. It holds for any node functions whose look-ups and globs
+/// are those of this crate.
+pub fn globs_hold_what_they_find()
+    ensures { GlobsHold }
+{}

@@ -1,0 +1,66 @@
+//! The node function of a look-up.
+ghost use Rattle.std.specs.Prelude.{◌≡◌, IfOk, map};
+ghost use Rattle.keys.specs.Turns.{values};
+ghost use Rattle.walks.specs.Lookups as specs;
+ghost use Rattle.walks.specs.Replies.{IsReply};
+
+use crate::build_files::{build_path, candidates};
+use crate::reply::Reply;
+use keys::{BuildName, Key, Value};
+use std::alloc::Global;
+use std::sync::Arc;
+use texts::{Memory, Text};
+
+// The group that a look-up asks.
+fn lookup_group(alloc: Global, directory: &Text) -> Result<Vec<Key>, Memory>
+    ensures { IfOk result (λ g. g.items ≡ specs.lookup_group directory.now) }
+{
+    let names = candidates(directory);
+    let mut group = Vec::new(alloc);
+    for name in names {
+        let path = build_path(alloc, directory, *name)?;
+        group.push(Key::File(Text::new(alloc, path.as_str())?))?;
+    }
+    Ok(group)
+}
+
+// Whether the answer is a file that is there.
+fn is_there(answer: &Value) -> bool
+    ensures { result ≡ specs.is_there answer.now }
+{
+    match answer {
+        Value::File(Some(_)) => true,
+        _ => false,
+    }
+}
+
+// The first of the names whose answer is a file.
+fn first_there(names: &[BuildName], answers: &[Arc<Value>]) -> Option<BuildName>
+    ensures { result ≡ specs.first_there names.now (values answers.now) }
+{
+    for (i, name) in names.iter().enumerate() {
+        if i >= answers.len() {
+            return None;
+        }
+        if is_there(&answers[i]) {
+            return Some(*name);
+        }
+    }
+    None
+}
+
+/// What a look-up asks or ends with.
+pub fn lookup(alloc: Global, directory: &Text, answers: &[Arc<Value>]) -> Result<Reply, Memory>
+    ensures { IfOk result (IsReply (specs.next directory.now (values answers.now))) }
+{
+    if answers.is_empty() {
+        let group = lookup_group(alloc, directory)?;
+        if group.is_empty() {
+            Ok(Reply::Done(Value::Lookup(None)))
+        } else {
+            Ok(Reply::Ask(group))
+        }
+    } else {
+        Ok(Reply::Done(Value::Lookup(first_there(candidates(directory), answers))))
+    }
+}
