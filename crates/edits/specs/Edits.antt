@@ -1,6 +1,5 @@
 -- Edits: why they are refused, and what they make of the files.
 use Rattle.std.specs.Prelude.{◌≡◌, ℕ, List, [], ◌∷◌, length, map, ◌||◌, ◌==◌, nat_lt, Option, Some, None, option_map, Result, Ok, Err, Bool, true, false, if◌then◌else◌}
-use Rattle.std.specs.Borrow.{Bor}
 use Rattle.filetree.specs.Files.{Files}
 use Rattle.filetree.specs.Changes.{change_refusal, changes_refusal, all_changed}
 pub use Rattle.commands.specs.Commands.{Edit, one, batch, Change, put, del, changes_of, paths_of}
@@ -44,10 +43,6 @@ TellsRefusal refusal Memory = Unit {0}
 abbrev pub EditsFiles : {A : Type 0} → Edit → Files → Files → Result A EditError → Type 0
 EditsFiles edit before after (Ok _) = (files_refusal edit before ≡ None) × (after ≡ changed_files edit before)
 EditsFiles edit before after (Err e) = TellsRefusal (files_refusal edit before) e × (after ≡ before)
-
--- the texts that references point to
-abbrev pub texts_seen : List (Bor (List ℕ)) → List (List ℕ)
-texts_seen = map (λ t. t.now)
 
 -- a change as it is kept: its path, and the text that is put there
 abbrev pub change_of : List ℕ × Option (List ℕ) → Change

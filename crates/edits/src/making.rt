@@ -2,7 +2,7 @@
 ghost use Rattle.std.specs.Prelude.{◌≡◌, IfOk, map};
 ghost use Rattle.filetree.specs.Shown.{change_seen, changes_seen};
 ghost use Rattle.commands.specs.Commands as commands;
-ghost use Rattle.commands.specs.Seen.{edit_seen};
+ghost use Rattle.commands.specs.Seen.{edit_seen, texts_seen};
 ghost use Rattle.edits.specs.Edits as specs;
 
 use crate::error::EditError;
@@ -70,7 +70,7 @@ pub fn refusal_at_limit(tree: &Tree, edit: &Edit<'_>) -> EditError
 
 // The paths of changes, in their order.
 fn paths_in<'a>(alloc: Global, changes: &'a [Change<'_>]) -> Result<Vec<&'a str>, Memory>
-    ensures { IfOk result (λ paths. specs.texts_seen paths.items ≡ map commands.path_of (changes_seen changes.now)) }
+    ensures { IfOk result (λ paths. texts_seen paths.items ≡ map commands.path_of (changes_seen changes.now)) }
 {
     let mut paths = Vec::new(alloc);
     for change in changes {
@@ -81,7 +81,7 @@ fn paths_in<'a>(alloc: Global, changes: &'a [Change<'_>]) -> Result<Vec<&'a str>
 
 /// The paths of the files that an edit changes, in their order.
 pub fn edited_paths<'a>(alloc: Global, edit: &'a Edit<'_>) -> Result<Vec<&'a str>, Memory>
-    ensures { IfOk result (λ paths. specs.texts_seen paths.items ≡ commands.paths_of (edit_seen edit.now)) }
+    ensures { IfOk result (λ paths. texts_seen paths.items ≡ commands.paths_of (edit_seen edit.now)) }
 {
     let mut paths = Vec::new(alloc);
     match edit {

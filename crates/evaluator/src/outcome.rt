@@ -3,7 +3,6 @@ ghost use Rattle.std.specs.Prelude.{◌≡◌};
 
 use crate::machine::{Environment, Machine};
 use frames::Control;
-use heap::Object;
 use module_values::{Loaded, Targets};
 use std::marker::Model;
 use texts::Text;
@@ -59,17 +58,6 @@ impl Model for Suspended {
 // How many bytes of values an evaluation may have that is kept while it waits.
 const MOST_KEPT: u64 = 4_194_304;
 
-// The bytes that a value takes of its own, without what it shares.
-fn bytes_of(object: &Object) -> u64 {
-    match object {
-        Object::Text(bytes) => bytes.as_slice().len() as u64,
-        Object::List(members, _) => (members.len() as u64).saturating_mul(16),
-        Object::Tuple(members) => (members.len() as u64).saturating_mul(16),
-        Object::Dict(entries, _) => (entries.len() as u64).saturating_mul(96),
-        Object::Function(_, _) => 0,
-    }
-}
-
 // The same value, of a type that may go to another thread.
 fn crossing<T: Send>(value: T) -> T
     ensures { result ≡ value }
@@ -88,11 +76,7 @@ impl Suspended {
     /// Whether its values take so many bytes that it is better given up and begun again than kept. No outcome hangs on
     /// that, so no contract says anything of it.
     pub fn is_large(&self) -> bool {
-        let mut bytes: u64 = 0;
-        for object in self.machine.state.heap.objects.as_slice() {
-            bytes = bytes.saturating_add(bytes_of(object));
-        }
-        bytes > MOST_KEPT
+        self.machine.state.heap.held() > MOST_KEPT
     }
 
     /// The patterns that have no answer, in order.

@@ -42,16 +42,6 @@ fn refused_at(at: usize, error: &TreeError) -> BatchError
 }
 
 impl Tree {
-    /// The number of the first refusal of a change, or none, as `put_refusal` and `del_refusal` have them.
-    pub fn change_refusal(&self, change: &Change<'_>) -> Option<u64>
-        ensures { result ≡ specs.change_refusal (change_seen change.now) self.now }
-    {
-        match change {
-            Change::Put(path, text) => self.put_refusal(path, text),
-            Change::Del(path) => self.del_refusal(path),
-        }
-    }
-
     /// Makes a change, as `put` and `del` do.
     pub fn change(&mut self, change: &Change<'_>) -> Result<(), TreeError>
         ensures { Edits result (specs.change_refusal (change_seen change.now) self.old) self.old (specs.changed (change_seen change.now) self.old) self.new }

@@ -1,6 +1,4 @@
 //! Why an edit is refused.
-ghost use Rattle.std.specs.Prelude.{◌≡◌, ℕ, Option};
-ghost use Rattle.filetree.specs.Edits.{Tells};
 
 use std::alloc::{AllocError, AllocFailed};
 use thiserror::Error;
@@ -77,19 +75,5 @@ impl<T: Drop> From<AllocFailed<T>> for TreeError {
 
     fn from(_error: AllocFailed<T>) -> TreeError {
         TreeError::Memory
-    }
-}
-
-/// The number of the refusal, if one is told.
-pub(crate) fn refusal_number(outcome: Result<(), TreeError>) -> Option<u64>
-    ensures { (refusal : Option ℕ) → Tells outcome refusal → result ≡ refusal }
-{
-    match outcome {
-        Ok(()) => None,
-        Err(TreeError::Code2) => Some(2),
-        Err(TreeError::Code3) => Some(3),
-        Err(TreeError::Code4) => Some(4),
-        Err(TreeError::Code7) => Some(7),
-        Err(TreeError::Memory) => None,
     }
 }

@@ -8,7 +8,7 @@ ghost use Rattle.filetree.specs.Folders as levels;
 ghost use Rattle.filetree.specs.Listings.{listing};
 ghost use Rattle.filetree.specs.Seen.{names_seen};
 
-use crate::error::{TreeError, refusal_number};
+use crate::error::TreeError;
 use crate::folder::{Folder, put_shared};
 use crate::listing::Listing;
 use labels::is_path;
@@ -174,22 +174,8 @@ impl Tree {
         Ok(())
     }
 
-    /// The number of the first refusal of a put, or none: 2 for a bad path, 7 for a text over 262,144
-    /// bytes, 3 where a proper ancestor of the path is a file or the path is a directory.
-    pub fn put_refusal(&self, path: &str, text: &str) -> Option<u64>
-        ensures { result ≡ specs.put_refusal self.now path.now text.now }
-    {
-        refusal_number(self.test_put(path, text))
-    }
-
-    /// The number of the first refusal of a removal, or none: 2 for a bad path, 4 for no such file.
-    pub fn del_refusal(&self, path: &str) -> Option<u64>
-        ensures { result ≡ specs.del_refusal self.now path.now }
-    {
-        refusal_number(self.test_del(path))
-    }
-
-    /// Puts a text at a path, or answers the first refusal and changes nothing; `Memory` comes only
+    /// Puts a text at a path, or answers the first refusal and changes nothing: 2 for a bad path, 7 for a text over
+    /// 262,144 bytes, 3 where a proper ancestor of the path is a file or the path is a directory. `Memory` comes only
     /// where there is no other refusal.
     pub fn put(&mut self, path: &str, text: &str) -> Result<(), TreeError>
         ensures { Edits result (specs.put_refusal self.old path.now text.now)
@@ -200,8 +186,8 @@ impl Tree {
         Ok(())
     }
 
-    /// Removes a file, or answers the first refusal and changes nothing; `Memory` comes only where there
-    /// is no other refusal.
+    /// Removes a file, or answers the first refusal and changes nothing: 2 for a bad path, 4 for no such file. `Memory`
+    /// comes only where there is no other refusal.
     pub fn del(&mut self, path: &str) -> Result<(), TreeError>
         ensures { Edits result (specs.del_refusal self.old path.now)
             self.old (map.remove self.old path.now) self.new }

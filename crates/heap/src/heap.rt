@@ -1,8 +1,8 @@
 //! The heap.
-ghost use Rattle.std.specs.Prelude.{◌≡◌, [], map, option_map, slice_get, IsOkUnless, OnOk, ◌+◌, ◌≤◌};
-ghost use Rattle.heap.specs.declared.halt.Halt.TheVariants.{Memory};
+ghost use Rattle.std.specs.Prelude.{◌≡◌, [], map, option_map, slice_get, OnOk, ◌+◌, ◌*◌, ◌-◌, ◌≤◌};
 ghost use Rattle.meaning.specs.Heap.{at, makes, makes_text, makes_list, makes_tuple};
 ghost use Rattle.heap.specs.View.{object_of, store_of, Says};
+ghost use Rattle.heap.specs.Held.{most_held, object_bytes, place_bytes, Counted};
 
 use crate::halt::Halt;
 use indexmap::IndexMap;
@@ -20,11 +20,11 @@ pub const DEEPEST: u32 = 64;
 pub const MOST_HELD: u64 = 1_073_741_824;
 
 // What counts for an object whatever it has, for a member of a list or tuple, and for an entry of a dictionary, in bytes.
-const OBJECT: u64 = 64;
+const OBJECT: u128 = 64;
 
-const MEMBER: u64 = 16;
+const MEMBER: u128 = 16;
 
-const ENTRY: u64 = 96;
+const ENTRY: u128 = 96;
 
 /// An object of the heap. The flag of a list or dictionary says that it is frozen.
 #[derive(Drop)]
@@ -49,15 +49,17 @@ pub struct Heap {
 }
 
 // The bytes that an object counts for.
-fn size_of(object: &Object) -> u64 {
+fn size_of(object: &Object) -> u128
+    ensures { result ≡ object_bytes (object_of object.now) }
+{
     let own = match object {
-        Object::Text(bytes) => bytes.as_slice().len() as u64,
-        Object::List(members, _) => (members.len() as u64).saturating_mul(MEMBER),
-        Object::Tuple(members) => (members.len() as u64).saturating_mul(MEMBER),
-        Object::Dict(entries, _) => (entries.len() as u64).saturating_mul(ENTRY),
+        Object::Text(bytes) => bytes.as_slice().len() as u128,
+        Object::List(members, _) => members.len() as u128 * MEMBER,
+        Object::Tuple(members) => members.len() as u128 * MEMBER,
+        Object::Dict(entries, _) => entries.len() as u128 * ENTRY,
         Object::Function(_, _) => 0,
     };
-    own.saturating_add(OBJECT)
+    own + OBJECT
 }
 
 impl Heap {
@@ -81,34 +83,39 @@ impl Heap {
         self.objects.get(place)
     }
 
-    // Counts bytes that are held from now on, or `Memory` where they are too many.
-    fn hold(&mut self, bytes: u64) -> Result<(), Halt>
-        ensures same { store_of self.new ≡ store_of self.old }
-        ensures counted { OnOk result (self.new.held ≡ self.old.held + bytes) }
-        ensures within { OnOk result (self.new.held ≤ MOST_HELD) }
-        ensures refused { IsOkUnless result Memory }
+    /// The bytes that all objects made so far and all copies that loops go over count for.
+    pub fn held(&self) -> u64
+        ensures { result ≡ self.now.held }
     {
-        self.held = self.held.saturating_add(bytes);
-        if self.held > MOST_HELD {
+        self.held
+    }
+
+    // Counts bytes that the objects are about to take. `Memory` where they would take more than `MOST_HELD`.
+    fn hold(&mut self, bytes: u128) -> Result<(), Halt>
+        ensures same { store_of self.new ≡ store_of self.old }
+        ensures counted { Counted bytes self.old.held result self.new.held }
+    {
+        let all = (self.held as u128).saturating_add(bytes);
+        if all > MOST_HELD as u128 {
             return Err(Halt::Memory);
         }
+        self.held = all as u64;
         Ok(())
     }
 
-    /// Counts members that a list is about to get. `Memory` where the objects would take more than `MOST_HELD` bytes.
+    /// Counts members that a list is about to get, 16 bytes each. `Memory` where the objects would take more than
+    /// `MOST_HELD` bytes.
     pub fn hold_members(&mut self, number: usize) -> Result<(), Halt>
         ensures same { store_of self.new ≡ store_of self.old }
-        ensures within { OnOk result (self.new.held ≤ MOST_HELD) }
-        ensures refused { IsOkUnless result Memory }
+        ensures counted { Counted (number * 16) self.old.held result self.new.held }
     {
-        self.hold((number as u64).saturating_mul(MEMBER))
+        self.hold(number as u128 * MEMBER)
     }
 
-    /// Counts an entry that a dictionary is about to get, as `hold_members` does.
+    /// Counts an entry that a dictionary is about to get, 96 bytes, as `hold_members` does.
     pub fn hold_entry(&mut self) -> Result<(), Halt>
         ensures same { store_of self.new ≡ store_of self.old }
-        ensures within { OnOk result (self.new.held ≤ MOST_HELD) }
-        ensures refused { IsOkUnless result Memory }
+        ensures counted { Counted 96 self.old.held result self.new.held }
     {
         self.hold(ENTRY)
     }
@@ -116,8 +123,7 @@ impl Heap {
     /// Counts the copy that a loop goes over of what stands at a place, as `hold_members` does.
     pub fn hold_copy(&mut self, place: usize) -> Result<(), Halt>
         ensures same { store_of self.new ≡ store_of self.old }
-        ensures within { OnOk result (self.new.held ≤ MOST_HELD) }
-        ensures refused { IsOkUnless result Memory }
+        ensures counted { Counted (place_bytes place (store_of self.old)) self.old.held result self.new.held }
     {
         let bytes = self.size_at(place);
         self.hold(bytes)
@@ -127,13 +133,20 @@ impl Heap {
     /// `hold_copy`; else the count is wrong, and nothing but the count.
     pub fn release_copy(&mut self, place: usize)
         ensures same { store_of self.new ≡ store_of self.old }
+        ensures counted { self.new.held ≡ self.old.held - place_bytes place (store_of self.old) }
     {
         let bytes = self.size_at(place);
-        self.held = self.held.saturating_sub(bytes);
+        self.held = if bytes < self.held as u128 {
+            self.held - bytes as u64
+        } else {
+            0
+        };
     }
 
     // The bytes that what stands at a place counts for.
-    fn size_at(&self, place: usize) -> u64 {
+    fn size_at(&self, place: usize) -> u128
+        ensures { result ≡ place_bytes place (store_of self.now) }
+    {
         match self.objects.get(place) {
             Some(object) => size_of(object),
             None => 0,
@@ -142,7 +155,9 @@ impl Heap {
 
     /// A new object. `Memory` also where the objects would take more than `MOST_HELD` bytes.
     pub fn make(&mut self, object: Object) -> Result<Val, Halt>
-        ensures { Says (makes (object_of object) (store_of self.old)) result (store_of self.new) }
+        ensures held { OnOk result (self.new.held ≡ self.old.held + object_bytes (object_of object)) }
+        ensures within { OnOk result (self.new.held ≤ most_held) }
+        ensures says { Says (makes (object_of object) (store_of self.old)) result (store_of self.new) }
     {
         self.hold(size_of(&object))?;
         let place = self.objects.len();

@@ -1,0 +1,31 @@
+-- The bytes that an evaluation's values are counted for.
+use Rattle.std.specs.Prelude.{◌≡◌, ℕ, ◌+◌, ◌*◌, ◌<◌, ◌≤◌, length, Option, Some, None, Result, Ok, Err}
+use Rattle.meaning.specs.Heap.{Obj, text, list, tuple, dict, function, Store, at}
+use Rattle.heap.specs.declared.halt.Halt.{Halt}
+use Rattle.heap.specs.declared.halt.Halt.TheVariants.{Code, Memory}
+
+-- what one evaluation may hold
+abbrev pub most_held : ℕ
+most_held = 1073741824
+
+-- an object counts for 64 bytes, and for 1 a byte, 16 a member, 96 an entry
+abbrev pub object_bytes : Obj → ℕ
+object_bytes (text bytes) = length bytes + 64
+object_bytes (list members frozen) = length members * 16 + 64
+object_bytes (tuple members) = length members * 16 + 64
+object_bytes (dict entries frozen) = length entries * 96 + 64
+object_bytes (function label name) = 64
+
+abbrev pub found_bytes : Option Obj → ℕ
+found_bytes (Some object) = object_bytes object
+found_bytes None = 0
+
+-- the bytes of what stands at a place
+abbrev pub place_bytes : ℕ → Store → ℕ
+place_bytes place s = found_bytes (at place s)
+
+-- so many bytes are counted, where all that is held stays within the limit; else nothing is counted
+abbrev pub Counted : {A : Type 0} → ℕ → ℕ → Result A Halt → ℕ → Type 0
+Counted bytes before (Ok _) after = (after ≡ before + bytes) × (after ≤ most_held)
+Counted bytes before (Err Memory) after = (most_held < before + bytes) × (after ≡ before)
+Counted bytes before (Err (Code _)) after = ⊥
