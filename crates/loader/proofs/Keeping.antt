@@ -1,5 +1,5 @@
 -- A session and the journal so far, over one more line.
-use Rattle.std.proofs.Common.{◌≡◌, ℕ, ◌+◌, ◌≤◌, List, [], ◌∷◌, ◌++◌, length, refl, sym, ◌∙◌, ap, subst, arith, length-append, append_assoc}
+use Rattle.std.proofs.Common.{◌≡◌, ℕ, ◌+◌, ◌≤◌, List, [], ◌∷◌, ◌++◌, length, refl, sym, ◌∙◌, ap, subst, arith, length-append}
 use Rattle.std.specs.Prelude.{Ok, Option, None}
 use Rattle.std.proofs.lemmas.List.{append-nil}
 use Rattle.filetree.specs.Files.{Files}
@@ -26,8 +26,7 @@ use Rattle.loader.specs.Linked.{IsToldBy}
 use Rattle.loader.specs.Kept.{IsKept, IsJournalOf}
 use Rattle.loader.proofs.Histories.{history_before, history_of, last_files}
 use Rattle.loader.proofs.Calling.{past_of}
-use Rattle.loader.proofs.Telling.{told_edit, told_call}
-use Rattle.loader.proofs.Counts.{turns_append}
+use Rattle.loader.proofs.Telling.{told_edit, IsBegun, begins, begun_call, ends}
 
 effects_more : (s : State) (lines : List (List ℕ)) (line : List ℕ) → effects s (lines ++ line ∷ []) ≡ effects s lines ++ line_effect line (state_after s lines) ∷ []
 effects_more s [] line = refl
@@ -43,33 +42,33 @@ requests_more : (es : List Effect) (e : Effect) → requests_in (es ++ e ∷ [])
 requests_more [] e = refl
 requests_more (nothing ∷ es) e = requests_more es e
 requests_more (edited edit ∷ es) e = requests_more es e
-requests_more (asked request later ∷ es) e =
-    ap (λ r. and_later request later ++ r) (requests_more es e) ∙ sym (append_assoc (and_later request later) (requests_in es) (requests_in (e ∷ [])))
+requests_more (asked request later ∷ es) e = ap (λ r. and_later request later ∷ r) (requests_more es e)
 
 -- ---- evaluations of a session that began at version 0
 
 module _ {budget : ℕ} (files : ℕ → Files) (paths : ℕ → List (List ℕ)) where
-  -- one more is told
-  one_more : (a b : Held) → IsLawful a → a.began ≡ 0 → IsHistory files paths 0 a.edits → (request : Asked) (own : List Run) → Evaluates request a b own → turns_of own ≤ budget
-      → (requests : List Asked) (runs : List Run) → IsToldBy files paths budget a.graph requests runs → IsToldBy files paths budget b.graph (requests ++ request ∷ []) (runs ++ own)
-  one_more a b law began history request own e within requests runs t =
+  -- one more of a request
+  one_more : (a b : Held) → IsLawful a → a.began ≡ 0 → IsHistory files paths 0 a.edits → (request : Asked) (own : List Run) → Evaluates request a b own
+      → (requests : List (List Asked)) (runs : List Run) (begun : List Asked) (before : List Run) → IsBegun files paths budget a.graph requests runs begun before
+      → IsBegun files paths budget b.graph requests runs (begun ++ request ∷ []) (before ++ own)
+  one_more a b law began history request own e requests runs begun before t =
       let from_began = subst (λ (n : ℕ). IsHistory files paths n a.edits) (sym began) history in
       let present = last_files files paths a law.version from_began in
       let calls = subst (λ (f : Files). Calls next (read f) request.roots a.graph b.graph (Ok own)) (sym present) e.3 in
       let call = calls (past_of files paths a.graph request.roots) (record { at_entry = refl; of_roots = refl; lawful = law.lawful files paths from_began }) in
-      subst (λ (r : Asked). IsToldBy files paths budget b.graph (requests ++ r ∷ []) (runs ++ own)) (λ i. record { version = sym e.2 i; roots = request.roots })
-      (told_call files paths budget a.graph b.graph request.roots requests runs own t call within)
+      subst (λ (r : Asked). IsBegun files paths budget b.graph requests runs (begun ++ r ∷ []) (before ++ own)) (λ i. record { version = sym e.2 i; roots = request.roots })
+      (begun_call files paths budget a.graph b.graph request.roots requests runs begun before own t call)
 
-  -- and two
+  -- all of a request: one, or two
   each_more : (a b : Held) → IsLawful a → a.began ≡ 0 → IsHistory files paths 0 a.edits → (request : Asked) (later : Option Asked) (own : List Run) → EvaluatesEach request later a b own → turns_of own ≤ budget
-      → (requests : List Asked) (runs : List Run) → IsToldBy files paths budget a.graph requests runs → IsToldBy files paths budget b.graph (requests ++ and_later request later) (runs ++ own)
-  each_more a b law began history request None own e within requests runs t = one_more a b law began history request own e within requests runs t
+      → (requests : List (List Asked)) (runs : List Run) → IsToldBy files paths budget a.graph requests runs → IsToldBy files paths budget b.graph (requests ++ and_later request later ∷ []) (runs ++ own)
+  each_more a b law began history request None own e within requests runs t =
+      ends files paths budget b.graph requests runs (request ∷ []) own (one_more a b law began history request own e requests runs [] [] (begins files paths budget a.graph requests runs t)) within
   each_more a b law began history request (Some later) own (mid, front, rest, lawful, is, e, f) within requests runs t =
-      let sum = ap turns_of is ∙ turns_append front rest in
-      let one = one_more a mid law began history request front e (omega (arith, within, sum)) requests runs t in
-      let two = one_more mid b lawful (e.0 ∙ began) (subst (λ (x : List Edit). IsHistory files paths 0 x) (sym e.1) history) later rest f (omega (arith, within, sum)) (requests ++ request ∷ []) (runs ++ front) one in
-      subst (λ (rs : List Asked). IsToldBy files paths budget b.graph rs (runs ++ own)) (append_assoc requests (request ∷ []) (later ∷ []))
-      (subst (λ (xs : List Run). IsToldBy files paths budget b.graph ((requests ++ request ∷ []) ++ later ∷ []) xs) (append_assoc runs front rest ∙ ap (λ x. runs ++ x) (sym is)) two)
+      let one = one_more a mid law began history request front e requests runs [] [] (begins files paths budget a.graph requests runs t) in
+      let two = one_more mid b lawful (e.0 ∙ began) (subst (λ (x : List Edit). IsHistory files paths 0 x) (sym e.1) history) later rest f requests runs (request ∷ []) front one in
+      ends files paths budget b.graph requests runs (request ∷ later ∷ []) own
+      (subst (λ (xs : List Run). IsBegun files paths budget b.graph requests runs (request ∷ later ∷ []) xs) (sym is) two) within
 
 -- the session's history stays
 each_began : (a b : Held) (own : List Run) (request : Asked) (later : Option Asked) → EvaluatesEach request later a b own → (b.began ≡ a.began) × (b.edits ≡ a.edits)
@@ -91,7 +90,7 @@ module _ (budget : ℕ) (h h' : Held) (lines : List (List ℕ)) (runs own : List
     told = λ files paths history.
         let t = kept.told files paths (subst (λ (x : Held). IsHistory files paths 0 x.edits) m.0 history) in
         subst (λ (g : Recorded). IsToldBy files paths budget g (requests_in all) (runs ++ own)) (sym (ap (λ (x : Held). x.graph) m.0))
-        (subst (λ (rs : List Asked). IsToldBy files paths budget h.graph rs (runs ++ own)) (sym rs)
+        (subst (λ (rs : List (List Asked)). IsToldBy files paths budget h.graph rs (runs ++ own)) (sym rs)
         (subst (λ (xs : List Run). IsToldBy files paths budget h.graph (requests_in so_far) xs) (sym (ap (λ x. runs ++ x) m.1 ∙ append-nil runs)) t));
   }
     where
@@ -112,7 +111,7 @@ module _ (budget : ℕ) (h h' : Held) (lines : List (List ℕ)) (runs own : List
         let t = kept.told files paths (history_before files paths 0 h.edits edit longer) in
         let v : h'.graph.version ≡ h.graph.version + 1 = omega (arith, law.version, kept.lawful.version, m.1, ap length m.2, length-append h.edits (edit ∷ [])) in
         let l = law.lawful files paths (subst (λ (b : ℕ). IsHistory files paths b h'.edits) (sym (m.1 ∙ kept.began)) history) in
-        subst (λ (rs : List Asked). IsToldBy files paths budget h'.graph rs (runs ++ own)) (sym rs)
+        subst (λ (rs : List (List Asked)). IsToldBy files paths budget h'.graph rs (runs ++ own)) (sym rs)
         (subst (λ (xs : List Run). IsToldBy files paths budget h'.graph (requests_in so_far) xs) (sym (ap (λ x. runs ++ x) m.0 ∙ append-nil runs))
         (told_edit files paths budget h.graph h'.graph (paths_of edit) v m.3 l (requests_in so_far) runs t));
   }
@@ -131,7 +130,7 @@ module _ (budget : ℕ) (h h' : Held) (lines : List (List ℕ)) (runs own : List
     edits = (each_began h h' own request later m).1 ∙ kept.edits ∙ sym es;
     told = λ files paths history.
         let before = subst (λ (x : List Edit). IsHistory files paths 0 x) (each_began h h' own request later m).1 history in
-        subst (λ (rs : List Asked). IsToldBy files paths budget h'.graph rs (runs ++ own)) (sym rs)
+        subst (λ (rs : List (List Asked)). IsToldBy files paths budget h'.graph rs (runs ++ own)) (sym rs)
         (each_more files paths h h' kept.lawful kept.began before request later own m within (requests_in so_far) runs (kept.told files paths before));
   }
     where
@@ -141,8 +140,8 @@ module _ (budget : ℕ) (h h' : Held) (lines : List (List ℕ)) (runs own : List
       es : edits_in all ≡ edits_in so_far
       es = ap edits_in split ∙ edits_more so_far (asked request later) ∙ append-nil (edits_in so_far)
 
-      rs : requests_in all ≡ requests_in so_far ++ and_later request later
-      rs = ap requests_in split ∙ requests_more so_far (asked request later) ∙ ap (λ x. requests_in so_far ++ x) (append-nil (and_later request later))
+      rs : requests_in all ≡ requests_in so_far ++ and_later request later ∷ []
+      rs = ap requests_in split ∙ requests_more so_far (asked request later)
 
   -- one more line
   pub kept_line : state_of h ≡ state_after start lines → Moves (line_effect line (state_of h)) h h' own → IsKept budget h' (lines ++ line ∷ []) (runs ++ own)

@@ -105,12 +105,12 @@ abbrev pub and_later : Asked → Option Asked → List Asked
 and_later request None = request ∷ []
 and_later request (Some later) = request ∷ later ∷ []
 
--- the evaluations of requests
-abbrev pub requests_in : List Effect → List Asked
+-- the requests that are evaluated, each with its evaluations
+abbrev pub requests_in : List Effect → List (List Asked)
 requests_in [] = []
 requests_in (nothing ∷ effects) = requests_in effects
 requests_in (edited edit ∷ effects) = requests_in effects
-requests_in (asked request later ∷ effects) = and_later request later ++ requests_in effects
+requests_in (asked request later ∷ effects) = and_later request later ∷ requests_in effects
 
 -- one evaluation: the law of a call holds on the graph, and nothing else changes
 abbrev pub Evaluates : Asked → Held → Held → List Run → Type 0

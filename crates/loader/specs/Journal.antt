@@ -16,10 +16,15 @@ use Rattle.node.specs.Graphs.{IsTouched}
 use Rattle.open_nodes.specs.Counted.{turns_of}
 use Rattle.open_nodes.specs.declared.run.Run.{Run}
 
--- a request that is evaluated: the version at which it comes, and its root keys
+-- an evaluation of a request: the version at which it comes, and its root keys
 pub record Asked : Type 0 where
   pub version : ℕ
   pub roots : List Key
+
+-- the evaluations, the newest first, before others
+abbrev pub turned_onto : List Asked → List Asked → List Asked
+turned_onto earlier [] = earlier
+turned_onto earlier (evaluation ∷ more) = turned_onto (evaluation ∷ earlier) more
 
 abbrev pub keys_of : List Run → List Key
 keys_of runs = map (λ run. run.key) runs
@@ -90,12 +95,18 @@ module _ (files : ℕ → Files) (paths : ℕ → List (List ℕ)) where
       pub all : MissesNone request runs
       pub order : AreInOrder request runs
 
-  -- the items of the requests, in their order, after these earlier requests, the newest first; those of one request have at most `budget` turns
-  abbrev pub AreItems : ℕ → List Asked → List Asked → List Run → Type 0
-  AreItems budget earlier [] runs = runs ≡ []
-  AreItems budget earlier (request ∷ requests) runs = (own rest : List Run) × (runs ≡ own ++ rest) × AreItemsOf earlier request own × (turns_of own ≤ budget) × AreItems budget (request ∷ earlier) requests rest
+  -- the items of one request, which has these evaluations, after these earlier ones, the newest first
+  abbrev pub AreItemsOfEach : List Asked → List Asked → List Run → Type 0
+  AreItemsOfEach earlier [] runs = runs ≡ []
+  AreItemsOfEach earlier (evaluation ∷ more) runs = (own rest : List Run) × (runs ≡ own ++ rest) × AreItemsOf earlier evaluation own × AreItemsOfEach (evaluation ∷ earlier) more rest
 
-  -- the journal of the requests: the items of each in their order, within its budget, and no key has two with one version
-  pub record IsJournal (budget : ℕ) (requests : List Asked) (runs : List Run) : Type 0 where
+  -- the items of the requests, in their order, after these earlier evaluations; those of one request have at most `budget` turns together
+  abbrev pub AreItems : ℕ → List Asked → List (List Asked) → List Run → Type 0
+  AreItems budget earlier [] runs = runs ≡ []
+  AreItems budget earlier (request ∷ requests) runs =
+      (own rest : List Run) × (runs ≡ own ++ rest) × AreItemsOfEach earlier request own × (turns_of own ≤ budget) × AreItems budget (turned_onto earlier request) requests rest
+
+  -- the journal of the requests, each with its evaluations: the items of each in their order, within its budget, and no key has two with one version
+  pub record IsJournal (budget : ℕ) (requests : List (List Asked)) (runs : List Run) : Type 0 where
     pub items : AreItems budget [] requests runs
     pub once : AllDiffer (map place_of runs)

@@ -8,7 +8,7 @@ use Rattle.loader.specs.Effects.{effects, edits_in, requests_in}
 use Rattle.loader.specs.Journal.{IsJournal}
 use Rattle.loader.specs.Linked.{IsToldBy}
 
--- the journal of lines: that of their requests, in the history of their accepted edits, with at most `budget` turns for each request
+-- the journal of lines: that of their requests, in the history of their accepted edits, with at most `budget` turns for all evaluations of a request
 abbrev pub IsJournalOf : ℕ → List (List ℕ) → List Run → Type 0
 IsJournalOf budget lines runs = IsJournal (files_at (edits_in (effects start lines))) (paths_at (edits_in (effects start lines))) budget (requests_in (effects start lines)) runs
 

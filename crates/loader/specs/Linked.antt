@@ -10,12 +10,12 @@ use Rattle.keys.specs.declared.value.Value.{Value}
 use Rattle.node.specs.Graphs.{Recorded, record_at, IsTouched}
 use Rattle.node.specs.Laws.{IsLawfulFor}
 use Rattle.open_nodes.specs.declared.run.Run.{Run}
-use Rattle.loader.specs.Journal.{Asked, leaves, IsSettledBy, IsLastSettled, IsJournal}
+use Rattle.loader.specs.Journal.{Asked, turned_onto, leaves, IsSettledBy, IsLastSettled, IsJournal}
 
--- the requests, the newest first, before others
-abbrev pub turned_onto : List Asked → List Asked → List Asked
-turned_onto earlier [] = earlier
-turned_onto earlier (request ∷ requests) = turned_onto (request ∷ earlier) requests
+-- the evaluations of the requests, the newest first, before others
+abbrev pub all_turned : List Asked → List (List Asked) → List Asked
+all_turned earlier [] = earlier
+all_turned earlier (request ∷ requests) = all_turned (turned_onto earlier request) requests
 
 module _ (files : ℕ → Files) (paths : ℕ → List (List ℕ)) where
   -- from the version at which it was settled to version u, the record is as true as then
@@ -43,7 +43,7 @@ module _ (files : ℕ → Files) (paths : ℕ → List (List ℕ)) where
     pub members : (k j : Key) (r s : Record Key Value) → record_at graph k ≡ Some r → r.dirty ≡ false → IsMember j r.groups → record_at graph j ≡ Some s → s.settled_at ≤ r.settled_at
 
   -- the journal so far, of these requests, the oldest first; each item's key has a record that was not settled before it
-  pub record IsToldBy (budget : ℕ) (graph : Recorded) (requests : List Asked) (runs : List Run) : Type 0 where
+  pub record IsToldBy (budget : ℕ) (graph : Recorded) (requests : List (List Asked)) (runs : List Run) : Type 0 where
     pub journal : IsJournal files paths budget requests runs
-    pub linked : IsLinked graph (turned_onto [] requests)
+    pub linked : IsLinked graph (all_turned [] requests)
     pub dated : (run : Run) → In run runs → (r : Record Key Value) × (record_at graph run.key ≡ Some r) × (run.version ≤ r.settled_at)

@@ -11,7 +11,7 @@ use Rattle.loader.specs.Kept.{IsKept, IsJournalOf}
 abbrev pub IsBeginning : List ℕ → List ℕ → Type 0
 IsBeginning front all = (rest : List ℕ) × (all ≡ front ++ rest)
 
--- the device told an input, an answer to each of its lines was written, and these runs are the journal of its lines, where each request is evaluated in at most `budget` turns
+-- the device told an input, an answer to each of its lines was written, and these runs are the journal of its lines, where all evaluations of a request have at most `budget` turns together
 pub record Served (budget : ℕ) (told_before told held_before held : List ℕ) (runs : List Run) : Type 0 where
   pub input : List ℕ
   pub answers : List Data
