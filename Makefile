@@ -4,7 +4,7 @@
 PROGRAM := crates/cli/out/cli
 EXAMPLE := examples/session.jsonl
 
-.PHONY: quick run build trials measures shelf-trials readers overlaps test lint digests wrong-bodies limits allocations workers batches under hostile bench
+.PHONY: quick run build measures shelf-trials readers overlaps trials schedules test lint digests wrong-bodies limits allocations workers batches under hostile bench
 
 # Shows each line of an example with its answer. It proves nothing: the kit interprets the program.
 quick:
@@ -18,10 +18,6 @@ run: build
 
 build:
 	@cd crates/cli && rt run -- run < /dev/null > build.log 2>&1 || { tail -n 30 build.log; exit 1; }
-
-# The program that compares, proved, built and run.
-trials:
-	@cd crates/trials && rt run < stdin > build.log 2>&1 || { tail -n 30 build.log; exit 1; }
 
 # The program that measures, proved and built over the libraries of `build`. The gate does not build it.
 measures: build
@@ -40,10 +36,11 @@ readers: build
 	@bench/out/readers | diff examples/readers/stdout -
 
 # The gate: the house's rules of style, each crate's wrong bodies refused at its present text, everything proved from
-# nothing, and the programs run. The first two come first, since they take a second. A proof gets one job, since two
-# cost a quarter more in sum.
+# nothing, the program run, and more answers of the built program compared. The first two come first, since they take a
+# second. A proof gets one job, since two cost a quarter more in sum.
 test: lint digests
 	RT_JOBS=$$(nproc) rt ci
+	python3 tests/answers.py
 
 # Sentences, words and links of the documents, sizes of files and functions.
 lint:
@@ -73,6 +70,15 @@ allocations: build measures
 overlaps: build
 	@python3 bench/build_measures.py overlaps
 	@bench/out/overlaps | diff tests/overlaps/stdout -
+
+# What is compared over the libraries of the product: sessions, budgets, devices and turns in another order (`trials`),
+# and lists of choices (`schedules`). Built as `measures` is, with the libraries that `build` lacks. Each program reads
+# its file `stdin`, and what it writes has to be its file `stdout`.
+trials schedules: build
+	@python3 bench/build_measures.py $@
+	@bench/out/$@ < tests/$@/stdin > bench/out/$@.stdout
+	@diff tests/$@/stdout bench/out/$@.stdout
+	@echo "$@: $$(wc -l < tests/$@/stdout) lines compared, 0 wrong"
 
 # The same answers with 1 to 16 workers, over the gate's commands, scripts and 10,000 random scripts.
 workers: build

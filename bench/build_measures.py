@@ -1,10 +1,12 @@
 #!/usr/bin/env python3
 """Proves and builds a program beside the gate, as `bench/out/measures`, the one that measures. Run it by `make measures`,
-or by `make shelf-trials`, `make readers` or `make overlaps` for the programs whose names are passed there.
+or by `make shelf-trials`, `make readers`, `make overlaps`, `make trials` or `make schedules` for the programs whose
+names are passed there.
 
 The gate does not build these programs, and it stops at each source outside the crates of crates.txt. So the sources end
 in `.rattle`, and the proofs in `.proof`. The kit builds only crates that are proved, in a repository. So this script makes
-a room outside this repository, with the program as a crate over the libraries that are built here.
+a room outside this repository, with the program as a crate over the libraries that are built here. `make build` builds
+those of `cli`; the script builds those that the program needs beside them.
 
 The room is among the temporary files. Where they are on another disk, the copied libraries take some 6 GB there.
 """
@@ -17,12 +19,15 @@ import time
 
 HERE = os.path.dirname(os.path.abspath(__file__))
 TOP = os.path.dirname(HERE)
-# Each program with the folder of its sources, and the words that it is run with once it is built.
+# Each program with the folder of its sources, and the words that it is run with once it is built. Where the folder has a
+# file `stdin`, the program reads it then.
 PROGRAMS = {
     "measures": ("bench/measures", ["lines"]),
     "shelf_trials": ("bench/shelf_trials", ["rows"]),
     "readers": ("examples/readers", []),
     "overlaps": ("tests/overlaps", []),
+    "trials": ("tests/trials", []),
+    "schedules": ("tests/schedules", []),
 }
 NAME = sys.argv[1] if len(sys.argv) > 1 else "measures"
 FOLDER, WORDS = PROGRAMS[NAME]
@@ -52,9 +57,15 @@ def files_in(folder):
     return [os.path.join(at, name) for at, _, names in os.walk(folder) for name in names]
 
 
+def program_files():
+    """Lists the files that the program is built from: its list of libraries, its sources and its proofs."""
+    found = [it for it in files_in(SOURCES) if os.path.splitext(it)[1] in ENDINGS]
+    return [os.path.join(SOURCES, "uses"), *found]
+
+
 def is_new(crates):
-    """Returns whether the program is newer than its sources and the libraries."""
-    files = files_in(SOURCES) + [os.path.join(TOP, "crates", it, "out/rlib/stamp") for it in crates]
+    """Returns whether the program is newer than what it is built from and than the libraries."""
+    files = program_files() + [os.path.join(TOP, "crates", it, "out/rlib/stamp") for it in crates]
     if not all(map(os.path.exists, [PROGRAM, *files])):
         return False
     return os.path.getmtime(PROGRAM) > max(map(os.path.getmtime, files))
@@ -91,11 +102,43 @@ def make_room(room, crates, lines):
     place_sources(os.path.join(room, "crates", NAME))
 
 
-def build(crate):
+def run(folder, log, words, given=subprocess.DEVNULL):
+    """Runs a command in a folder. Returns whether it went well."""
+    how = {"cwd": folder, "stdin": given, "stdout": log, "stderr": subprocess.STDOUT}
+    return subprocess.run(words, **how).returncode == 0
+
+
+def build_libraries(crates, uses, log):
+    """Proves and builds the libraries on which `cli` does not stand. Returns whether all went well."""
+    of_cli = []
+    add_below(of_cli, "cli", uses)
+    lacking = [it for it in crates if it not in of_cli]
+    return all(run(os.path.join(TOP, "crates", it), log, ["rt", "lib"]) for it in lacking)
+
+
+def build_program(crate, log):
     """Proves the program, builds it, and runs it with its words. Returns whether all went well."""
-    with open(LOG, "w") as log:
-        how = {"cwd": crate, "stdin": subprocess.DEVNULL, "stdout": log, "stderr": subprocess.STDOUT}
-        return subprocess.run(["rt", "run", "--", *WORDS], **how).returncode == 0
+    table = os.path.join(SOURCES, "stdin")
+    with open(table if os.path.exists(table) else os.devnull) as given:
+        return run(crate, log, ["rt", "run", "--", *WORDS], given)
+
+
+def build(crates, uses, lines, log):
+    """Builds the program, unless it is new. Returns whether all went well."""
+    if not build_libraries(crates, uses, log):
+        return False
+    if is_new(crates):
+        return True
+    started = time.time()
+    with tempfile.TemporaryDirectory(prefix=f"{NAME}-") as room:
+        make_room(room, crates, lines)
+        crate = os.path.join(room, "crates", NAME)
+        if not build_program(crate, log):
+            return False
+        shutil.copy(os.path.join(crate, "out", NAME), PROGRAM)
+    # An edit during the build counts as one after it.
+    os.utime(PROGRAM, (started, started))
+    return True
 
 
 def main():
@@ -103,22 +146,15 @@ def main():
     uses = {name: line.partition(":")[2].split() for name, line in lines.items()}
     crates = []
     add_below(crates, NAME, uses)
-    if is_new(crates):
-        return 0
     os.makedirs(os.path.dirname(PROGRAM), exist_ok=True)
-    started = time.time()
-    with tempfile.TemporaryDirectory(prefix=f"{NAME}-") as room:
-        make_room(room, crates, lines)
-        crate = os.path.join(room, "crates", NAME)
-        if not build(crate):
-            with open(LOG) as log:
-                sys.stderr.writelines(log.readlines()[-30:])
-            print(f"{NAME} is not built; all that was said is in {os.path.relpath(LOG)}", file=sys.stderr)
-            return 1
-        shutil.copy(os.path.join(crate, "out", NAME), PROGRAM)
-    # An edit during the build counts as one after it.
-    os.utime(PROGRAM, (started, started))
-    return 0
+    with open(LOG, "w") as log:
+        is_built = build(crates, uses, lines, log)
+    if is_built:
+        return 0
+    with open(LOG, errors="replace") as log:
+        sys.stderr.writelines(log.readlines()[-30:])
+    print(f"{NAME} is not built; all that was said is in {os.path.relpath(LOG)}", file=sys.stderr)
+    return 1
 
 
 if __name__ == "__main__":

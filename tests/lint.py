@@ -5,6 +5,7 @@
 - README.md: its session is the example that `make quick` runs.
 - Sources, definitions, proofs and scripts: no file of over 800 lines.
 - Sources: no function of over 60 lines.
+- Programs beside the gate (`.rattle`, `.proof`): no sentence of over 25 words in a comment.
 
 It prints one line for each fault, as `path:line: what`, and fails where there is one.
 """
@@ -64,12 +65,29 @@ def words_of(sentence):
     return [word for word in sentence.split() if re.search(r"\w", word)]
 
 
+def check_sentences(path, line, block):
+    for sentence in sentences(block):
+        count = len(words_of(sentence))
+        if count > MOST_WORDS:
+            yield f"{path}:{line}: a sentence of {count} words: {sentence[:60]}.."
+
+
+def check_comments(path, text):
+    """Comments on lines of their own that stand one below the other are one block."""
+    block, begun = [], 0
+    for number, line in enumerate(text.split("\n") + [""], 1):
+        found = re.match(r"\s*(?://[/!]?|--)\s*(.*)", line)
+        if found and found[1]:
+            begun = begun if block else number
+            block.append(found[1])
+        elif block:
+            yield from check_sentences(path, begun, " ".join(block))
+            block = []
+
+
 def check_prose(path, text):
     for line, block in prose(text):
-        for sentence in sentences(block):
-            count = len(words_of(sentence))
-            if count > MOST_WORDS:
-                yield f"{path}:{line}: a sentence of {count} words: {sentence[:60]}.."
+        yield from check_sentences(path, line, block)
         if text.split("\n")[line - 1].startswith("#"):
             continue
         plain = re.sub(r"`[^`]*`", "", block).lower()
@@ -149,6 +167,8 @@ def main():
             faults += list(check_length(path, text))
             if path.endswith((".rt", ".rattle")):
                 faults += list(check_functions(path, text))
+            if path.endswith((".rattle", ".proof")):
+                faults += list(check_comments(path, text))
     print("\n".join(faults + [f"lint: {len(faults)} faults"]))
     return 1 if faults else 0
 
