@@ -21,6 +21,7 @@ import subprocess
 import sys
 import tempfile
 import termios
+import threading
 import time
 
 HERE = os.path.dirname(os.path.abspath(__file__))
@@ -136,7 +137,7 @@ def tell_journal(program):
     answers = run(program, workers(1), given)
 
     def check(count):
-        name = f"{count} workers"
+        name = f"--workers {count}"
         status, written, said = run(program, [*workers(count), "--runs"], given)
         told = said.splitlines(keepends=True)
         return (differs(f"{name}: status and answers", (status, written), answers[:2])
@@ -191,7 +192,7 @@ def wait_for(process, pipe, count):
 
 
 class Running:
-    """A program whose standard input and output are pipes of this script."""
+    """A program whose standard input and output are pipes of this script. It is killed where it does not end."""
 
     def __init__(self, program, words):
         given, self.input = os.pipe()
@@ -200,6 +201,8 @@ class Running:
         # The end that the program reads stays open here too, so that a write to it never fails.
         self.given = given
         os.close(written)
+        self.killing = threading.Timer(PATIENCE, self.process.kill)
+        self.killing.start()
 
     def give(self, lines):
         """Gives bytes, and waits until the program has read them."""
@@ -214,13 +217,12 @@ class Running:
 
     def end(self):
         """Returns the status and what was said."""
+        with self.process.stderr as errors:
+            said = errors.read()
+        status = self.process.wait()
+        self.killing.cancel()
         os.close(self.given)
-        try:
-            said = self.process.communicate(timeout=PATIENCE)[1]
-        except subprocess.TimeoutExpired:
-            self.process.kill()
-            return "none, for it did not end", self.process.communicate()[1]
-        return self.process.returncode, said
+        return status, said
 
 
 def in_pieces(program, words, lines, size):
@@ -239,7 +241,7 @@ def to_reader_that_closes(program, words, lines, answers, count):
         ready += 1
     running.give(b"".join(lines[:ready]))
     wait_for(running.process, running.output, len(b"".join(answers[:ready])))
-    written = os.read(running.output, count) if count else b""
+    written = os.read(running.output, count) if bytes_in(running.output) else b""
     os.close(running.output)
     os.write(running.input, b"".join(lines[ready:]))
     os.close(running.input)
@@ -308,20 +310,21 @@ class Devices:
 
     def check(self, what, wanted, call, *more, **device):
         """A check that a call gives this status with what was said, and these bytes."""
-        name, wanted = f"{self.count} workers, {what}", (*wanted[0], wanted[1])
+        name, wanted = f"--workers {self.count}, {what}", (*wanted[0], wanted[1])
         return lambda: differs(name, call(self.program, *more, **device), wanted)
 
     def inputs(self):
         """Checks that may be made side by side."""
+        journal = b"".join(read_lines("journal.jsonl"))
+        wanted = (WELL, run(self.program, workers(1), journal)[1])
         for size in (1, 3):
             yield self.check(f"pieces of {size}", (WELL, self.whole), in_pieces, self.words, self.given, size)
-            journal = b"".join(read_lines("journal.jsonl"))
-            wanted = (WELL, run(self.program, workers(1), journal)[1])
             yield self.check(f"lines of the journal in pieces of {size}", wanted, in_pieces, self.words, journal, size)
         for at in range(len(self.given) + 1):
             ended, last = answered(self.lines, self.answers, at)
             yield self.check(f"input that ends at byte {at}", (WELL, ended + last), from_file, self.words, self.given[:at])
-            yield self.check(f"input that fails at byte {at}", (READ_STOP, ended), from_pipe_that_fails, self.words, self.given[:at])
+            wanted = (READ_STOP, ended)
+            yield self.check(f"input that fails at byte {at}", wanted, from_pipe_that_fails, self.words, self.given[:at])
         for at in range(len(self.whole) + 1):
             status = WELL if at == len(self.whole) else WRITE_STOP
             yield self.check(f"room for {at} bytes", (status, self.whole[:at]), to_file_with_room, self.words, self.given, at)
@@ -330,8 +333,9 @@ class Devices:
         """Checks that are made one by one. A process that another thread begins has the ends of pipes for a moment."""
         for at in range(len(self.whole) + 1):
             status = WELL if at > len(self.whole) - len(self.answers[-1]) else WRITE_STOP
-            wanted = (status, self.whole[:at])
-            yield self.check(f"a reader that takes {at} bytes", wanted, to_reader_that_closes, self.words, self.lines, self.answers, at)
+            yield self.check(
+                f"a reader that takes {at} bytes", (status, self.whole[:at]), to_reader_that_closes, self.words, self.lines,
+                self.answers, at)
         for stream, path, status, right in [
             ("stdout", "/dev/full", WRITE_STOP, b""), ("stdout", None, WRITE_STOP, b""),
             ("stdin", "/", READ_STOP, b""), ("stdin", None, READ_STOP, b""),
@@ -403,7 +407,7 @@ def tell_cuts(program):
     for edits in (between, one_by_one):
         for count in (1, 16):
             told = cut_differs(edits, resident(program, count, edits), wanted)
-            wrong += [f"{count} workers: {told}"] if told else []
+            wrong += [f"--workers {count}: {told}"] if told else []
             compared_answers += len(edits)
     # All kinds of answers are among them: the package, a fault of its text, and one of what it loads.
     kinds = [b'"targets":[{', b'"path":"c/BUILD"', b'"path":"c/m.bzl"']
