@@ -4,7 +4,7 @@
 PROGRAM := crates/cli/out/cli
 EXAMPLE := examples/session.jsonl
 
-.PHONY: quick run build measures shelf-trials readers overlaps trials schedules test lint digests wrong-bodies limits allocations workers batches under hostile bench
+.PHONY: quick run build measures shelf-trials readers overlaps trials schedules test lint digests wrong-bodies answers limits allocations workers batches under hostile bench
 
 # Shows each line of an example with its answer. It proves nothing: the kit interprets the program.
 quick:
@@ -54,6 +54,10 @@ digests:
 # work that `rt check` kept. Writes wrong-bodies.txt.
 wrong-bodies:
 	@python3 tests/wrong_bodies.py $(if $(ALL),--all)
+
+# What the built program tells of its runs, its words and its devices, and its answers to texts that were cut.
+answers: build
+	@python3 tests/answers.py
 
 # Lines, texts and paths at their limits.
 limits: build

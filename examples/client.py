@@ -1,10 +1,11 @@
 #!/usr/bin/env python3
 """Keeps a loader running over a directory: sends its files, then what changed, and prints targets or faults.
 
-    client.py LOADER DIRECTORY [PACKAGE ..]     without packages, every directory with a BUILD file
+    client.py LOADER DIRECTORY [PACKAGE ..]     without packages, all that are there
 
-Each line of standard input asks again, for these packages or for those that it names. A target is printed as label and
-rule, a fault as `path:line: text`, as compilers print errors.
+A package may be written as `lib`, or as `lib/...` for all packages at and below it; `...` is all of them. Packages by name
+are asked with `load`, 256 a line, and the others with `under`. Each line of standard input asks again, for these packages
+or for those that it names. A target is printed as label and rule, a fault as `path:line: text`, as compilers print errors.
 """
 import itertools
 import json
@@ -17,7 +18,7 @@ FAULTS = """no such package|text that is not ASCII|syntax error|name is not boun
  while iterated|index or key is absent|overflow|division by zero|too many steps|too deep|too large|recursive call|bad label
  or target name|no such module|label crosses a package boundary|name is not exported|cycle of loads|target is named twice|bad
  pattern|glob finds nothing|call is not allowed here|fail was called|wrong arguments|global is bound twice""".replace("\n", "").split("|")
-BUILD, CYCLE, MOST_NAMES = ("BUILD", "BUILD.bazel"), 19, 256
+BUILD, CYCLE, MOST_NAMES, ALL = ("BUILD", "BUILD.bazel"), 19, 256, "..."
 # How many changes one edit may have, and how many bytes of them this client puts into a line.
 MOST_CHANGES, MOST_BYTES = 256, 1_000_000
 
@@ -74,19 +75,31 @@ class Client:
         self.send(group)
         self.sent = present
 
-    def packages(self):
-        return sorted({os.path.dirname(path) for path in self.sent if os.path.basename(path) in BUILD})
-
-    def show(self, names):
+    def packages(self, words):
+        """Yields the packages that the words ask for: by name in groups, then those at and below directories."""
+        names = [word for word in words if word != ALL and not word.endswith("/" + ALL)]
         for at in range(0, len(names), MOST_NAMES):
-            for package in self.ask(op="load", names=names[at:at + MOST_NAMES])["packages"]:
-                fault = package.get("fault", {})
-                if "cycle" in fault:
-                    print(f"{package['name']}/BUILD:0: {FAULTS[CYCLE - 1]}: {' '.join(fault['cycle'])}")
-                elif fault:
-                    print(f"{fault['path']}:{fault['line']}: {FAULTS[fault['code'] - 1]}")
-                for target in package.get("targets", []):
-                    print(f"//{package['name']}:{target['name']} {target['kind']}")
+            yield from self.answered(" ".join(names[at:at + MOST_NAMES]), op="load", names=names[at:at + MOST_NAMES])
+        for word in words:
+            if word == ALL or word.endswith("/" + ALL):
+                yield from self.answered(word, op="under", dir=word[:-len(ALL)].rstrip("/"))
+
+    def answered(self, words, **command):
+        """Returns the packages of an answer. A request with a bad name is refused as a whole."""
+        answer = self.ask(**command)
+        if "refused" in answer:
+            print(f"a bad package name among these: {words}", file=sys.stderr)
+        return answer.get("packages", [])
+
+    def show(self, words):
+        for package in self.packages(words):
+            fault = package.get("fault", {})
+            if "cycle" in fault:
+                print(f"{package['name']}/BUILD:0: {FAULTS[CYCLE - 1]}: {' '.join(fault['cycle'])}")
+            elif fault:
+                print(f"{fault['path']}:{fault['line']}: {FAULTS[fault['code'] - 1]}")
+            for target in package.get("targets", []):
+                print(f"//{package['name']}:{target['name']} {target['kind']}")
         sys.stdout.flush()
 
 
@@ -94,7 +107,7 @@ def main():
     client, packages = Client(sys.argv[1], sys.argv[2]), sys.argv[3:]
     for line in itertools.chain([""], sys.stdin):
         client.send_changes()
-        client.show(line.split() or packages or client.packages())
+        client.show(line.split() or packages or [ALL])
 
 
 if __name__ == "__main__":

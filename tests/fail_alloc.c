@@ -1,19 +1,27 @@
-/* Loaded before the C library (LD_PRELOAD): refuses one allocation, the one that FAIL_ALLOC counts, from 1. With
-   FAIL_ALLOC=0 it refuses none and writes the count to the file FAIL_ALLOC_COUNT names. */
+/* Loaded before the C library (LD_PRELOAD): refuses one allocation, the one that FAIL_ALLOC counts, from 1, and one new
+   thread, the one that FAIL_THREAD counts. With 0, or without such a word, none is refused. At the end it writes both
+   counts to the file that FAIL_ALLOC_COUNT names. Allocations of all threads are counted together. */
 #define _GNU_SOURCE
 #include <dlfcn.h>
+#include <errno.h>
+#include <pthread.h>
 #include <stdio.h>
 #include <stdlib.h>
 
-static long count = 0, fails = -1;
+static long count = 0, fails = -1, threads = 0, fails_thread = -1;
 
+static long word(const char *name)
+{
+    const char *text = getenv(name);
+    return text ? atol(text) : 0;
+}
+
+/* The first call is made before there are threads. */
 static int refused(void)
 {
-    if (fails < 0) {
-        const char *text = getenv("FAIL_ALLOC");
-        fails = text ? atol(text) : 0;
-    }
-    return ++count == fails;
+    if (fails < 0)
+        fails = word("FAIL_ALLOC");
+    return __atomic_add_fetch(&count, 1, __ATOMIC_RELAXED) == fails;
 }
 
 void *malloc(size_t size)
@@ -32,13 +40,24 @@ void *realloc(void *block, size_t size)
     return refused() ? NULL : real(block, size);
 }
 
+int pthread_create(pthread_t *thread, const pthread_attr_t *attributes, void *(*start)(void *), void *given)
+{
+    typedef int (*create)(pthread_t *, const pthread_attr_t *, void *(*)(void *), void *);
+    static create real;
+    if (!real)
+        real = (create)dlsym(RTLD_NEXT, "pthread_create");
+    if (fails_thread < 0)
+        fails_thread = word("FAIL_THREAD");
+    return __atomic_add_fetch(&threads, 1, __ATOMIC_RELAXED) == fails_thread ? EAGAIN : real(thread, attributes, start, given);
+}
+
 __attribute__((destructor)) static void tell(void)
 {
     const char *file = getenv("FAIL_ALLOC_COUNT");
     if (file) {
         FILE *out = fopen(file, "w");
         if (out) {
-            fprintf(out, "%ld\n", count);
+            fprintf(out, "%ld %ld\n", count, threads);
             fclose(out);
         }
     }

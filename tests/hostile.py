@@ -6,7 +6,8 @@
     hostile.py --costs          seconds and most memory of lines that sit on a limit
     hostile.py --life EDITS     memory of a program after a tenth of so many edits and loads, and after all
 
-The stack is the one that `ulimit -s` gives, which is also that of each worker.
+The stack is the one that `ulimit -s` gives, which is also that of each worker. The script fails where a line is answered
+otherwise than written here, and where the memory after all edits is over 1.2 times the memory after a tenth.
 """
 import argparse
 import json
@@ -18,6 +19,10 @@ import tempfile
 import time
 
 LOADER = os.path.join(os.path.dirname(os.path.abspath(__file__)), "../crates/cli/out/cli")
+# How many times the memory after a tenth of a long life that after all of it may be.
+MOST_GROWTH = 1.2
+# How many directories a path may have above a BUILD file: 125 names of a byte, each with its slash, and 5 bytes.
+DEEPEST = 125
 
 
 def put(path, text):
@@ -122,6 +127,15 @@ def packages(count, text):
     return [put(f"p{n}/BUILD", text) for n in range(count)]
 
 
+def chain_of_packages(name):
+    """A package in each directory of a chain that is as deep as a path may be, and the directory above."""
+    return [put("/".join([name] * depth + ["BUILD"]), "") for depth in range(DEEPEST + 1)]
+
+
+def under(directory):
+    return {"op": "under", "dir": directory}
+
+
 def targets(count):
     return [put("s/BUILD", f'x = [filegroup(name = "t" + str(i)) for i in range({count})]\n'), load("s")]
 
@@ -136,24 +150,50 @@ def full_text():
     return text[: text.rindex("\n", 0, 262_144) + 1]
 
 
+GLOBBING = 'filegroup(name = "t", srcs = glob(["*"]))\n'
 FUNCTIONS = "".join(f"def f{n}(): pass\n" for n in range(14_000))
 FAN = "".join(f'load("//m:m{n}.bzl", x{n} = "X")\n' for n in range(2_000))
 
+def one(name):
+    return json.dumps({"packages": [{"name": name, "targets": []}]}, separators=(",", ":"))
+
+
+# Lines, and a summary of the answer to the last one.
 COSTS = {
-    "a line of 1,048,576 bytes": [put("s/BUILD", "#" * 262_000), {"op": "find", "name": "x" * 1_048_500}],
-    "a text of 262,144 bytes": [put("s/BUILD", full_text()), load("s")],
-    "a list of 65,536 members": [put("s/BUILD", "x = [i for i in range(65536)]\ny = x + []\nz = sorted(x)\n"), load("s")],
-    "1,000,000 steps": calling("    for i in range(1000):\n        for j in range(1000): pass\n"),
-    "a load of 256 names": packages(256, 'filegroup(name = "t", srcs = glob(["*"]))\n') + [{"op": "load", "names": [f"p{n}" for n in range(256)]}],
-    "a dictionary of 65,536 keys": [put("s/BUILD", "d = {i * 65536: i for i in range(65536)}\nx = [d[i] for i in d]\n"), load("s")],
-    "65,536 targets": targets(65_536),
-    "15,000 calls among 14,000 functions": [put("s/m.bzl", FUNCTIONS + "def all():\n    for i in range(15000): f0()\n"), put("s/BUILD", 'load(":m.bzl", "all")\nall()\n'), load("s")],
-    "patterns with many ** in a deep tree": [*deep_tree(), put("s/BUILD", 'x = glob(["**/a/**/a/**/a/**/a/**/f1.c", "**/**/**/**/*.h"])\n'), load("s")],
-    "a fan of 2,000 loads": [put("m/BUILD", "")] + [put(f"m/m{n}.bzl", "X = 1\n") for n in range(2_000)] + [put("s/BUILD", FAN), load("s")],
-    "a directory of 100,000 names": [put(f"s/f{n}.c", "") for n in range(100_000)] + [put("s/BUILD", 'x = glob(["*1.c"])\n'), load("s"), put("s/g.c", ""), load("s")],
-    "an edit that marks 100,000 records": [put("m/BUILD", ""), put("m/m.bzl", "X = 1\n")] + packages(25_000, 'load("//m:m.bzl", "X")\n') + [{"op": "load", "names": [f"p{n}" for n in range(at, at + 250)]} for at in range(0, 25_000, 250)] + [put("m/m.bzl", "X = 2\n"), load("p1")],
-    "values that nothing reaches": calling("    for i in range(1000): x = [0] * 65536\n"),
-    "values beyond the limit": calling("    for i in range(20000): x = [0] * 65536\n"),
+    "a line of 1,048,576 bytes": ([put("s/BUILD", "#" * 262_000), {"op": "find", "name": "x" * 1_048_500}], '{"refused":5}'),
+    "a text of 262,144 bytes": ([put("s/BUILD", full_text()), load("s")], one("s")),
+    "a list of 65,536 members": (
+        [put("s/BUILD", "x = [i for i in range(65536)]\ny = x + []\nz = sorted(x)\n"), load("s")], one("s")),
+    "1,000,000 steps": (
+        calling("    for i in range(1000):\n        for j in range(1000): pass\n"),
+        '{"packages":[{"fault":{"code":11,"line":3,"path":"s/m.bzl"},"name":"s"}]}'),
+    "a load of 256 names": (
+        packages(256, GLOBBING) + [{"op": "load", "names": [f"p{n}" for n in range(256)]}], "256 packages, 256 targets, 0 faults"),
+    "a dictionary of 65,536 keys": (
+        [put("s/BUILD", "d = {i * 65536: i for i in range(65536)}\nx = [d[i] for i in d]\n"), load("s")], one("s")),
+    "65,536 targets": (targets(65_536), "1 packages, 65536 targets, 0 faults"),
+    "15,000 calls among 14,000 functions": (
+        [put("s/m.bzl", FUNCTIONS + "def all():\n    for i in range(15000): f0()\n"),
+         put("s/BUILD", 'load(":m.bzl", "all")\nall()\n'), load("s")], one("s")),
+    "patterns with many ** in a deep tree": (
+        [*deep_tree(), put("s/BUILD", 'x = glob(["**/a/**/a/**/a/**/a/**/f1.c", "**/**/**/**/*.h"])\n'), load("s")], one("s")),
+    "a fan of 2,000 loads": (
+        [put("m/BUILD", "")] + [put(f"m/m{n}.bzl", "X = 1\n") for n in range(2_000)] + [put("s/BUILD", FAN), load("s")], one("s")),
+    "a directory of 100,000 names": (
+        [put(f"s/f{n}.c", "") for n in range(100_000)]
+        + [put("s/BUILD", 'x = glob(["*1.c"])\n'), load("s"), put("s/g.c", ""), load("s")], one("s")),
+    "an edit that marks 100,000 records": (
+        [put("m/BUILD", ""), put("m/m.bzl", "X = 1\n")] + packages(25_000, 'load("//m:m.bzl", "X")\n')
+        + [{"op": "load", "names": [f"p{n}" for n in range(at, at + 250)]} for at in range(0, 25_000, 250)]
+        + [put("m/m.bzl", "X = 2\n"), load("p1")], one("p1")),
+    "5,000 packages by one under": (packages(5_000, GLOBBING) + [under("")], "5000 packages, 5000 targets, 0 faults"),
+    "a chain of 126 packages by one under": (chain_of_packages("a") + [under("")], "126 packages, 0 targets, 0 faults"),
+    "a glob that finds 20,000 directories": (
+        [put(f"s/d{n}/x.c", "") for n in range(20_000)]
+        + [put("s/BUILD", 'filegroup(name = str(len(glob(["**"], exclude_directories = 0))))\n'), load("s")],
+        '{"packages":[{"name":"s","targets":[{"attrs":{},"kind":"filegroup","name":"40001"}]}]}'),
+    "values that nothing reaches": (calling("    for i in range(1000): x = [0] * 65536\n"), one("s")),
+    "values beyond the limit": (calling("    for i in range(20000): x = [0] * 65536\n"), "status 3, stop: memory"),
 }
 
 
@@ -163,57 +203,111 @@ def memory(process, what):
         return next((int(line.split()[1]) for line in status if line.startswith(what)), 0) / 1024
 
 
+def summary(answer):
+    """A short answer as it is, and of a long one how many packages, targets and faults it has."""
+    if len(answer) <= 200:
+        return answer.decode()
+    packages = json.loads(answer)["packages"]
+    count = sum(len(package.get("targets", [])) for package in packages)
+    return f"{len(packages)} packages, {count} targets, {sum('fault' in package for package in packages)} faults"
+
+
 def cost(lines):
     """Returns seconds, megabytes and the last answer of a run. It looks at the memory each few milliseconds."""
-    with tempfile.TemporaryFile() as given, tempfile.TemporaryFile() as written:
+    with tempfile.TemporaryFile() as given, tempfile.TemporaryFile() as written, tempfile.TemporaryFile() as said:
         given.write("".join(json.dumps(line) + "\n" for line in lines).encode())
         given.seek(0)
         begun, most = time.perf_counter(), 0
-        process = subprocess.Popen([LOADER, "run"], stdin=given, stdout=written)
+        process = subprocess.Popen([LOADER, "run"], stdin=given, stdout=written, stderr=said)
         while process.poll() is None:
             most = max(most, memory(process, "VmHWM"))
             time.sleep(0.002)
         took = time.perf_counter() - begun
         written.seek(0)
+        said.seek(0)
         answers = written.read().splitlines() or [b""]
-    last = answers[-1] if process.returncode == 0 else b"status %d" % process.returncode
-    return took, most, last[:60].decode()
+        if process.returncode:
+            return took, most, f"status {process.returncode}, {said.read().decode().strip()}"
+        return took, most, summary(answers[-1]) if len(answers) == len(lines) else f"{len(answers)} answers to {len(lines)} lines"
 
 
 def tell_costs(only):
-    for name, lines in COSTS.items():
-        if only in name:
-            took, most, last = cost(lines)
-            print(f"  {name:44s}{took:8.2f} s{most:8.0f} MB   {last}", flush=True)
+    wrong, told = 0, {name: row for name, row in COSTS.items() if only in name}
+    for name, (lines, wanted) in told.items():
+        took, most, last = cost(lines)
+        print(f"  {name:40s}{took:8.2f} s{most:8.0f} MB   {last[:80]}{'' if last == wanted else ', which is wrong'}", flush=True)
+        wrong += last != wanted
+    print(f"{len(told)} lines at their limits: {wrong} wrong")
+    return wrong or int(not told)
+
+
+class Life:
+    """A program of 997 packages that is told edits and asked loads, and what its files are by a plain model.
+
+    Each package has some of eleven files. All are there at first, so that later edits make the tree no larger.
+    """
+
+    PACKAGES, FILES = 997, 11
+
+    def __init__(self):
+        self.process = subprocess.Popen([LOADER, "run"], stdin=subprocess.PIPE, stdout=subprocess.PIPE)
+        self.wrong, self.version, self.removed = 0, 0, 0
+        self.rules, self.files = {}, {}
+        for number in range(self.PACKAGES):
+            self.files[number] = {f"f{file}.c" for file in range(self.FILES)}
+            self.set_rule(number, 0)
+            for file in self.files[number]:
+                self.ask(put(f"p{number}/{file}", ""), self.accepted())
+
+    def ask(self, line, wanted):
+        self.process.stdin.write((json.dumps(line) + "\n").encode())
+        self.process.stdin.flush()
+        answer = self.process.stdout.readline()
+        if json.loads(answer or b"null") != wanted:
+            self.wrong += 1
+            if self.wrong <= 10:
+                print(f"{json.dumps(line)} is answered {answer[:200]!r}, not {json.dumps(wanted)}")
+
+    def accepted(self):
+        self.version += 1
+        return {"ok": self.version}
+
+    def set_rule(self, number, rule):
+        self.rules[number] = rule
+        self.ask(put(f"p{number}/BUILD", f'filegroup(name = "t{rule}", srcs = glob(["*.c"]))\n'), self.accepted())
+
+    def edit(self, turn):
+        """Sets the rule of a package, sets one of its files, or removes one that is there."""
+        number = turn * 7919 % self.PACKAGES
+        file = f"f{turn // 6 % self.FILES}.c"
+        if turn % 3:
+            self.set_rule(number, turn % 5)
+        elif turn % 2 or file not in self.files[number]:
+            self.files[number].add(file)
+            self.ask(put(f"p{number}/{file}", ""), self.accepted())
+        else:
+            self.files[number].remove(file)
+            self.removed += 1
+            self.ask({"op": "del", "path": f"p{number}/{file}"}, self.accepted())
+        sources = [f"//p{number}:{name}" for name in sorted(self.files[number])]
+        target = {"attrs": {"srcs": sources}, "kind": "filegroup", "name": f"t{self.rules[number]}"}
+        self.ask(load(f"p{number}"), {"packages": [{"name": f"p{number}", "targets": [target]}]})
 
 
 def tell_life(edits):
-    """A program of 1,000 packages that is told edits and asked loads, memory after a tenth of them and after all."""
-    process = subprocess.Popen([LOADER, "run"], stdin=subprocess.PIPE, stdout=subprocess.PIPE)
-
-    def ask(line):
-        process.stdin.write((json.dumps(line) + "\n").encode())
-        process.stdin.flush()
-        process.stdout.readline()
-
-    for line in packages(1_000, 'filegroup(name = "t", srcs = glob(["*.c"]))\n'):
-        ask(line)
-    marks, begun = {}, time.perf_counter()
-    for number in range(1, edits + 1):
-        name = f"p{number * 7919 % 1000}"
-        if number % 3:
-            ask(put(f"{name}/BUILD", f'filegroup(name = "t{number % 5}", srcs = glob(["*.c"]))\n'))
-        elif number % 2:
-            ask(put(f"{name}/f{number % 11}.c", ""))
-        else:
-            ask({"op": "del", "path": f"{name}/f{(number + 7) % 11}.c"})
-        ask(load(name))
-        if number in (edits // 10, edits):
-            marks[number] = memory(process, "VmRSS")
-    process.stdin.close()
-    process.wait()
-    first, last = marks[edits // 10], marks[edits]
-    print(f"{edits} edits, each with a load: {first:.1f} MB after a tenth, {last:.1f} MB after all, {time.perf_counter() - begun:.0f} s")
+    """Memory of a program after a tenth of so many edits, each with a load of its package, and after all."""
+    life, begun = Life(), time.perf_counter()
+    for turn in range(1, edits + 1):
+        life.edit(turn)
+        if turn == edits // 10:
+            first = memory(life.process, "VmRSS")
+    last = memory(life.process, "VmRSS")
+    life.process.stdin.close()
+    status, grown = life.process.wait(), last > MOST_GROWTH * first
+    print(f"{edits} edits, {life.removed} of them removals, each with a load: {first:.1f} MB after a tenth, {last:.1f} MB after "
+          f"all, {last / first:.2f} times as much{', which is too much' if grown else ''}, {time.perf_counter() - begun:.0f} s: "
+          f"status {status}, {life.wrong} wrong")
+    return life.wrong + grown + bool(status) + (not life.removed)
 
 
 def main():
@@ -222,13 +316,15 @@ def main():
     words.add_argument("--costs", nargs="?", const="", default=None)
     words.add_argument("--life", type=int)
     given = words.parse_args()
+    if given.life is not None and given.life < 100:
+        words.error("--life takes a number of at least 100")
     wrong = tell_rows()
     if given.stack:
         tell_stack()
     if given.costs is not None:
-        tell_costs(given.costs)
-    if given.life:
-        tell_life(given.life)
+        wrong += tell_costs(given.costs)
+    if given.life is not None:
+        wrong += tell_life(given.life)
     return 1 if wrong else 0
 
 

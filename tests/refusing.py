@@ -12,12 +12,25 @@ def library_in(folder):
     return library
 
 
-def started(library, fails, command, given=None, count_file=None):
-    """Runs a command. Its allocation of that number is refused, or none where the number is 0."""
-    env = dict(os.environ, LD_PRELOAD=library, FAIL_ALLOC=str(fails))
+def started(library, fails, command, given=None, count_file=None, thread=0):
+    """Runs a command. Its allocation of that number is refused, or none where the number is 0. So is its thread.
+
+    A run that does not end in a minute is killed, and has no status then.
+    """
+    env = dict(os.environ, LD_PRELOAD=library, FAIL_ALLOC=str(fails), FAIL_THREAD=str(thread))
     if count_file:
         env["FAIL_ALLOC_COUNT"] = count_file
-    return subprocess.run(command, input=given, capture_output=True, env=env)
+    try:
+        return subprocess.run(command, input=given, capture_output=True, env=env, timeout=60)
+    except subprocess.TimeoutExpired as late:
+        return subprocess.CompletedProcess(command, -1, late.stdout or b"", b"it did not end")
+
+
+def counts(count_file):
+    """How many allocations a run made, and how many threads."""
+    with open(count_file) as count:
+        allocations, threads = count.read().split()
+    return int(allocations), int(threads)
 
 
 def refuse_each(folder, library, what, command, given=None):
@@ -27,8 +40,7 @@ def refuse_each(folder, library, what, command, given=None):
     """
     count_file = os.path.join(folder, "count")
     whole = started(library, 0, command, given, count_file)
-    with open(count_file) as count:
-        allocations = int(count.read())
+    allocations, _ = counts(count_file)
     wrong, stopped = [], 0
     for fails in range(1, allocations + 1):
         ran = started(library, fails, command, given)
