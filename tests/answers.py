@@ -43,7 +43,10 @@ def programs():
     paths = sorted(glob.glob(os.path.join(CRATES, "cli/out/cli*")))
     built = [path for path in paths if os.path.isfile(path) and os.access(path, os.X_OK)]
     newest = max(map(os.path.getmtime, glob.glob(os.path.join(CRATES, "*/src/**/*.rt"), recursive=True)))
-    return built[:1] + [path for path in built[1:] if os.path.getmtime(path) > newest]
+    old = [path for path in built[1:] if os.path.getmtime(path) <= newest]
+    for path in old:
+        print(f"{os.path.basename(path)} is older than a source, and is left out")
+    return [path for path in built if path not in old]
 
 
 def read_lines(name):
