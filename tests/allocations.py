@@ -36,6 +36,7 @@ SCRIPTS = [
     "scripts/cycles.jsonl",
     "scripts/restarts.jsonl",
     "scripts/waiting.jsonl",
+    "scripts/wide.jsonl",
 ]
 
 

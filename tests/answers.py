@@ -14,6 +14,7 @@ import argparse
 import array
 import concurrent.futures
 import fcntl
+import glob
 import json
 import os
 import resource
@@ -25,7 +26,7 @@ import threading
 import time
 
 HERE = os.path.dirname(os.path.abspath(__file__))
-FOLDER = os.path.join(HERE, "../crates/cli/out")
+CRATES = os.path.join(HERE, "../crates")
 # The most seconds that one run may take: some thousand times what it takes.
 PATIENCE = 60
 FIND = b'{"op":"find","name":"x"}\n'
@@ -35,11 +36,17 @@ WELL, READ_STOP, WRITE_STOP = (0, b""), (3, b"stop: read\n"), (3, b"stop: write\
 
 
 def programs():
-    """The built program, or where it has no such name each one that is named after its compiler."""
-    paths = [os.path.join(FOLDER, name) for name in (sorted(os.listdir(FOLDER)) if os.path.isdir(FOLDER) else [])]
+    """The programs that were built, `cli` first. The gate builds one more by the other compiler, named after it.
+
+    Such a one may be left from an earlier state. So it is left out where a source is newer.
+    """
+    paths = sorted(glob.glob(os.path.join(CRATES, "cli/out/cli*")))
     built = [path for path in paths if os.path.isfile(path) and os.access(path, os.X_OK)]
-    named = [path for path in built if os.path.basename(path) == "cli"]
-    return named or [path for path in built if os.path.basename(path).startswith("cli")]
+    newest = max(map(os.path.getmtime, glob.glob(os.path.join(CRATES, "*/src/**/*.rt"), recursive=True)))
+    old = [path for path in built[1:] if os.path.getmtime(path) <= newest]
+    for path in old:
+        print(f"{os.path.basename(path)} is older than a source, and is left out")
+    return [path for path in built if path not in old]
 
 
 def read_lines(name):
@@ -432,7 +439,7 @@ def main():
             print(f"{name}{beside}: {told}, {len(wrong)} wrong", flush=True)
             failed = failed or bool(wrong) or not count
     if not paths:
-        print(f"no program in {os.path.normpath(FOLDER)}: build it first")
+        print("no program in crates/cli/out: build it first")
     return 1 if failed or not paths else 0
 
 

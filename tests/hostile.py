@@ -192,6 +192,7 @@ COSTS = {
         [put(f"s/d{n}/x.c", "") for n in range(20_000)]
         + [put("s/BUILD", 'filegroup(name = str(len(glob(["**"], exclude_directories = 0))))\n'), load("s")],
         '{"packages":[{"name":"s","targets":[{"attrs":{},"kind":"filegroup","name":"40001"}]}]}'),
+    "100,000 names that are not there": ([{"op": "find", "name": f"x{n}"} for n in range(100_000)], '{"build":null}'),
     "values that nothing reaches": (calling("    for i in range(1000): x = [0] * 65536\n"), one("s")),
     "values beyond the limit": (calling("    for i in range(20000): x = [0] * 65536\n"), "status 3, stop: memory"),
 }
@@ -244,7 +245,7 @@ def tell_costs(only):
 class Life:
     """A program of 997 packages that is told edits and asked loads, and what its files are by a plain model.
 
-    Each package has some of eleven files. All are there at first, so that later edits make the tree no larger.
+    Each package has some of eleven files. All are there and loaded at first, so that later edits make the tree no larger.
     """
 
     PACKAGES, FILES = 997, 11
@@ -258,6 +259,7 @@ class Life:
             self.set_rule(number, 0)
             for file in self.files[number]:
                 self.ask(put(f"p{number}/{file}", ""), self.accepted())
+            self.ask_package(number)
 
     def ask(self, line, wanted):
         self.process.stdin.write((json.dumps(line) + "\n").encode())
@@ -289,6 +291,9 @@ class Life:
             self.files[number].remove(file)
             self.removed += 1
             self.ask({"op": "del", "path": f"p{number}/{file}"}, self.accepted())
+        self.ask_package(number)
+
+    def ask_package(self, number):
         sources = [f"//p{number}:{name}" for name in sorted(self.files[number])]
         target = {"attrs": {"srcs": sources}, "kind": "filegroup", "name": f"t{self.rules[number]}"}
         self.ask(load(f"p{number}"), {"packages": [{"name": f"p{number}", "targets": [target]}]})
