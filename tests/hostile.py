@@ -154,7 +154,9 @@ GLOBBING = 'filegroup(name = "t", srcs = glob(["*"]))\n'
 FUNCTIONS = "".join(f"def f{n}(): pass\n" for n in range(14_000))
 FAN = "".join(f'load("//m:m{n}.bzl", x{n} = "X")\n' for n in range(2_000))
 
+
 def one(name):
+    """The answer of a package without targets."""
     return json.dumps({"packages": [{"name": name, "targets": []}]}, separators=(",", ":"))
 
 
