@@ -22,9 +22,9 @@ pub fn builtin(heap: &mut Heap, f: Builtin, xs: &[Val], names: &[(Text, Val)]) -
     ensures { Says (builtin f xs.now names.now (store_of heap.old)) result (store_of heap.new) }
 {
     match f {
-        Builtin::Sorted => Ok(sorted(heap, xs, names)?),
-        Builtin::Dict => Ok(dict(heap, xs, names)?),
-        _ => Ok(unnamed(heap, f, xs, names)?),
+        Builtin::Sorted => sorted(heap, xs, names),
+        Builtin::Dict => dict(heap, xs, names),
+        _ => unnamed(heap, f, xs, names),
     }
 }
 
@@ -36,9 +36,9 @@ fn unnamed(heap: &mut Heap, f: Builtin, xs: &[Val], names: &[(Text, Val)]) -> Re
         return Err(Halt::Code(25));
     }
     match xs {
-        [] => Ok(of_none(heap, f)?),
-        [x] => Ok(of_one(heap, f, *x)?),
-        [_, _, ..] => Ok(of_several(heap, f, xs)?),
+        [] => of_none(heap, f),
+        [x] => of_one(heap, f, *x),
+        [_, _, ..] => of_several(heap, f, xs),
     }
 }
 
@@ -47,10 +47,10 @@ fn of_none(heap: &mut Heap, f: Builtin) -> Result<Val, Halt>
     ensures { Says (plain f [] (store_of heap.old)) result (store_of heap.new) }
 {
     match f {
-        Builtin::List => Ok(no_list(heap)?),
-        Builtin::Tuple => Ok(no_tuple(heap)?),
+        Builtin::List => no_list(heap),
+        Builtin::Tuple => no_tuple(heap),
         Builtin::Bool => Ok(Val::Bool(false)),
-        Builtin::Zip => Ok(zip(heap, &[])?),
+        Builtin::Zip => zip(heap, &[]),
         Builtin::Len => Err(Halt::Code(25)),
         Builtin::Range => Err(Halt::Code(25)),
         Builtin::Str => Err(Halt::Code(25)),
@@ -72,21 +72,21 @@ fn of_one(heap: &mut Heap, f: Builtin, x: Val) -> Result<Val, Halt>
     ensures { Says (plain f (x ∷ []) (store_of heap.old)) result (store_of heap.new) }
 {
     match f {
-        Builtin::Len => Ok(len(heap, x)?),
-        Builtin::Range => Ok(range(heap, &[x])?),
-        Builtin::Str => Ok(text(heap, x)?),
-        Builtin::Repr => Ok(print(heap, x)?),
-        Builtin::Type => Ok(type_of(heap, x)?),
-        Builtin::Reversed => Ok(reversed(heap, x)?),
-        Builtin::Enumerate => Ok(enumerate(heap, x)?),
-        Builtin::Zip => Ok(zip(heap, &[x])?),
-        Builtin::List => Ok(list(heap, x)?),
-        Builtin::Tuple => Ok(tuple(heap, x)?),
+        Builtin::Len => len(heap, x),
+        Builtin::Range => range(heap, &[x]),
+        Builtin::Str => text(heap, x),
+        Builtin::Repr => print(heap, x),
+        Builtin::Type => type_of(heap, x),
+        Builtin::Reversed => reversed(heap, x),
+        Builtin::Enumerate => enumerate(heap, x),
+        Builtin::Zip => zip(heap, &[x]),
+        Builtin::List => list(heap, x),
+        Builtin::Tuple => tuple(heap, x),
         Builtin::Bool => Ok(truth(heap, x)),
-        Builtin::Any => Ok(any(heap, x)?),
-        Builtin::All => Ok(all(heap, x)?),
-        Builtin::Min => Ok(min(heap, &[x])?),
-        Builtin::Max => Ok(max(heap, &[x])?),
+        Builtin::Any => any(heap, x),
+        Builtin::All => all(heap, x),
+        Builtin::Min => min(heap, &[x]),
+        Builtin::Max => max(heap, &[x]),
         Builtin::Fail => Err(Halt::Code(24)),
         _ => Err(Halt::Code(5)),
     }
@@ -98,10 +98,10 @@ fn of_several(heap: &mut Heap, f: Builtin, xs: &[Val]) -> Result<Val, Halt>
     ensures { Says (plain f xs.now (store_of heap.old)) result (store_of heap.new) }
 {
     match f {
-        Builtin::Range => Ok(range(heap, xs)?),
-        Builtin::Zip => Ok(zip(heap, xs)?),
-        Builtin::Min => Ok(min(heap, xs)?),
-        Builtin::Max => Ok(max(heap, xs)?),
+        Builtin::Range => range(heap, xs),
+        Builtin::Zip => zip(heap, xs),
+        Builtin::Min => min(heap, xs),
+        Builtin::Max => max(heap, xs),
         Builtin::Len => Err(Halt::Code(25)),
         Builtin::Str => Err(Halt::Code(25)),
         Builtin::Repr => Err(Halt::Code(25)),

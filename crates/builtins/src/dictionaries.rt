@@ -44,10 +44,7 @@ fn add_from(heap: &mut Heap, entries: &mut IndexMap<Key, Entry>, xs: &[Val]) -> 
 {
     match xs {
         [] => Ok(()),
-        [Val::At(place)] => {
-            add_object(heap, entries, *place)?;
-            Ok(())
-        }
+        [Val::At(place)] => add_object(heap, entries, *place),
         _ => Err(Halt::Code(5)),
     }
 }
@@ -59,12 +56,10 @@ fn add_object(heap: &mut Heap, entries: &mut IndexMap<Key, Entry>, place: usize)
 {
     if let Some(Object::Dict(others, _)) = heap.object(place) {
         let pairs = pairs(heap.alloc, others)?;
-        add_all(heap, entries, pairs.as_slice())?;
-        return Ok(());
+        return add_all(heap, entries, pairs.as_slice());
     }
     let members = items(heap, Val::At(place))?;
-    add_each(heap, entries, members.as_slice())?;
-    Ok(())
+    add_each(heap, entries, members.as_slice())
 }
 
 // The keys of a dictionary with their values.

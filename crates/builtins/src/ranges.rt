@@ -13,9 +13,9 @@ pub fn range(heap: &mut Heap, xs: &[Val]) -> Result<Val, Halt>
     ensures { Says (range xs.now (store_of heap.old)) result (store_of heap.new) }
 {
     match xs {
-        [to] => Ok(range_by(heap, Val::Int(0), *to, Val::Int(1))?),
-        [from, to] => Ok(range_by(heap, *from, *to, Val::Int(1))?),
-        [from, to, step] => Ok(range_by(heap, *from, *to, *step)?),
+        [to] => range_by(heap, Val::Int(0), *to, Val::Int(1)),
+        [from, to] => range_by(heap, *from, *to, Val::Int(1)),
+        [from, to, step] => range_by(heap, *from, *to, *step),
         _ => Err(Halt::Code(25)),
     }
 }
@@ -31,10 +31,7 @@ fn range_by(heap: &mut Heap, from: Val, to: Val, step: Val) -> Result<Val, Halt>
         return Err(Halt::Code(25));
     }
     match (from, to) {
-        (Val::Int(from), Val::Int(to)) => {
-            let made = make_range(heap, from, to, step)?;
-            Ok(made)
-        }
+        (Val::Int(from), Val::Int(to)) => make_range(heap, from, to, step),
         _ => Err(Halt::Code(5)),
     }
 }

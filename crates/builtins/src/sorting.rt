@@ -18,16 +18,12 @@ pub fn sorted(heap: &mut Heap, xs: &[Val], names: &[(Text, Val)]) -> Result<Val,
     ensures { Says (sorted xs.now names.now (store_of heap.old)) result (store_of heap.new) }
 {
     match (xs, names) {
-        ([x], []) => {
-            let made = sorted_list(heap, *x, false)?;
-            Ok(made)
-        }
+        ([x], []) => sorted_list(heap, *x, false),
         ([x], [named]) => {
             if named.0.as_str() != "reverse" {
                 return Err(Halt::Code(25));
             }
-            let made = sorted_by(heap, *x, named.1)?;
-            Ok(made)
+            sorted_by(heap, *x, named.1)
         }
         _ => Err(Halt::Code(25)),
     }
@@ -38,10 +34,7 @@ fn sorted_by(heap: &mut Heap, x: Val, reverse: Val) -> Result<Val, Halt>
     ensures { Says (sorted_by x reverse (store_of heap.old)) result (store_of heap.new) }
 {
     match reverse {
-        Val::Bool(reverse) => {
-            let made = sorted_list(heap, x, reverse)?;
-            Ok(made)
-        }
+        Val::Bool(reverse) => sorted_list(heap, x, reverse),
         _ => Err(Halt::Code(5)),
     }
 }
@@ -58,8 +51,7 @@ fn sorted_list(heap: &mut Heap, x: Val, reverse: bool) -> Result<Val, Halt>
     if reverse {
         members.reverse();
     }
-    let made = heap.make_list(members)?;
-    Ok(made)
+    heap.make_list(members)
 }
 
 // Ints or strings in order; equal ones keep their order.

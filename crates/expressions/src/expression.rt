@@ -1,25 +1,28 @@
 //! Expressions. What holds an expression one level down takes the parser of those as a parameter, so that each
 //! function is proved by itself.
-ghost use Rattle.std.specs.Prelude.{◌≡◌, ◌∷◌, ◌++◌, [], length, map, if◌then◌else◌, IfOk, IsOkUnless};
+ghost use Rattle.std.specs.Prelude.{◌≡◌, ◌∷◌, ◌++◌, [], length, map, if◌then◌else◌, List, Option, IfOk, IsOkUnless};
 ghost use Rattle.grammar.specs.Expressions as spec;
-ghost use Rattle.grammar.specs.Front.{and_then, gives, expect, is_at, tail};
+ghost use Rattle.grammar.specs.Front.{Part, and_then, gives, expect, is_at, tail};
 ghost use Rattle.grammar.specs.declared.kind.Kind.TheVariants as k;
 ghost use Rattle.tokens.specs.declared.symbol.Symbol.TheVariants as s;
+ghost use Rattle.tokens.specs.Token.{Lex};
 ghost use Rattle.tree.specs.Tree as tree;
+ghost use Rattle.tree.specs.Tree.{Ex};
 ghost use Rattle.expressions.specs.Nests.{Nests};
 ghost use Rattle.expressions.specs.Parts.{pairs_of, arguments_of};
 ghost use Rattle.expressions.specs.View.{left, Reads};
 ghost use Rattle.tree.specs.View.{tree_of, clause_of, bound_tree, clauses_of, exs_of, trees_of, clause_trees};
 ghost use Rattle.expressions.specs.declared.front.Stop.TheVariants.{Memory};
+ghost use Rattle.std.specs.Arc.{arc_value};
 
-use crate::front::{Stop, Tokens, operator_at, take_comparison};
+use crate::front::{Stop, Tokens, fit, operator_at, take_comparison};
 use crate::target::is_target;
 use grammar::{Kind, Rank};
 use std::alloc::Global;
 use std::sync::Arc;
-use texts::Text;
+use texts::{Text, beside};
 use tokens::{Symbol, Token, string_text};
-use tree::{Clause, Expr, Literal, UnaryOp};
+use tree::{BinaryOp, Clause, Expr, Literal, UnaryOp};
 
 /// The entries of a dictionary so far: keys, and as many values.
 #[derive(Drop)]
@@ -90,11 +93,8 @@ impl<F: Fn(Global, &mut Tokens<'_, '_>, usize, Kind) -> Result<Expr, Stop>> Gram
         ensures { Reads tree_of (spec.target (spec.expr self.now.depth) (left t.old)) result (left t.new) }
     {
         let found = self.expr(t, Kind::Postfix)?;
-        if is_target(&found) {
-            Ok(found)
-        } else {
-            Err(Stop::Malformed)
-        }
+        let is_fit = is_target(&found);
+        fit(found, is_fit)
     }
 
     /// Reads the rest of several targets.
@@ -136,7 +136,7 @@ impl<F: Fn(Global, &mut Tokens<'_, '_>, usize, Kind) -> Result<Expr, Stop>> Gram
         ensures { Reads clause_of (spec.for_clause (spec.expr self.now.depth) (left t.old)) result (left t.new) }
     {
         let target = self.targets(t)?;
-        let sequence = self.behind(t, Symbol::In, Kind::Or)?;
+        let (target, sequence) = beside(target, self.behind(t, Symbol::In, Kind::Or))?;
         Ok(Clause::for_in(self.alloc, target, sequence)?)
     }
 
@@ -187,7 +187,7 @@ impl<F: Fn(Global, &mut Tokens<'_, '_>, usize, Kind) -> Result<Expr, Stop>> Gram
         requires { Nests self.now.depth (F.pre self.now.expr) (F.post self.now.expr) }
         ensures { Reads tree_of (and_then (spec.clauses (spec.expr self.now.depth) (left t.old)) (λ cs us. and_then (expect s.RightBracket us) (λ _. gives (tree.list_of (tree_of first) (clauses_of cs))))) result (left t.new) }
     {
-        let clauses = self.clauses(t)?;
+        let (first, clauses) = beside(first, self.clauses(t))?;
         let whole = Expr::list_of(self.alloc, first, clauses)?;
         closed(t, Symbol::RightBracket, whole)
     }
@@ -255,7 +255,7 @@ impl<F: Fn(Global, &mut Tokens<'_, '_>, usize, Kind) -> Result<Expr, Stop>> Gram
         requires { Nests self.now.depth (F.pre self.now.expr) (F.post self.now.expr) }
         ensures { Reads tree_of (and_then (spec.clauses (spec.expr self.now.depth) (left t.old)) (λ cs us. and_then (expect s.RightBrace us) (λ _. gives (tree.dict_of (tree_of entry.0) (tree_of entry.1) (clauses_of cs))))) result (left t.new) }
     {
-        let clauses = self.clauses(t)?;
+        let (entry, clauses) = beside(entry, self.clauses(t))?;
         let whole = dict_by_clauses(self.alloc, entry, clauses)?;
         closed(t, Symbol::RightBrace, whole)
     }
@@ -288,8 +288,8 @@ impl<F: Fn(Global, &mut Tokens<'_, '_>, usize, Kind) -> Result<Expr, Stop>> Gram
         requires { Nests self.now.depth (F.pre self.now.expr) (F.post self.now.expr) }
         ensures { Reads tree_of (and_then (expect s.Colon (left t.old)) (λ _ us. and_then (spec.expr self.now.depth k.Test us) (λ value. spec.dict_after (spec.expr self.now.depth) (tree_of key) value))) result (left t.new) }
     {
-        let value = self.behind(t, Symbol::Colon, Kind::Test)?;
-        self.dict_after(t, (key, value))
+        let entry = beside(key, self.behind(t, Symbol::Colon, Kind::Test))?;
+        self.dict_after(t, entry)
     }
 
     /// Reads what stands behind an opening brace.
@@ -305,6 +305,16 @@ impl<F: Fn(Global, &mut Tokens<'_, '_>, usize, Kind) -> Result<Expr, Stop>> Gram
         self.dict_behind(t, key)
     }
 
+    /// Reads the value of an argument, which becomes the last.
+    fn argument_value(&self, t: &mut Tokens<'_, '_>, found: &mut ArgumentsSoFar) -> Result<(), Stop>
+        requires { Nests self.now.depth (F.pre self.now.expr) (F.post self.now.expr) }
+        ensures { Reads (λ _. arguments_of found.new) (and_then (spec.expr self.now.depth k.Test (left t.old)) (λ value. gives (record { values = map tree_of found.old.values.items ++ value ∷ []; names = found.old.names.items }))) result (left t.new) }
+    {
+        let value = self.expr(t, Kind::Test)?;
+        found.values.push(value)?;
+        Ok(())
+    }
+
     /// Reads an argument of a call.
     #[tactic(auto, unfolding(grammar::specs::Expressions::argument))]
     fn argument(&self, t: &mut Tokens<'_, '_>, found: &mut ArgumentsSoFar) -> Result<(), Stop>
@@ -315,16 +325,12 @@ impl<F: Fn(Global, &mut Tokens<'_, '_>, usize, Kind) -> Result<Expr, Stop>> Gram
             let name = t.take_name(self.alloc)?;
             found.names.push(name)?;
             t.skip();
-            let value = self.expr(t, Kind::Test)?;
-            found.values.push(value)?;
-            return Ok(());
+            return self.argument_value(t, found);
         }
         if !found.names.is_empty() {
             return Err(Stop::Malformed);
         }
-        let value = self.expr(t, Kind::Test)?;
-        found.values.push(value)?;
-        Ok(())
+        self.argument_value(t, found)
     }
 
     /// Reads the arguments of a call up to its closing bracket.
@@ -379,7 +385,7 @@ impl<F: Fn(Global, &mut Tokens<'_, '_>, usize, Kind) -> Result<Expr, Stop>> Gram
             return Ok(None);
         }
         let found = self.expr(t, Kind::Test)?;
-        let bound = Arc::new(self.alloc, found)?;
+        let bound = shared(self.alloc, found)?;
         Ok(Some(bound))
     }
 
@@ -394,7 +400,7 @@ impl<F: Fn(Global, &mut Tokens<'_, '_>, usize, Kind) -> Result<Expr, Stop>> Gram
         requires { Nests self.now.depth (F.pre self.now.expr) (F.post self.now.expr) }
         ensures { Reads tree_of (spec.slice_from (spec.expr self.now.depth) (tree_of value) (bound_tree from) (left t.old)) result (left t.new) }
     {
-        let to = self.upper_bound(t)?;
+        let ((value, from), to) = beside((value, from), self.upper_bound(t))?;
         let whole = Expr::slice(self.alloc, value, from, to)?;
         closed(t, Symbol::RightBracket, whole)
     }
@@ -404,7 +410,7 @@ impl<F: Fn(Global, &mut Tokens<'_, '_>, usize, Kind) -> Result<Expr, Stop>> Gram
         requires { Nests self.now.depth (F.pre self.now.expr) (F.post self.now.expr) }
         ensures { Reads tree_of (spec.slice_from (spec.expr self.now.depth) (tree_of value) (tree.bound (tree_of at)) (left t.old)) result (left t.new) }
     {
-        let from = Arc::new(self.alloc, at)?;
+        let (value, from) = beside(value, shared(self.alloc, at))?;
         self.slice_from(t, value, Some(from))
     }
 
@@ -429,7 +435,7 @@ impl<F: Fn(Global, &mut Tokens<'_, '_>, usize, Kind) -> Result<Expr, Stop>> Gram
         if t.eat(Symbol::Colon) {
             return self.slice_from(t, value, None);
         }
-        let at = self.expr(t, Kind::Test)?;
+        let (value, at) = beside(value, self.expr(t, Kind::Test))?;
         self.subscript_at(t, value, at)
     }
 
@@ -438,7 +444,7 @@ impl<F: Fn(Global, &mut Tokens<'_, '_>, usize, Kind) -> Result<Expr, Stop>> Gram
         requires { Nests self.now.depth (F.pre self.now.expr) (F.post self.now.expr) }
         ensures { Reads tree_of (and_then (expect s.LeftParen (left t.old)) (λ _ us. and_then (spec.arguments (spec.expr self.now.depth) us) (λ found. gives (tree.method (tree_of receiver.0) receiver.1 (exs_of found.values) found.names)))) result (left t.new) }
     {
-        let found = self.arguments_behind(t)?;
+        let (receiver, found) = beside(receiver, self.arguments_behind(t))?;
         method(self.alloc, receiver, found)
     }
 
@@ -448,8 +454,8 @@ impl<F: Fn(Global, &mut Tokens<'_, '_>, usize, Kind) -> Result<Expr, Stop>> Gram
         requires { Nests self.now.depth (F.pre self.now.expr) (F.post self.now.expr) }
         ensures { Reads tree_of (spec.method_call (spec.expr self.now.depth) (tree_of value) (left t.old)) result (left t.new) }
     {
-        let name = t.take_name(self.alloc)?;
-        self.method_behind(t, (value, name))
+        let receiver = beside(value, t.take_name(self.alloc))?;
+        self.method_behind(t, receiver)
     }
 
     /// Reads a call behind its opening bracket.
@@ -458,7 +464,8 @@ impl<F: Fn(Global, &mut Tokens<'_, '_>, usize, Kind) -> Result<Expr, Stop>> Gram
         requires { Nests self.now.depth (F.pre self.now.expr) (F.post self.now.expr) }
         ensures { Reads tree_of (spec.call (spec.expr self.now.depth) (tree_of value) (left t.old)) result (left t.new) }
     {
-        let ArgumentsSoFar { values, names } = self.arguments(t)?;
+        let (value, found) = beside(value, self.arguments(t))?;
+        let ArgumentsSoFar { values, names } = found;
         Ok(Expr::call(self.alloc, value, values, names)?)
     }
 
@@ -564,8 +571,8 @@ impl<F: Fn(Global, &mut Tokens<'_, '_>, usize, Kind) -> Result<Expr, Stop>> Gram
                 return Ok(whole);
             };
             t.skip();
-            let right = self.unary(t)?;
-            whole = Expr::binary(self.alloc, op, whole, right)?;
+            let right = self.unary(t);
+            whole = operation(self.alloc, op, whole, right)?;
         }
         Ok(whole)
     }
@@ -582,8 +589,8 @@ impl<F: Fn(Global, &mut Tokens<'_, '_>, usize, Kind) -> Result<Expr, Stop>> Gram
                 return Ok(whole);
             };
             t.skip();
-            let right = self.term(t)?;
-            whole = Expr::binary(self.alloc, op, whole, right)?;
+            let right = self.term(t);
+            whole = operation(self.alloc, op, whole, right)?;
         }
         Ok(whole)
     }
@@ -598,8 +605,8 @@ impl<F: Fn(Global, &mut Tokens<'_, '_>, usize, Kind) -> Result<Expr, Stop>> Gram
         let Some(op) = take_comparison(t) else {
             return Ok(first);
         };
-        let right = self.sum(t)?;
-        Ok(Expr::binary(self.alloc, op, first, right)?)
+        let right = self.sum(t);
+        operation(self.alloc, op, first, right)
     }
 
     /// Reads a comparison, or the negation of one.
@@ -627,8 +634,8 @@ impl<F: Fn(Global, &mut Tokens<'_, '_>, usize, Kind) -> Result<Expr, Stop>> Gram
                 return Ok(whole);
             };
             t.skip();
-            let right = self.not_test(t)?;
-            whole = Expr::binary(self.alloc, op, whole, right)?;
+            let right = self.not_test(t);
+            whole = operation(self.alloc, op, whole, right)?;
         }
         Ok(whole)
     }
@@ -645,8 +652,8 @@ impl<F: Fn(Global, &mut Tokens<'_, '_>, usize, Kind) -> Result<Expr, Stop>> Gram
                 return Ok(whole);
             };
             t.skip();
-            let right = self.and_test(t)?;
-            whole = Expr::binary(self.alloc, op, whole, right)?;
+            let right = self.and_test(t);
+            whole = operation(self.alloc, op, whole, right)?;
         }
         Ok(whole)
     }
@@ -656,7 +663,8 @@ impl<F: Fn(Global, &mut Tokens<'_, '_>, usize, Kind) -> Result<Expr, Stop>> Gram
         requires { Nests self.now.depth (F.pre self.now.expr) (F.post self.now.expr) }
         ensures { Reads tree_of (and_then (expect s.Else (left t.old)) (λ _ us. and_then (spec.expr self.now.depth k.Test us) (λ other. gives (tree.choice (tree_of first) (tree_of condition) other)))) result (left t.new) }
     {
-        let other = self.behind(t, Symbol::Else, Kind::Test)?;
+        let both = (first, condition);
+        let ((first, condition), other) = beside(both, self.behind(t, Symbol::Else, Kind::Test))?;
         Ok(Expr::choice(self.alloc, first, condition, other)?)
     }
 
@@ -670,7 +678,7 @@ impl<F: Fn(Global, &mut Tokens<'_, '_>, usize, Kind) -> Result<Expr, Stop>> Gram
         if !t.eat(Symbol::If) {
             return Ok(first);
         }
-        let condition = self.or_test(t)?;
+        let (first, condition) = beside(first, self.or_test(t))?;
         self.choice(t, first, condition)
     }
 
@@ -693,8 +701,29 @@ impl<F: Fn(Global, &mut Tokens<'_, '_>, usize, Kind) -> Result<Expr, Stop>> Gram
 fn closed(t: &mut Tokens<'_, '_>, closer: Symbol, whole: Expr) -> Result<Expr, Stop>
     ensures { Reads tree_of (and_then (expect closer (left t.old)) (λ _. gives (tree_of whole))) result (left t.new) }
 {
-    t.expect(closer)?;
+    let (whole, ()) = beside(whole, t.expect(closer))?;
     Ok(whole)
+}
+
+/// A shared expression.
+fn shared(alloc: Global, value: Expr) -> Result<Arc<Expr, Global>, Stop>
+    ensures ok { IfOk result (λ a. arc_value a ≡ value) }
+    ensures err { IsOkUnless result Memory }
+{
+    Ok(Arc::new(alloc, value)?)
+}
+
+/// An operation on an operand and the one that was read behind its operator.
+fn operation(
+    alloc: Global,
+    op: BinaryOp,
+    left: Expr,
+    right: Result<Expr, Stop>,
+) -> Result<Expr, Stop>
+    ensures { (read : Option (Part Ex)) (new : List Lex) → Reads tree_of read right new → Reads tree_of (and_then read (λ e. gives (tree.binary op (tree_of left) e))) result new }
+{
+    let (left, right) = beside(left, right)?;
+    Ok(Expr::binary(alloc, op, left, right)?)
 }
 
 /// A list of one expression.
@@ -713,8 +742,8 @@ fn one_entry(alloc: Global, entry: (Expr, Expr)) -> Result<EntriesSoFar, Stop>
     ensures err { IsOkUnless result Memory }
 {
     let (key, value) = entry;
-    let keys = alone(alloc, key)?;
-    let values = alone(alloc, value)?;
+    let (value, keys) = beside(value, alone(alloc, key))?;
+    let (keys, values) = beside(keys, alone(alloc, value))?;
     Ok(EntriesSoFar { keys, values })
 }
 

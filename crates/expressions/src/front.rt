@@ -1,11 +1,11 @@
 //! What stands at the front of the tokens that are left.
-ghost use Rattle.std.specs.Prelude.{◌≡◌, ◌&&◌, length, if◌then◌else◌};
+ghost use Rattle.std.specs.Prelude.{◌≡◌, ◌&&◌, length, Ok, Err, IfOk, IfErr, if◌then◌else◌};
 ghost use Rattle.std.specs.Option.{option_map};
 ghost use Rattle.grammar.specs.Front.{code, same, is_at, tail, line_at, name_at, is_name_before, text_at, is_end, expect, a_name};
 ghost use Rattle.grammar.specs.Expressions.{operator_at, comparison_at};
 ghost use Rattle.expressions.specs.Parts.{Compares};
 ghost use Rattle.expressions.specs.View.{left, Reads, Takes};
-ghost use Rattle.expressions.specs.declared.front.Stop.TheVariants.{Memory};
+ghost use Rattle.expressions.specs.declared.front.Stop.TheVariants.{Malformed, Memory};
 
 use grammar::Rank;
 use std::alloc::{AllocError, AllocFailed, Global};
@@ -366,4 +366,15 @@ pub(crate) fn take_comparison(t: &mut Tokens<'_, '_>) -> Option<BinaryOp>
         return Some(BinaryOp::NotIn);
     }
     None
+}
+
+/// What was read, where it is fit to stand there; else `Malformed`.
+pub(crate) fn fit<A: Drop>(value: A, is_fit: bool) -> Result<A, Stop>
+    ensures { result ≡ (if is_fit then Ok value else Err Malformed) }
+{
+    if is_fit {
+        Ok(value)
+    } else {
+        Err(Stop::Malformed)
+    }
 }

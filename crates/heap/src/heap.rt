@@ -65,7 +65,8 @@ fn size_of(object: &Object) -> u128
 impl Heap {
     /// An empty heap.
     pub fn new(alloc: Global, steps: u64) -> Heap
-        ensures { store_of result ≡ record { heap = []; iterated = []; steps = steps } }
+        ensures store { store_of result ≡ record { heap = []; iterated = []; steps = steps } }
+        ensures held { result.held ≡ 0 }
     {
         Heap {
             alloc,
@@ -136,11 +137,7 @@ impl Heap {
         ensures counted { self.new.held ≡ self.old.held - place_bytes place (store_of self.old) }
     {
         let bytes = self.size_at(place);
-        self.held = if bytes < self.held as u128 {
-            self.held - bytes as u64
-        } else {
-            0
-        };
+        self.held = (self.held as u128).saturating_sub(bytes) as u64;
     }
 
     // The bytes that what stands at a place counts for.

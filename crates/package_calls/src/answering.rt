@@ -82,8 +82,7 @@ pub fn found(
     ensures { IfOk result (λ v. v.items ≡ in_order (λ path. path) (kept_of excludes.now (found_all (answers_of answers.now) questions.now))) }
 {
     let all = gathered(alloc, answers, questions, excludes)?;
-    let sorted = in_order(alloc, all.as_slice())?;
-    Ok(sorted)
+    in_order(alloc, all.as_slice())
 }
 
 // The paths that some question finds and no exclude matches, as they are found.
@@ -155,8 +154,7 @@ pub fn make_paths(heap: &mut Heap, allow_empty: bool, paths: &[Text]) -> Result<
         return Err(Halt::Code(13));
     }
     let all = make_texts(heap, paths)?;
-    let made = heap.make_list(all)?;
-    Ok(made)
+    heap.make_list(all)
 }
 
 // New strings, in order, or fault 13.
@@ -181,6 +179,5 @@ pub fn make_text(heap: &mut Heap, text: &Text) -> Result<Val, Halt>
         return Err(Halt::Code(13));
     }
     let bytes = Bytes::of_text(text.share()?);
-    let made = heap.make(Object::Text(bytes))?;
-    Ok(made)
+    heap.make(Object::Text(bytes))
 }

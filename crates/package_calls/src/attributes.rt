@@ -108,10 +108,7 @@ fn single_shaped(
     ensures { ChecksAs single (as_shape package_name.now (field_shape field) (single text.now)) result }
 {
     match field {
-        Field::Actual => {
-            let label = label_in(alloc, package_name, text.as_slice())?;
-            Ok(label)
-        }
+        Field::Actual => label_in(alloc, package_name, text.as_slice()),
         _ => {
             let text = text.share()?;
             Ok(text)
@@ -130,8 +127,7 @@ fn several_shaped(
 {
     match field {
         Field::Data | Field::Srcs | Field::Tests | Field::Tools => {
-            let labels = labels_in(alloc, package_name, texts)?;
-            Ok(labels)
+            labels_in(alloc, package_name, texts)
         }
         Field::Outs => {
             if !are_paths(texts) {

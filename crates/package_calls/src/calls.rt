@@ -39,10 +39,7 @@ pub fn package_call(
         FileKind::Build => {
             let plain = plain_part(xs, names);
             let named = named_part(state.heap.alloc, xs, names)?;
-            match in_package(state, known, f, plain, named.as_slice()) {
-                Ok(called) => Ok(called),
-                Err(halt) => Err(halt),
-            }
+            in_package(state, known, f, plain, named.as_slice())
         }
     }
 }
@@ -64,10 +61,7 @@ fn in_package(
             Ok(name) => Ok(Called::Value(name)),
             Err(halt) => Err(halt),
         },
-        Builtin::Glob => match glob(&mut state.heap, known.answers.as_slice(), xs, ns) {
-            Ok(called) => Ok(called),
-            Err(halt) => Err(halt),
-        },
+        Builtin::Glob => glob(&mut state.heap, known.answers.as_slice(), xs, ns),
         _ => match rule(state, f, &known.name, xs, ns) {
             Ok(made) => Ok(Called::Value(made)),
             Err(halt) => Err(halt),

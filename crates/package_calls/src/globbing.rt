@@ -47,8 +47,7 @@ pub fn read_call(heap: &Heap, xs: &[Val], ns: &[(Text, Val)]) -> Result<Asked, H
         return Err(Halt::Code(25));
     }
     let written = typed(heap, xs, ns)?;
-    let asked = with_patterns(heap.alloc, &written)?;
-    Ok(asked)
+    with_patterns(heap.alloc, &written)
 }
 
 // Whether the arguments are those of `glob`.
@@ -160,10 +159,7 @@ fn texts_or_none(heap: &Heap, x: Option<Val>) -> Result<Vec<Bytes>, Halt>
 {
     match x {
         None => Ok(Vec::new(heap.alloc)),
-        Some(x) => {
-            let texts = texts_in(heap, x)?;
-            Ok(texts)
-        }
+        Some(x) => texts_in(heap, x),
     }
 }
 

@@ -3,7 +3,8 @@ ghost use Rattle.std.specs.Prelude.{◌≡◌, IfOk, map, codes};
 ghost use Rattle.meaning.specs.Builtins.{builtin_name};
 ghost use Rattle.language.specs.World.{Here};
 ghost use Rattle.language.specs.Arguments.{value_named};
-ghost use Rattle.language.specs.Rules.{rule, target_of, are_arguments, are_attributes, not_none, name_text, makes_target};
+ghost use Rattle.meaning.specs.Outcome.{then_checked};
+ghost use Rattle.language.specs.Rules.{rule, target_of, all_typed, are_arguments, are_attributes, not_none, name_text, makes_target};
 ghost use Rattle.language.specs.Names.{has_name};
 ghost use Rattle.heap.specs.View.{store_of, Checks};
 ghost use Rattle.names.specs.View as view;
@@ -20,7 +21,7 @@ use crate::strings::text_in;
 use heap::{Builtin, Bytes, Halt, Heap, Val};
 use names::{State, Target};
 use std::alloc::Global;
-use texts::{Memory, Text};
+use texts::{Memory, Text, beside};
 
 /// A call of a rule: it makes a target and gives None. Faults 25, 5, 15 and 20, in this order.
 pub fn rule(
@@ -58,10 +59,22 @@ fn target_of(
     if !are_arguments(heap.alloc, xs, ns, given.as_slice(), fields)? {
         return Err(Halt::Code(25));
     }
-    let name = name_in(heap, given.as_slice())?;
-    let typed = all_typed(heap, fields, given.as_slice())?;
-    let target = make_target(heap.alloc, f, package_name, name, typed.as_slice())?;
-    Ok(target)
+    described(heap, f, package_name, given.as_slice(), fields)
+}
+
+// The target that arguments by name describe, of a rule with these attributes, or fault 25, 5 or 15.
+fn described(
+    heap: &Heap,
+    f: Builtin,
+    package_name: &Text,
+    given: &[(Text, Val)],
+    fields: &[Field],
+) -> Result<Target, Halt>
+    ensures { ChecksAs view.target_of (then_checked (name_text (value_named (codes "name") given.now) (store_of heap.now)) (λ name. then_checked (all_typed (shapes fields.now) given.now (store_of heap.now)) (makes_target (builtin_name f) package_name.now name))) result }
+{
+    let name = name_in(heap, given)?;
+    let (name, typed) = beside(name, all_typed(heap, fields, given))?;
+    make_target(heap.alloc, f, package_name, name, typed.as_slice())
 }
 
 // Whether the arguments are those of a rule with these attributes, where `given` are those by name that are not None.
@@ -116,10 +129,7 @@ fn name_in(heap: &Heap, given: &[(Text, Val)]) -> Result<Bytes, Halt>
     ensures { Checks (name_text (value_named (codes "name") given.now) (store_of heap.now)) result }
 {
     match value_named("name", given) {
-        Some(x) => {
-            let name = text_in(heap, x)?;
-            Ok(name)
-        }
+        Some(x) => text_in(heap, x),
         None => Err(Halt::Code(25)),
     }
 }

@@ -27,10 +27,7 @@ pub fn texts_in(heap: &Heap, x: Val) -> Result<Vec<Bytes>, Halt>
 {
     match x {
         Val::At(place) => match heap.object(place) {
-            Some(Object::List(members, _)) => {
-                let all = all_texts(heap, members.as_slice())?;
-                Ok(all)
-            }
+            Some(Object::List(members, _)) => all_texts(heap, members.as_slice()),
             _ => Err(Halt::Code(5)),
         },
         _ => Err(Halt::Code(5)),

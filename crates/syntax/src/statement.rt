@@ -1,6 +1,6 @@
 //! Statements. What holds a statement one level down takes the parser of those as a parameter, so that each function
 //! is proved by itself.
-ghost use Rattle.std.specs.Prelude.{◌≡◌, ◌∷◌, ◌++◌, [], None, length, map, if◌then◌else◌};
+ghost use Rattle.std.specs.Prelude.{◌≡◌, ◌∷◌, ◌++◌, [], None, Some, length, map, if◌then◌else◌};
 ghost use Rattle.syntax.specs.Inners.{Holds};
 ghost use Rattle.grammar.specs.Front.{and_then, gives, expect};
 ghost use Rattle.grammar.specs.Statements as spec;
@@ -15,6 +15,7 @@ use expressions::{Stop, Tokens, expr, is_target, targets};
 use grammar::{Kind, Within};
 use std::alloc::Global;
 use std::sync::Arc;
+use texts::beside;
 use tokens::Symbol;
 use tree::{BinaryOp, Branch, Expr, Stmt};
 
@@ -132,6 +133,16 @@ fn return_rest(alloc: Global, t: &mut Tokens<'_, '_>, line: usize) -> Result<Stm
     Ok(Stmt::give(line, Some(value)))
 }
 
+/// Reads the value of an assignment, where what it goes to is fit to be a target.
+fn assigned(alloc: Global, t: &mut Tokens<'_, '_>, is_fit: bool) -> Result<Expr, Stop>
+    ensures { Reads tree_of (if is_fit then spec.exprs (left t.old) else None) result (left t.new) }
+{
+    if !is_fit {
+        return Err(Stop::Malformed);
+    }
+    exprs(alloc, t)
+}
+
 /// Reads an assignment behind its `=`.
 fn assign_rest(
     alloc: Global,
@@ -141,11 +152,26 @@ fn assign_rest(
 ) -> Result<Stmt, Stop>
     ensures { Reads stmt_of (if is_target (tree_of first) then and_then (spec.exprs (left t.old)) (λ value. gives (tree.assign line (tree_of first) value)) else None) result (left t.new) }
 {
-    if !is_target(&first) {
-        return Err(Stop::Malformed);
-    }
-    let value = exprs(alloc, t)?;
+    let is_fit = is_target(&first);
+    let (first, value) = beside(first, assigned(alloc, t, is_fit))?;
     Ok(Stmt::assign(alloc, line, first, value)?)
+}
+
+/// Reads an augmented assignment from its operator on.
+fn augment_rest(
+    alloc: Global,
+    t: &mut Tokens<'_, '_>,
+    within: Within,
+    line: usize,
+    first: Expr,
+    op: BinaryOp,
+) -> Result<Stmt, Stop>
+    ensures { Reads stmt_of (spec.augment_rest within line (tree_of first) (Some op) (left t.old)) result (left t.new) }
+{
+    let is_fit = can_augment(&first, within.in_def);
+    t.skip();
+    let (first, value) = beside(first, assigned(alloc, t, is_fit))?;
+    Ok(Stmt::augment(alloc, line, first, op, value)?)
 }
 
 /// Reads what stands behind the first expressions of a statement.
@@ -165,12 +191,7 @@ fn expr_rest(
     let Some(op) = augment_at(t) else {
         return Ok(Stmt::eval(alloc, line, first)?);
     };
-    if !can_augment(&first, within.in_def) {
-        return Err(Stop::Malformed);
-    }
-    t.skip();
-    let value = exprs(alloc, t)?;
-    Ok(Stmt::augment(alloc, line, first, op, value)?)
+    augment_rest(alloc, t, within, line, first, op)
 }
 
 /// Reads a small statement.
@@ -210,7 +231,7 @@ pub(crate) fn simple(alloc: Global, t: &mut Tokens<'_, '_>, within: Within) -> R
     ensures { Reads stmt_of (spec.simple within (left t.old)) result (left t.new) }
 {
     let found = small(alloc, t, within)?;
-    t.expect(Symbol::NewLine)?;
+    let (found, ()) = beside(found, t.expect(Symbol::NewLine))?;
     Ok(found)
 }
 
@@ -295,7 +316,7 @@ impl<F: Fn(Global, &mut Tokens<'_, '_>, usize, Within) -> Result<Stmt, Stop>> Su
         ensures { Reads branch_of (spec.branch (spec.stmt self.now.depth) within line (left t.old)) result (left t.new) }
     {
         let condition = test(self.alloc, t)?;
-        let body = self.suite_behind(t, within)?;
+        let (condition, body) = beside(condition, self.suite_behind(t, within))?;
         Ok(Branch::new(self.alloc, line, condition, body)?)
     }
 
@@ -357,8 +378,8 @@ impl<F: Fn(Global, &mut Tokens<'_, '_>, usize, Within) -> Result<Stmt, Stop>> Su
             in_for: true,
         };
         let target = loop_targets(self.alloc, t)?;
-        let sequence = gone_over(self.alloc, t)?;
-        let body = self.suite_behind(t, inside)?;
+        let both = beside(target, gone_over(self.alloc, t))?;
+        let ((target, sequence), body) = beside(both, self.suite_behind(t, inside))?;
         Ok(Stmt::for_each(self.alloc, line, target, sequence, body)?)
     }
 

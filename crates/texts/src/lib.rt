@@ -1,8 +1,10 @@
-//! A shared text, and the error of refused memory.
+//! A shared text, the error of refused memory, and values kept beside what is made.
 #![tactic(auto)]
 
+mod keeping;
 mod memory;
 mod text;
 
+pub use keeping::beside;
 pub use memory::Memory;
 pub use text::Text;

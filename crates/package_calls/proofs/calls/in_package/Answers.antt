@@ -1,4 +1,4 @@
-use Rattle.std.proofs.Common.{refl, sym, subst, Ok, Err, List}
+use Rattle.std.proofs.Common.{refl, sym, subst, Err, List}
 use Rattle.meaning.specs.declared.val.Val.{Val}
 use Rattle.meaning.specs.declared.val.Builtin.{Builtin}
 use Rattle.language.specs.World.{Runs}
@@ -10,19 +10,12 @@ use Rattle.package_calls.specs.declared.kinds.Answer.{Answer}
 use Rattle.package_calls.proofs.Within.{within_rule, fails_too}
 use Rattle.package_calls.proofs.calls.in_package.Goals as goal
 
-pub returns-in-Ok-glob-clause-says : goal.returns-in-Ok-glob-clause-says
-returns-in-Ok-glob-clause-says c = λ here.
+pub returns-in-Glob-clause-says : goal.returns-in-Glob-clause-says
+returns-in-Glob-clause-says c = λ here.
     let w = world_of c.args.state.now in
     let u = record w { store = (world_of (record c.args.state.now { heap = c.glob.new.heap })).store } in
-    subst (λ (f : Builtin). EndsAs here.site (within c.args.known.now.name (answers_of c.args.known.now.answers.items) f c.args.xs.now c.args.ns.now here w) (Ok c.in-Ok-glob.called) u) (sym c.in-Glob.is)
-    (subst (λ (l : List Answer). EndsAs here.site (glob (answers_of l) c.args.xs.now c.args.ns.now here w) (Ok c.in-Ok-glob.called) u) c.as_slice.ensures.value (c.in-Ok-glob.ensures.says here w refl))
-
-pub returns-in-Err-glob-clause-says : goal.returns-in-Err-glob-clause-says
-returns-in-Err-glob-clause-says c = λ here.
-    let w = world_of c.args.state.now in
-    let u = record w { store = (world_of (record c.args.state.now { heap = c.glob.new.heap })).store } in
-    subst (λ (f : Builtin). EndsAs here.site (within c.args.known.now.name (answers_of c.args.known.now.answers.items) f c.args.xs.now c.args.ns.now here w) (Err c.in-Err-glob.halt) u) (sym c.in-Glob.is)
-    (subst (λ (l : List Answer). EndsAs here.site (glob (answers_of l) c.args.xs.now c.args.ns.now here w) (Err c.in-Err-glob.halt) u) c.as_slice.ensures.value (c.in-Err-glob.ensures.says here w refl))
+    subst (λ (f : Builtin). EndsAs here.site (within c.args.known.now.name (answers_of c.args.known.now.answers.items) f c.args.xs.now c.args.ns.now here w) c.glob.result u) (sym c.in-Glob.is)
+    (subst (λ (l : List Answer). EndsAs here.site (glob (answers_of l) c.args.xs.now c.args.ns.now here w) c.glob.result u) c.as_slice.ensures.value (c.glob.ensures.says here w refl))
 
 pub returns-in-Err-rule : goal.returns-in-Err-rule
 returns-in-Err-rule c = record {

@@ -13,9 +13,9 @@ returns-in_default g c =
     let e = in_turn (λ n. chain_after (term (expr c.args.self.now.depth)) r.Sum n (tree_of c.loop-turn.whole) (left c.loop-turn.t)) _ c.loop-turn._turn c.loop-turn-test.true c.loop-turn.invariant in
     first_of (search rules, grind (arith, common_steps))
 
-pub returns-in_err-right : goal.returns-in_err-right
+pub returns-in_err-whole-2 : goal.returns-in_err-whole-2
 unfolding chain_after
-returns-in_err-right g c =
+returns-in_err-whole-2 g c =
     let e = in_turn (λ n. chain_after (term (expr c.args.self.now.depth)) r.Sum n (tree_of c.loop-turn.whole) (left c.loop-turn.t)) _ c.loop-turn._turn c.loop-turn-test.true c.loop-turn.invariant in
     first_of (search rules, grind (arith, common_steps))
 
