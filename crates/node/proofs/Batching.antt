@@ -4,19 +4,29 @@ use Rattle.std.specs.List.{AllByRecursion}
 use Rattle.std.specs.Option.{option_to_list, is_some, IsSome}
 use Rattle.std.proofs.lemmas.List.{map-append, append-nil, append_assoc, length-append}
 use Rattle.std.proofs.Math.ListN.{take-append-drop}
-use Rattle.std.proofs.Math.Seq.{take-suc}
+use Rattle.std.proofs.Math.Seq.{take-suc, take_all}
 use Rattle.evaluation.specs.Graph.{Record}
 use Rattle.evaluation.specs.Value.{AllDiffer, In, first, after, IsMember}
-use Rattle.numbered.specs.Tables.{AreDistinct, Writes}
 use Rattle.keys.specs.declared.key.Key.{Key}
 use Rattle.keys.specs.declared.value.Value.{Value}
 use Rattle.node.specs.declared.kept.Kept.{Kept}
 use Rattle.node.specs.declared.entry.Entry.{Entry}
-use Rattle.node.specs.Kept.{Records, Users, kept_at, users_at}
+use Rattle.std.specs.Arc.{arc_value}
+use Rattle.std.specs.Prelude.{All, map, position}
+use Rattle.std.specs.Option.{unwrap_or}
+use Rattle.keys.specs.Keys.{key_eq}
+use Rattle.std.specs.Map.{keys_of as keys_of_records}
+use Rattle.std.proofs.lemmas.List.{same_from_push}
+use Rattle.numbered.specs.Tables.{AreDistinct}
+use Rattle.numbered.specs.Flats.{HaveNumbers, groups_in, numbers_in}
+use Rattle.numbered.proofs.Flats.{groups_back}
+use Rattle.node.specs.Kept.{Records, Users, kept_at, named, users_at}
+use Rattle.node.proofs.Numbering.{groups_below, have_numbers, same_length}
+use Rattle.node.proofs.Showing.{some_kept}
 use Rattle.node.specs.Edges.{HasLinkedSome, HasLinkedAll, HasCut, HasUsers}
-use Rattle.node.specs.Writes.{written, groups_at}
-use Rattle.node.specs.Graphs.{groups_of}
-use Rattle.node.specs.Batches.{asked, keys_of, HasReadyEntries, HasPlacedSome, IsThere, HasPlacedAll, HasLinkedEntries, HasLinkedEach, kept_members, HasCutAll, IsToWrite, IsWritten, IsWriting}
+use Rattle.node.specs.Writes.{stored, groups_at}
+use Rattle.node.specs.Graphs.{Sets, seen}
+use Rattle.node.specs.Batches.{asked, keys_of, HasReadyEntries, HasPlacedSome, IsThere, HasPlacedAll, HasLinkedEntries, HasLinkedEach, kept_members, HasCutAll, IsToWrite, IsWritten, IsWriting, HasReadyFlat, flats_in}
 use Rattle.node.proofs.Lists.{in_split, in_left, in_right, in_one, not_in, none_of, true_false, decide_key}
 use Rattle.node.proofs.Joining.{in_taken, is_in}
 use Rattle.node.proofs.Rewriting.{decide_member}
@@ -110,19 +120,19 @@ placed_more original old new x e h = (h.0 ++ x ∷ [], e ∙ ap (λ (es : Record
 pub placed_none : (records : Records) → HasPlacedSome records records
 placed_none records = ([], sym (append-nil records))
 
-pub nothing_placed : (records : Records) (version : ℕ) → HasPlacedAll records records [] version
+pub nothing_placed : (records : Key → Option (Record Key Value)) (version : ℕ) → HasPlacedAll records records [] version
 nothing_placed records version = record { there = λ e i. elim i [ ]; others = λ k f. refl }
 
-there_later : (start old new : Records) (e : Entry) (version : ℕ) → kept_at new e.key ≡ kept_at old e.key → IsThere start old e version → IsThere start new e version
+there_later : (start old new : Key → Option (Record Key Value)) (e : Entry) (version : ℕ) → new e.key ≡ old e.key → IsThere start old e version → IsThere start new e version
 there_later start old new e version q (inl t) = inl (t.0, t.1, q ∙ t.2)
-there_later start old new e version q (inr t) = inr (t.0, t.1, q ∙ t.2, t.3, t.4, t.5, t.6)
+there_later start old new e version q (inr t) = inr (t.0, q ∙ t.1)
 
-there_since : (start old new : Records) (e : Entry) (version : ℕ) → kept_at old e.key ≡ kept_at start e.key → IsThere old new e version → IsThere start new e version
+there_since : (start old new : Key → Option (Record Key Value)) (e : Entry) (version : ℕ) → old e.key ≡ start e.key → IsThere old new e version → IsThere start new e version
 there_since start old new e version q (inl t) = inl (t.0, sym q ∙ t.1, t.2)
-there_since start old new e version q (inr t) = inr (t.0, sym q ∙ t.1, t.2, t.3, t.4, t.5, t.6)
+there_since start old new e version q (inr t) = inr (sym q ∙ t.0, t.1)
 
-pub placed_step : (start old new : Records) (entries : List Entry) (n : ℕ) (x : Entry) (version : ℕ) → x ≡ slice_index_or entries n x → n < length entries → AllDiffer (keys_of entries)
-    → HasPlacedAll start old (take n entries) version → IsThere old new x version → ((k : Key) → x.key ≢ k → kept_at new k ≡ kept_at old k) → HasPlacedAll start new (take (n + 1) entries) version
+pub placed_step : (start old new : Key → Option (Record Key Value)) (entries : List Entry) (n : ℕ) (x : Entry) (version : ℕ) → x ≡ slice_index_or entries n x → n < length entries → AllDiffer (keys_of entries)
+    → HasPlacedAll start old (take n entries) version → IsThere old new x version → ((k : Key) → x.key ≢ k → new k ≡ old k) → HasPlacedAll start new (take (n + 1) entries) version
 placed_step start old new entries n x version e h d all there others = record {
   there = λ y i. elim (in_taken entries n x y e h i) [
     | inl a ↦ there_later start old new y version (others y.key (λ q. taken_apart entries n x e h d (key_in a) (sym q))) (all.there y a)
@@ -172,22 +182,25 @@ module _ (start old new : Users) (entries : List Entry) (n : ℕ) (x : Entry) (e
     | inr q ↦ subst (λ (z : Entry). In z.key (users_at new j)) q (all j (subst (IsMember j) (sym g) (subst (λ (z : Entry). IsMember j (asked z)) (sym q) m)))
   ]
 
+pub all_entries : (users : Users) (entries : List Entry) (n : ℕ) → length entries ≤ n → HasLinkedEach users (take n entries) → HasLinkedEach users entries
+all_entries users entries n h each = subst (HasLinkedEach users) (take_all n entries h) each
+
 -- the members of a key's record
-members_at : (records : Records) (k j : Key) (o : Option Kept) → kept_at records k ≡ o → IsMember j (groups_at o) → kept_members records k j
+members_at : (records : Key → Option (Record Key Value)) (k j : Key) (o : Option (Record Key Value)) → records k ≡ o → IsMember j (groups_at o) → kept_members records k j
 members_at records k j None h m = absurd (not_in m.1 refl)
 members_at records k j (Some w) h m = (w, h, m)
 
-pub kept_member : (records : Records) (k j : Key) → IsMember j (groups_at (kept_at records k)) → kept_members records k j
-kept_member records k j m = members_at records k j (kept_at records k) refl m
+pub kept_member : (records : Key → Option (Record Key Value)) (k j : Key) → IsMember j (groups_at (records k)) → kept_members records k j
+kept_member records k j m = members_at records k j (records k) refl m
 
-pub member_kept : (records : Records) (k j : Key) → kept_members records k j → IsMember j (groups_at (kept_at records k))
+pub member_kept : (records : Key → Option (Record Key Value)) (k j : Key) → kept_members records k j → IsMember j (groups_at (records k))
 member_kept records k j p = subst (λ o. IsMember j (groups_at o)) (sym p.1) p.2
 
-pub nothing_cut : (records : Records) (users : Users) → HasCutAll records users users []
+pub nothing_cut : (records : Key → Option (Record Key Value)) (users : Users) → HasCutAll records users users []
 nothing_cut records users = record { from = λ j k i. i; gone = λ e i. elim i [ ]; kept = λ j k i m. i }
 
-pub cut_step : (records : Records) (start old new : Users) (entries : List Entry) (n : ℕ) (x : Entry) → x ≡ slice_index_or entries n x → n < length entries
-    → (groups keep : List (List Key)) → groups ≡ asked x → keep ≡ groups_at (kept_at records x.key) → HasCut old new x.key (λ j. IsMember j groups) (λ j. IsMember j keep)
+pub cut_step : (records : Key → Option (Record Key Value)) (start old new : Users) (entries : List Entry) (n : ℕ) (x : Entry) → x ≡ slice_index_or entries n x → n < length entries
+    → (groups keep : List (List Key)) → groups ≡ asked x → keep ≡ groups_at (records x.key) → HasCut old new x.key (λ j. IsMember j groups) (λ j. IsMember j keep)
     → HasCutAll records start old (take n entries) → HasCutAll records start new (take (n + 1) entries)
 cut_step records start old new entries n x e h groups keep g p cut all = record {
   from = λ j k i. all.from j k (cut.from j k i);
@@ -203,7 +216,7 @@ cut_step records start old new entries n x e h groups keep g p cut all = record 
 }
 
 -- the users of an entry that is written
-pub written_users : (records : Records) (old new : Users) (e : Entry) (w : Kept) → IsToWrite records old e w → (cut_groups keep : List (List Key)) → cut_groups ≡ groups_of w → keep ≡ asked e
+pub written_users : (records : Key → Option (Record Key Value)) (old new : Users) (e : Entry) (w : Record Key Value) → IsToWrite records old e w → (cut_groups keep : List (List Key)) → cut_groups ≡ w.groups → keep ≡ asked e
     → HasCut old new e.key (λ j. IsMember j cut_groups) (λ j. IsMember j keep) → HasUsers old new e.key (asked e)
 written_users records old new e w t cut_groups keep g p cut = record {
   own = λ j i. elim (t.own j (cut.from j e.key i)) [
@@ -219,29 +232,29 @@ written_users records old new e w t cut_groups keep g p cut = record {
 }
 
 -- one more entry is written
-module _ (start old new : Records) (start_users old_users users : Users) (entries now rest : List Entry) (x : Entry) (version : ℕ) (e : now ≡ rest ++ x ∷ [])
+module _ (start old new : Key → Option (Record Key Value)) (start_users old_users users : Users) (entries now rest : List Entry) (x : Entry) (version : ℕ) (e : now ≡ rest ++ x ∷ [])
     (s : IsWriting start old start_users old_users entries now version)
-    (updates : (w : Kept) → kept_at old x.key ≡ Some w → Writes old new x.key (written w x.value x.groups version))
-    (uses : HasUsers old_users users x.key (asked x)) (ordered : AreDistinct new) where
+    (updates : Sets old new x.key (stored (old x.key) (arc_value x.value) (asked x) version))
+    (uses : HasUsers old_users users x.key (asked x)) where
   keys_split : keys_of now ≡ keys_of rest ++ x.key ∷ []
   keys_split = ap keys_of e ∙ map-append (λ (y : Entry). y.key) rest (x ∷ [])
 
   x_left : In x now
   x_left = subst (In x) (sym e) (in_right rest first)
 
-  had : (w : Kept) × (kept_at start x.key ≡ Some w) × IsToWrite old old_users x w
+  had : (w : Record Key Value) × (start x.key ≡ Some w) × IsToWrite old old_users x w
   had = s.left x x_left
 
-  changed : Writes old new x.key (written had.0 x.value x.groups version)
-  changed = updates had.0 had.2.there
+  changed : new x.key ≡ Some (stored (Some had.0) (arc_value x.value) (asked x) version)
+  changed = updates.there ∙ ap (λ o. Some (stored o (arc_value x.value) (asked x) version)) had.2.there
 
-  other : (k : Key) → x.key ≢ k → kept_at new k ≡ kept_at old k
-  other k n = changed.others k n
+  other : (k : Key) → x.key ≢ k → new k ≡ old k
+  other k n = updates.others k n
 
   apart : {y : Entry} → In y rest → x.key ≢ y.key
   apart i q = differ_apart (keys_of rest) x.key [] (subst AllDiffer keys_split s.differ) (key_in i) (sym q)
 
-  still_left : (y : Entry) → In y rest → (w : Kept) × (kept_at start y.key ≡ Some w) × IsToWrite new users y w
+  still_left : (y : Entry) → In y rest → (w : Record Key Value) × (start y.key ≡ Some w) × IsToWrite new users y w
   still_left y i =
       let p = s.left y (subst (In y) (sym e) (in_left (x ∷ []) i)) in
       let t = p.2 in (
@@ -255,10 +268,10 @@ module _ (start old new : Records) (start_users old_users users : Users) (entrie
         },
       )
 
-  is_written : (w : Kept) × (kept_at start x.key ≡ Some w) × IsWritten new users x version w
-  is_written = (had.0, had.1, record { there = changed.there; own = uses.own; has = uses.has })
+  is_written : (w : Record Key Value) × (start x.key ≡ Some w) × IsWritten new users x version w
+  is_written = (had.0, had.1, record { there = changed; own = uses.own; has = uses.has })
 
-  still_written : (y : Entry) → x.key ≢ y.key → (w : Kept) × (kept_at start y.key ≡ Some w) × IsWritten old old_users y version w → (w : Kept) × (kept_at start y.key ≡ Some w) × IsWritten new users y version w
+  still_written : (y : Entry) → x.key ≢ y.key → (w : Record Key Value) × (start y.key ≡ Some w) × IsWritten old old_users y version w → (w : Record Key Value) × (start y.key ≡ Some w) × IsWritten new users y version w
   still_written y n p = let t = p.2 in
       (p.0, p.1, record { there = other y.key n ∙ t.there; own = λ j u. t.own j (uses.others j y.key n u); has = λ j m. uses.kept j y.key n (t.has j m) })
 
@@ -268,7 +281,7 @@ module _ (start old new : Records) (start_users old_users users : Users) (entrie
     within = λ y i. s.within y (subst (In y) (sym e) (in_left (x ∷ []) i));
     left = still_left;
     done = λ y i. elim (decide_key x.key y.key) [
-      | inl q ↦ inr (subst (λ (z : Entry). (w : Kept) × (kept_at start z.key ≡ Some w) × IsWritten new users z version w) (same_entry entries d (s.within x x_left) i q) is_written)
+      | inl q ↦ inr (subst (λ (z : Entry). (w : Record Key Value) × (start z.key ≡ Some w) × IsWritten new users z version w) (same_entry entries d (s.within x x_left) i q) is_written)
       | inr n ↦ elim (s.done y i) [
         | inl a ↦ elim (in_split a rest (x ∷ []) e) [ inl b ↦ inl b | inr b ↦ absurd (n (ap (λ (z : Entry). z.key) (sym (in_one b)))) ]
         | inr p ↦ inr (still_written y n p)
@@ -276,8 +289,33 @@ module _ (start old new : Records) (start_users old_users users : Users) (entrie
     ];
     others = λ k f. let t = s.others k f in let n : x.key ≢ k = λ q. f (subst (λ z. In z (keys_of entries)) q (key_in (s.within x x_left))) in
         record { record_same = other k n ∙ t.record_same; from = λ j u. t.from j (uses.others j k n u); keeps = λ j u. uses.kept j k n (t.keeps j u) };
-    ordered = ordered;
   }
+
+-- the groups of entries, by the numbers of their members
+pub one_have : (records : Records) (x : Entry) → ((j : Key) → IsMember j (asked x) → IsSome (seen records j)) → HaveNumbers records (asked x)
+one_have records x f = have_numbers records (asked x) (λ j m. let e = some_kept (keys_of_records records) (kept_at records j) (f j m) in ap is_some e.1)
+
+pub flats_same : (old new : Records) → keys_of_records new ≡ keys_of_records old → (entries : List Entry) → flats_in new entries ≡ flats_in old entries
+flats_same old new e entries = ap (λ (ks : List Key). map (λ (x : Entry). map (λ (g : List Key). map (λ k. unwrap_or (position (key_eq k) ks) 0) g) (asked x)) entries) e
+
+pub flats_more : (records : Records) (entries : List Entry) (n : ℕ) (x : Entry) → x ≡ slice_index_or entries n x → n < length entries → (flats more : List (List (List ℕ))) (flat : List (List ℕ)) (groups : List (List Key)) → groups ≡ asked x
+    → flat ≡ map (numbers_in records) groups → more ≡ flats ++ flat ∷ [] → flats ≡ flats_in records (take n entries) → more ≡ flats_in records (take (n + 1) entries)
+flats_more records entries n x e h flats more flat groups g f p i =
+    p ∙ (λ y. i y ++ (f ∙ ap (map (numbers_in records)) g) y ∷ [])
+    ∙ sym (map-append (λ (z : Entry). map (numbers_in records) (asked z)) (take n entries) (x ∷ [])) ∙ ap (flats_in records) (sym (these entries n x e h))
+
+pub flats_last : (records : Records) (now rest : List Entry) (x : Entry) (flats more : List (List (List ℕ))) (flat : List (List ℕ)) → now ≡ rest ++ x ∷ [] → flats ≡ flats_in records now → flats ≡ more ++ flat ∷ []
+    → (more ≡ flats_in records rest) × (flat ≡ map (numbers_in records) (asked x))
+flats_last records now rest x flats more flat e f p =
+    let joined : more ++ flat ∷ [] ≡ flats_in records rest ++ map (numbers_in records) (asked x) ∷ [] =
+    sym p ∙ f ∙ ap (flats_in records) e ∙ map-append (λ (z : Entry). map (numbers_in records) (asked z)) rest (x ∷ []) in
+    same_from_push more (flats_in records rest) flat (map (numbers_in records) (asked x)) joined
+
+pub ready_flat : (start now : Records) (x : Entry) (flat : List (List ℕ)) → AreDistinct start → keys_of_records now ≡ keys_of_records start → HaveNumbers start (asked x) → flat ≡ map (numbers_in start) (asked x) → HasReadyFlat now x flat
+ready_flat start now x flat d e have f = record {
+  groups = (λ i. map (named (e i)) flat) ∙ ap (groups_in start) f ∙ groups_back start d (asked x) have;
+  within = subst (λ l. All (All (λ n. n < l)) flat) (sym (same_length start now e)) (subst (All (All (λ n. n < length start))) (sym f) (groups_below start d (asked x) have));
+}
 
 -- two entries that ask for one another
 pub pair_ready : (records : Key → Option (Record Key Value)) (entries : List Entry) (x y : Entry) → entries ≡ x ∷ y ∷ [] → asked x ≡ (y.key ∷ []) ∷ [] → asked y ≡ (x.key ∷ []) ∷ [] → HasReadyEntries records entries

@@ -1,21 +1,21 @@
 -- What an edit reaches is collected by marks that are taken away again, and marked later.
 use Rattle.std.proofs.Common.{◌≡◌, ◌⊎◌, inl, inr, ℕ, ◌+◌, ◌<◌, Bool, true, false, List, [], ◌∷◌, ◌++◌, Option, Some, None, refl, sym, ◌∙◌, ap, subst, length, take, slice_index_or}
 use Rattle.evaluation.specs.Graph.{Record, Reaches, leaf, through, Marks}
-use Rattle.evaluation.specs.Value.{In, IsMember, first}
+use Rattle.evaluation.specs.Value.{In, first}
 use Rattle.std.specs.Map.{keys_of}
 use Rattle.numbered.specs.Tables.{AreDistinct, Writes}
 use Rattle.numbered.proofs.Numbers.{same_entries}
-use Rattle.std.specs.List.{IsDistinct}
-use Rattle.keys.specs.Keys.{key_eq}
 use Rattle.keys.specs.declared.key.Key.{Key}
 use Rattle.keys.specs.declared.value.Value.{Value}
 use Rattle.node.specs.declared.kept.Kept.{Kept}
-use Rattle.node.specs.Kept.{Records, Users, kept_at, record_of}
+use Rattle.std.specs.Prelude.{All}
+use Rattle.node.specs.Kept.{Records, Users, AsksNumbers, kept_at, listed, numbers_of, record_of}
+use Rattle.node.proofs.Showing.{seen_same}
 use Rattle.node.specs.Marks.{IsDirty, IsReached, at_leaf, by_user, Marked, HasPassed, SetsMarks}
 use Rattle.node.specs.Graphs.{Recorded, recorded, record_at, seen, touched_leaves, IsTouched, IsLinked, AreReached}
 use Rattle.node.proofs.Lists.{in_split, in_left, in_right, in_one, not_in, some_is, none_some, same_or_value}
 use Rattle.node.proofs.Linking.{is_kept, is_seen, seen_all, reaches, edit_marks, still_linked, touched_marks}
-use Rattle.node.proofs.Numbering.{one_more}
+use Rattle.node.proofs.Numbering.{one_more, same_length}
 
 -- no mark is set yet
 pub none_set : (dirty : Bool) (records : Records) (keys : List Key) → keys ≡ [] → SetsMarks dirty records records keys
@@ -105,14 +105,14 @@ pub unmarked_same : (users : Users) (leaves : List Key) (old middle new : Record
 unmarked_same users leaves old middle new keys given d e k l m t = same_entries old new d (l ∙ k) (unmarked users leaves old middle new keys given e m t)
 
 -- what was marked from the leaves is what an edit that touches them reaches
-module _ (users : Users) (leaves : List Key) (old new : Records) (marked : List Key) (linked : IsLinked old users) (m : Marked users leaves old new marked) (passed : HasPassed users new marked) (begun : (k : Key) → In k leaves → IsDirty new k) where
+module _ (users : Users) (leaves : List Key) (old new : Records) (same : keys_of new ≡ keys_of old) (marked : List Key) (linked : IsLinked (seen old) users) (m : Marked users leaves old new marked) (passed : HasPassed users new marked) (begun : (k : Key) → In k leaves → IsDirty new k) where
   abbrev IsLeaf : Key → Type 0
   IsLeaf k = In k leaves
 
   pub are_reached : AreReached (seen old) IsLeaf marked
   are_reached = record {
-    each = λ k i. let p = m.each k i in (record_of p.0, is_seen old k p.0 p.1, p.2, reaches users leaves old new marked linked m passed begun p.4);
-    all = λ k r h c. let l = (edit_marks users leaves old new marked linked m passed begun) in let x = l.kept k r h in
+    each = λ k i. let p = m.each k i in (record_of (keys_of old) p.0, is_seen old k p.0 p.1, p.2, reaches users leaves old new same marked linked m passed begun p.4);
+    all = λ k r h c. let l = (edit_marks users leaves old new same marked linked m passed begun) in let x = l.kept k r h in
         let d : x.0 ≡ true = l.marks k r (record r { dirty = x.0 }) h x.1 (inr c) in elim (m.rest k) [
           | inl a ↦ inr a
           | inr p ↦ inl (same_mark k r x.0 h x.1 p ∙ d)
@@ -120,14 +120,13 @@ module _ (users : Users) (leaves : List Key) (old new : Records) (marked : List 
   }
     where
       same_mark : (k : Key) (r : Record Key Value) (b : Bool) → seen old k ≡ Some r → seen new k ≡ Some (record r { dirty = b }) → kept_at new k ≡ kept_at old k → r.dirty ≡ b
-      same_mark k r b h g p = let q : r ≡ record r { dirty = b } = some_is (sym h ∙ sym (ap (Rattle.std.specs.Option.option_map record_of) p) ∙ g) in ap (λ (y : Record Key Value). y.dirty) q
+      same_mark k r b h g p = let q : r ≡ record r { dirty = b } = some_is (sym h ∙ sym (seen_same old new k same p) ∙ g) in ap (λ (y : Record Key Value). y.dirty) q
 
 -- what an edit reaches is marked
-module _ (users : Users) (leaves : List Key) (old new : Records) (keys : List Key) (linked : IsLinked old users) (reached : AreReached (seen old) (λ k. In k leaves) keys) (s : SetsMarks true old new keys) where
+module _ (users : Users) (leaves : List Key) (old new : Records) (keys : List Key) (linked : IsLinked (seen old) users) (reached : AreReached (seen old) (λ k. In k leaves) keys) (s : SetsMarks true old new keys) where
   reached_users : {k : Key} → Reaches (seen old) (λ x. In x leaves) k → IsReached users leaves k
   reached_users (leaf i) = at_leaf i
-  reached_users (through {k = k} {r = r} {j = j} h i c) = let p = is_kept old k r h in
-      by_user (reached_users c) (linked.complete j k p.0 p.1 (subst (λ (y : Record Key Value). IsMember j y.groups) (sym p.2) i))
+  reached_users (through {k = k} {r = r} {j = j} h i c) = by_user (reached_users c) (linked.complete j k r h i)
 
   -- what reaches a leaf is dirty now
   now_dirty : (k : Key) → Reaches (seen old) (λ x. In x leaves) k → IsDirty new k
@@ -138,7 +137,7 @@ module _ (users : Users) (leaves : List Key) (old new : Records) (keys : List Ke
 
       go : (o : Option Kept) → kept_at old k ≡ o → e.dirty ≡ true
       go None g = absurd (none_some (sym (s.none k g) ∙ h))
-      go (Some x) g = elim (reached.all k (record_of x) (is_seen old k x g) c) [
+      go (Some x) g = elim (reached.all k (record_of (keys_of old) x) (is_seen old k x g) c) [
         | inr a ↦ listed x g a
         | inl d ↦ elim (s.rest k) [
           | inl a ↦ listed x g a
@@ -154,7 +153,7 @@ module _ (users : Users) (leaves : List Key) (old new : Records) (keys : List Ke
   }
 
   pub set_passed : HasPassed users new keys
-  set_passed j i k u = let p = reached.each j i in let q = linked.used j k u in now_dirty k (through (is_seen old k q.0 q.1) q.2 p.3)
+  set_passed j i k u = let p = reached.each j i in let q = linked.used j k u in now_dirty k (through q.1 q.2 p.3)
 
   pub set_begun : (k : Key) → In k leaves → IsDirty new k
   set_begun k i = now_dirty k (leaf i)
@@ -172,11 +171,33 @@ shown_reached records version before b leaves path keys e r =
     (subst (λ (f : Key → Option (Record Key Value)). AreReached f (λ k. In k leaves) keys) (sym (seen_all records version)) r))
 
 -- a graph whose records were marked so
-module _ (users : Users) (old new : Records) (version : ℕ) (before : Recorded) (b : recorded version old ≡ before) (linked : IsLinked old users) (keys : List Key) (s : SetsMarks true old new keys) where
-  pub marking_linked : (paths : List (List ℕ)) → AreReached (record_at before) (IsTouched paths) keys → keys_of new ≡ keys_of old → IsLinked new users
-  marking_linked paths r k = let o : AreDistinct new = subst (λ ks. IsDistinct key_eq ks) (sym k) linked.ordered in let a = seen_reached old version before b (IsTouched paths) keys r in
-      still_linked users (touched_leaves paths) old new keys linked (set_marked users (touched_leaves paths) old new keys linked a s) (set_passed users (touched_leaves paths) old new keys linked a s) (set_begun users (touched_leaves paths) old new keys linked a s) o
+module _ (users : Users) (old new : Records) (same : keys_of new ≡ keys_of old) (version : ℕ) (before : Recorded) (b : recorded version old ≡ before) (linked : IsLinked (seen old) users) (keys : List Key) (s : SetsMarks true old new keys) where
+  pub marking_linked : (paths : List (List ℕ)) → AreReached (record_at before) (IsTouched paths) keys → IsLinked (seen new) users
+  marking_linked paths r = let a = seen_reached old version before b (IsTouched paths) keys r in
+      still_linked users (touched_leaves paths) old new same keys linked (set_marked users (touched_leaves paths) old new keys linked a s) (set_passed users (touched_leaves paths) old new keys linked a s) (set_begun users (touched_leaves paths) old new keys linked a s)
 
   pub marking_marks : (paths : List (List ℕ)) → AreReached (record_at before) (IsTouched paths) keys → (later : ℕ) → Marks (record_at before) (record_at (recorded later new)) (IsTouched paths)
   marking_marks paths r later = let a = seen_reached old version before b (IsTouched paths) keys r in
-      touched_marks users (touched_leaves paths) old new keys linked (set_marked users (touched_leaves paths) old new keys linked a s) (set_passed users (touched_leaves paths) old new keys linked a s) (set_begun users (touched_leaves paths) old new keys linked a s) paths refl before version later b
+      touched_marks users (touched_leaves paths) old new same keys linked (set_marked users (touched_leaves paths) old new keys linked a s) (set_passed users (touched_leaves paths) old new keys linked a s) (set_begun users (touched_leaves paths) old new keys linked a s) paths refl before version later b
+
+-- marks leave the users
+pub marks_lists : (dirty : Bool) (old new : Records) (keys : List Key) → SetsMarks dirty old new keys → (j : Key) → numbers_of new j ≡ numbers_of old j
+marks_lists dirty old new keys s j = elim (s.rest j) [
+  | inl i ↦ go i (kept_at old j) refl
+  | inr q ↦ ap listed q
+]
+  where
+    go : In j keys → (o : Option Kept) → kept_at old j ≡ o → numbers_of new j ≡ numbers_of old j
+    go i None h = ap listed (s.none j h) ∙ sym (ap listed h)
+    go i (Some e) h = ap listed (s.each j i e h) ∙ sym (ap listed h)
+
+-- and the groups
+pub marks_asks : (dirty : Bool) (old new : Records) (keys : List Key) → keys_of new ≡ keys_of old → SetsMarks dirty old new keys → AsksNumbers old → AsksNumbers new
+marks_asks dirty old new keys e s a k x h = subst (λ l. All (All (λ n. n < l)) x.groups) (sym (same_length old new e)) (elim (s.rest k) [
+  | inl i ↦ go i (kept_at old k) refl
+  | inr q ↦ a k x (sym q ∙ h)
+])
+  where
+    go : In k keys → (o : Option Kept) → kept_at old k ≡ o → All (All (λ n. n < length old)) x.groups
+    go i None q = absurd (none_some (sym (s.none k q) ∙ h))
+    go i (Some y) q = let is : record y { dirty = dirty } ≡ x = some_is (sym (s.each k i y q) ∙ h) in subst (λ (z : Kept). All (All (λ n. n < length old)) z.groups) is (a k y q)

@@ -17,10 +17,10 @@ use Rattle.std.proofs.lemmas.List.{map-append}
 use Rattle.std.proofs.lemmas.Bool.{eq-eqb, eqb-true}
 use Rattle.std.proofs.Math.Seq.{take-suc, take_all}
 use Rattle.std.specs.Prelude.{Option, IfSome, IfNone}
-use Rattle.node.specs.Kept.{UserLists, numbers_at, listed, items_of}
+use Rattle.node.specs.declared.kept.Kept.{Kept}
+use Rattle.node.specs.Kept.{Records, UserLists, kept_at, numbers_of, listed, items_of}
 use Rattle.node.specs.Edges.{IsAdded, IsRemoved, SameUsers, HasLinked, HasUnlinked, HasLinkedSome, HasLinkedAll, HasCut, AreMembers, among}
-use Rattle.numbered.specs.Tables.{value_of, Writes}
-use Rattle.numbered.proofs.Numbers.{value_pushed, others_pushed}
+use Rattle.numbered.specs.Tables.{Writes}
 use Rattle.node.proofs.Lists.{true_false, decide_key, not_in, in_split, in_one, in_left, in_right}
 use Rattle.node.proofs.Numbering.{in_at_is}
 
@@ -131,41 +131,38 @@ list_removed list n = record {
     keeps k i false t = inl (filter_in (λ m. not (m == n)) list i (ap not t))
 
 -- a member's list is changed
-module _ (old new : UserLists) (member : Key) (key : ℕ) (t : Vec ℕ Global) (there : value_of new member ≡ Some t) (others : (j : Key) → member ≢ j → value_of new j ≡ value_of old j) where
-  at_member : (j : Key) → member ≡ j → numbers_at new j ≡ t.items
-  at_member j q = ap (numbers_at new) (sym q) ∙ ap listed there
+module _ {X : Type 0} (old new : Key → List X) (member : Key) (key : X) (list : List X) (there : new member ≡ list) (elsewhere : (j : Key) → member ≢ j → new j ≡ old j) where
+  at_member : (j : Key) → member ≡ j → new j ≡ list
+  at_member j q = ap new (sym q) ∙ there
 
-  elsewhere : (j : Key) → member ≢ j → numbers_at new j ≡ numbers_at old j
-  elsewhere j n = ap listed (others j n)
-
-  pub linked : IsAdded (numbers_at old member) t.items key → HasLinked (numbers_at old) (numbers_at new) member key
+  pub linked : IsAdded (old member) list key → HasLinked old new member key
   linked a = record {
     from = λ j k i. elim (decide_key member j) [
-      | inl q ↦ elim (a.from k (subst (In k) (at_member j q) i)) [ inl x ↦ inl (subst (λ m. In k (numbers_at old m)) q x) | inr x ↦ inr (q, x) ]
+      | inl q ↦ elim (a.from k (subst (In k) (at_member j q) i)) [ inl x ↦ inl (subst (λ m. In k (old m)) q x) | inr x ↦ inr (q, x) ]
       | inr n ↦ inl (subst (In k) (elsewhere j n) i)
     ];
     keeps = λ j k i. elim (decide_key member j) [
-      | inl q ↦ subst (In k) (sym (at_member j q)) (a.keeps k (subst (λ m. In k (numbers_at old m)) (sym q) i))
+      | inl q ↦ subst (In k) (sym (at_member j q)) (a.keeps k (subst (λ m. In k (old m)) (sym q) i))
       | inr n ↦ subst (In k) (sym (elsewhere j n)) i
     ];
     has = subst (In key) (sym (at_member member refl)) a.has;
   }
 
-  pub unlinked : IsRemoved (numbers_at old member) t.items key → HasUnlinked (numbers_at old) (numbers_at new) member key
+  pub unlinked : IsRemoved (old member) list key → HasUnlinked old new member key
   unlinked a = record {
     from = λ j k i. elim (decide_key member j) [
-      | inl q ↦ subst (λ m. In k (numbers_at old m)) q (a.from k (subst (In k) (at_member j q) i))
+      | inl q ↦ subst (λ m. In k (old m)) q (a.from k (subst (In k) (at_member j q) i))
       | inr n ↦ subst (In k) (elsewhere j n) i
     ];
     keeps = λ j k i. elim (decide_key member j) [
-      | inl q ↦ elim (a.keeps k (subst (λ m. In k (numbers_at old m)) (sym q) i)) [ inl x ↦ inl (subst (In k) (sym (at_member j q)) x) | inr x ↦ inr (q, x) ]
+      | inl q ↦ elim (a.keeps k (subst (λ m. In k (old m)) (sym q) i)) [ inl x ↦ inl (subst (In k) (sym (at_member j q)) x) | inr x ↦ inr (q, x) ]
       | inr n ↦ inl (subst (In k) (sym (elsewhere j n)) i)
     ];
     gone = λ i. a.gone (subst (In key) (at_member member refl) i);
   }
 
-  pub same_set : t.items ≡ numbers_at old member → SameUsers (numbers_at old) (numbers_at new)
-  same_set e j = elim (decide_key member j) [ inl q ↦ at_member j q ∙ e ∙ ap (numbers_at old) q | inr n ↦ elsewhere j n ]
+  pub same_set : list ≡ old member → SameUsers old new
+  same_set e j = elim (decide_key member j) [ inl q ↦ at_member j q ∙ e ∙ ap old q | inr n ↦ elsewhere j n ]
 
 pub unlinked_none : {X : Type 0} (users : Key → List X) (member : Key) (key : X) → users member ≡ [] → HasUnlinked users users member key
 unlinked_none users member key e = record { from = λ j k i. i; keeps = λ j k i. inl i; gone = λ i. not_in i e }
@@ -257,20 +254,24 @@ member_among (x ∷ groups) key (after m) i = or_right (list_any (λ k. key_eq k
 pub not_among : (groups : List (List Key)) (key : Key) → among groups key ≡ false → IsMember key groups → ⊥
 not_among groups key h m = true_false (member_among groups key m.1 m.2) h
 
--- the same by what the calls ensure
-pub linked_through : (old new : UserLists) (member : Key) (key user : ℕ) (s : List ℕ) (t : Vec ℕ Global) → Writes old new member t → s ≡ numbers_at old member → user ≡ key → t.items ≡ s ++ user ∷ [] → HasLinked (numbers_at old) (numbers_at new) member key
-linked_through old new member key user s t u e q a =
-    linked old new member key t u.there u.others (subst (λ l. IsAdded (numbers_at old member) l key) (sym (a ∙ (λ i. e i ++ q i ∷ []))) (list_added (numbers_at old member) key))
+-- the same of the users that stand in a record
+module _ (old new : Records) (member : Key) (user : ℕ) (e w : Kept) (u : Writes old new member w) (had : Some e ≡ kept_at old member) where
+  list_now : numbers_of new member ≡ w.users.items
+  list_now = ap listed u.there
 
-pub linked_first : (start old new : UserLists) (asked member : Key) (user key : ℕ) (s : List ℕ) (t : Vec ℕ Global) → new ≡ old ++ (asked, t) ∷ [] → asked ≡ member → old ≡ start → None ≡ value_of start member → s ≡ [] → user ≡ key → t.items ≡ s ++ user ∷ [] → HasLinked (numbers_at start) (numbers_at new) member key
-linked_first start old new asked member user key s t u m o none e q a =
-    let is : new ≡ start ++ (member, t) ∷ [] = u ∙ (λ i. o i ++ (m i, t) ∷ []) in
-    linked start new member key t (ap (λ (es : UserLists). value_of es member) is ∙ value_pushed start member t (sym none)) (λ j n. ap (λ (es : UserLists). value_of es j) is ∙ others_pushed start member t j n)
-    (subst (λ l. IsAdded (numbers_at start member) l key) (sym (a ∙ (λ i. e i ++ q i ∷ []) ∙ ap (λ o. listed o ++ key ∷ []) none)) (list_added (numbers_at start member) key))
+  lists_elsewhere : (j : Key) → member ≢ j → numbers_of new j ≡ numbers_of old j
+  lists_elsewhere j n = ap listed (u.others j n)
 
-pub unlinked_through : (old new : UserLists) (member : Key) (key : ℕ) (s : List ℕ) (t : Vec ℕ Global) → Writes old new member t → s ≡ numbers_at old member → t.items ≡ filter (λ k. not (k == key)) s → HasUnlinked (numbers_at old) (numbers_at new) member key
-unlinked_through old new member key s t u e a =
-    unlinked old new member key t u.there u.others (subst (λ l. IsRemoved (numbers_at old member) l key) (sym (a ∙ ap (filter (λ k. not (k == key))) e)) (list_removed (numbers_at old member) key))
+  pub linked_through : w.users.items ≡ e.users.items ++ user ∷ [] → HasLinked (numbers_of old) (numbers_of new) member user
+  linked_through a = linked (numbers_of old) (numbers_of new) member user w.users.items list_now lists_elsewhere
+      (subst (λ l. IsAdded (numbers_of old member) l user) (sym (a ∙ ap (λ o. listed o ++ user ∷ []) had)) (list_added (numbers_of old member) user))
+
+  pub unlinked_through : w.users.items ≡ filter (λ k. not (k == user)) e.users.items → HasUnlinked (numbers_of old) (numbers_of new) member user
+  unlinked_through a = unlinked (numbers_of old) (numbers_of new) member user w.users.items list_now lists_elsewhere
+      (subst (λ l. IsRemoved (numbers_of old member) l user) (sym (a ∙ ap (λ o. filter (λ k. not (k == user)) (listed o)) had)) (list_removed (numbers_of old member) user))
+
+  pub same_through : w.users.items ≡ e.users.items → SameUsers (numbers_of old) (numbers_of new)
+  same_through a = same_set (numbers_of old) (numbers_of new) member user w.users.items list_now lists_elsewhere (a ∙ ap listed had)
 
 -- one more element of a list
 pub in_taken : {X : Type 0} (xs : List X) (n : ℕ) (x j : X) → x ≡ slice_index_or xs n x → n < length xs → In j (take (n + 1) xs) → In j (take n xs) ⊎ (x ≡ j)
@@ -328,14 +329,19 @@ in_all xs n x h i = subst (In x) (sym (take_all n xs h)) i
 pub member_all : (groups : List (Vec Key Global)) (n : ℕ) (j : Key) → length groups ≤ n → IsMember j (items_of groups) → IsMember j (items_of (take n groups))
 member_all groups n j h m = subst (λ (gs : List (Vec Key Global)). IsMember j (items_of gs)) (sym (take_all n groups h)) m
 
--- members of old groups were cut, but those of the new ones; or there are no old ones
-pub cut_by_members : (old new : UserLists) (key : ℕ) (cut_groups olds news : List (List Key)) (found : Option (BTreeSet Key)) → cut_groups ≡ olds → IfSome found (λ set. AreMembers set.keys news) → IfNone found (olds ≡ [])
-    → IfSome found (λ set. HasCut (numbers_at old) (numbers_at new) key (λ j. IsMember j cut_groups) (λ j. In j set.keys)) → IfNone found (new ≡ old) → HasCut (numbers_at old) (numbers_at new) key (λ j. IsMember j cut_groups) (λ j. IsMember j news)
-cut_by_members old new key cut_groups olds news None q m e c n = subst (λ (x : UserLists). HasCut (numbers_at old) (numbers_at x) key (λ j. IsMember j cut_groups) (λ j. IsMember j news)) (sym n)
-    (cut_none (numbers_at old) key (λ j. IsMember j cut_groups) (λ j. IsMember j news) (λ j i. not_in (subst (In i.0) (q ∙ e) i.1) refl))
-cut_by_members old new key cut_groups olds news (Some set) q m e c n = record {
+-- fewer members were cut
+pub cut_fewer : {X : Type 0} (old new : Key → List X) (key : X) (M N K : Key → Type 0) → ((j : Key) → N j → M j) → HasCut old new key M K → HasCut old new key N K
+cut_fewer old new key M N K f c = record { from = c.from; gone = λ j m. c.gone j (f j m); others = c.others; kept = c.kept }
+
+-- old members were cut, but those of the new groups; or there are no old ones
+pub cut_by_members : (old new : UserLists) (key : ℕ) (numbers : List ℕ) (keys : List Key) (olds news : List (List Key)) (found : Option (BTreeSet Key)) → ((j : Key) → IsMember j olds → In j keys) → (numbers ≡ [] → keys ≡ [])
+    → IfSome found (λ set. AreMembers set.keys news) → IfNone found (numbers ≡ []) → IfSome found (λ set. HasCut old new key (λ j. In j keys) (λ j. In j set.keys)) → IfNone found (new ≡ old)
+    → HasCut old new key (λ j. IsMember j olds) (λ j. IsMember j news)
+cut_by_members old new key numbers keys olds news None to none m e c n = subst (λ (x : UserLists). HasCut old x key (λ j. IsMember j olds) (λ j. IsMember j news)) (sym n)
+    (cut_none old key (λ j. IsMember j olds) (λ j. IsMember j news) (λ j i. not_in (to j i) (none e)))
+cut_by_members old new key numbers keys olds news (Some set) to none m e c n = record {
   from = c.from;
-  gone = λ j i g x. c.gone j i (λ k. g ((m j).0 k)) x;
+  gone = λ j i g x. c.gone j (to j i) (λ k. g ((m j).0 k)) x;
   others = c.others;
   kept = λ j k x. c.kept j ((m j).1 k) x;
 }

@@ -1,5 +1,6 @@
 pub mod Lists
 pub mod Numbering
+pub mod Showing
 pub mod Reaching
 pub mod Relating
 pub mod Linking
@@ -11,5 +12,7 @@ pub mod Readying
 pub mod Collecting
 pub mod Lawfulness
 pub mod Touching
+pub mod Counting
 pub mod Batching
 pub mod Batched
+pub mod Comparing

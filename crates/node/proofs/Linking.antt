@@ -1,7 +1,7 @@
 -- The marks that were spread are those that an edit makes, and the parts of the graph stay linked.
 use Rattle.std.proofs.Common.{◌≡◌, ◌⊎◌, inl, inr, ℕ, Bool, true, false, cond, List, [], ◌∷◌, map, Bor, Option, Some, None, refl, sym, ◌∙◌, ap, subst}
 use Rattle.std.specs.Option.{option_map, option_copied}
-use Rattle.std.specs.Map.{lookup}
+use Rattle.std.specs.Map.{keys_of, lookup}
 use Rattle.std.specs.BTreeMap.{is_at}
 use Rattle.evaluation.specs.Graph.{Record, Reaches, leaf, through, Marks}
 use Rattle.evaluation.specs.Value.{In, IsMember}
@@ -15,9 +15,10 @@ use Rattle.numbered.proofs.Numbers.{other_key}
 use Rattle.keys.specs.declared.key.Key.{Key}
 use Rattle.keys.specs.declared.value.Value.{Value}
 use Rattle.node.specs.declared.kept.Kept.{Kept}
-use Rattle.node.specs.Kept.{Records, Users, UserLists, kept_at, users_in, numbers_at, record_of}
+use Rattle.node.specs.Kept.{Records, Users, by_keys, kept_at, users_of, numbers_of, record_of, rows, shown}
+use Rattle.node.proofs.Showing.{seen_same}
 use Rattle.node.specs.Marks.{IsDirty, IsReached, at_leaf, by_user, Marked, HasPassed}
-use Rattle.node.specs.Graphs.{Recorded, recorded, record_at, seen, groups_of, touched_leaves, IsTouched, IsLinked, IsLinkedBy}
+use Rattle.node.specs.Graphs.{Recorded, recorded, record_at, seen, touched_leaves, IsTouched, IsLinked, IsLinkedBy}
 use Rattle.keys.proofs.KeyLaws.{keys_total, exact_keys, exact_key_eq}
 use Rattle.node.proofs.Lists.{some_is, none_some, true_false, not_in}
 
@@ -35,29 +36,29 @@ same_test k x = go (is_at (key_cmp k) x) refl
 pub seen_is : (records : Records) (version : ℕ) (k : Key) → record_at (recorded version records) k ≡ seen records k
 seen_is records version k = go records
   where
-    pushed : (b : Bool) (x : Kept) (o : Option Kept) → cond b (Some (record_of x)) (option_map record_of o) ≡ option_map record_of (cond b (Some x) o)
+    pushed : (b : Bool) (x : Kept) (o : Option Kept) → cond b (Some (record_of (keys_of records) x)) (option_map (record_of (keys_of records)) o) ≡ option_map (record_of (keys_of records)) (cond b (Some x) o)
     pushed true x o = refl
     pushed false x o = refl
 
-    go : (es : List (Key × Kept)) → lookup (is_at (key_cmp k)) (map (λ e. (e.0, record_of e.1)) es) ≡ option_map record_of (kept_at es k)
+    go : (es : List (Key × Kept)) → lookup (is_at (key_cmp k)) (map (λ (e : Key × Record ℕ Value). (e.0, by_keys (keys_of records) e.1)) (rows es)) ≡ option_map (record_of (keys_of records)) (kept_at es k)
     go [] = refl
-    go (e ∷ es) = (λ i. cond (same_test k e.0 i) (Some (record_of e.1)) (go es i)) ∙ pushed (key_eq k e.0) e.1 (kept_at es k)
+    go (e ∷ es) = (λ i. cond (same_test k e.0 i) (Some (record_of (keys_of records) e.1)) (go es i)) ∙ pushed (key_eq k e.0) e.1 (kept_at es k)
 
 pub seen_all : (records : Records) (version : ℕ) → record_at (recorded version records) ≡ seen records
 seen_all records version = λ i k. seen_is records version k i
 
 -- a record that is seen is kept
-pub is_kept : (records : Records) (k : Key) (r : Record Key Value) → seen records k ≡ Some r → (e : Kept) × (kept_at records k ≡ Some e) × (record_of e ≡ r)
+pub is_kept : (records : Records) (k : Key) (r : Record Key Value) → seen records k ≡ Some r → (e : Kept) × (kept_at records k ≡ Some e) × (record_of (keys_of records) e ≡ r)
 is_kept records k r h = go (kept_at records k) refl
   where
-    go : (o : Option Kept) → kept_at records k ≡ o → (e : Kept) × (kept_at records k ≡ Some e) × (record_of e ≡ r)
-    go None q = absurd (none_some (ap (option_map record_of) (sym q) ∙ h))
-    go (Some e) q = (e, q, some_is (ap (option_map record_of) (sym q) ∙ h))
+    go : (o : Option Kept) → kept_at records k ≡ o → (e : Kept) × (kept_at records k ≡ Some e) × (record_of (keys_of records) e ≡ r)
+    go None q = absurd (none_some (ap (option_map (record_of (keys_of records))) (sym q) ∙ h))
+    go (Some e) q = (e, q, some_is (ap (option_map (record_of (keys_of records))) (sym q) ∙ h))
 
-pub is_seen : (records : Records) (k : Key) (e : Kept) → kept_at records k ≡ Some e → seen records k ≡ Some (record_of e)
-is_seen records k e h = ap (option_map record_of) h
+pub is_seen : (records : Records) (k : Key) (e : Kept) → kept_at records k ≡ Some e → seen records k ≡ Some (record_of (keys_of records) e)
+is_seen records k e h = ap (option_map (record_of (keys_of records))) h
 
-module _ (users : Users) (leaves : List Key) (old new : Records) (marked : List Key) (linked : IsLinked old users) (m : Marked users leaves old new marked) (passed : HasPassed users new marked) (begun : (k : Key) → In k leaves → IsDirty new k) where
+module _ (users : Users) (leaves : List Key) (old new : Records) (same : keys_of new ≡ keys_of old) (marked : List Key) (linked : IsLinked (seen old) users) (m : Marked users leaves old new marked) (passed : HasPassed users new marked) (begun : (k : Key) → In k leaves → IsDirty new k) where
   -- a record before and after
   later : (k : Key) (e : Kept) → kept_at old k ≡ Some e → (d : Bool) × (kept_at new k ≡ Some (record e { dirty = d })) × (e.dirty ≡ true → d ≡ true) × (d ≡ true → (e.dirty ≡ true) ⊎ IsReached users leaves k)
   later k e h = elim (m.rest k) [
@@ -72,24 +73,44 @@ module _ (users : Users) (leaves : List Key) (old new : Records) (marked : List 
     | inr p ↦ (e, sym p ∙ h, e.dirty, refl)
   ]
 
+  -- the same as a contract sees them
+  seen_new : (k : Key) (e : Kept) → kept_at new k ≡ Some e → seen new k ≡ Some (record_of (keys_of old) e)
+  seen_new k e h = λ i. option_map (record_of (same i)) (h i)
+
+  kept_new : (k : Key) (r : Record Key Value) → seen new k ≡ Some r → (e : Kept) × (kept_at new k ≡ Some e) × (record_of (keys_of old) e ≡ r)
+  kept_new k r h = let p = is_kept new k r h in (p.0, p.1, (λ i. record_of (sym same i) p.0) ∙ p.2)
+
+  seen_later : (k : Key) (r : Record Key Value) → seen old k ≡ Some r → (d : Bool) × (seen new k ≡ Some (record r { dirty = d }))
+  seen_later k r h = let p = is_kept old k r h in let l = later k p.0 p.1 in
+      (l.0, seen_new k (record p.0 { dirty = l.0 }) l.1 ∙ ap (λ (y : Record Key Value). Some (record y { dirty = l.0 })) p.2)
+
+  seen_earlier : (k : Key) (r : Record Key Value) → seen new k ≡ Some r → (x : Record Key Value) × (seen old k ≡ Some x) × (x.groups ≡ r.groups)
+  seen_earlier k r h = let p = kept_new k r h in let l = earlier k p.0 p.1 in
+      (record_of (keys_of old) l.0, is_seen old k l.0 l.1, ap (λ (y : Kept). (record_of (keys_of old) y).groups) (sym l.3) ∙ ap (λ (y : Record Key Value). y.groups) p.2)
+
   dirty_stays : (k : Key) → IsDirty old k → IsDirty new k
   dirty_stays k d e h = let p = earlier k e h in let l = later k p.0 p.1 in
       let q : e ≡ record p.0 { dirty = l.0 } = some_is (sym h ∙ l.1) in ap (λ (y : Kept). y.dirty) q ∙ l.2 (d p.0 p.1)
 
+  dirty_seen : (k : Key) (x : Record Key Value) → IsDirty new k → seen new k ≡ Some x → x.dirty ≡ true
+  dirty_seen k x d h = let p = kept_new k x h in ap (λ (y : Record Key Value). y.dirty) (sym p.2) ∙ d p.0 p.1
+
+  dirty_kept : (k : Key) (r : Record Key Value) → seen old k ≡ Some r → r.dirty ≡ true → IsDirty old k
+  dirty_kept k r h d e g = let q : record_of (keys_of old) e ≡ r = some_is (sym (is_seen old k e g) ∙ h) in ap (λ (y : Record Key Value). y.dirty) q ∙ d
+
   -- what has a dirty member is dirty
-  dirty_user : (j k : Key) (e s : Kept) → kept_at old k ≡ Some e → IsMember j (groups_of e) → kept_at new j ≡ Some s → s.dirty ≡ true → IsDirty new k
-  dirty_user j k e s h i t d = elim (m.rest j) [
-    | inl a ↦ passed j a k (linked.complete j k e h i)
-    | inr p ↦ dirty_stays k (λ x g. let q : e ≡ x = some_is (sym h ∙ g) in subst (λ (y : Kept). y.dirty ≡ true) q (linked.dirty_above j k e s h i (sym p ∙ t) d))
+  dirty_user : (j k : Key) (r s : Record Key Value) → seen old k ≡ Some r → IsMember j r.groups → seen new j ≡ Some s → s.dirty ≡ true → IsDirty new k
+  dirty_user j k r s h i t d = elim (m.rest j) [
+    | inl a ↦ passed j a k (linked.complete j k r h i)
+    | inr p ↦ dirty_stays k (dirty_kept k r h (linked.dirty_above j k r s h i (sym (seen_same old new j same p) ∙ t) d))
   ]
 
-  pub still_linked : AreDistinct new → IsLinked new users
-  still_linked o = record {
-    ordered = o;
-    used = λ j k i. let p = linked.used j k i in let l = later k p.0 p.1 in (record p.0 { dirty = l.0 }, l.1, p.2);
-    complete = λ j k e h i. let p = earlier k e h in linked.complete j k p.0 p.1 (subst (λ (y : Kept). IsMember j (groups_of y)) p.3 i);
-    members = λ j k e h i. let p = earlier k e h in let s = linked.members j k p.0 p.1 (subst (λ (y : Kept). IsMember j (groups_of y)) p.3 i) in let l = later j s.0 s.1 in (record s.0 { dirty = l.0 }, l.1);
-    dirty_above = λ j k e s h i t d. let p = earlier k e h in dirty_user j k p.0 s p.1 (subst (λ (y : Kept). IsMember j (groups_of y)) p.3 i) t d e h;
+  pub still_linked : IsLinked (seen new) users
+  still_linked = record {
+    used = λ j k i. let p = linked.used j k i in let l = seen_later k p.0 p.1 in (record p.0 { dirty = l.0 }, l.1, p.2);
+    complete = λ j k r h i. let p = seen_earlier k r h in linked.complete j k p.0 p.1 (subst (IsMember j) (sym p.2) i);
+    members = λ j k r h i. let p = seen_earlier k r h in let s = linked.members j k p.0 p.1 (subst (IsMember j) (sym p.2) i) in let l = seen_later j s.0 s.1 in (record s.0 { dirty = l.0 }, l.1);
+    dirty_above = λ j k r s h i t d. let p = seen_earlier k r h in dirty_seen k r (dirty_user j k p.0 s p.1 (subst (IsMember j) (sym p.2) i) t d) h;
   }
 
   abbrev IsLeaf : Key → Type 0
@@ -97,25 +118,18 @@ module _ (users : Users) (leaves : List Key) (old new : Records) (marked : List 
 
   pub reaches : {k : Key} → IsReached users leaves k → Reaches (seen old) IsLeaf k
   reaches (at_leaf i) = leaf i
-  reaches (by_user {j = j} {k = k} r i) = let p = linked.used j k i in through (is_seen old k p.0 p.1) p.2 (reaches r)
-
-  seen_later : (k : Key) (r : Record Key Value) → seen old k ≡ Some r → (d : Bool) × (seen new k ≡ Some (record r { dirty = d }))
-  seen_later k r h = let p = is_kept old k r h in let l = later k p.0 p.1 in
-      (l.0, is_seen new k (record p.0 { dirty = l.0 }) l.1 ∙ ap (λ (y : Record Key Value). Some (record y { dirty = l.0 })) p.2)
-
-  dirty_seen : (k : Key) (x : Record Key Value) → IsDirty new k → seen new k ≡ Some x → x.dirty ≡ true
-  dirty_seen k x d h = let p = is_kept new k x h in ap (λ (y : Record Key Value). y.dirty) (sym p.2) ∙ d p.0 p.1
+  reaches (by_user {j = j} {k = k} r i) = let p = linked.used j k i in through p.1 p.2 (reaches r)
 
   pub edit_marks : Marks (seen old) (seen new) IsLeaf
   edit_marks = record {
     none_new = λ k h. go k h (m.rest k);
     kept = seen_later;
     marks = λ k r x h g w. elim w [
-      | inl d ↦ dirty_seen k x (dirty_stays k (λ e q. let p : record_of e ≡ r = some_is (sym (is_seen old k e q) ∙ h) in ap (λ (y : Record Key Value). y.dirty) p ∙ d)) g
-      | inr c ↦ reached_marked (seen old) (seen new) IsLeaf seen_later seen_members (λ i y a q. dirty_seen i y (begun i a) q) seen_users c g
+      | inl d ↦ dirty_seen k x (dirty_stays k (dirty_kept k r h d)) g
+      | inr c ↦ reached_marked (seen old) (seen new) IsLeaf seen_later linked_members (λ i y a q. dirty_seen i y (begun i a) q) seen_users c g
     ];
     only = λ k r x h g d. let p = is_kept old k r h in let l = later k p.0 p.1 in
-        let q : x ≡ record_of (record p.0 { dirty = l.0 }) = some_is (sym g ∙ is_seen new k (record p.0 { dirty = l.0 }) l.1) in
+        let q : x ≡ record_of (keys_of old) (record p.0 { dirty = l.0 }) = some_is (sym g ∙ seen_new k (record p.0 { dirty = l.0 }) l.1) in
         elim (l.3 (sym (ap (λ (y : Record Key Value). y.dirty) q) ∙ d)) [
           | inl c ↦ inl (ap (λ (y : Record Key Value). y.dirty) (sym p.2) ∙ c)
           | inr c ↦ inr (reaches c)
@@ -124,45 +138,51 @@ module _ (users : Users) (leaves : List Key) (old new : Records) (marked : List 
     where
       go : (k : Key) → seen old k ≡ None → In k marked ⊎ (kept_at new k ≡ kept_at old k) → seen new k ≡ None
       go k h (inl a) = let p = m.each k a in absurd (none_some (sym h ∙ is_seen old k p.0 p.1))
-      go k h (inr q) = ap (option_map record_of) q ∙ h
+      go k h (inr q) = seen_same old new k same q ∙ h
 
-      seen_members : (k : Key) (r : Record Key Value) (j : Key) → seen old k ≡ Some r → IsMember j r.groups → (s : Record Key Value) × (seen old j ≡ Some s)
-      seen_members k r j h i = let p = is_kept old k r h in
-          let s = linked.members j k p.0 p.1 (subst (λ (y : Record Key Value). IsMember j y.groups) (sym p.2) i) in (record_of s.0, is_seen old j s.0 s.1)
+      linked_members : (k : Key) (r : Record Key Value) (j : Key) → seen old k ≡ Some r → IsMember j r.groups → (s : Record Key Value) × (seen old j ≡ Some s)
+      linked_members k r j h i = linked.members j k r h i
 
       seen_users : (k : Key) (r : Record Key Value) (j : Key) → seen old k ≡ Some r → IsMember j r.groups → (s x : Record Key Value) → seen new j ≡ Some s → s.dirty ≡ true → seen new k ≡ Some x → x.dirty ≡ true
-      seen_users k r j h i s x g d q = let p = is_kept old k r h in let t = is_kept new j s g in
-          dirty_seen k x (dirty_user j k p.0 t.0 p.1 (subst (λ (y : Record Key Value). IsMember j y.groups) (sym p.2) i) t.1 (ap (λ (y : Record Key Value). y.dirty) t.2 ∙ d)) q
+      seen_users k r j h i s x g d q = dirty_seen k x (dirty_user j k r s h i g d) q
 
 -- what a look-up finds is what a contract sees
-pub kept_seen : (records : Records) (version : ℕ) (k : Key) (found : Option (Bor Kept)) → option_copied found ≡ kept_at records k → option_map (λ e. record_of e.now) found ≡ record_at (recorded version records) k
-kept_seen records version k found h = go found ∙ ap (option_map record_of) h ∙ sym (seen_is records version k)
+pub shown_keys : (records : Records) → keys_of (shown records) ≡ keys_of records
+shown_keys records = go records
   where
-    go : (o : Option (Bor Kept)) → option_map (λ e. record_of e.now) o ≡ option_map record_of (option_copied o)
+    go : (es : Records) → keys_of (map (λ (e : Key × Record ℕ Value). (e.0, by_keys (keys_of records) e.1)) (rows es)) ≡ keys_of es
+    go [] = refl
+    go (e ∷ es) = ap (λ l. e.0 ∷ l) (go es)
+
+pub kept_seen : (records : Records) (version : ℕ) (k : Key) (found : Option (Bor Kept)) → option_copied found ≡ kept_at records k → option_map (λ e. record_of (keys_of (recorded version records).records) e.now) found ≡ record_at (recorded version records) k
+kept_seen records version k found h = (λ i. option_map (λ e. record_of (shown_keys records i) e.now) found) ∙ go found ∙ ap (option_map (record_of (keys_of records))) h ∙ sym (seen_is records version k)
+  where
+    go : (o : Option (Bor Kept)) → option_map (λ e. record_of (keys_of records) e.now) o ≡ option_map (record_of (keys_of records)) (option_copied o)
     go None = refl
     go (Some e) = refl
 
 -- marks from the leaves that edits touch
-module _ (users : Users) (leaves : List Key) (old new : Records) (marked : List Key) (linked : IsLinked old users) (m : Marked users leaves old new marked) (passed : HasPassed users new marked) (begins : (k : Key) → In k leaves → IsDirty new k) where
+module _ (users : Users) (leaves : List Key) (old new : Records) (same : keys_of new ≡ keys_of old) (marked : List Key) (linked : IsLinked (seen old) users) (m : Marked users leaves old new marked) (passed : HasPassed users new marked) (begins : (k : Key) → In k leaves → IsDirty new k) where
   pub touched_marks : (paths : List (List ℕ)) → leaves ≡ touched_leaves paths → (before : Recorded) (version later_version : ℕ) → recorded version old ≡ before → Marks (record_at before) (record_at (recorded later_version new)) (IsTouched paths)
   touched_marks paths e before version later_version b =
       subst (λ (ls : List Key). Marks (record_at before) (record_at (recorded later_version new)) (λ k. In k ls)) e
       (subst (λ (r : Recorded). Marks (record_at r) (record_at (recorded later_version new)) (λ k. In k leaves)) b
       (subst (λ (f : Key → Option (Record Key Value)). Marks f (record_at (recorded later_version new)) (λ k. In k leaves)) (sym (seen_all old version))
-      (subst (λ (f : Key → Option (Record Key Value)). Marks (seen old) f (λ k. In k leaves)) (sym (seen_all new later_version)) (edit_marks users leaves old new marked linked m passed begins))))
+      (subst (λ (f : Key → Option (Record Key Value)). Marks (seen old) f (λ k. In k leaves)) (sym (seen_all new later_version)) (edit_marks users leaves old new same marked linked m passed begins))))
 
 -- without records the parts are linked
-pub nothing_linked : (records : Records) (lists : UserLists) → records ≡ [] → AreDistinct records → lists ≡ [] → IsLinkedBy records lists
-nothing_linked records lists e d u = record {
+pub nothing_linked : (records : Records) → records ≡ [] → AreDistinct records → IsLinkedBy records
+nothing_linked records e d = record {
   linked = record {
-    ordered = d;
-    used = λ j k i. absurd (not_in i (ap (λ (ls : UserLists). users_in records ls j) u));
+    used = λ j k i. absurd (not_in i (ap (λ (es : Records). users_of es j) e));
     complete = λ j k x h m. absurd (none_some (sym (none k) ∙ h));
     members = λ j k x h m. absurd (none_some (sym (none k) ∙ h));
     dirty_above = λ j k x s h m t c. absurd (none_some (sym (none k) ∙ h));
   };
-  numbers = λ j n i. absurd (not_in i (ap (λ (ls : UserLists). numbers_at ls j) u));
+  numbers = λ j n i. absurd (not_in i (ap (λ (es : Records). numbers_of es j) e));
+  asks = λ k x h. absurd (none_some (sym (ap (λ (es : Records). kept_at es k) e) ∙ h));
+  ordered = d;
 }
   where
-    none : (k : Key) → kept_at records k ≡ None
-    none k = ap (λ (es : Records). kept_at es k) e
+    none : (k : Key) → seen records k ≡ None
+    none k = ap (λ (es : Records). seen es k) e

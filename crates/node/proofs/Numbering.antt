@@ -16,7 +16,21 @@ use Rattle.node.specs.Kept.{Records}
 use Rattle.node.specs.Marks.{Lists}
 use Rattle.std.proofs.Math.ListN.{take-append-drop}
 use Rattle.std.proofs.Math.Seq.{take-suc}
-use Rattle.node.proofs.Lists.{in_left, in_right, none_some, true_false}
+use Rattle.std.proofs.Common.{inl, inr, ◌≤◌, ◌||◌, map}
+use Rattle.std.specs.Prelude.{sum_by}
+use Rattle.std.proofs.lemmas.List.{length-append}
+use Rattle.std.proofs.lemmas.List.Sums.{sum_by-cons}
+use Rattle.std.proofs.lemmas.List.Folds.{list_any-append}
+use Rattle.keys.specs.Keys.{key_eq}
+use Rattle.node.specs.Edges.{among}
+use Rattle.std.specs.List.{concat, list_any}
+use Rattle.std.specs.Option.{unwrap_or}
+use Rattle.std.proofs.lemmas.List.Elements.{All-cons, All-head, All-tail}
+use Rattle.evaluation.specs.Value.{IsMember}
+use Rattle.numbered.specs.Flats.{HasNumber, HaveNumbers, numbers_in}
+use Rattle.numbered.proofs.Numbers.{number_iff}
+use Rattle.node.specs.Kept.{named}
+use Rattle.node.proofs.Lists.{in_left, in_right, in_split, none_some, true_false}
 
 module _ {X : Type 0} where
   pub in_take : {x : X} (n : ℕ) (xs : List X) → In x (take n xs) → In x xs
@@ -98,3 +112,85 @@ taken_members es ns at n k q h e = ap (members_in es) (one_more ns at n h ∙ ap
 
 pub all_from_in : (ns : List ℕ) (bound : ℕ) → ((n : ℕ) → In n ns → n < bound) → All (λ n. n < bound) ns
 all_from_in ns bound f = λ i d h. f (slice_index_or ns i d) (in_at ns i d h)
+
+pub all_in : {X : Type 0} (P : X → Type 0) (xs : List X) → ((x : X) → In x xs → P x) → All P xs
+all_in P xs f = λ i d h. f (slice_index_or xs i d) (in_at xs i d h)
+
+-- numbers below one bound are below a higher one
+pub all_below : (low high : ℕ) → low ≤ high → (groups : List (List ℕ)) → All (All (λ n. n < low)) groups → All (All (λ n. n < high)) groups
+all_below low high h groups a = λ i d l. λ j x m. let below = a i d l j x m in omega arith
+
+-- keys that are in the table have numbers of it
+module _ {V : Type 0} (es : List (Key × V)) (d : AreDistinct es) where
+  number_below : (k : Key) → HasNumber es k → unwrap_or (number_of es k) 0 < length es
+  number_below k h = go (number_of es k) refl
+    where
+      go : (o : Option ℕ) → number_of es k ≡ o → unwrap_or (number_of es k) 0 < length es
+      go None e = absurd (true_false h (ap is_some e))
+      go (Some n) e = subst (λ o. unwrap_or o 0 < length es) (sym e) (key_within es n k ((number_iff es d k n).0 e))
+
+  numbers_below : (ks : List Key) → All (HasNumber es) ks → All (λ n. n < length es) (numbers_in es ks)
+  numbers_below [] a = All-nil (λ n. n < length es)
+  numbers_below (k ∷ ks) a = All-cons (λ n. n < length es) (unwrap_or (number_of es k) 0) (numbers_in es ks) (number_below k (All-head (HasNumber es) k ks a)) (numbers_below ks (All-tail (HasNumber es) k ks a))
+
+  pub groups_below : (gs : List (List Key)) → HaveNumbers es gs → All (All (λ n. n < length es)) (map (numbers_in es) gs)
+  groups_below [] a = All-nil (All (λ n. n < length es))
+  groups_below (g ∷ gs) a =
+      All-cons (All (λ n. n < length es)) (numbers_in es g) (map (numbers_in es) gs) (numbers_below g (All-head (All (HasNumber es)) g gs a)) (groups_below gs (All-tail (All (HasNumber es)) g gs a))
+
+-- keys of records have numbers
+pub have_numbers : {V : Type 0} (es : List (Key × V)) (gs : List (List Key)) → ((j : Key) → IsMember j gs → IsSome (value_of es j)) → HaveNumbers es gs
+have_numbers es gs f = all_in (All (HasNumber es)) gs (λ g i. all_in (HasNumber es) g (λ j m. numbered_key es j (number_of es j) refl (f j (g, i, m))))
+
+-- the numbers of the members of groups
+pub concat_below : (bound : ℕ) (groups : List (List ℕ)) → All (All (λ n. n < bound)) groups → All (λ n. n < bound) (concat groups)
+concat_below bound [] a = All-nil (λ n. n < bound)
+concat_below bound (g ∷ gs) a = All-append (λ n. n < bound) g (concat gs) (All-head (All (λ n. n < bound)) g gs a) (concat_below bound gs (All-tail (All (λ n. n < bound)) g gs a))
+
+named_append : (keys : List Key) (ms ns : List ℕ) → named keys (ms ++ ns) ≡ named keys ms ++ named keys ns
+named_append keys [] ns = refl
+named_append keys (m ∷ ms) ns = ap (λ l. option_to_list (slice_get keys m) ++ l) (named_append keys ms ns) ∙ sym (append_assoc (option_to_list (slice_get keys m)) (named keys ms) (named keys ns))
+
+-- the members of groups, one by one or together
+pub named_member : {j : Key} (keys : List Key) (groups : List (List ℕ)) → In j (named keys (concat groups)) → IsMember j (map (named keys) groups)
+named_member keys [] i = elim i [ ]
+named_member {j} keys (g ∷ gs) i = elim (in_split (subst (In j) (named_append keys g (concat gs)) i) (named keys g) (named keys (concat gs)) refl) [
+  | inl a ↦ (named keys g, first, a)
+  | inr b ↦ let m = named_member keys gs b in (m.0, after m.1, m.2)
+]
+
+member_there : {j : Key} {x : List Key} (keys : List Key) (groups : List (List ℕ)) → In x (map (named keys) groups) → In j x → In j (named keys (concat groups))
+member_there keys [] m i = elim m [ ]
+member_there {j} keys (g ∷ gs) first i = subst (In j) (sym (named_append keys g (concat gs))) (in_left (named keys (concat gs)) i)
+member_there {j} keys (g ∷ gs) (after m) i = subst (In j) (sym (named_append keys g (concat gs))) (in_right (named keys g) (member_there keys gs m i))
+
+pub member_named : {j : Key} (keys : List Key) (groups : List (List ℕ)) → IsMember j (map (named keys) groups) → In j (named keys (concat groups))
+member_named keys groups m = member_there keys groups m.1 m.2
+
+-- so is the test
+pub among_named : (keys : List Key) (groups : List (List ℕ)) (key : Key) → list_any (λ k. key_eq k key) (named keys (concat groups)) ≡ among (map (named keys) groups) key
+among_named keys [] key = refl
+among_named keys (g ∷ gs) key =
+    ap (list_any (λ k. key_eq k key)) (named_append keys g (concat gs)) ∙ list_any-append (λ k. key_eq k key) (named keys g) (named keys (concat gs)) ∙ ap (λ b. list_any (λ k. key_eq k key) (named keys g) || b) (among_named keys gs key)
+
+-- each number below the bound names one key
+length_named : (keys : List Key) (ns : List ℕ) → All (λ n. n < length keys) ns → length (named keys ns) ≡ length ns
+length_named keys [] a = refl
+length_named keys (n ∷ ns) a =
+    one (slice_get keys n) refl (All-head (λ m. m < length keys) n ns a) ∙ ap suc (length_named keys ns (All-tail (λ m. m < length keys) n ns a))
+  where
+    one : (o : Option Key) → slice_get keys n ≡ o → n < length keys → length (option_to_list (slice_get keys n) ++ named keys ns) ≡ suc (length (named keys ns))
+    one None q h = absurd (none_some (sym q ∙ (there keys n h).1))
+      where
+        there : (ks : List Key) (m : ℕ) → m < length ks → (k : Key) × (slice_get ks m ≡ Some k)
+        there [] m l = absurd (omega arith)
+        there (x ∷ ks) zero l = (x, refl)
+        there (x ∷ ks) (suc m) l = there ks m (omega arith)
+    one (Some k) q h = ap (λ o. length (option_to_list o ++ named keys ns)) q
+
+pub sizes_named : (keys : List Key) (groups : List (List ℕ)) → All (All (λ n. n < length keys)) groups → sum_by length (map (named keys) groups) ≡ length (concat groups)
+sizes_named keys [] a = refl
+sizes_named keys (g ∷ gs) a =
+    let own = length_named keys g (All-head (All (λ n. n < length keys)) g gs a) in
+    let rest = sizes_named keys gs (All-tail (All (λ n. n < length keys)) g gs a) in
+    omega (arith, sum_by-cons length (named keys g) (map (named keys) gs), own, rest, length-append g (concat gs))

@@ -8,11 +8,12 @@ use Rattle.numbered.specs.Tables.{Writes, key_at}
 use Rattle.numbered.specs.Flats.{members_in}
 use Rattle.keys.specs.declared.key.Key.{Key}
 use Rattle.node.specs.declared.kept.Kept.{Kept}
-use Rattle.node.specs.Kept.{Records, Users, kept_at, users_at}
+use Rattle.node.specs.Kept.{Records, Users, kept_at, numbers_of, users_at}
 use Rattle.node.specs.Marks.{IsDirty, IsReached, at_leaf, by_user, Marked, HasReached, HasReachedSome, HasReachedAll, HasSpread, HasPassed, Lists}
 pub use Rattle.node.proofs.Numbering.{one_more, in_at, in_at_is}
 use Rattle.node.proofs.Numbering.{members_same, members_pushed}
 use Rattle.node.proofs.Lists.{in_split, in_left, in_right, in_one, not_in, some_is, true_false, same_or_value}
+use Rattle.node.proofs.Showing.{writes_lists}
 
 module _ (old new : Records) (before now : List Key) (key : Key) where
   -- the key has its mark
@@ -63,6 +64,10 @@ module _ (old new : Records) (before now : List Key) (key : Key) where
   reached_keys (inl s) = ap (λ (es : Records). keys_of es) s.0
   reached_keys (inr s) = s.4
 
+  reached_lists : HasReached old new before now key → (j : Key) → numbers_of new j ≡ numbers_of old j
+  reached_lists (inl s) j = ap (λ (es : Records). numbers_of es j) s.0
+  reached_lists (inr s) j = writes_lists old new key s.0 (record s.0 { dirty = true }) s.1 refl s.3 j
+
   reached_grows : HasReached old new before now key → (more : List Key) × (now ≡ before ++ more)
   reached_grows (inl s) = ([], s.1 ∙ sym (append-nil before))
   reached_grows (inr s) = (key ∷ [], s.5)
@@ -73,6 +78,7 @@ module _ (old new : Records) (before now : List Key) (key : Key) where
     marks = λ users leaves original m r. reached_marked h users leaves original (s.marks users leaves original m r) (r key i);
     still = λ k d. reached_still h k (s.still k d);
     same_keys = reached_keys h ∙ s.same_keys;
+    same_lists = λ j. reached_lists h j ∙ s.same_lists j;
     more = s.more ++ (reached_grows h).0;
     grows = (reached_grows h).1 ∙ ap (λ xs. xs ++ (reached_grows h).0) s.grows ∙ append_assoc begun s.more (reached_grows h).0;
   }
@@ -83,12 +89,13 @@ some_none records marked keys = record {
   marks = λ users leaves original m r. m;
   still = λ k d. d;
   same_keys = refl;
+  same_lists = λ j. refl;
   more = [];
   grows = sym (append-nil marked);
 }
 
 pub spread_none : (users : Users) (records : Records) (marked : List Key) → HasSpread users records records marked marked
-spread_none users records marked = record { marks = λ leaves original m. m; still = λ k d. d; same_keys = refl }
+spread_none users records marked = record { marks = λ leaves original m. m; still = λ k d. d; same_keys = refl; same_lists = λ j. refl }
 
 module _ (users : Users) (start old new : Records) (begun before now : List Key) (j : Key) where
   -- from a listed key to its users
@@ -97,6 +104,7 @@ module _ (users : Users) (start old new : Records) (begun before now : List Key)
     marks = λ leaves original m. let p = s.marks leaves original m in h.marks users leaves original p (λ k u. by_user (p.each j i).4 u);
     still = λ k d. h.still k (s.still k d);
     same_keys = h.same_keys ∙ s.same_keys;
+    same_lists = λ j. h.same_lists j ∙ s.same_lists j;
   }
 
 module _ (users : Users) (old new : Records) (before now : List ℕ) (at n : ℕ) where

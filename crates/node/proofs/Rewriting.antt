@@ -3,17 +3,18 @@ use Rattle.std.proofs.Common.{◌≡◌, ◌⊎◌, inl, inr, Bool, true, false,
 use Rattle.std.specs.Option.{IsSome}
 use Rattle.evaluation.specs.Value.{In, IsMember}
 use Rattle.keys.specs.declared.key.Key.{Key}
-use Rattle.node.specs.declared.kept.Kept.{Kept}
-use Rattle.node.specs.Kept.{Records, Users, kept_at, users_at}
+use Rattle.keys.specs.declared.value.Value.{Value}
+use Rattle.evaluation.specs.Graph.{Record}
+use Rattle.node.specs.Kept.{Users, users_at}
 use Rattle.node.specs.Edges.{HasLinkedSome, HasLinkedAll, HasCut, HasUsers, among}
 use Rattle.node.specs.Graphs.{IsLinked}
 use Rattle.node.specs.Writes.{groups_at, SameSets}
 use Rattle.node.proofs.Lists.{true_false, decide_key, not_in}
 use Rattle.node.proofs.Joining.{among_member, not_among}
 
-pub some_kept : (o : Option Kept) → IsSome o → (e : Kept) × (o ≡ Some e)
-some_kept None h = absurd (true_false h refl)
-some_kept (Some e) h = (e, refl)
+pub some_there : {X : Type 0} (o : Option X) → IsSome o → (x : X) × (o ≡ Some x)
+some_there None h = absurd (true_false h refl)
+some_there (Some x) h = (x, refl)
 
 -- a key is a member of the groups, or is none
 pub decide_member : (groups : List (List Key)) (j : Key) → IsMember j groups ⊎ (IsMember j groups → ⊥)
@@ -23,14 +24,14 @@ decide_member groups j = go (among groups j) refl
     go true t = inl (among_member groups j t)
     go false t = inr (not_among groups j t)
 
-module _ (records : Records) (users : Users) (linked : IsLinked records users) (key : Key) where
+module _ (records : Key → Option (Record Key Value)) (users : Users) (linked : IsLinked records users) (key : Key) where
   abbrev old_groups : List (List Key)
-  old_groups = groups_at (kept_at records key)
+  old_groups = groups_at (records key)
 
   pub complete_at : (j : Key) → IsMember j old_groups → In key (users_at users j)
-  complete_at j m = go (kept_at records key) refl m
+  complete_at j m = go (records key) refl m
     where
-      go : (o : Option Kept) → kept_at records key ≡ o → IsMember j (groups_at o) → In key (users_at users j)
+      go : (o : Option (Record Key Value)) → records key ≡ o → IsMember j (groups_at o) → In key (users_at users j)
       go None h m = absurd (not_in m.1 refl)
       go (Some e) h m = linked.complete j key e h m
 
@@ -73,9 +74,8 @@ module _ (records : Records) (users : Users) (linked : IsLinked records users) (
     }
 
 -- the same users in any order
-pub linked_sets : (records : Records) (old new : Users) → SameSets old new → IsLinked records old → IsLinked records new
+pub linked_sets : (records : Key → Option (Record Key Value)) (old new : Users) → SameSets old new → IsLinked records old → IsLinked records new
 linked_sets records old new same l = record {
-  ordered = l.ordered;
   used = λ j k i. l.used j k ((same j k).0 i);
   complete = λ j k e h m. (same j k).1 (l.complete j k e h m);
   members = l.members;

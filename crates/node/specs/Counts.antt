@@ -1,10 +1,11 @@
 -- How many edges are recorded.
 use Rattle.std.specs.Prelude.{ℕ, List, length, sum_by}
+use Rattle.std.specs.List.{concat}
 use Rattle.std.specs.Map.{values_of}
 use Rattle.keys.specs.declared.key.Key.{Key}
 use Rattle.node.specs.declared.kept.Kept.{Kept}
 use Rattle.node.specs.Kept.{Records}
-use Rattle.node.specs.Graphs.{Recorded, groups_of}
+use Rattle.node.specs.Graphs.{Recorded}
 
 -- the members of all groups, each as often as it stands there
 abbrev pub members_of : List (List Key) → ℕ
@@ -16,7 +17,7 @@ edges_of graph = sum_by (λ e. members_of e.1.groups) graph.records
 
 -- the same of what is kept
 abbrev pub size : Kept → ℕ
-size e = members_of (groups_of e)
+size e = length (concat e.groups)
 
 abbrev pub kept_edges : Records → ℕ
 kept_edges records = sum_by size (values_of records)

@@ -1,7 +1,7 @@
 -- What a contract sees of a graph, and what is true of its parts.
 use Rattle.std.specs.Prelude.{◌≡◌, ◌≢◌, ◌⊎◌, ℕ, List, map, Option, Some, None, true, false, if◌then◌else◌}
 use Rattle.std.specs.Option.{option_map}
-use Rattle.std.specs.Map.{lookup}
+use Rattle.std.specs.Map.{keys_of, lookup}
 use Rattle.std.specs.BTreeMap.{is_at}
 use Rattle.evaluation.specs.Graph.{Record, Reaches}
 use Rattle.evaluation.specs.Value.{In, IsMember}
@@ -11,8 +11,7 @@ use Rattle.keys.specs.declared.value.Value.{Value}
 pub use Rattle.keys.specs.Touched.{touched_leaves, IsTouched}
 use Rattle.std.specs.Borrow.{Bor}
 use Rattle.numbered.specs.Tables.{AreDistinct}
-use Rattle.node.specs.declared.kept.Kept.{Kept}
-use Rattle.node.specs.Kept.{Records, Users, UserLists, AreNumbers, kept_at, users_at, users_in, record_of}
+use Rattle.node.specs.Kept.{Records, Users, AreNumbers, AsksNumbers, kept_at, users_at, users_of, numbers_of, record_of, shown}
 
 -- the paths that references point to
 abbrev pub paths_seen : List (Bor (List ℕ)) → List (List ℕ)
@@ -24,7 +23,7 @@ pub record Recorded : Type 0 where
   pub records : List (Key × Record Key Value)
 
 abbrev pub recorded : ℕ → Records → Recorded
-recorded version records = record { version = version; records = map (λ e. (e.0, record_of e.1)) records }
+recorded version records = record { version = version; records = shown records }
 
 -- the record of a key
 abbrev pub record_at : Recorded → Key → Option (Record Key Value)
@@ -32,28 +31,26 @@ record_at graph k = lookup (is_at (key_cmp k)) graph.records
 
 -- the record that a contract sees of a key
 abbrev pub seen : Records → Key → Option (Record Key Value)
-seen records k = option_map record_of (kept_at records k)
+seen records k = option_map (record_of (keys_of records)) (kept_at records k)
 
 -- the value of a key, if it has a record that is not dirty
 abbrev pub present : Option (Record Key Value) → Option Value
 present None = None
 present (Some r) = (if r.dirty then None else Some r.value)
 
-abbrev pub groups_of : Kept → List (List Key)
-groups_of e = map (λ g. g.items) e.groups.items
-
 -- the users are the inverse of the recorded groups; each member of a group has a record, dirty only where the record with that group is
-pub record IsLinked (records : Records) (users : Users) : Type 0 where
-  pub ordered : AreDistinct records
-  pub used : (j k : Key) → In k (users_at users j) → (e : Kept) × (kept_at records k ≡ Some e) × IsMember j (groups_of e)
-  pub complete : (j k : Key) (e : Kept) → kept_at records k ≡ Some e → IsMember j (groups_of e) → In k (users_at users j)
-  pub members : (j k : Key) (e : Kept) → kept_at records k ≡ Some e → IsMember j (groups_of e) → (s : Kept) × (kept_at records j ≡ Some s)
-  pub dirty_above : (j k : Key) (e s : Kept) → kept_at records k ≡ Some e → IsMember j (groups_of e) → kept_at records j ≡ Some s → s.dirty ≡ true → e.dirty ≡ true
+pub record IsLinked (records : Key → Option (Record Key Value)) (users : Users) : Type 0 where
+  pub used : (j k : Key) → In k (users_at users j) → (r : Record Key Value) × (records k ≡ Some r) × IsMember j r.groups
+  pub complete : (j k : Key) (r : Record Key Value) → records k ≡ Some r → IsMember j r.groups → In k (users_at users j)
+  pub members : (j k : Key) (r : Record Key Value) → records k ≡ Some r → IsMember j r.groups → (s : Record Key Value) × (records j ≡ Some s)
+  pub dirty_above : (j k : Key) (r s : Record Key Value) → records k ≡ Some r → IsMember j r.groups → records j ≡ Some s → s.dirty ≡ true → r.dirty ≡ true
 
--- the same where the users are kept by their numbers
-pub record IsLinkedBy (records : Records) (lists : UserLists) : Type 0 where
-  pub linked : IsLinked records (users_in records lists)
-  pub numbers : AreNumbers records lists
+-- the same of the users and the members that stand in the records, which are numbers of records
+pub record IsLinkedBy (records : Records) : Type 0 where
+  pub linked : IsLinked (seen records) (users_of records)
+  pub numbers : AreNumbers records (numbers_of records)
+  pub asks : AsksNumbers records
+  pub ordered : AreDistinct records
 
 -- no member of the groups of k's record has a dirty one
 abbrev pub HasCleanMembers : (Key → Option (Record Key Value)) → Key → Type 0
@@ -63,11 +60,6 @@ HasCleanMembers records k = (r s : Record Key Value) (j : Key) → records k ≡
 pub record Sets (old new : Key → Option (Record Key Value)) (k : Key) (r : Record Key Value) : Type 0 where
   pub there : new k ≡ Some r
   pub others : (j : Key) → k ≢ j → new j ≡ old j
-
--- the record of the key is stored, and the parts stay linked
-pub record HasStored (old new : Records) (users : Users) (k : Key) (r : Record Key Value) : Type 0 where
-  pub sets : Sets (seen old) (seen new) k r
-  pub linked : IsLinked new users
 
 -- these are the keys whose records an edit that touches these leaves is to mark: clean so far, and they reach one of the leaves
 pub record AreReached (records : Key → Option (Record Key Value)) (touched : Key → Type 0) (keys : List Key) : Type 0 where

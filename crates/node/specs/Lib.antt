@@ -3,6 +3,7 @@ pub mod Marks
 pub mod Graphs
 pub mod Edges
 pub mod Writes
+pub mod Compared
 pub mod Batches
 pub mod Counts
 pub mod Laws

@@ -5,7 +5,7 @@ use Rattle.evaluation.specs.Value.{In}
 use Rattle.keys.specs.declared.key.Key.{Key}
 use Rattle.numbered.specs.Tables.{Writes}
 use Rattle.node.specs.declared.kept.Kept.{Kept}
-use Rattle.node.specs.Kept.{Records, Users, kept_at, users_at}
+use Rattle.node.specs.Kept.{Records, Users, kept_at, users_at, numbers_of}
 
 -- if k has a record, it is dirty
 abbrev pub IsDirty : Records → Key → Type 0
@@ -35,6 +35,7 @@ pub record HasReachedSome (old new : Records) (before after keys : List Key) : T
   pub marks : (users : Users) (leaves : List Key) (original : Records) → Marked users leaves original old before → ((k : Key) → In k keys → IsReached users leaves k) → Marked users leaves original new after
   pub still : (k : Key) → IsDirty old k → IsDirty new k
   pub same_keys : keys_of new ≡ keys_of old
+  pub same_lists : (j : Key) → numbers_of new j ≡ numbers_of old j
   pub more : List Key
   pub grows : after ≡ before ++ more
 
@@ -47,6 +48,7 @@ pub record HasSpread (users : Users) (old new : Records) (before after : List Ke
   pub marks : (leaves : List Key) (original : Records) → Marked users leaves original old before → Marked users leaves original new after
   pub still : (k : Key) → IsDirty old k → IsDirty new k
   pub same_keys : keys_of new ≡ keys_of old
+  pub same_lists : (j : Key) → numbers_of new j ≡ numbers_of old j
 
 -- the users of these keys are dirty
 abbrev pub HasPassed : Users → Records → List Key → Type 0

@@ -4,7 +4,6 @@ use Rattle.std.specs.List.{list_all}
 use Rattle.std.specs.Arc.{arc_value}
 use Rattle.std.specs.declared.sync.Arc.{Arc}
 use Rattle.std.specs.declared.alloc.Global.{Global}
-use Rattle.std.specs.declared.vec.Vec.{Vec}
 use Rattle.keys.specs.Keys.{key_eq}
 use Rattle.evaluation.specs.Graph.{Record}
 use Rattle.evaluation.specs.Value.{In, IsMember}
@@ -12,7 +11,7 @@ use Rattle.keys.specs.Values.{value_eq}
 use Rattle.keys.specs.declared.key.Key.{Key}
 use Rattle.keys.specs.declared.value.Value.{Value}
 use Rattle.node.specs.declared.kept.Kept.{Kept}
-use Rattle.node.specs.Kept.{Records, Users, users_at, items_of}
+use Rattle.node.specs.Kept.{Records, Users, users_at, row_of}
 
 -- the version at which a value last changed: it is kept where an equal value was there
 abbrev pub change_of : Option (Record Key Value) → Value → ℕ → ℕ
@@ -40,18 +39,18 @@ abbrev pub are_ready : (Key → Option (Record Key Value)) → Key → List (Lis
 are_ready records key groups = list_all (is_ready_group records key) groups
 
 -- what is kept after a write
-abbrev pub written : Kept → Arc Value Global → Vec (Vec Key Global) Global → ℕ → Kept
-written e value groups version = record { value = value; groups = groups; settled_at = version; changed_at = (if value_eq (arc_value e.value) (arc_value value) then e.changed_at else version); dirty = false }
+abbrev pub written : Kept → Arc Value Global → List (List ℕ) → ℕ → Kept
+written e value groups version = record e { value = value; groups = groups; settled_at = version; changed_at = (if value_eq (arc_value e.value) (arc_value value) then e.changed_at else version); dirty = false }
 
--- the groups of what is kept
-abbrev pub groups_at : Option Kept → List (List Key)
+-- the groups of what is recorded
+abbrev pub groups_at : Option (Record Key Value) → List (List Key)
 groups_at None = []
-groups_at (Some e) = items_of e.groups.items
+groups_at (Some r) = r.groups
 
 -- each key has the users that it had, in any order
 abbrev pub SameSets : Users → Users → Type 0
 SameSets old new = (j k : Key) → In k (users_at new j) ↔ In k (users_at old j)
 
--- a record without groups was put at the key
+-- a record without groups and users was put at the key
 abbrev pub HasPlaced : Records → Records → Key → Value → ℕ → Type 0
-HasPlaced old new key value version = (e : Kept) × (new ≡ old ++ (key, e) ∷ []) × (arc_value e.value ≡ value) × (e.groups.items ≡ []) × (e.changed_at ≡ version) × (e.dirty ≡ false)
+HasPlaced old new key value version = (e : Kept) × (new ≡ old ++ (key, e) ∷ []) × (row_of e ≡ record { value = value; groups = []; settled_at = version; changed_at = version; dirty = false }) × (e.users.items ≡ [])

@@ -1,11 +1,17 @@
-//! Reverse edges, from a key to those whose records have it in a group.
-ghost use Rattle.std.specs.Prelude.{◌≡◌, List, [], ◌∷◌, ◌++◌, not, filter, map, OnOk, OnErr, IfOk, IfSome, IfNone, IsTrue, ◌↔◌, ◌==◌};
+//! Reverse edges, from a key to those whose records have it in a group. They stand in the key's own record.
+ghost use Rattle.std.specs.Prelude.{◌≡◌, ◌<◌, All, List, [], ◌∷◌, ◌++◌, not, filter, length, map, OnOk, OnErr, IfOk, IfSome, IfNone, IsSome, IsTrue, Some, ◌↔◌, ◌==◌};
 ghost use Rattle.evaluation.specs.Value.{In, IsMember};
+ghost use Rattle.std.specs.List.{list_any};
+ghost use Rattle.numbered.specs.Tables.{AreDistinct, key_at};
+ghost use Rattle.numbered.specs.Flats.{members_in};
+ghost use Rattle.keys.specs.Keys.{key_eq};
 ghost use Rattle.keys.specs.declared.key.Key.{Key};
-ghost use Rattle.node.specs.Kept.{items_of, numbers_at};
+ghost use Rattle.node.specs.Kept.{items_of, numbers_of, AsksNumbers, KeepsRecords};
+ghost use Rattle.node.specs.Writes.{groups_at};
+ghost use Rattle.node.specs.Graphs.{seen};
 ghost use Rattle.node.specs.Edges.{IsAdded, HasLinked, HasUnlinked, SameUsers, HasLinkedSome, HasLinkedAll, HasCut, AddsMembers, AreMembers, among};
 
-use crate::kept::Users;
+use crate::kept::Records;
 use keys::Key;
 use numbered::Number;
 use std::alloc::Global;
@@ -44,45 +50,45 @@ fn has(set: &BTreeSet<Key>, key: &Key) -> bool
     set.contains(key)
 }
 
-// Makes the record with a number a user of the member.
-fn link(alloc: Global, users: &mut Users, member: &Key, user: Number) -> Result<(), Memory>
-    ensures ok { OnOk result (HasLinked (numbers_at users.old) (numbers_at users.new) member.now user) }
-    ensures err { OnErr result (SameUsers (numbers_at users.old) (numbers_at users.new)) }
+// Makes the record with a number a user of the member, which has a record.
+fn link(records: &mut Records, member: &Key, user: Number) -> Result<(), Memory>
+    requires { IsSome (seen records.old member.now) }
+    ensures ok { OnOk result (HasLinked (numbers_of records.old) (numbers_of records.new) member.now user) }
+    ensures err { OnErr result (SameUsers (numbers_of records.old) (numbers_of records.new)) }
+    ensures same { KeepsRecords records.old records.new }
 {
-    if let Some(list) = users.get_mut(member) {
-        add_user(list, user)?;
-        return Ok(());
+    if let Some(kept) = records.get_mut(member) {
+        add_user(&mut kept.users, user)?;
     }
-    let mut list = Vec::with_capacity(alloc, 1)?;
-    add_user(&mut list, user)?;
-    users.push(member.share()?, list)?;
     Ok(())
 }
 
 // Makes the record with a number no user of the member.
-fn unlink(users: &mut Users, member: &Key, user: Number)
-    ensures { HasUnlinked (numbers_at users.old) (numbers_at users.new) member.now user }
+fn unlink(records: &mut Records, member: &Key, user: Number)
+    ensures users { HasUnlinked (numbers_of records.old) (numbers_of records.new) member.now user }
+    ensures same { KeepsRecords records.old records.new }
 {
-    if let Some(list) = users.get_mut(member) {
-        remove_user(list, user);
+    if let Some(kept) = records.get_mut(member) {
+        remove_user(&mut kept.users, user);
     }
 }
 
 // Makes the record with a number a user of each member of a group. It is one already of those in the set.
 fn link_group(
-    alloc: Global,
-    users: &mut Users,
+    records: &mut Records,
     group: &[Key],
     linked: &BTreeSet<Key>,
     user: Number,
 ) -> Result<(), Memory>
-    requires { (j : Key) → In j linked.now.keys → In user (numbers_at users.old j) }
-    ensures some { HasLinkedSome (numbers_at users.old) (numbers_at users.new) user (λ j. In j group.now) }
-    ensures all { OnOk result (HasLinkedAll (numbers_at users.new) user (λ j. In j group.now)) }
+    requires linked { (j : Key) → In j linked.now.keys → In user (numbers_of records.old j) }
+    requires members { (j : Key) → In j group.now → IsSome (seen records.old j) }
+    ensures some { HasLinkedSome (numbers_of records.old) (numbers_of records.new) user (λ j. In j group.now) }
+    ensures all { OnOk result (HasLinkedAll (numbers_of records.new) user (λ j. In j group.now)) }
+    ensures same { KeepsRecords records.old records.new }
 {
     for member in group {
         if !has(linked, member) {
-            link(alloc, users, member, user)?;
+            link(records, member, user)?;
         }
     }
     Ok(())
@@ -90,51 +96,71 @@ fn link_group(
 
 /// Makes the record with a number a user of each member of the groups. It is one already of those in the set.
 pub fn link_groups(
-    alloc: Global,
-    users: &mut Users,
+    records: &mut Records,
     groups: &[Vec<Key>],
     linked: &BTreeSet<Key>,
     user: Number,
 ) -> Result<(), Memory>
-    requires { (j : Key) → In j linked.now.keys → In user (numbers_at users.old j) }
-    ensures some { HasLinkedSome (numbers_at users.old) (numbers_at users.new) user (λ j. IsMember j (items_of groups.now)) }
-    ensures all { OnOk result (HasLinkedAll (numbers_at users.new) user (λ j. IsMember j (items_of groups.now))) }
+    requires linked { (j : Key) → In j linked.now.keys → In user (numbers_of records.old j) }
+    requires members { (j : Key) → IsMember j (items_of groups.now) → IsSome (seen records.old j) }
+    ensures some { HasLinkedSome (numbers_of records.old) (numbers_of records.new) user (λ j. IsMember j (items_of groups.now)) }
+    ensures all { OnOk result (HasLinkedAll (numbers_of records.new) user (λ j. IsMember j (items_of groups.now))) }
+    ensures same { KeepsRecords records.old records.new }
 {
     for group in groups {
-        link_group(alloc, users, group.as_slice(), linked, user)?;
+        link_group(records, group.as_slice(), linked, user)?;
     }
     Ok(())
 }
 
-// Whether the key is a member of the groups.
-fn is_among(groups: &[Vec<Key>], key: &Key) -> bool
-    ensures { result ≡ among (items_of groups.now) key.now }
+// Whether the member is the key of one of these numbers.
+fn is_named(records: &Records, numbers: &[Number], member: &Key) -> bool
+    requires { All (λ n. n < length records.now) numbers.now }
+    ensures { result ≡ list_any (λ k. key_eq k member.now) (members_in records.now numbers.now) }
 {
-    for group in groups {
-        if group.as_slice().contains(key) {
+    for number in numbers {
+        if records.key_at(*number) == member {
             return true;
         }
     }
     false
 }
 
-// Makes the record with a number no user of the members of a group, but of those among the groups that are kept.
-fn cut_group(users: &mut Users, group: &[Key], keep: &[Vec<Key>], user: Number)
-    ensures { HasCut (numbers_at users.old) (numbers_at users.new) user (λ j. In j group.now) (λ j. IsMember j (items_of keep.now)) }
+// Whether the record with a number has the member in a group.
+fn asks(records: &Records, user: Number, member: &Key) -> bool
+    requires within { user < length records.now }
+    requires distinct { AreDistinct records.now }
+    requires members { AsksNumbers records.now }
+    ensures { (k : Key) → key_at records.now user ≡ Some k → result ≡ among (groups_at (seen records.now k)) member.now }
+{
+    is_named(records, records.value_at(user).groups.members(), member)
+}
+
+// Makes the record with a number no user of the members of a group, but of those that it has in a group itself.
+fn cut_group(records: &mut Records, group: &[Key], user: Number)
+    requires within { user < length records.old }
+    requires distinct { AreDistinct records.old }
+    requires members { AsksNumbers records.old }
+    ensures cut { (k : Key) → key_at records.old user ≡ Some k → HasCut (numbers_of records.old) (numbers_of records.new) user (λ j. In j group.now) (λ j. IsMember j (groups_at (seen records.old k))) }
+    ensures same { KeepsRecords records.old records.new }
 {
     for member in group {
-        if !is_among(keep, member) {
-            unlink(users, member, user);
+        if !asks(records, user, member) {
+            unlink(records, member, user);
         }
     }
 }
 
-/// Makes the record with a number no user of the members of the groups, but of those among the groups that are kept.
-pub fn cut(users: &mut Users, groups: &[Vec<Key>], keep: &[Vec<Key>], user: Number)
-    ensures { HasCut (numbers_at users.old) (numbers_at users.new) user (λ j. IsMember j (items_of groups.now)) (λ j. IsMember j (items_of keep.now)) }
+/// Makes the record with a number no user of the members of the groups, but of those that it has in a group itself.
+pub fn cut(records: &mut Records, groups: &[Vec<Key>], user: Number)
+    requires within { user < length records.old }
+    requires distinct { AreDistinct records.old }
+    requires members { AsksNumbers records.old }
+    ensures cut { (k : Key) → key_at records.old user ≡ Some k → HasCut (numbers_of records.old) (numbers_of records.new) user (λ j. IsMember j (items_of groups.now)) (λ j. IsMember j (groups_at (seen records.old k))) }
+    ensures same { KeepsRecords records.old records.new }
 {
     for group in groups {
-        cut_group(users, group.as_slice(), keep, user);
+        cut_group(records, group.as_slice(), user);
     }
 }
 
@@ -159,14 +185,30 @@ pub fn members_of(alloc: Global, groups: &[Vec<Key>]) -> Result<BTreeSet<Key>, M
     Ok(set)
 }
 
-/// The members of the new groups, where there are old ones.
+/// Returns the keys with these numbers.
+pub fn members_with(
+    alloc: Global,
+    records: &Records,
+    numbers: &[Number],
+) -> Result<BTreeSet<Key>, Memory>
+    requires { All (λ n. n < length records.now) numbers.now }
+    ensures { IfOk result (λ set. (j : Key) → In j set.keys ↔ In j (members_in records.now numbers.now)) }
+{
+    let mut set = BTreeSet::new(alloc);
+    for number in numbers {
+        add(&mut set, records.key_at(*number).share()?)?;
+    }
+    Ok(set)
+}
+
+/// The members of the new groups, where there are old members.
 pub fn members_beside(
     alloc: Global,
-    old: &[Vec<Key>],
+    old: &[Number],
     new: &[Vec<Key>],
 ) -> Result<Option<BTreeSet<Key>>, Memory>
     ensures some { IfOk result (λ found. IfSome found (λ set. AreMembers set.keys (items_of new.now))) }
-    ensures none { IfOk result (λ found. IfNone found (items_of old.now ≡ [])) }
+    ensures none { IfOk result (λ found. IfNone found (old.now ≡ [])) }
 {
     if old.is_empty() {
         return Ok(None);
@@ -174,34 +216,63 @@ pub fn members_beside(
     Ok(Some(members_of(alloc, new)?))
 }
 
-// Makes the record with a number no user of the members of a group, but of those in the set.
-fn cut_group_beside(users: &mut Users, group: &[Key], keep: &BTreeSet<Key>, user: Number)
-    ensures { HasCut (numbers_at users.old) (numbers_at users.new) user (λ j. In j group.now) (λ j. In j keep.now.keys) }
+// Makes the record with a number no user of the member with a number.
+fn unlink_at(records: &mut Records, member: Number, user: Number)
+    requires within { member < length records.old }
+    requires distinct { AreDistinct records.old }
+    ensures users { (k : Key) → key_at records.old member ≡ Some k → HasUnlinked (numbers_of records.old) (numbers_of records.new) k user }
+    ensures same { KeepsRecords records.old records.new }
 {
-    for member in group {
-        if !has(keep, member) {
-            unlink(users, member, user);
+    remove_user(&mut records.value_mut(member).users, user);
+}
+
+/// Makes the record with a number no user of the members with these numbers, but of those that it has in a group
+/// itself.
+pub fn cut_with(records: &mut Records, members: &[Number], user: Number)
+    requires within { user < length records.old }
+    requires numbers { All (λ n. n < length records.old) members.now }
+    requires distinct { AreDistinct records.old }
+    requires members { AsksNumbers records.old }
+    ensures cut { (k : Key) → key_at records.old user ≡ Some k → HasCut (numbers_of records.old) (numbers_of records.new) user (λ j. In j (members_in records.old members.now)) (λ j. IsMember j (groups_at (seen records.old k))) }
+    ensures same { KeepsRecords records.old records.new }
+{
+    for member in members {
+        if !asks(records, user, records.key_at(*member)) {
+            unlink_at(records, *member, user);
         }
     }
 }
 
-// Makes the record with a number no user of the members of the groups, but of those in the set.
-fn cut_groups_beside(users: &mut Users, groups: &[Vec<Key>], keep: &BTreeSet<Key>, user: Number)
-    ensures { HasCut (numbers_at users.old) (numbers_at users.new) user (λ j. IsMember j (items_of groups.now)) (λ j. In j keep.now.keys) }
+// Makes the record with a number no user of the members with these numbers, but of those in the set.
+fn cut_others(records: &mut Records, members: &[Number], keep: &BTreeSet<Key>, user: Number)
+    requires numbers { All (λ n. n < length records.old) members.now }
+    requires distinct { AreDistinct records.old }
+    ensures cut { HasCut (numbers_of records.old) (numbers_of records.new) user (λ j. In j (members_in records.old members.now)) (λ j. In j keep.now.keys) }
+    ensures same { KeepsRecords records.old records.new }
 {
-    for group in groups {
-        cut_group_beside(users, group.as_slice(), keep, user);
+    for member in members {
+        if !has(keep, records.key_at(*member)) {
+            unlink_at(records, *member, user);
+        }
     }
 }
 
-/// Makes the record with a number no user of the members of the groups, but of those in the set. Without a set nothing
-/// is cut.
-pub fn cut_beside(users: &mut Users, groups: &[Vec<Key>], keep: Option<BTreeSet<Key>>, user: Number)
-    ensures some { IfSome keep (λ set. HasCut (numbers_at users.old) (numbers_at users.new) user (λ j. IsMember j (items_of groups.now)) (λ j. In j set.keys)) }
-    ensures none { IfNone keep (users.new ≡ users.old) }
+/// Makes the record with a number no user of the members with these numbers, but of those in the set. Without a set
+/// nothing is cut.
+pub fn cut_beside(
+    records: &mut Records,
+    members: &[Number],
+    keep: Option<BTreeSet<Key>>,
+    user: Number,
+)
+    requires numbers { All (λ n. n < length records.old) members.now }
+    requires distinct { AreDistinct records.old }
+    ensures some { IfSome keep (λ set. HasCut (numbers_of records.old) (numbers_of records.new) user (λ j. In j (members_in records.old members.now)) (λ j. In j set.keys)) }
+    ensures none { IfNone keep (numbers_of records.new ≡ numbers_of records.old) }
+    ensures same { KeepsRecords records.old records.new }
 {
     match keep {
         None => {}
-        Some(set) => cut_groups_beside(users, groups, &set, user),
+        Some(set) => cut_others(records, members, &set, user),
     }
 }

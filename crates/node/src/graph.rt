@@ -1,22 +1,25 @@
 //! The graph of records.
-ghost use Rattle.std.specs.Prelude.{◌≡◌, ℕ, List, ◌+◌, ◌<◌, [], ◌∷◌, length, IfSome, IfNone, IfOk, OnOk, OnErr, map, IsSome, IsTrue, Some, false};
+ghost use Rattle.std.specs.Prelude.{◌≡◌, ℕ, List, ◌+◌, ◌<◌, [], ◌∷◌, length, IfSome, IfNone, IfOk, OnOk, OnErr, IsSome, IsTrue, Some, false, slice_get};
 ghost use Rattle.std.specs.Option.{option_map};
 ghost use Rattle.std.specs.Arc.{arc_value};
+ghost use Rattle.std.specs.Map.{keys_of as keys_of_records};
 ghost use Rattle.evaluation.specs.Graph.{Record, Marks};
 ghost use Rattle.keys.specs.declared.key.Key.{Key};
 ghost use Rattle.keys.specs.declared.value.Value.{Value};
 ghost use Rattle.node.specs.Kept.{record_of, items_of};
 ghost use Rattle.evaluation.specs.Value.{AllDiffer};
+ghost use Rattle.node.specs.Compared.{Compares};
 ghost use Rattle.node.specs.Counts.{edges_of};
 ghost use Rattle.node.specs.Batches.{keys_of, HasReadyEntries, SetsAll};
 ghost use Rattle.node.specs.Laws.{IsAlwaysLawful, TouchKeepsLawful, SettlingKeepsLawful, BatchKeepsLawful};
-ghost use Rattle.node.specs.Writes.{HasReadyMembers, stored, is_ready_group, are_ready};
+ghost use Rattle.node.specs.Writes.{HasReadyMembers, groups_at, stored, is_ready_group, are_ready};
 ghost use Rattle.node.specs.Graphs.{record_at, present, IsTouched, paths_seen, AreReached, HasCleanMembers, Sets};
 
 use crate::batch::store_all;
+use crate::compared::{Compared, compare_next, groups_with};
 use crate::counts::{Counts, edges};
 use crate::entry::Entry;
-use crate::kept::{Kept, Records, Users};
+use crate::kept::{Kept, Records};
 use crate::leaves::touched;
 use crate::marks::{keys_with, mark_from, set_all, unmark_all};
 use crate::settling::{settle, store};
@@ -30,14 +33,13 @@ use texts::Memory;
 /// What was recorded of the nodes that were settled: of each its value, the groups that it asked, the version at which
 /// it was last settled, the version at which its value last changed, and whether an edit since then may have changed
 /// it (it is dirty then). A contract sees the graph's version and the records, in the order in which their keys were
-/// recorded first. The reverse edges, from a key to those whose records have it in a group, are kept beside them and
-/// are their inverse.
+/// recorded first. The reverse edges, from a key to those whose records have it in a group, stand in the key's own
+/// record and are the inverse of the groups.
 #[derive(Drop)]
 pub struct Graph {
     alloc: Global,
     version: u32,
     records: Records,
-    users: Users,
 }
 
 impl Model for Graph {
@@ -52,7 +54,7 @@ impl Model for Graph {
 
     ghost view = { λ g. recorded g.version g.records };
 
-    ghost invariant = { λ g. IsLinkedBy g.records g.users };
+    ghost invariant = { λ g. IsLinkedBy g.records };
 }
 
 impl Graph {
@@ -75,7 +77,6 @@ impl Graph {
             alloc,
             version,
             records: Table::new(alloc),
-            users: Table::new(alloc),
         }
     }
 
@@ -88,7 +89,7 @@ impl Graph {
 
     // What is kept of a key.
     fn kept(&self, key: &Key) -> Option<&Kept>
-        ensures { option_map (λ e. record_of e.now) result ≡ record_at self.now key.now }
+        ensures { option_map (λ e. record_of (keys_of_records self.now.records) e.now) result ≡ record_at self.now key.now }
     {
         self.records.get(key)
     }
@@ -103,13 +104,25 @@ impl Graph {
         }
     }
 
-    /// The groups of a key's record, dirty or not, and None without one.
-    pub fn groups(&self, key: &Key) -> Option<&[Vec<Key>]>
-        ensures { option_map (λ gs. map (λ g. g.items) gs.now) result ≡ option_map (λ r. r.groups) (record_at self.now key.now) }
+    /// The groups of a key's record, dirty or not, and None without one. `Memory` where a growth was refused.
+    pub fn groups(&self, alloc: Global, key: &Key) -> Result<Option<Vec<Vec<Key>>>, Memory>
+        ensures { IfOk result (λ found. option_map (λ groups. items_of groups.items) found ≡ option_map (λ r. r.groups) (record_at self.now key.now)) }
     {
-        match self.kept(key) {
-            None => None,
-            Some(kept) => Some(kept.groups.as_slice()),
+        match self.records.get(key) {
+            None => Ok(None),
+            Some(kept) => Ok(Some(groups_with(alloc, &self.records, &kept.groups)?)),
+        }
+    }
+
+    /// How the check of a key's record goes on that passed so many of its groups: whether the next one is settled, and
+    /// whether a member's value has changed since the record was settled. Over without a record and where no group is
+    /// left. It takes memory for the members alone that are not settled; `Memory` where that was refused.
+    pub fn compare(&self, alloc: Global, key: &Key, passed: usize) -> Result<Compared, Memory>
+        ensures { IfOk result (Compares (record_at self.now) (record_at self.now key.now) passed) }
+    {
+        match self.records.get(key) {
+            None => Ok(Compared::Over),
+            Some(kept) => compare_next(alloc, &self.records, kept, passed),
         }
     }
 
@@ -155,12 +168,7 @@ impl Graph {
     {
         let leaves = touched(self.alloc, paths)?;
         let mut marked = Vec::new(self.alloc);
-        let spread = mark_from(
-            &mut self.records,
-            &self.users,
-            &mut marked,
-            leaves.as_slice(),
-        );
+        let spread = mark_from(&mut self.records, &mut marked, leaves.as_slice());
         unmark_all(&mut self.records, marked.as_slice());
         spread?;
         let keys = keys_with(self.alloc, &self.records, marked.as_slice())?;
@@ -258,15 +266,7 @@ impl Graph {
         ensures refused { OnErr result (self.new ≡ self.old) }
     {
         let version = self.version;
-        store(
-            self.alloc,
-            &mut self.records,
-            &mut self.users,
-            &key,
-            value,
-            groups,
-            version,
-        )?;
+        store(self.alloc, &mut self.records, &key, value, groups, version)?;
         Ok(())
     }
 
@@ -282,13 +282,7 @@ impl Graph {
         ensures lawful { OnOk result (BatchKeepsLawful self.old self.new entries.items) }
         ensures refused { OnErr result (self.new ≡ self.old) }
     {
-        store_all(
-            self.alloc,
-            &mut self.records,
-            &mut self.users,
-            entries,
-            self.version,
-        )?;
+        store_all(self.alloc, &mut self.records, entries, self.version)?;
         Ok(())
     }
 

@@ -1,15 +1,18 @@
 //! What a graph keeps.
 use keys::{Key, Value};
-use numbered::{Number, Table};
+use numbered::{Flat, Number, Table};
 use std::sync::Arc;
 
-/// What is kept of a node that was settled.
+/// What is kept of a node that was settled. A contract sees all but the users, and the members of
+/// the groups by their keys.
 #[derive(Drop)]
 pub struct Kept {
     /// Its value.
     pub value: Arc<Value>,
-    /// The groups that it asked.
-    pub groups: Vec<Vec<Key>>,
+    /// The groups that it asked, by the numbers of their members' records.
+    pub groups: Flat,
+    /// The numbers of the records that have its key in a group.
+    pub users: Vec<Number>,
     /// The version at which it was last settled.
     pub settled_at: u32,
     /// The version at which its value last changed.
@@ -20,6 +23,3 @@ pub struct Kept {
 
 /// Records by key. A key's number is that of its record.
 pub type Records = Table<Kept>;
-
-/// The numbers of the records that have a key in a group, by that key.
-pub type Users = Table<Vec<Number>>;

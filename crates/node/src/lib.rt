@@ -2,6 +2,7 @@
 #![tactic(auto)]
 
 mod batch;
+mod compared;
 mod counts;
 mod edges;
 mod entry;
@@ -11,6 +12,7 @@ mod leaves;
 mod marks;
 mod settling;
 
+pub use compared::Compared;
 pub use counts::Counts;
 pub use entry::Entry;
 pub use graph::Graph;

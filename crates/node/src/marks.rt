@@ -4,11 +4,11 @@ ghost use Rattle.std.specs.Map.{keys_of};
 ghost use Rattle.numbered.specs.Tables.{AreDistinct, Writes, key_at};
 ghost use Rattle.numbered.specs.Flats.{members_in};
 ghost use Rattle.keys.specs.declared.key.Key.{Key};
-ghost use Rattle.node.specs.Kept.{Records, AreNumbers, kept_at, numbers_at, users_in, cleans, cost};
+ghost use Rattle.node.specs.Kept.{Records, AreNumbers, kept_at, numbers_of, numbers_with, users_of, cleans, cost};
 ghost use Rattle.node.specs.Marks.{HasReached, HasReachedAll, HasReachedSome, HasSpread, HasPassed, IsDirty, Lists, Marked, SetsMarks};
 ghost use Rattle.node.specs.declared.kept.Kept.{Kept};
 
-use crate::kept::{Records, Users};
+use crate::kept::Records;
 use keys::Key;
 use numbered::Number;
 use std::alloc::Global;
@@ -82,49 +82,49 @@ fn reach_leaves(
     Ok(())
 }
 
-// Marks the records of these users, and lists their numbers.
+// Returns the users of the key with a number.
+fn users_with(records: &Records, number: Number) -> &[Number]
+    requires { number < length records.now }
+    ensures { result.now ≡ numbers_with records.now number }
+{
+    records.value_at(number).users.as_slice()
+}
+
+// Marks the records of the users of the key with a number, and lists their numbers.
 fn reach_users(
     records: &mut Records,
     marked: &mut Vec<Number>,
-    users: &[Number],
+    number: Number,
 ) -> Result<(), Memory>
-    requires within { All (λ n. n < length records.old) users.now }
+    requires within { number < length records.old }
+    requires users { All (λ n. n < length records.old) (numbers_with records.old number) }
     requires distinct { AreDistinct records.old }
-    ensures some { HasReachedSome records.old records.new (members_in records.old marked.old.items) (members_in records.new marked.new.items) (members_in records.old users.now) }
-    ensures all { OnOk result (HasReachedAll records.new (members_in records.old users.now)) }
+    ensures some { HasReachedSome records.old records.new (members_in records.old marked.old.items) (members_in records.new marked.new.items) (members_in records.old (numbers_with records.old number)) }
+    ensures all { OnOk result (HasReachedAll records.new (members_in records.old (numbers_with records.old number))) }
     ensures work { cleans records.new + vec_len marked.new ≤ cleans records.old + vec_len marked.old }
     ensures lists { Lists records.old marked.old.items marked.new.items }
 {
-    for user in users {
-        reach(records, marked, *user)?;
+    let count = users_with(records, number).len();
+    for at in 0..count {
+        let user = users_with(records, number)[at];
+        reach(records, marked, user)?;
     }
     Ok(())
 }
 
-// Returns the users of the key with a number.
-fn users_of<'a>(records: &Records, users: &'a Users, number: Number) -> &'a [Number]
-    requires { number < length records.now }
-    ensures { (j : Key) → key_at records.now number ≡ Some j → result.now ≡ numbers_at users.now j }
-{
-    match users.get(records.key_at(number)) {
-        None => &[],
-        Some(list) => list.as_slice(),
-    }
-}
-
 // Marks what is reached from the listed keys, and lists it too.
-fn spread(records: &mut Records, users: &Users, marked: &mut Vec<Number>) -> Result<(), Memory>
+fn spread(records: &mut Records, marked: &mut Vec<Number>) -> Result<(), Memory>
     requires within { All (λ n. n < length records.old) marked.old.items }
     requires distinct { AreDistinct records.old }
-    requires numbers { AreNumbers records.old users.now }
-    ensures spread { HasSpread (users_in records.old users.now) records.old records.new (members_in records.old marked.old.items) (members_in records.new marked.new.items) }
-    ensures passed { OnOk result (HasPassed (users_in records.old users.now) records.new (members_in records.new marked.new.items)) }
+    requires numbers { AreNumbers records.old (numbers_of records.old) }
+    ensures spread { HasSpread (users_of records.old) records.old records.new (members_in records.old marked.old.items) (members_in records.new marked.new.items) }
+    ensures passed { OnOk result (HasPassed (users_of records.old) records.new (members_in records.new marked.new.items)) }
     ensures lists { Lists records.old marked.old.items marked.new.items }
 {
     let mut at = 0;
     while at < marked.len() {
         let number = marked[at];
-        reach_users(records, marked, users_of(records, users, number))?;
+        reach_users(records, marked, number)?;
         at += 1;
     }
     Ok(())
@@ -167,20 +167,19 @@ pub fn keys_with(alloc: Global, records: &Records, numbers: &[Number]) -> Result
 /// Marks what is reached from the leaves and not dirty yet, and lists its numbers.
 pub fn mark_from(
     records: &mut Records,
-    users: &Users,
     marked: &mut Vec<Number>,
     leaves: &[Key],
 ) -> Result<(), Memory>
     requires none { marked.old.items ≡ [] }
     requires distinct { AreDistinct records.old }
-    requires numbers { AreNumbers records.old users.now }
-    ensures marked { Marked (users_in records.old users.now) leaves.now records.old records.new (members_in records.new marked.new.items) }
+    requires numbers { AreNumbers records.old (numbers_of records.old) }
+    ensures marked { Marked (users_of records.old) leaves.now records.old records.new (members_in records.new marked.new.items) }
     ensures keys { keys_of records.new ≡ keys_of records.old }
     ensures within { All (λ n. n < length records.new) marked.new.items }
-    ensures passed { OnOk result (HasPassed (users_in records.old users.now) records.new (members_in records.new marked.new.items)) }
+    ensures passed { OnOk result (HasPassed (users_of records.old) records.new (members_in records.new marked.new.items)) }
     ensures begun { OnOk result (HasReachedAll records.new leaves.now) }
 {
     reach_leaves(records, marked, leaves)?;
-    spread(records, users, marked)?;
+    spread(records, marked)?;
     Ok(())
 }

@@ -1,17 +1,21 @@
 //! Records written in place.
 ghost use Rattle.std.specs.Prelude.{◌≡◌, Some, None, false, OnOk, OnErr, IsSome, if◌then◌else◌};
 ghost use Rattle.std.specs.Arc.{arc_value};
+ghost use Rattle.std.specs.Map.{keys_of};
+ghost use Rattle.evaluation.specs.Value.{IsMember};
 ghost use Rattle.numbered.specs.Tables.{AreDistinct, Writes};
 ghost use Rattle.keys.specs.Values.{value_eq};
-ghost use Rattle.node.specs.Kept.{kept_at, items_of, users_in, AreNumbers};
+ghost use Rattle.keys.specs.declared.key.Key.{Key};
+ghost use Rattle.node.specs.Kept.{kept_at, items_of, numbers_of, users_of, AreNumbers, AsksNumbers, KeepsRecords, asked_of};
 ghost use Rattle.node.specs.Writes.{written, stored, groups_at, HasPlaced, HasReadyMembers, SameSets};
 ghost use Rattle.node.specs.Edges.{HasUsers};
-ghost use Rattle.node.specs.Graphs.{IsLinkedBy, HasStored, seen};
+ghost use Rattle.node.specs.Graphs.{IsLinkedBy, Sets, seen};
 ghost use Rattle.node.specs.declared.kept.Kept.{Kept};
 
-use crate::edges::{cut, cut_beside, link_groups, members_beside, members_of};
-use crate::kept::{Kept, Records, Users};
+use crate::edges::{cut, cut_beside, link_groups, members_beside, members_with};
+use crate::kept::{Kept, Records};
 use keys::{Key, Value};
+use numbered::{Flat, Number};
 use std::alloc::Global;
 use std::mem;
 use std::sync::Arc;
@@ -20,7 +24,6 @@ use texts::Memory;
 /// Writes a version into a record, and takes its mark away.
 pub fn settle(records: &mut Records, key: &Key, version: u32)
     ensures updates { (e : Kept) → kept_at records.old key.now ≡ Some e → Writes records.old records.new key.now (record e { settled_at = version; dirty = false }) }
-    ensures ordered { AreDistinct records.new }
 {
     if let Some(found) = records.get_mut(key) {
         found.settled_at = version;
@@ -45,12 +48,11 @@ pub fn write(
     records: &mut Records,
     key: &Key,
     value: Arc<Value>,
-    groups: Vec<Vec<Key>>,
+    groups: Flat,
     version: u32,
-) -> Vec<Vec<Key>>
+) -> Flat
     ensures updates { (e : Kept) → kept_at records.old key.now ≡ Some e → Writes records.old records.new key.now (written e value groups version) }
-    ensures groups { (e : Kept) → kept_at records.old key.now ≡ Some e → result.items ≡ e.groups.items }
-    ensures ordered { AreDistinct records.new }
+    ensures groups { (e : Kept) → kept_at records.old key.now ≡ Some e → result ≡ e.groups }
 {
     match records.get_mut(key) {
         None => groups,
@@ -64,17 +66,17 @@ pub fn write(
     }
 }
 
-/// The groups that are kept of a key.
-pub fn kept_groups<'a>(records: &'a Records, key: &Key) -> &'a [Vec<Key>]
-    ensures { items_of result.now ≡ groups_at (kept_at records.now key.now) }
+/// The members of the groups that are kept of a key.
+pub fn kept_members<'a>(records: &'a Records, key: &Key) -> &'a [Number]
+    ensures { result.now ≡ asked_of (kept_at records.now key.now) }
 {
     match records.get(key) {
         None => &[],
-        Some(kept) => kept.groups.as_slice(),
+        Some(kept) => kept.groups.members(),
     }
 }
 
-/// Keeps a record without groups at a key that has none.
+/// Keeps a record without groups and users at a key that has none.
 pub fn place(
     alloc: Global,
     records: &mut Records,
@@ -90,7 +92,8 @@ pub fn place(
 {
     let kept = Kept {
         value: Arc::try_clone(value)?,
-        groups: Vec::new(alloc),
+        groups: Flat::new(alloc),
+        users: Vec::new(alloc),
         settled_at: version,
         changed_at: version,
         dirty: false,
@@ -100,58 +103,59 @@ pub fn place(
 }
 
 /// Writes a value and groups into the record of a key that has one, and the reverse edges with it. Where a growth was
-/// refused, the records and the edges are as before.
+/// refused, no record has changed, and each key has the users that it had.
 pub fn rewrite(
     alloc: Global,
     records: &mut Records,
-    users: &mut Users,
     key: &Key,
     value: Arc<Value>,
     groups: Vec<Vec<Key>>,
     version: u32,
 ) -> Result<(), Memory>
-    requires recorded { IsSome (kept_at records.old key.now) }
-    requires linked { IsLinkedBy records.old users.old }
-    ensures ok { OnOk result ((e : Kept) → kept_at records.old key.now ≡ Some e → Writes records.old records.new key.now (written e value groups version) × AreDistinct records.new) }
-    ensures users { OnOk result (HasUsers (users_in records.old users.old) (users_in records.new users.new) key.now (items_of groups.items)) }
-    ensures err { OnErr result ((records.new ≡ records.old) × SameSets (users_in records.old users.old) (users_in records.old users.new)) }
-    ensures numbers { AreNumbers records.new users.new }
+    requires recorded { IsSome (seen records.old key.now) }
+    requires linked { IsLinkedBy records.old }
+    requires members { (j : Key) → IsMember j (items_of groups.items) → IsSome (seen records.old j) }
+    ensures ok { OnOk result (Sets (seen records.old) (seen records.new) key.now (stored (seen records.old key.now) (arc_value value) (items_of groups.items) version)) }
+    ensures users { OnOk result (HasUsers (users_of records.old) (users_of records.new) key.now (items_of groups.items)) }
+    ensures err { OnErr result (KeepsRecords records.old records.new × SameSets (users_of records.old) (users_of records.new)) }
+    ensures keys { keys_of records.new ≡ keys_of records.old }
+    ensures numbers { AreNumbers records.new (numbers_of records.new) }
+    ensures asks { AsksNumbers records.new }
 {
     let user = records.number_of(key).unwrap();
-    let keep = members_beside(alloc, kept_groups(records, key), groups.as_slice())?;
-    let linked = members_of(alloc, kept_groups(records, key))?;
-    if let Err(error) = link_groups(alloc, users, groups.as_slice(), &linked, user) {
-        cut(users, groups.as_slice(), kept_groups(records, key), user);
+    let keep = members_beside(alloc, kept_members(records, key), groups.as_slice())?;
+    let linked = members_with(alloc, records, kept_members(records, key))?;
+    let flat = Flat::of(alloc, records, groups.as_slice())?;
+    if let Err(error) = link_groups(records, groups.as_slice(), &linked, user) {
+        cut(records, groups.as_slice(), user);
         return Err(error);
     }
-    let old = write(records, key, value, groups, version);
-    cut_beside(users, old.as_slice(), keep, user);
+    let old = write(records, key, value, flat, version);
+    cut_beside(records, old.members(), keep, user);
     Ok(())
 }
 
-/// Stores a record of a key, and the reverse edges with it. Where a growth was refused, the records and the edges are
-/// as before.
+/// Stores a record of a key, and the reverse edges with it. Where a growth was refused, the records are as before.
 pub fn store(
     alloc: Global,
     records: &mut Records,
-    users: &mut Users,
     key: &Key,
     value: Arc<Value>,
     groups: Vec<Vec<Key>>,
     version: u32,
 ) -> Result<(), Memory>
-    requires linked { IsLinkedBy records.old users.old }
+    requires linked { IsLinkedBy records.old }
     requires ready { HasReadyMembers (seen records.old) key.now (items_of groups.items) }
-    ensures ok { OnOk result (HasStored records.old records.new (users_in records.new users.new) key.now (stored (seen records.old key.now) (arc_value value) (items_of groups.items) version)) }
-    ensures err { OnErr result ((records.new ≡ records.old) × SameSets (users_in records.old users.old) (users_in records.new users.new)) }
-    ensures numbers { AreNumbers records.new users.new }
+    ensures ok { OnOk result (Sets (seen records.old) (seen records.new) key.now (stored (seen records.old key.now) (arc_value value) (items_of groups.items) version)) }
+    ensures err { OnErr result (KeepsRecords records.old records.new) }
+    ensures linked { IsLinkedBy records.new }
 {
     if records.contains_key(key) {
-        rewrite(alloc, records, users, key, value, groups, version)?;
+        rewrite(alloc, records, key, value, groups, version)?;
         return Ok(());
     }
     place(alloc, records, key, &value, version)?;
-    match rewrite(alloc, records, users, key, value, groups, version) {
+    match rewrite(alloc, records, key, value, groups, version) {
         Ok(()) => Ok(()),
         Err(error) => {
             let _placed = records.pop();

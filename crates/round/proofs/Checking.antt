@@ -32,10 +32,11 @@ use Rattle.open_nodes.specs.Counted.{MakesNone}
 use Rattle.open_nodes.proofs.Counting.{same_asked}
 use Rattle.open_nodes.proofs.Followings.{grows_none}
 use Rattle.open_nodes.proofs.Settlings.{truth_changes}
-use Rattle.round.specs.Members.{IsMissing, has_changed}
-use Rattle.round.specs.Compared.{IsNextGroup, ComparesGroup, Compares}
-use Rattle.round.specs.declared.look.Compared.{Compared}
-use Rattle.round.specs.declared.look.Compared.TheVariants as compared
+use Rattle.node.specs.Compared.{has_changed, Compares}
+use Rattle.node.specs.declared.compared.Compared.{Compared}
+use Rattle.node.specs.declared.compared.Compared.TheVariants as compared
+use Rattle.round.specs.Members.{IsMissing}
+use Rattle.round.proofs.Comparing.{IsNextGroup, HasChanged, HasNotChanged, over_is, waits_is, differs_is, passes_is}
 use Rattle.round.specs.Moves.{KeepsWanted}
 use Rattle.round.specs.Looks.{IsAwaiting, IsChecking, HasPassed}
 use Rattle.round.proofs.Grouping.{split_at, snoc_in, items_taken}
@@ -43,18 +44,6 @@ use Rattle.round.proofs.Wanting.{StaysTrue, wanted_set}
 use Rattle.round.proofs.Confirming.{standing}
 use Rattle.round.proofs.Reaching.{rest_is, current_wants}
 use Rattle.round.proofs.Seeking.{settled_by, still_unchanged, changed_since}
-
-items_joined : (xs ys : List (Vec Key Global)) → items_of (xs ++ ys) ≡ items_of xs ++ items_of ys
-items_joined [] ys = refl
-items_joined (x ∷ xs) ys = ap (λ z. x.items ∷ z) (items_joined xs ys)
-
--- the group at a place
-pub group_at : (groups : List (Vec Key Global)) (i : ℕ) (g : Vec Key Global) → g ≡ slice_index_or groups i g → i < length groups → (gs : List (List Key)) → items_of groups ≡ gs → (x : List Key) → x ≡ g.items
-    → (rest : List (List Key)) × (gs ≡ take i gs ++ x ∷ rest)
-group_at groups i g e h gs q x f = (
-  items_of (drop (i + 1) groups),
-  sym q ∙ ap items_of (split_at groups i g e h) ∙ items_joined (take i groups) (g ∷ drop (i + 1) groups) ∙ ap (λ ys. ys ++ g.items ∷ items_of (drop (i + 1) groups)) (items_taken i groups ∙ ap (take i) q) ∙ ap (λ y. take i gs ++ y ∷ items_of (drop (i + 1) groups)) (sym f),
-)
 
 -- one group more is taken
 pub next_taken : (i : ℕ) (gs : List (List Key)) (g : List Key) (rest : List (List Key)) → gs ≡ take i gs ++ g ∷ rest → take (suc i) gs ≡ take i gs ++ g ∷ []
@@ -77,46 +66,33 @@ module _ (graph : Recorded) (before later : Table) (k : Key) (at : ℕ) (c : IsC
   pub its_record : (r : Record Key Value) × (record_at graph k ≡ Some r)
   its_record = (stand.0, stand.1)
 
+  -- what a check finds, by the node's record
+  compared_there : (found : Compared) → Compares (record_at graph) (record_at graph k) at found → Compares (record_at graph) (Some r) at found
+  compared_there found f = subst (λ o. Compares (record_at graph) o at found) stand.1 f
+
   -- all groups are passed
-  pub passes_all : (found : Compared) → ((x : Record Key Value) → record_at graph k ≡ Some x → Compares (record_at graph) x at found) → found ≡ compared.Over → HasPassed graph before k
-  passes_all found f e = record { node = n; there = c.1; at = at; checking = c.2; over = λ x h. go x (f x h) }
-    where
-      go : (x : Record Key Value) → Compares (record_at graph) x at found → length x.groups ≤ at
-      go x (inl y) = y.1
-      go x (inr y) = absurd (subst (λ (z : Compared). ComparesGroup (record_at graph) y.0 x.settled_at z) e y.2)
-
-  abbrev Found : Compared → Type 0
-  Found found = (group : List Key) × IsNextGroup r at group × ComparesGroup (record_at graph) group r.settled_at found
-
-  pub found_group : (found : Compared) → ((x : Record Key Value) → record_at graph k ≡ Some x → Compares (record_at graph) x at found) → found ≢ compared.Over → Found found
-  found_group found f o = go (f r stand.1)
-    where
-      go : Compares (record_at graph) r at found → Found found
-      go (inl y) = absurd (o y.0)
-      go (inr y) = y
+  pub passes_all : (found : Compared) → Compares (record_at graph) (record_at graph k) at found → found ≡ compared.Over → HasPassed graph before k
+  passes_all found f e = record {
+    node = n;
+    there = c.1;
+    at = at;
+    checking = c.2;
+    over = λ x h. over_is (record_at graph) x at found (subst (λ o. Compares (record_at graph) o at found) h f) e;
+  }
 
   -- members of the next group are not settled
   pub awaits : (missing : List Key) → (group : List Key) × IsNextGroup r at group × IsMissing (record_at graph) group missing → IsAwaiting graph before k missing
   awaits missing f = record { node = n; there = c.1; group = f.0; current = subst (λ p. IsCurrent (record_at graph) k (groups_of n) p f.0) (sym c.2) (r, f.1.0, stand.1, f.1.1); of_group = f.2 }
 
-  pub awaits_found : (found : Compared) → ((x : Record Key Value) → record_at graph k ≡ Some x → Compares (record_at graph) x at found) → (missing : Vec Key Global) → found ≡ compared.Waits missing → (slice : List Key) → slice ≡ missing.items → IsAwaiting graph before k slice
-  awaits_found found f missing e slice q = let y = found_group found f (λ o. no (sym e ∙ o)) in
-      awaits slice (y.0, y.1, subst (IsMissing (record_at graph) y.0) (sym q) (subst (λ (z : Compared). ComparesGroup (record_at graph) y.0 r.settled_at z) e y.2))
-    where
-      no : compared.Waits missing ≡ compared.Over → ⊥
-      no o = cc
+  pub awaits_found : (found : Compared) → Compares (record_at graph) (record_at graph k) at found → (missing : Vec Key Global) → found ≡ compared.Waits missing → (slice : List Key) → slice ≡ missing.items → IsAwaiting graph before k slice
+  awaits_found found f missing e slice q = let y = waits_is (record_at graph) r at found (compared_there found f) missing e in awaits slice (y.0, y.1, subst (IsMissing (record_at graph) y.0) (sym q) y.2)
 
-  pub differs_found : (found : Compared) → ((x : Record Key Value) → record_at graph k ≡ Some x → Compares (record_at graph) x at found) → found ≡ compared.Differs → Found compared.Differs
-  differs_found found f e = let y = found_group found f (λ o. no (sym e ∙ o)) in (y.0, y.1, subst (λ (z : Compared). ComparesGroup (record_at graph) y.0 r.settled_at z) e y.2)
-    where
-      no : compared.Differs ≡ compared.Over → ⊥
-      no o = cc
+  pub differs_found : (found : Compared) → Compares (record_at graph) (record_at graph k) at found → found ≡ compared.Differs → (group : List Key) × IsNextGroup r at group × HasChanged (record_at graph) group r.settled_at
+  differs_found found f e = differs_is (record_at graph) r at found (compared_there found f) e
 
-  pub passes_found : (found : Compared) → ((x : Record Key Value) → record_at graph k ≡ Some x → Compares (record_at graph) x at found) → found ≡ compared.Passes → Found compared.Passes
-  passes_found found f e = let y = found_group found f (λ o. no (sym e ∙ o)) in (y.0, y.1, subst (λ (z : Compared). ComparesGroup (record_at graph) y.0 r.settled_at z) e y.2)
-    where
-      no : compared.Passes ≡ compared.Over → ⊥
-      no o = cc
+  pub passes_found : (found : Compared) → Compares (record_at graph) (record_at graph k) at found → (next : ℕ) → found ≡ compared.Passes next
+      → ((group : List Key) × IsNextGroup r at group × HasNotChanged (record_at graph) group r.settled_at) × (next ≡ at + 1)
+  passes_found found f next e = passes_is (record_at graph) r at found (compared_there found f) next e
 
   abbrev u : (p : _) → HasPhase before.nodes later.nodes k p → Updates key_eq before.nodes later.nodes k (Some (record n { phase = p }))
   u p h = h n c.1
@@ -170,7 +146,7 @@ module _ (graph : Recorded) (before later : Table) (k : Key) (at : ℕ) (c : IsC
       )
 
   -- the next group has not changed
-  module _ (found : (group : List Key) × IsNextGroup r at group × ComparesGroup (record_at graph) group r.settled_at compared.Passes)
+  module _ (found : (group : List Key) × IsNextGroup r at group × HasNotChanged (record_at graph) group r.settled_at)
       (pends : Pends before later k) (h : HasPhase before.nodes later.nodes k (phase.Checking (at + 1))) where
     still_member : (j : Key) → In j found.0 → IsStill (record_at graph) r.settled_at j
     still_member j i = let s = found.2.0 j i in (s.0, s.1, s.2, early s.0 (sym (ap (λ o. has_changed o r.settled_at) s.1) ∙ found.2.1 j i))
@@ -237,7 +213,7 @@ module _ (graph : Recorded) (before later : Table) (k : Key) (at : ℕ) (c : IsC
             ]
 
   -- a member of the next group has changed
-  module _ (found : (group : List Key) × IsNextGroup r at group × ComparesGroup (record_at graph) group r.settled_at compared.Differs)
+  module _ (found : (group : List Key) × IsNextGroup r at group × HasChanged (record_at graph) group r.settled_at)
       (readies : Readies before later k) (h : HasPhase before.nodes later.nodes k phase.Running) where
     no_members : (i : Key) → IsMember i (groups_of n) → ⊥
     no_members i m = elim (subst (IsMember i) stand.2 m).1 [ ]
@@ -302,11 +278,3 @@ module _ (graph : Recorded) (before later : Table) (k : Key) (at : ℕ) (c : IsC
       where
         late : {a b : ℕ} → nat_lt a b ≡ true → a < b
         late e = grind (arith, e)
-
--- the next place
-pub next_is : (found : Compared) (at next : ℕ) → (found ≡ compared.Over) ⊎ (next ≡ at + 1) → found ≡ compared.Passes → next ≡ at + 1
-next_is found at next (inl o) e = absurd (no (sym e ∙ o))
-  where
-    no : compared.Passes ≡ compared.Over → ⊥
-    no o = cc
-next_is found at next (inr h) e = h

@@ -2,6 +2,7 @@ pub mod Grouping
 pub mod Wanting
 pub mod Looking
 pub mod Confirming
+pub mod Comparing
 pub mod Checking
 pub mod Ending
 pub mod Handing

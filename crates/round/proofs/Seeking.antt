@@ -16,7 +16,7 @@ use Rattle.open_nodes.specs.Nodes.{Nodes, IsUnsettled, IsClean, IsStill}
 use Rattle.open_nodes.specs.Truths.{IsNext, Past, IsWantedBy, IsTrueOf, TellsChange}
 use Rattle.open_nodes.specs.declared.run.Run.{Run}
 use Rattle.open_nodes.proofs.Settlings.{now_is, clean_settles, same_since}
-use Rattle.round.specs.Members.{has_changed}
+use Rattle.node.specs.Compared.{has_changed}
 
 -- nothing is left of a whole list
 pub no_rest : {X : Type 0} (xs rest : List X) → xs ≡ xs ++ rest → rest ≡ []

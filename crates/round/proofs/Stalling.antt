@@ -36,33 +36,6 @@ items_snoc : (xs : List (Vec Key Global)) (x : Vec Key Global) → items_of (xs 
 items_snoc [] x = refl
 items_snoc (y ∷ xs) x = ap (λ z. y.items ∷ z) (items_snoc xs x)
 
--- groups are copied one by one
-pub record CopiesGroups (all copied : List (Vec Key Global)) (index at : ℕ) : Type 0 where
-  pub taken : items_of copied ≡ items_of (take index all)
-  pub count : length copied ≡ index
-  pub within : index ≤ at + 1
-
-pub copies_more : (all copied : List (Vec Key Global)) (index at : ℕ) (x shared : Vec Key Global) → x ≡ slice_index_or all index x → index < length all → shared.items ≡ x.items → length copied ≤ at
-    → CopiesGroups all copied index at → CopiesGroups all (copied ++ shared ∷ []) (index + 1) at
-copies_more all copied index at x shared e h same few c = let n = c.count in record {
-  taken = items_snoc copied shared ∙ ap (λ z. z ++ shared.items ∷ []) c.taken ∙ ap (λ z. items_of (take index all) ++ z ∷ []) same ∙ sym (items_snoc (take index all) x) ∙ ap items_of (sym (taken_next all index x e h));
-  count = let l = length-append copied (shared ∷ []) in omega (arith, l, n);
-  within = omega (arith, n, few);
-}
-
-pub copied_enough : (all copied : List (Vec Key Global)) (index at : ℕ) → at < length copied → CopiesGroups all copied index at → (gs : List (List Key)) → items_of all ≡ gs → items_of copied ≡ take (at + 1) gs
-copied_enough all copied index at l c gs e = c.taken ∙ ap (λ i. items_of (take i all)) same ∙ items_taken (at + 1) all ∙ ap (take (at + 1)) e
-  where
-    same : index ≡ at + 1
-    same = let n = c.count in let w = c.within in omega (arith, n, w, l)
-
-pub copied_all : (all copied : List (Vec Key Global)) (index at : ℕ) → length all ≤ index → CopiesGroups all copied index at → (gs : List (List Key)) → items_of all ≡ gs → items_of copied ≡ take (at + 1) gs
-copied_all all copied index at l c gs e =
-    c.taken ∙ ap items_of (take_whole all index l) ∙ e ∙ sym (take_whole gs (at + 1) short)
-  where
-    short : length gs ≤ at + 1
-    short = let w = c.within in let n = items_length all in let m = ap (λ (x : List (List Key)). length x) e in omega (arith, l, w, n, m)
-
 append_assoc : {X : Type 0} (xs ys zs : List X) → (xs ++ ys) ++ zs ≡ xs ++ (ys ++ zs)
 append_assoc [] ys zs = refl
 append_assoc (x ∷ xs) ys zs = ap (λ w. x ∷ w) (append_assoc xs ys zs)

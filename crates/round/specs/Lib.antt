@@ -1,7 +1,6 @@
 pub mod Members
 pub mod Moves
 pub mod Looks
-pub mod Compared
 pub mod Turning
 pub mod Call
 pub mod Closing

@@ -1,5 +1,5 @@
 -- What the graph holds of the members of groups. `records` gives the graph's record of a key.
-use Rattle.std.specs.Prelude.{◌≡◌, ◌⊎◌, ℕ, nat_lt, List, [], ◌∷◌, ◌++◌, map, Bool, true, false, if◌then◌else◌, Option, Some, None}
+use Rattle.std.specs.Prelude.{◌≡◌, ◌⊎◌, List, [], ◌∷◌, ◌++◌, map, Bool, true, false, if◌then◌else◌, Option, Some, None}
 use Rattle.evaluation.specs.Graph.{Record}
 use Rattle.evaluation.specs.Value.{In, IsMember}
 use Rattle.keys.specs.declared.key.Key.{Key}
@@ -16,16 +16,6 @@ pub record IsMissing (records : Records) (group missing : List Key) : Type 0 whe
 abbrev pub FindsUnsettled : Records → List Key → Option Key → Type 0
 FindsUnsettled records keys (Some k) = In k keys × IsUnsettled records k
 FindsUnsettled records keys None = (j : Key) → In j keys → IsClean records j
-
--- the value changed after a version; a key without a record counts as changed
-abbrev pub has_changed : Option (Record Key Value) → ℕ → Bool
-has_changed None since = true
-has_changed (Some r) since = nat_lt since r.changed_at
-
--- a member of the group changed after the version
-abbrev pub AnyChanged : Records → List Key → ℕ → Bool → Type 0
-AnyChanged records group since true = (j : Key) × In j group × (has_changed (records j) since ≡ true)
-AnyChanged records group since false = (j : Key) → In j group → has_changed (records j) since ≡ false
 
 abbrev pub is_cycle : Value → Bool
 is_cycle (value.File t) = false

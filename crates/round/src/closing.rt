@@ -14,8 +14,7 @@ ghost use Rattle.open_nodes.specs.declared.table.Table.{Table};
 ghost use Rattle.round.specs.Looks.{IsLastGroup};
 ghost use Rattle.round.specs.Closing.{ClosesWith, StopsIn, PutsStop, HasTurned, Descends, IsLeast, HasTaken};
 
-use crate::look::recorded_groups;
-use crate::members::{first_stop, share_all};
+use crate::members::first_stop;
 use keys::Key;
 use node::Graph;
 use open_nodes::{Node, Nodes, Phase, Table, note};
@@ -45,13 +44,13 @@ pub struct Stall {
 fn groups_up_to(alloc: Global, graph: &Graph, key: &Key, at: usize) -> Result<Vec<Vec<Key>>, Memory>
     ensures { IfOk result (λ groups. (r : Record Key Value) → record_at graph.now key.now ≡ Some r → items_of groups.items ≡ take (at + 1) r.groups) }
 {
-    let mut groups = Vec::new(alloc);
-    for group in recorded_groups(graph, key) {
-        if groups.len() > at {
-            return Ok(groups);
-        }
-        groups.push(share_all(alloc, group.as_slice())?)?;
+    let Some(mut groups) = graph.groups(alloc, key)? else {
+        return Ok(Vec::new(alloc));
+    };
+    if at >= groups.len() {
+        return Ok(groups);
     }
+    groups.truncate(at + 1);
     Ok(groups)
 }
 

@@ -1,6 +1,5 @@
 //! Looks at nodes that wait.
 ghost use Rattle.std.specs.Prelude.{◌≡◌, ◌⊎◌, ◌+◌, ◌<◌, ◌^◌, [], ℕ, true, false, IfOk, OnOk, Some, IfSome, IfNone, IsTrue};
-ghost use Rattle.round.specs.declared.look.Compared.TheVariants as compared;
 ghost use Rattle.evaluation.specs.Graph.{Record};
 ghost use Rattle.evaluation.specs.Value.{In};
 ghost use Rattle.open_nodes.specs.Nodes.{IsClean};
@@ -13,18 +12,17 @@ ghost use Rattle.open_nodes.specs.Counted.{MakesNone};
 ghost use Rattle.open_nodes.specs.Nodes.{node_at, groups_of, AreOut};
 ghost use Rattle.open_nodes.specs.declared.table.Node.{Node};
 ghost use Rattle.open_nodes.specs.declared.table.Phase.TheVariants as phase;
-ghost use Rattle.round.specs.Compared.{ComparesGroup, Compares};
 ghost use Rattle.round.specs.Frames.{KeepsFrame};
 ghost use Rattle.std.specs.Prelude.{Option};
 ghost use Rattle.open_nodes.specs.Nodes.{node_at, groups_of, pending};
 ghost use Rattle.round.specs.Looks.{IsAwaiting, IsChecking, IsLastGroup, IsRunning, IsRunningAt, IsNextKey};
 ghost use Rattle.round.specs.Moves.{KeepsTrue, IsWholeBut, IsWholeNow, KeepsOut, KeepsWanted};
 
-use crate::members::{any_changed, first_stop, last_unsettled, unsettled};
+use crate::members::{first_stop, last_unsettled, unsettled};
 use crate::settle::{confirm, want_all};
 use filetree::Tree;
 use keys::Key;
-use node::Graph;
+use node::{Compared, Graph};
 use open_nodes::{Nodes, Phase, Table, look_again, pass, put_ready, run_anew, watch};
 use std::alloc::Global;
 use texts::Memory;
@@ -56,91 +54,6 @@ fn wait_for(
     Ok(())
 }
 
-// How a check goes on.
-#[derive(Drop)]
-enum Compared {
-    // All groups are settled without a change.
-    Over,
-    // These members of the next group are not settled.
-    Waits(Vec<Key>),
-    // A member of the next group has changed.
-    Differs,
-    // The next group is settled without a change.
-    Passes,
-}
-
-// Compares a group whose members are settled.
-fn compare_settled(graph: &Graph, group: &[Key], since: u32) -> Compared
-    requires { (j : Key) → In j group.now → IsClean (record_at graph.now) j }
-    ensures { ComparesGroup (record_at graph.now) group.now since result }
-{
-    if any_changed(graph, group, since) {
-        Compared::Differs
-    } else {
-        Compared::Passes
-    }
-}
-
-// Compares a group with what was recorded at a version.
-fn compare_group(
-    alloc: Global,
-    graph: &Graph,
-    group: &[Key],
-    since: u32,
-) -> Result<Compared, Memory>
-    ensures { IfOk result (ComparesGroup (record_at graph.now) group.now since) }
-{
-    let missing = unsettled(alloc, graph, group)?;
-    if !missing.is_empty() {
-        return Ok(Compared::Waits(missing));
-    }
-    Ok(compare_settled(graph, group, since))
-}
-
-/// The groups of a key's record.
-pub fn recorded_groups<'a>(graph: &'a Graph, key: &Key) -> &'a [Vec<Key>]
-    ensures { (r : Record Key Value) → record_at graph.now key.now ≡ Some r → items_of result.now ≡ r.groups }
-{
-    match graph.groups(key) {
-        None => &[],
-        Some(groups) => groups,
-    }
-}
-
-// The version at which a key's record was settled.
-fn settled_version(graph: &Graph, key: &Key) -> u32
-    ensures { (r : Record Key Value) → record_at graph.now key.now ≡ Some r → result ≡ r.settled_at }
-{
-    match graph.settled_at(key) {
-        None => 0,
-        Some(version) => version,
-    }
-}
-
-// Compares the next recorded group of a node, and how many groups are passed if it has not changed.
-fn compare(
-    alloc: Global,
-    graph: &Graph,
-    key: &Key,
-    passed: usize,
-) -> Result<(Compared, usize), Memory>
-    ensures compares { IfOk result (λ found. (r : Record Key Value) → record_at graph.now key.now ≡ Some r → Compares (record_at graph.now) r passed found.0) }
-    ensures next { IfOk result (λ found. (found.0 ≡ compared.Over) ⊎ (found.1 ≡ passed + 1)) }
-{
-    let groups = recorded_groups(graph, key);
-    let count = groups.len();
-    if passed >= count {
-        return Ok((Compared::Over, passed));
-    }
-    let found = compare_group(
-        alloc,
-        graph,
-        groups[passed].as_slice(),
-        settled_version(graph, key),
-    )?;
-    Ok((found, passed + 1))
-}
-
 // Looks at a node whose record is checked, and that passed so many groups.
 fn check(
     alloc: Global,
@@ -160,12 +73,12 @@ fn check(
     ensures truth { KeepsTrue (leaves.read tree.now) graph.old graph.new table.old table.new result }
     ensures looked { OnOk result (table.new.looked ≡ table.old.looked) }
 {
-    let (found, next) = compare(alloc, graph, key, passed)?;
+    let found = graph.compare(alloc, key, passed)?;
     match found {
         Compared::Over => return confirm(alloc, graph, table, key),
         Compared::Waits(missing) => wait_for(alloc, graph, tree, table, key, missing.as_slice())?,
         Compared::Differs => run_anew(table, key)?,
-        Compared::Passes => pass(table, key, next)?,
+        Compared::Passes(next) => pass(table, key, next)?,
     }
     Ok(())
 }

@@ -59,28 +59,6 @@ pub fn last_unsettled<'a>(graph: &Graph, keys: &'a [Key]) -> Option<&'a Key>
     None
 }
 
-/// Whether a key has changed after a version.
-fn has_changed(graph: &Graph, key: &Key, since: u32) -> bool
-    ensures { result ≡ specs.has_changed (record_at graph.now key.now) since }
-{
-    match graph.changed_at(key) {
-        None => true,
-        Some(version) => since < version,
-    }
-}
-
-/// Whether a member of a group has changed after a version.
-pub fn any_changed(graph: &Graph, group: &[Key], since: u32) -> bool
-    ensures { specs.AnyChanged (record_at graph.now) group.now since result }
-{
-    for key in group {
-        if has_changed(graph, key, since) {
-            return true;
-        }
-    }
-    false
-}
-
 /// Whether a value is that of a cycle.
 fn is_cycle(value: &Value) -> bool
     ensures { result ≡ specs.is_cycle value.now }

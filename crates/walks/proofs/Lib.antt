@@ -6,3 +6,4 @@ pub mod GlobSteps
 pub mod GlobTexts
 pub mod GlobTurns
 pub mod GlobFinds
+pub mod Alone

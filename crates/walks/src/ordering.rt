@@ -19,8 +19,19 @@ fn set_of(alloc: Global, texts: &[Text]) -> Result<BTreeSet<Text>, Memory>
     Ok(set)
 }
 
-/// Texts in byte order, each once.
-pub fn in_order(alloc: Global, texts: &[Text]) -> Result<Vec<Text>, Memory>
+// The same texts, shared.
+fn shared(alloc: Global, texts: &[Text]) -> Result<Vec<Text>, Memory>
+    ensures { IfOk result (λ v. v.items ≡ texts.now) }
+{
+    let mut all = Vec::with_capacity(alloc, texts.len())?;
+    for text in texts {
+        all.push(text.share()?)?;
+    }
+    Ok(all)
+}
+
+// Texts in byte order, each once, by way of a set.
+fn by_set(alloc: Global, texts: &[Text]) -> Result<Vec<Text>, Memory>
     ensures { IfOk result (λ v. v.items ≡ sorted_names texts.now) }
 {
     let set = set_of(alloc, texts)?;
@@ -29,4 +40,15 @@ pub fn in_order(alloc: Global, texts: &[Text]) -> Result<Vec<Text>, Memory>
         all.push(text.share()?)?;
     }
     Ok(all)
+}
+
+/// Texts in byte order, each once.
+pub fn in_order(alloc: Global, texts: &[Text]) -> Result<Vec<Text>, Memory>
+    ensures { IfOk result (λ v. v.items ≡ sorted_names texts.now) }
+{
+    if texts.len() < 2 {
+        let few = shared(alloc, texts)?;
+        return Ok(few);
+    }
+    by_set(alloc, texts)
 }

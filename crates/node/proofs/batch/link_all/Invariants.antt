@@ -1,11 +1,12 @@
 use Rattle.std.proofs.Common.{take}
-use Rattle.node.specs.Kept.{AreNumbers, users_in}
+use Rattle.node.specs.Kept.{AreNumbers, KeepsRecords, numbers_of, users_in, users_of}
 use Rattle.node.specs.Batches.{HasLinkedEntries, HasLinkedEach}
 use Rattle.node.proofs.batch.link_all.Given as goal
 
 abbrev pub invariant-loop-entry : goal.invariant-loop-entry
 invariant-loop-entry l = record {
-  some : HasLinkedEntries (users_in l.records l.fn.users) (users_in l.records l.users) l.entries;
-  all : HasLinkedEach (users_in l.records l.users) (take l.entry-index l.entries);
-  numbers : AreNumbers l.records l.users;
+  some : HasLinkedEntries (users_of l.fn.records) (users_in l.fn.records (numbers_of l.records)) l.entries;
+  all : HasLinkedEach (users_in l.fn.records (numbers_of l.records)) (take l.entry-index l.entries);
+  numbers : AreNumbers l.fn.records (numbers_of l.records);
+  same : KeepsRecords l.fn.records l.records;
 }

@@ -1,26 +1,175 @@
-use Rattle.std.proofs.Common.{◌∙◌, sym, ap, subst, is_some}
+use Rattle.std.proofs.Common.{◌<◌, ◌∙◌, All, length, map, refl, sym, ap, subst}
+use Rattle.std.specs.List.{concat}
+use Rattle.std.specs.Map.{keys_of}
+use Rattle.std.specs.Option.{option_map, is_some}
+use Rattle.evaluation.specs.Value.{In, IsMember}
+use Rattle.numbered.specs.Flats.{members_in}
 use Rattle.numbered.proofs.Numbers.{number_iff}
-use Rattle.node.specs.Edges.{HasUsers}
-use Rattle.node.specs.Kept.{Users, items_of, users_in}
+use Rattle.node.specs.Edges.{HasCut, HasUsers}
+use Rattle.node.specs.Graphs.{seen}
+use Rattle.node.specs.Kept.{Users, UserLists, asked_of, kept_at, items_of, named, numbers_of, record_of, users_in, users_of}
 use Rattle.node.specs.Writes.{groups_at}
 use Rattle.node.proofs.Batching.{written_users}
-use Rattle.node.proofs.Numbering.{numbered_key}
-use Rattle.node.proofs.Relating.{keys_cut, users_same}
+use Rattle.node.proofs.Joining.{cut_fewer}
+use Rattle.node.proofs.Numbering.{key_same, key_within, members_same, numbered_key, same_length}
+use Rattle.node.proofs.Relating.{distinct_kept, keys_cut, users_same}
+use Rattle.node.proofs.Showing.{asked_below, member_asked, rewritten_asks, rewritten_keys, rewritten_lists, rewritten_sets, some_kept}
 use Rattle.node.proofs.batch.write_entry.Goals as goal
 
 pub unwrap-user-requires : goal.unwrap-user-requires
-unwrap-user-requires c = numbered_key c.args.records.now c.args.entry.key c.number_of.result c.number_of.ensures.number (ap is_some c.requires.1.there)
+unwrap-user-requires c =
+    let s = some_kept (keys_of c.args.records.now) (kept_at c.args.records.now c.args.entry.key) (ap is_some c.requires.ready.1.there) in
+    numbered_key c.args.records.now c.args.entry.key c.number_of.result c.number_of.ensures.number (ap is_some s.1)
+
+pub cut_with-requires-clause-within : goal.cut_with-requires-clause-within
+cut_with-requires-clause-within c =
+    let start = c.args.records.now in
+    let wrote = c.write-old.new.records in
+    let user = c.unwrap-user.result in
+    let key = c.args.entry.key in
+    let d = c.number_of.ensures.distinct in
+    let at = (number_iff start d key user).0 (sym c.number_of.ensures.number ∙ c.unwrap-user.ensures) in
+    let s = some_kept (keys_of start) (kept_at start key) (ap is_some c.requires.ready.1.there) in
+    let u = c.write-old.ensures.updates s.0 s.1 in
+    let at_wrote = key_same start wrote u.keys user ∙ at in
+    let flat = c.args.flat in
+    key_within wrote user key at_wrote
+
+pub cut_with-requires-clause-numbers : goal.cut_with-requires-clause-numbers
+cut_with-requires-clause-numbers c =
+    let start = c.args.records.now in
+    let wrote = c.write-old.new.records in
+    let user = c.unwrap-user.result in
+    let key = c.args.entry.key in
+    let d = c.number_of.ensures.distinct in
+    let at = (number_iff start d key user).0 (sym c.number_of.ensures.number ∙ c.unwrap-user.ensures) in
+    let s = some_kept (keys_of start) (kept_at start key) (ap is_some c.requires.ready.1.there) in
+    let u = c.write-old.ensures.updates s.0 s.1 in
+    let at_wrote = key_same start wrote u.keys user ∙ at in
+    let flat = c.args.flat in
+    let numbers = c.members.ensures ∙ ap concat (c.write-old.ensures.groups s.0 s.1) ∙ ap asked_of (sym s.1) in
+    subst (All (λ n. n < length wrote)) (sym numbers) (subst (λ l. All (λ n. n < l) (asked_of (kept_at start key))) (sym (same_length start wrote u.keys)) (asked_below start c.requires.asks key))
+
+pub cut_with-requires-clause-distinct : goal.cut_with-requires-clause-distinct
+cut_with-requires-clause-distinct c =
+    let start = c.args.records.now in
+    let wrote = c.write-old.new.records in
+    let user = c.unwrap-user.result in
+    let key = c.args.entry.key in
+    let d = c.number_of.ensures.distinct in
+    let at = (number_iff start d key user).0 (sym c.number_of.ensures.number ∙ c.unwrap-user.ensures) in
+    let s = some_kept (keys_of start) (kept_at start key) (ap is_some c.requires.ready.1.there) in
+    let u = c.write-old.ensures.updates s.0 s.1 in
+    let at_wrote = key_same start wrote u.keys user ∙ at in
+    let flat = c.args.flat in
+    distinct_kept start wrote u.keys d
+
+pub cut_with-requires-clause-members : goal.cut_with-requires-clause-members
+cut_with-requires-clause-members c =
+    let start = c.args.records.now in
+    let wrote = c.write-old.new.records in
+    let user = c.unwrap-user.result in
+    let key = c.args.entry.key in
+    let d = c.number_of.ensures.distinct in
+    let at = (number_iff start d key user).0 (sym c.number_of.ensures.number ∙ c.unwrap-user.ensures) in
+    let s = some_kept (keys_of start) (kept_at start key) (ap is_some c.requires.ready.1.there) in
+    let u = c.write-old.ensures.updates s.0 s.1 in
+    let at_wrote = key_same start wrote u.keys user ∙ at in
+    let flat = c.args.flat in
+    rewritten_asks start start wrote wrote key s.0 c.args.entry.value flat c.args.version refl s.1 u refl c.requires.members.within c.requires.asks
+
+pub returns-clause-sets : goal.returns-clause-sets
+returns-clause-sets c =
+    let start = c.args.records.now in
+    let wrote = c.write-old.new.records in
+    let user = c.unwrap-user.result in
+    let key = c.args.entry.key in
+    let d = c.number_of.ensures.distinct in
+    let at = (number_iff start d key user).0 (sym c.number_of.ensures.number ∙ c.unwrap-user.ensures) in
+    let s = some_kept (keys_of start) (kept_at start key) (ap is_some c.requires.ready.1.there) in
+    let u = c.write-old.ensures.updates s.0 s.1 in
+    let at_wrote = key_same start wrote u.keys user ∙ at in
+    let flat = c.args.flat in
+    let final = c.cut_with.new.records in
+    rewritten_sets start start wrote final key s.0 c.args.entry.value flat c.args.version refl s.1 u c.cut_with.ensures.same (items_of c.args.entry.groups.items) c.requires.members.groups
 
 pub returns-clause-users : goal.returns-clause-users
 returns-clause-users c =
-    let records = c.args.records.now in
-    let lists = c.args.users.now in
+    let start = c.args.records.now in
+    let wrote = c.write-old.new.records in
     let user = c.unwrap-user.result in
-    let at = (number_iff records c.number_of.ensures.distinct c.args.entry.key user).0 (sym c.number_of.ensures.number ∙ c.unwrap-user.ensures) in
-    let t = c.requires.1 in
-    let keys = (c.write-old.ensures.updates c.requires.0 t.there).keys in
-    subst (λ (u : Users). HasUsers (users_in records lists) u c.args.entry.key (items_of c.args.entry.groups.items)) (sym (users_same records c.write-old.new.records c.cut.new.users keys))
-    (written_users records (users_in records lists) (users_in records c.cut.new.users) c.args.entry c.requires.0 t _ _
-    (ap items_of (c.as_slice.ensures.value ∙ c.write-old.ensures.groups c.requires.0 t.there))
-    (c.kept_groups.ensures ∙ ap groups_at (c.write-old.ensures.updates c.requires.0 t.there).there)
-    (keys_cut records c.number_of.ensures.distinct c.args.entry.key user at lists c.cut.new.users _ _ c.cut.ensures))
+    let key = c.args.entry.key in
+    let d = c.number_of.ensures.distinct in
+    let at = (number_iff start d key user).0 (sym c.number_of.ensures.number ∙ c.unwrap-user.ensures) in
+    let s = some_kept (keys_of start) (kept_at start key) (ap is_some c.requires.ready.1.there) in
+    let u = c.write-old.ensures.updates s.0 s.1 in
+    let at_wrote = key_same start wrote u.keys user ∙ at in
+    let flat = c.args.flat in
+    let final = c.cut_with.new.records in
+    let t = c.requires.ready.1 in
+    let numbers = c.members.ensures ∙ ap concat (c.write-old.ensures.groups s.0 s.1) ∙ ap asked_of (sym s.1) in
+    let olds = groups_at (seen start key) in
+    let news = groups_at (seen wrote key) in
+    let members_is = members_same start wrote u.keys c.members.result.now ∙ ap (members_in start) numbers in
+    let cut = cut_fewer (numbers_of wrote) (numbers_of final) user (λ j. In j (members_in wrote c.members.result.now)) (λ j. IsMember j olds) (λ j. IsMember j news)
+    (λ j m. subst (In j) (sym members_is) (member_asked start key j m)) (c.cut_with.ensures.cut key at_wrote) in
+    let gone = subst (λ (l : UserLists). HasCut l (numbers_of final) user (λ j. IsMember j olds) (λ j. IsMember j news)) (rewritten_lists start start wrote final key s.0 c.args.entry.value flat c.args.version refl s.1 u c.cut_with.ensures.same) cut in
+    let end = rewritten_keys start start wrote final key s.0 c.args.entry.value flat c.args.version refl s.1 u c.cut_with.ensures.same in
+    let asks = ap (λ o. groups_at (option_map (record_of (keys_of wrote)) o)) u.there ∙ (λ i. map (named (u.keys i)) flat) ∙ c.requires.members.groups in
+    subst (λ (v : Users). HasUsers (users_of start) v key (items_of c.args.entry.groups.items)) (sym (users_same start final (numbers_of final) end))
+    (written_users (seen start) (users_of start) (users_in start (numbers_of final)) c.args.entry c.requires.ready.0 t olds news (ap groups_at t.there) asks
+    (keys_cut start d key user at (numbers_of start) (numbers_of final) _ _ gone))
+
+pub returns-clause-fewer : goal.returns-clause-fewer
+returns-clause-fewer c =
+    let start = c.args.records.now in
+    let wrote = c.write-old.new.records in
+    let user = c.unwrap-user.result in
+    let key = c.args.entry.key in
+    let d = c.number_of.ensures.distinct in
+    let at = (number_iff start d key user).0 (sym c.number_of.ensures.number ∙ c.unwrap-user.ensures) in
+    let s = some_kept (keys_of start) (kept_at start key) (ap is_some c.requires.ready.1.there) in
+    let u = c.write-old.ensures.updates s.0 s.1 in
+    let at_wrote = key_same start wrote u.keys user ∙ at in
+    let flat = c.args.flat in
+    let final = c.cut_with.new.records in
+    let t = c.requires.ready.1 in
+    let numbers = c.members.ensures ∙ ap concat (c.write-old.ensures.groups s.0 s.1) ∙ ap asked_of (sym s.1) in
+    let olds = groups_at (seen start key) in
+    let news = groups_at (seen wrote key) in
+    let members_is = members_same start wrote u.keys c.members.result.now ∙ ap (members_in start) numbers in
+    let cut = cut_fewer (numbers_of wrote) (numbers_of final) user (λ j. In j (members_in wrote c.members.result.now)) (λ j. IsMember j olds) (λ j. IsMember j news)
+    (λ j m. subst (In j) (sym members_is) (member_asked start key j m)) (c.cut_with.ensures.cut key at_wrote) in
+    let gone = subst (λ (l : UserLists). HasCut l (numbers_of final) user (λ j. IsMember j olds) (λ j. IsMember j news)) (rewritten_lists start start wrote final key s.0 c.args.entry.value flat c.args.version refl s.1 u c.cut_with.ensures.same) cut in
+    let end = rewritten_keys start start wrote final key s.0 c.args.entry.value flat c.args.version refl s.1 u c.cut_with.ensures.same in
+    gone.from
+
+pub returns-clause-keys : goal.returns-clause-keys
+returns-clause-keys c =
+    let start = c.args.records.now in
+    let wrote = c.write-old.new.records in
+    let user = c.unwrap-user.result in
+    let key = c.args.entry.key in
+    let d = c.number_of.ensures.distinct in
+    let at = (number_iff start d key user).0 (sym c.number_of.ensures.number ∙ c.unwrap-user.ensures) in
+    let s = some_kept (keys_of start) (kept_at start key) (ap is_some c.requires.ready.1.there) in
+    let u = c.write-old.ensures.updates s.0 s.1 in
+    let at_wrote = key_same start wrote u.keys user ∙ at in
+    let flat = c.args.flat in
+    let final = c.cut_with.new.records in
+    rewritten_keys start start wrote final key s.0 c.args.entry.value flat c.args.version refl s.1 u c.cut_with.ensures.same
+
+pub returns-clause-asks : goal.returns-clause-asks
+returns-clause-asks c =
+    let start = c.args.records.now in
+    let wrote = c.write-old.new.records in
+    let user = c.unwrap-user.result in
+    let key = c.args.entry.key in
+    let d = c.number_of.ensures.distinct in
+    let at = (number_iff start d key user).0 (sym c.number_of.ensures.number ∙ c.unwrap-user.ensures) in
+    let s = some_kept (keys_of start) (kept_at start key) (ap is_some c.requires.ready.1.there) in
+    let u = c.write-old.ensures.updates s.0 s.1 in
+    let at_wrote = key_same start wrote u.keys user ∙ at in
+    let flat = c.args.flat in
+    let final = c.cut_with.new.records in
+    rewritten_asks start start wrote final key s.0 c.args.entry.value flat c.args.version refl s.1 u c.cut_with.ensures.same c.requires.members.within c.requires.asks

@@ -1,8 +1,15 @@
-use Rattle.std.proofs.Common.{take}
+use Rattle.std.proofs.Common.{◌≡◌, Some, take}
 use Rattle.evaluation.specs.Value.{IsMember}
-use Rattle.node.specs.Kept.{items_of, numbers_at}
+use Rattle.keys.specs.declared.key.Key.{Key}
+use Rattle.numbered.specs.Tables.{key_at}
+use Rattle.node.specs.Kept.{KeepsRecords, items_of, numbers_of}
+use Rattle.node.specs.Writes.{groups_at}
+use Rattle.node.specs.Graphs.{seen}
 use Rattle.node.specs.Edges.{HasCut}
 use Rattle.node.proofs.edges.cut.Given as goal
 
 abbrev pub invariant-loop-group : goal.invariant-loop-group
-invariant-loop-group l = HasCut (numbers_at l.fn.users) (numbers_at l.users) l.user (λ j. IsMember j (items_of (take l.group-index l.groups))) (λ j. IsMember j (items_of l.keep))
+invariant-loop-group l = record {
+  cut : (k : Key) → key_at l.fn.records l.user ≡ Some k → HasCut (numbers_of l.fn.records) (numbers_of l.records) l.user (λ j. IsMember j (items_of (take l.group-index l.groups))) (λ j. IsMember j (groups_at (seen l.fn.records k)));
+  same : KeepsRecords l.fn.records l.records;
+}

@@ -1,19 +1,19 @@
-use Rattle.std.proofs.Common.{◌<◌, ◌∙◌, All, arith, length, sym, ap, subst, List}
-use Rattle.std.specs.List.{IsDistinct}
-use Rattle.keys.specs.Keys.{key_eq}
+use Rattle.std.proofs.Common.{◌≡◌, ◌<◌, ◌∙◌, All, arith, length, sym, ap, subst, List}
 use Rattle.keys.specs.declared.key.Key.{Key}
+use Rattle.numbered.specs.Tables.{AreDistinct}
 use Rattle.numbered.specs.Flats.{members_in}
-use Rattle.node.specs.Kept.{numbers_at, users_in}
+use Rattle.node.specs.Kept.{numbers_of, numbers_with, users_of}
 use Rattle.node.specs.Marks.{HasReachedAll, HasReachedSome}
 use Rattle.node.proofs.Reaching.{spread_more, passed_more, within_more, all_passed}
 use Rattle.node.proofs.Numbering.{all_from_in, in_at_is, key_there, in_members, lists_more, lists_within, members_same, same_length, within_at, within_same}
+use Rattle.node.proofs.Relating.{distinct_kept}
+use Rattle.node.proofs.Showing.{lists_by_number}
 use Rattle.node.proofs.marks.spread.Goals as goal
 
-pub users_of-requires : goal.users_of-requires
-users_of-requires c =
+pub reach_users-requires-clause-within : goal.reach_users-requires-clause-within
+reach_users-requires-clause-within c =
     let i = c.loop-at.invariant in
     let start = c.args.records.now in
-    let lists = c.args.users.now in
     let old = c.loop-at.records in
     let marked = c.loop-at.marked.items in
     let n = c.index-number.result.now in
@@ -22,11 +22,10 @@ users_of-requires c =
     let low = within_at old marked c.loop-at.at n all c.index-number.ensures h in
     low
 
-pub reach_users-requires-clause-within : goal.reach_users-requires-clause-within
-reach_users-requires-clause-within c =
+pub reach_users-requires-clause-users : goal.reach_users-requires-clause-users
+reach_users-requires-clause-users c =
     let i = c.loop-at.invariant in
     let start = c.args.records.now in
-    let lists = c.args.users.now in
     let old = c.loop-at.records in
     let marked = c.loop-at.marked.items in
     let n = c.index-number.result.now in
@@ -34,17 +33,18 @@ reach_users-requires-clause-within c =
     let all = within_same start old marked i.spread.same_keys (lists_within start c.args.marked.now.items marked c.requires.within i.lists) in
     let low = within_at old marked c.loop-at.at n all c.index-number.ensures h in
     let k = key_there old n low in
-    subst (All (λ x. x < length old)) (sym (c.users_of.ensures k.0 k.1))
-    (all_from_in (numbers_at lists k.0) (length old) (λ x u. subst (λ l. x < l) (sym (same_length start old i.spread.same_keys)) (c.requires.numbers k.0 x u)))
+    let distinct : AreDistinct old = distinct_kept start old i.spread.same_keys c.requires.distinct in
+    let users : numbers_with old n ≡ numbers_of start k.0 = lists_by_number old distinct k.0 n k.1 ∙ i.spread.same_lists k.0 in
+    subst (All (λ x. x < length old)) (sym users)
+    (all_from_in (numbers_of start k.0) (length old) (λ x u. subst (λ l. x < l) (sym (same_length start old i.spread.same_keys)) (c.requires.numbers k.0 x u)))
 
 pub reach_users-requires-clause-distinct : goal.reach_users-requires-clause-distinct
-reach_users-requires-clause-distinct c = subst (λ ks. IsDistinct key_eq ks) (sym c.loop-at.invariant.spread.same_keys) c.requires.distinct
+reach_users-requires-clause-distinct c = distinct_kept c.args.records.now c.loop-at.records c.loop-at.invariant.spread.same_keys c.requires.distinct
 
 pub returns-in_err-reach_users-clause-spread : goal.returns-in_err-reach_users-clause-spread
 returns-in_err-reach_users-clause-spread c =
     let i = c.loop-at.invariant in
     let start = c.args.records.now in
-    let lists = c.args.users.now in
     let old = c.loop-at.records in
     let marked = c.loop-at.marked.items in
     let n = c.index-number.result.now in
@@ -52,11 +52,13 @@ returns-in_err-reach_users-clause-spread c =
     let all = within_same start old marked i.spread.same_keys (lists_within start c.args.marked.now.items marked c.requires.within i.lists) in
     let low = within_at old marked c.loop-at.at n all c.index-number.ensures h in
     let k = key_there old n low in
+    let distinct : AreDistinct old = distinct_kept start old i.spread.same_keys c.requires.distinct in
+    let users : numbers_with old n ≡ numbers_of start k.0 = lists_by_number old distinct k.0 n k.1 ∙ i.spread.same_lists k.0 in
     let new = c.reach_users.new.records in
     let now = c.reach_users.new.marked.items in
-    let these = ap (members_in old) (c.users_of.ensures k.0 k.1) ∙ members_same start old i.spread.same_keys (numbers_at lists k.0) in
+    let these = ap (members_in old) users ∙ members_same start old i.spread.same_keys (numbers_of start k.0) in
     let some = subst (HasReachedSome old new (members_in old marked) (members_in new now)) these c.reach_users.ensures.some in
-    spread_more (users_in start lists) start old new (members_in start c.args.marked.now.items) (members_in old marked) (members_in new now) k.0
+    spread_more (users_of start) start old new (members_in start c.args.marked.now.items) (members_in old marked) (members_in new now) k.0
     i.spread some (in_members old marked n k.0 (in_at_is marked c.loop-at.at n n c.index-number.ensures h) k.1)
 
 pub returns-in_err-reach_users-clause-lists : goal.returns-in_err-reach_users-clause-lists
@@ -68,7 +70,6 @@ pub loop-at-preserved : goal.loop-at-preserved
 loop-at-preserved c =
     let i = c.loop-at.invariant in
     let start = c.args.records.now in
-    let lists = c.args.users.now in
     let old = c.loop-at.records in
     let marked = c.loop-at.marked.items in
     let n = c.index-number.result.now in
@@ -76,19 +77,21 @@ loop-at-preserved c =
     let all = within_same start old marked i.spread.same_keys (lists_within start c.args.marked.now.items marked c.requires.within i.lists) in
     let low = within_at old marked c.loop-at.at n all c.index-number.ensures h in
     let k = key_there old n low in
+    let distinct : AreDistinct old = distinct_kept start old i.spread.same_keys c.requires.distinct in
+    let users : numbers_with old n ≡ numbers_of start k.0 = lists_by_number old distinct k.0 n k.1 ∙ i.spread.same_lists k.0 in
     let new = c.reach_users.new.records in
     let now = c.reach_users.new.marked.items in
-    let these = ap (members_in old) (c.users_of.ensures k.0 k.1) ∙ members_same start old i.spread.same_keys (numbers_at lists k.0) in
+    let these = ap (members_in old) users ∙ members_same start old i.spread.same_keys (numbers_of start k.0) in
     let some = subst (HasReachedSome old new (members_in old marked) (members_in new now)) these c.reach_users.ensures.some in
     let each = subst (λ (ks : List Key). HasReachedAll new ks) these c.in_ok-reach_users.ensures.all in
     record {
-      spread = spread_more (users_in start lists) start old new (members_in start c.args.marked.now.items) (members_in old marked) (members_in new now) k.0
+      spread = spread_more (users_of start) start old new (members_in start c.args.marked.now.items) (members_in old marked) (members_in new now) k.0
           i.spread some (in_members old marked n k.0 (in_at_is marked c.loop-at.at n n c.index-number.ensures h) k.1);
-      passed = passed_more (users_in start lists) old new marked now c.loop-at.at n k.0 k.1 c.index-number.ensures h i.passed some c.reach_users.ensures.lists each;
-      within = within_more (users_in start lists) old new marked now c.loop-at.at n h c.reach_users.ensures.lists;
+      passed = passed_more (users_of start) old new marked now c.loop-at.at n k.0 k.1 c.index-number.ensures h i.passed some c.reach_users.ensures.lists each;
+      within = within_more (users_of start) old new marked now c.loop-at.at n h c.reach_users.ensures.lists;
       lists = lists_more start old c.args.marked.now.items marked now i.spread.same_keys i.lists c.reach_users.ensures.lists;
     }
 
 pub returns-clause-passed : goal.returns-clause-passed
 returns-clause-passed c =
-    all_passed (users_in c.args.records.now c.args.users.now) c.loop-at.records c.loop-at.marked.items c.loop-at.at c.loop-at.invariant.passed (omega (arith, c.len.ensures, c.loop-at-test.false))
+    all_passed (users_of c.args.records.now) c.loop-at.records c.loop-at.marked.items c.loop-at.at c.loop-at.invariant.passed (omega (arith, c.len.ensures, c.loop-at-test.false))

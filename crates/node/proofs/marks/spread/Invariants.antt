@@ -1,13 +1,13 @@
 use Rattle.std.proofs.Common.{◌≤◌, ◌+◌, ◌-◌, take, length, vec_len}
 use Rattle.numbered.specs.Flats.{members_in}
-use Rattle.node.specs.Kept.{cleans, users_in}
+use Rattle.node.specs.Kept.{cleans, users_of}
 use Rattle.node.specs.Marks.{HasSpread, HasPassed, Lists}
 use Rattle.node.proofs.marks.spread.Given as goal
 
 abbrev pub invariant-loop-at : goal.invariant-loop-at
 invariant-loop-at l = record {
-  spread : HasSpread (users_in l.fn.records l.users) l.fn.records l.records (members_in l.fn.records l.fn.marked.items) (members_in l.records l.marked.items);
-  passed : HasPassed (users_in l.fn.records l.users) l.records (members_in l.records (take l.at l.marked.items));
+  spread : HasSpread (users_of l.fn.records) l.fn.records l.records (members_in l.fn.records l.fn.marked.items) (members_in l.records l.marked.items);
+  passed : HasPassed (users_of l.fn.records) l.records (members_in l.records (take l.at l.marked.items));
   within : l.at ≤ length l.marked.items;
   lists : Lists l.fn.records l.fn.marked.items l.marked.items;
 }

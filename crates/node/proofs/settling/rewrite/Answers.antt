@@ -1,72 +1,264 @@
-use Rattle.std.proofs.Common.{refl, sym, subst, ◌∙◌, ap}
-use Rattle.evaluation.specs.Value.{IsMember}
+use Rattle.std.proofs.Common.{◌<◌, All, List, ℕ, length, refl, sym, subst, ◌∙◌, ap}
+use Rattle.std.specs.List.{concat}
+use Rattle.std.specs.Map.{keys_of}
+use Rattle.std.specs.Option.{IsSome, is_some}
+use Rattle.evaluation.specs.Value.{In, IsMember}
+use Rattle.numbered.specs.Flats.{HaveNumbers, members_in}
 use Rattle.numbered.proofs.Numbers.{number_iff}
-use Rattle.node.specs.Kept.{Users, kept_at, users_in, items_of}
-use Rattle.node.specs.Edges.{HasUsers}
-use Rattle.node.specs.Writes.{groups_at}
+use Rattle.node.specs.Kept.{Users, UserLists, asked_of, kept_at, numbers_of, users_in, users_of, items_of}
+use Rattle.node.specs.Edges.{HasCut, HasUsers}
+use Rattle.node.specs.Graphs.{seen}
+use Rattle.node.specs.Writes.{groups_at, SameSets}
 use Rattle.node.proofs.Joining.{cut_by_members}
-use Rattle.node.proofs.Numbering.{key_within, numbered_key}
-use Rattle.node.proofs.Relating.{has_number, keys_linked_some, keys_linked_all, keys_cut, numbers_fewer, numbers_linked, numbers_same, users_same}
-use Rattle.node.proofs.Rewriting.{some_kept, complete_at, undone_users, finished_users}
+use Rattle.node.proofs.Numbering.{groups_below, have_numbers, key_same, key_within, members_same, numbered_key, same_length}
+use Rattle.node.proofs.Relating.{distinct_kept, has_number, keys_linked_some, keys_linked_all, keys_cut, numbers_fewer, numbers_linked, numbers_same, users_same, within_kept}
+use Rattle.node.proofs.Rewriting.{complete_at, undone_users, finished_users}
+use Rattle.node.proofs.Showing.{asked_below, asked_member, keeps_asked, keeps_asks, keeps_keys, keeps_seen, member_asked, rewritten_asks, rewritten_keys, rewritten_lists, rewritten_sets, some_kept}
 use Rattle.node.proofs.settling.rewrite.Goals as goal
 
 pub unwrap-user-requires : goal.unwrap-user-requires
-unwrap-user-requires c = numbered_key c.args.records.now c.args.key.now c.number_of.result c.number_of.ensures.number c.requires.recorded
+unwrap-user-requires c =
+    let s = some_kept (keys_of c.args.records.now) (kept_at c.args.records.now c.args.key.now) c.requires.recorded in
+    numbered_key c.args.records.now c.args.key.now c.number_of.result c.number_of.ensures.number (ap is_some s.1)
 
-pub link_groups-requires : goal.link_groups-requires
-link_groups-requires c = λ j i.
+pub members_with-requires : goal.members_with-requires
+members_with-requires c = subst (All (λ n. n < length c.args.records.now)) (sym c.kept_members-2.ensures) (asked_below c.args.records.now c.requires.linked.asks c.args.key.now)
+
+pub of-requires : goal.of-requires
+of-requires c =
     let records = c.args.records.now in
-    let lists = c.args.users.now in
+    let have = subst (HaveNumbers records) (sym (ap items_of c.as_slice-2.ensures.value)) (have_numbers records (items_of c.args.groups.items) (λ j m. let x = some_kept (keys_of records) (kept_at records j) (c.requires.members j m) in ap is_some x.1)) in
+    have
+
+pub link_groups-requires-clause-linked : goal.link_groups-requires-clause-linked
+link_groups-requires-clause-linked c = λ j i.
+    let records = c.args.records.now in
+    let lists = numbers_of records in
+    let key = c.args.key.now in
     let user = c.unwrap-user.result in
-    let at = (number_iff records c.number_of.ensures.distinct c.args.key.now user).0 (sym c.number_of.ensures.number ∙ c.unwrap-user.ensures) in
-    has_number records c.number_of.ensures.distinct c.args.key.now user at lists j
-    (complete_at records (users_in records lists) c.requires.linked.linked c.args.key.now j (subst (IsMember j) c.kept_groups-2.ensures ((c.in_ok-linked.ensures j).0 i)))
+    let d = c.number_of.ensures.distinct in
+    let at = (number_iff records d key user).0 (sym c.number_of.ensures.number ∙ c.unwrap-user.ensures) in
+    let asked = subst (λ (ns : List ℕ). In j (members_in records ns)) c.kept_members-2.ensures ((c.in_ok-linked.ensures j).0 i) in
+    has_number records d key user at lists j (complete_at (seen records) (users_of records) c.requires.linked.linked key j (asked_member records key j asked))
+
+pub link_groups-requires-clause-members : goal.link_groups-requires-clause-members
+link_groups-requires-clause-members c = λ j i. c.requires.members j (subst (IsMember j) (ap items_of c.as_slice-3.ensures.value) i)
+
+pub cut-requires-clause-within : goal.cut-requires-clause-within
+cut-requires-clause-within c =
+    let records = c.args.records.now in
+    let lists = numbers_of records in
+    let key = c.args.key.now in
+    let user = c.unwrap-user.result in
+    let d = c.number_of.ensures.distinct in
+    let at = (number_iff records d key user).0 (sym c.number_of.ensures.number ∙ c.unwrap-user.ensures) in
+    let middle = c.link_groups.new.records in
+    let same = c.link_groups.ensures.same in
+    let keys = keeps_keys records middle same in
+    within_kept records middle keys user (key_within records user key at)
+
+pub cut-requires-clause-distinct : goal.cut-requires-clause-distinct
+cut-requires-clause-distinct c =
+    distinct_kept c.args.records.now c.link_groups.new.records (keeps_keys c.args.records.now c.link_groups.new.records c.link_groups.ensures.same) c.number_of.ensures.distinct
+
+pub cut-requires-clause-members : goal.cut-requires-clause-members
+cut-requires-clause-members c = keeps_asks c.args.records.now c.link_groups.new.records c.link_groups.ensures.same c.requires.linked.asks
 
 pub returns-in-Err-clause-err : goal.returns-in-Err-clause-err
 returns-in-Err-clause-err c =
     let records = c.args.records.now in
-    let lists = c.args.users.now in
+    let lists = numbers_of records in
+    let key = c.args.key.now in
     let user = c.unwrap-user.result in
-    let at = (number_iff records c.number_of.ensures.distinct c.args.key.now user).0 (sym c.number_of.ensures.number ∙ c.unwrap-user.ensures) in (
-      refl,
-      undone_users records (users_in records lists) c.requires.linked.linked c.args.key.now (users_in records c.link_groups.new.users) (users_in records c.cut.new.users) (items_of c.args.groups.items) _ _ _
-          (ap items_of c.as_slice-2.ensures.value) (keys_linked_some records c.number_of.ensures.distinct c.args.key.now user at lists c.link_groups.new.users _ c.in-Err.ensures.some)
-          (ap items_of c.as_slice-in-Err.ensures.value) c.kept_groups-in-Err.ensures (keys_cut records c.number_of.ensures.distinct c.args.key.now user at c.link_groups.new.users c.cut.new.users _ _ c.cut.ensures),
+    let d = c.number_of.ensures.distinct in
+    let at = (number_iff records d key user).0 (sym c.number_of.ensures.number ∙ c.unwrap-user.ensures) in
+    let middle = c.link_groups.new.records in
+    let same = c.link_groups.ensures.same in
+    let keys = keeps_keys records middle same in
+    let later = c.cut.new.records in
+    let still = c.cut.ensures.same ∙ same in
+    let cut = c.cut.ensures.cut key (key_same records middle keys user ∙ at) in (
+      still,
+      subst (SameSets (users_of records)) (sym (users_same records later (numbers_of later) (keeps_keys records later still)))
+          (undone_users (seen records) (users_of records) c.requires.linked.linked key (users_in records (numbers_of middle)) (users_in records (numbers_of later)) (items_of c.args.groups.items) _ _ _
+          (ap items_of c.as_slice-3.ensures.value) (keys_linked_some records d key user at lists (numbers_of middle) _ c.in-Err.ensures.some)
+          (ap items_of c.as_slice-in-Err.ensures.value) (λ i. groups_at (keeps_seen records middle same i key)) (keys_cut records d key user at (numbers_of middle) (numbers_of later) _ _ cut)),
     )
 
+pub returns-in-Err-clause-keys : goal.returns-in-Err-clause-keys
+returns-in-Err-clause-keys c = keeps_keys c.args.records.now c.cut.new.records (c.cut.ensures.same ∙ c.link_groups.ensures.same)
+
+pub returns-in-Err-clause-asks : goal.returns-in-Err-clause-asks
+returns-in-Err-clause-asks c = keeps_asks c.args.records.now c.cut.new.records (c.cut.ensures.same ∙ c.link_groups.ensures.same) c.requires.linked.asks
+
+pub returns-in-Err-clause-numbers : goal.returns-in-Err-clause-numbers
+returns-in-Err-clause-numbers c =
+    let records = c.args.records.now in
+    let lists = numbers_of records in
+    let key = c.args.key.now in
+    let user = c.unwrap-user.result in
+    let d = c.number_of.ensures.distinct in
+    let at = (number_iff records d key user).0 (sym c.number_of.ensures.number ∙ c.unwrap-user.ensures) in
+    let middle = c.link_groups.new.records in
+    let same = c.link_groups.ensures.same in
+    let keys = keeps_keys records middle same in
+    let later = c.cut.new.records in
+    let still = c.cut.ensures.same ∙ same in
+    let cut = c.cut.ensures.cut key (key_same records middle keys user ∙ at) in
+    numbers_same records later (numbers_of later) (keeps_keys records later still)
+    (numbers_fewer records (numbers_of middle) (numbers_of later) cut.from (numbers_linked records lists (numbers_of middle) user _ (key_within records user key at) c.link_groups.ensures.some c.requires.linked.numbers))
+
+pub cut_beside-requires-clause-numbers : goal.cut_beside-requires-clause-numbers
+cut_beside-requires-clause-numbers c =
+    let records = c.args.records.now in
+    let lists = numbers_of records in
+    let key = c.args.key.now in
+    let user = c.unwrap-user.result in
+    let d = c.number_of.ensures.distinct in
+    let at = (number_iff records d key user).0 (sym c.number_of.ensures.number ∙ c.unwrap-user.ensures) in
+    let middle = c.link_groups.new.records in
+    let same = c.link_groups.ensures.same in
+    let keys = keeps_keys records middle same in
+    let wrote = c.write-old.new.records in
+    let s = some_kept (keys_of middle) (kept_at middle key) (subst IsSome (sym (λ i. keeps_seen records middle same i key)) c.requires.recorded) in
+    let u = c.write-old.ensures.updates s.0 s.1 in
+    let wrote_keys = u.keys ∙ keys in
+    let numbers = c.members.ensures ∙ ap concat (c.write-old.ensures.groups s.0 s.1) ∙ ap asked_of (sym s.1) ∙ keeps_asked records middle same key in
+    subst (All (λ n. n < length wrote)) (sym numbers) (subst (λ l. All (λ n. n < l) (asked_of (kept_at records key))) (sym (same_length records wrote wrote_keys)) (asked_below records c.requires.linked.asks key))
+
+pub cut_beside-requires-clause-distinct : goal.cut_beside-requires-clause-distinct
+cut_beside-requires-clause-distinct c =
+    let records = c.args.records.now in
+    let lists = numbers_of records in
+    let key = c.args.key.now in
+    let user = c.unwrap-user.result in
+    let d = c.number_of.ensures.distinct in
+    let at = (number_iff records d key user).0 (sym c.number_of.ensures.number ∙ c.unwrap-user.ensures) in
+    let middle = c.link_groups.new.records in
+    let same = c.link_groups.ensures.same in
+    let keys = keeps_keys records middle same in
+    let wrote = c.write-old.new.records in
+    let s = some_kept (keys_of middle) (kept_at middle key) (subst IsSome (sym (λ i. keeps_seen records middle same i key)) c.requires.recorded) in
+    let u = c.write-old.ensures.updates s.0 s.1 in
+    let wrote_keys = u.keys ∙ keys in
+    distinct_kept records wrote wrote_keys d
+
 pub returns-clause-ok : goal.returns-clause-ok
-returns-clause-ok c = λ e h. (c.write-old.ensures.updates e h, c.write-old.ensures.ordered)
+returns-clause-ok c =
+    let records = c.args.records.now in
+    let lists = numbers_of records in
+    let key = c.args.key.now in
+    let user = c.unwrap-user.result in
+    let d = c.number_of.ensures.distinct in
+    let at = (number_iff records d key user).0 (sym c.number_of.ensures.number ∙ c.unwrap-user.ensures) in
+    let middle = c.link_groups.new.records in
+    let same = c.link_groups.ensures.same in
+    let keys = keeps_keys records middle same in
+    let wrote = c.write-old.new.records in
+    let s = some_kept (keys_of middle) (kept_at middle key) (subst IsSome (sym (λ i. keeps_seen records middle same i key)) c.requires.recorded) in
+    let u = c.write-old.ensures.updates s.0 s.1 in
+    let wrote_keys = u.keys ∙ keys in
+    let final = c.cut_beside.new.records in
+    let flat = c.in_ok-flat.flat in
+    rewritten_sets records middle wrote final key s.0 c.args.value flat c.args.version same s.1 u c.cut_beside.ensures.same (items_of c.args.groups.items) (c.in_ok-flat.ensures.keys ∙ ap items_of c.as_slice-2.ensures.value)
 
 pub returns-clause-users : goal.returns-clause-users
 returns-clause-users c =
     let records = c.args.records.now in
-    let lists = c.args.users.now in
+    let lists = numbers_of records in
+    let key = c.args.key.now in
     let user = c.unwrap-user.result in
-    let at = (number_iff records c.number_of.ensures.distinct c.args.key.now user).0 (sym c.number_of.ensures.number ∙ c.unwrap-user.ensures) in
-    let s = some_kept (kept_at records c.args.key.now) c.requires.recorded in
-    let same = ap items_of (c.as_slice-3.ensures.value ∙ c.write-old.ensures.groups s.0 s.1) ∙ sym (ap groups_at s.1) in
-    let linked = c.link_groups.new.users in
-    let cut = c.cut_beside.new.users in
     let d = c.number_of.ensures.distinct in
-    let k = c.args.key.now in
-    subst (λ (u : Users). HasUsers (users_in records lists) u k (items_of c.args.groups.items)) (sym (users_same records c.write-old.new.records cut (c.write-old.ensures.updates s.0 s.1).keys))
-    (finished_users records (users_in records lists) c.requires.linked.linked k (users_in records linked) (users_in records cut) (items_of c.args.groups.items) _ (items_of c.as_slice-3.result.now) (items_of c.as_slice.result.now)
-    (ap items_of c.as_slice-2.ensures.value) (keys_linked_some records d k user at lists linked _ c.in_default.ensures.some) (keys_linked_all records d k user at lists linked _ c.in_default.ensures.all) same (ap items_of c.as_slice.ensures.value)
-    (keys_cut records d k user at linked cut _ _
-    (cut_by_members linked cut user (items_of c.as_slice-3.result.now) (items_of c.kept_groups.result.now) (items_of c.as_slice.result.now) c.in_ok-keep.keep
-    (same ∙ sym c.kept_groups.ensures) c.in_ok-keep.ensures.some c.in_ok-keep.ensures.none c.cut_beside.ensures.some c.cut_beside.ensures.none)))
+    let at = (number_iff records d key user).0 (sym c.number_of.ensures.number ∙ c.unwrap-user.ensures) in
+    let middle = c.link_groups.new.records in
+    let same = c.link_groups.ensures.same in
+    let keys = keeps_keys records middle same in
+    let wrote = c.write-old.new.records in
+    let s = some_kept (keys_of middle) (kept_at middle key) (subst IsSome (sym (λ i. keeps_seen records middle same i key)) c.requires.recorded) in
+    let u = c.write-old.ensures.updates s.0 s.1 in
+    let wrote_keys = u.keys ∙ keys in
+    let numbers = c.members.ensures ∙ ap concat (c.write-old.ensures.groups s.0 s.1) ∙ ap asked_of (sym s.1) ∙ keeps_asked records middle same key in
+    let final = c.cut_beside.new.records in
+    let flat = c.in_ok-flat.flat in
+    let members = members_in wrote c.members.result.now in
+    let members_is = members_same records wrote wrote_keys c.members.result.now ∙ ap (members_in records) numbers in
+    let news = items_of c.as_slice.result.now in
+    let olds = groups_at (seen records key) in
+    let gone = subst (λ (l : UserLists). HasCut l (numbers_of final) user (λ j. IsMember j olds) (λ j. IsMember j news)) (rewritten_lists records middle wrote final key s.0 c.args.value flat c.args.version same s.1 u c.cut_beside.ensures.same)
+    (cut_by_members (numbers_of wrote) (numbers_of final) user c.kept_members.result.now members olds news c.in_ok-keep.keep
+    (λ j m. subst (In j) (sym members_is) (member_asked records key j m)) (λ q. members_is ∙ ap (members_in records) (sym c.kept_members.ensures ∙ q))
+    c.in_ok-keep.ensures.some c.in_ok-keep.ensures.none c.cut_beside.ensures.some c.cut_beside.ensures.none) in
+    let end = rewritten_keys records middle wrote final key s.0 c.args.value flat c.args.version same s.1 u c.cut_beside.ensures.same in
+    subst (λ (v : Users). HasUsers (users_of records) v key (items_of c.args.groups.items)) (sym (users_same records final (numbers_of final) end))
+    (finished_users (seen records) (users_of records) c.requires.linked.linked key (users_in records (numbers_of middle)) (users_in records (numbers_of final)) (items_of c.args.groups.items) _ olds news
+    (ap items_of c.as_slice-3.ensures.value) (keys_linked_some records d key user at lists (numbers_of middle) _ c.in_default.ensures.some) (keys_linked_all records d key user at lists (numbers_of middle) _ c.in_default.ensures.all) refl (ap items_of c.as_slice.ensures.value)
+    (keys_cut records d key user at (numbers_of middle) (numbers_of final) _ _ gone))
+
+pub returns-clause-keys : goal.returns-clause-keys
+returns-clause-keys c =
+    let records = c.args.records.now in
+    let lists = numbers_of records in
+    let key = c.args.key.now in
+    let user = c.unwrap-user.result in
+    let d = c.number_of.ensures.distinct in
+    let at = (number_iff records d key user).0 (sym c.number_of.ensures.number ∙ c.unwrap-user.ensures) in
+    let middle = c.link_groups.new.records in
+    let same = c.link_groups.ensures.same in
+    let keys = keeps_keys records middle same in
+    let wrote = c.write-old.new.records in
+    let s = some_kept (keys_of middle) (kept_at middle key) (subst IsSome (sym (λ i. keeps_seen records middle same i key)) c.requires.recorded) in
+    let u = c.write-old.ensures.updates s.0 s.1 in
+    let wrote_keys = u.keys ∙ keys in
+    let final = c.cut_beside.new.records in
+    let flat = c.in_ok-flat.flat in
+    rewritten_keys records middle wrote final key s.0 c.args.value flat c.args.version same s.1 u c.cut_beside.ensures.same
+
+pub returns-clause-asks : goal.returns-clause-asks
+returns-clause-asks c =
+    let records = c.args.records.now in
+    let lists = numbers_of records in
+    let key = c.args.key.now in
+    let user = c.unwrap-user.result in
+    let d = c.number_of.ensures.distinct in
+    let at = (number_iff records d key user).0 (sym c.number_of.ensures.number ∙ c.unwrap-user.ensures) in
+    let middle = c.link_groups.new.records in
+    let same = c.link_groups.ensures.same in
+    let keys = keeps_keys records middle same in
+    let wrote = c.write-old.new.records in
+    let s = some_kept (keys_of middle) (kept_at middle key) (subst IsSome (sym (λ i. keeps_seen records middle same i key)) c.requires.recorded) in
+    let u = c.write-old.ensures.updates s.0 s.1 in
+    let wrote_keys = u.keys ∙ keys in
+    let final = c.cut_beside.new.records in
+    let flat = c.in_ok-flat.flat in
+    let have = subst (HaveNumbers records) (sym (ap items_of c.as_slice-2.ensures.value)) (have_numbers records (items_of c.args.groups.items) (λ j m. let x = some_kept (keys_of records) (kept_at records j) (c.requires.members j m) in ap is_some x.1)) in
+    rewritten_asks records middle wrote final key s.0 c.args.value flat c.args.version same s.1 u c.cut_beside.ensures.same (subst (All (All (λ n. n < length records))) (sym c.in_ok-flat.ensures.numbers) (groups_below records d (items_of c.as_slice-2.result.now) have)) c.requires.linked.asks
 
 pub returns-clause-numbers : goal.returns-clause-numbers
 returns-clause-numbers c =
     let records = c.args.records.now in
-    let lists = c.args.users.now in
+    let lists = numbers_of records in
+    let key = c.args.key.now in
     let user = c.unwrap-user.result in
-    let at = (number_iff records c.number_of.ensures.distinct c.args.key.now user).0 (sym c.number_of.ensures.number ∙ c.unwrap-user.ensures) in
-    let s = some_kept (kept_at records c.args.key.now) c.requires.recorded in
-    let same = ap items_of (c.as_slice-3.ensures.value ∙ c.write-old.ensures.groups s.0 s.1) ∙ sym (ap groups_at s.1) in
-    let linked = c.link_groups.new.users in
-    let cut = c.cut_beside.new.users in
-    let gone = cut_by_members linked cut user (items_of c.as_slice-3.result.now) (items_of c.kept_groups.result.now) (items_of c.as_slice.result.now) c.in_ok-keep.keep
-    (same ∙ sym c.kept_groups.ensures) c.in_ok-keep.ensures.some c.in_ok-keep.ensures.none c.cut_beside.ensures.some c.cut_beside.ensures.none in
-    numbers_same records c.write-old.new.records cut (c.write-old.ensures.updates s.0 s.1).keys
-    (numbers_fewer records linked cut gone.from (numbers_linked records lists linked user _ (key_within records user c.args.key.now at) c.in_default.ensures.some c.requires.linked.numbers))
+    let d = c.number_of.ensures.distinct in
+    let at = (number_iff records d key user).0 (sym c.number_of.ensures.number ∙ c.unwrap-user.ensures) in
+    let middle = c.link_groups.new.records in
+    let same = c.link_groups.ensures.same in
+    let keys = keeps_keys records middle same in
+    let wrote = c.write-old.new.records in
+    let s = some_kept (keys_of middle) (kept_at middle key) (subst IsSome (sym (λ i. keeps_seen records middle same i key)) c.requires.recorded) in
+    let u = c.write-old.ensures.updates s.0 s.1 in
+    let wrote_keys = u.keys ∙ keys in
+    let numbers = c.members.ensures ∙ ap concat (c.write-old.ensures.groups s.0 s.1) ∙ ap asked_of (sym s.1) ∙ keeps_asked records middle same key in
+    let final = c.cut_beside.new.records in
+    let flat = c.in_ok-flat.flat in
+    let members = members_in wrote c.members.result.now in
+    let members_is = members_same records wrote wrote_keys c.members.result.now ∙ ap (members_in records) numbers in
+    let news = items_of c.as_slice.result.now in
+    let olds = groups_at (seen records key) in
+    let gone = subst (λ (l : UserLists). HasCut l (numbers_of final) user (λ j. IsMember j olds) (λ j. IsMember j news)) (rewritten_lists records middle wrote final key s.0 c.args.value flat c.args.version same s.1 u c.cut_beside.ensures.same)
+    (cut_by_members (numbers_of wrote) (numbers_of final) user c.kept_members.result.now members olds news c.in_ok-keep.keep
+    (λ j m. subst (In j) (sym members_is) (member_asked records key j m)) (λ q. members_is ∙ ap (members_in records) (sym c.kept_members.ensures ∙ q))
+    c.in_ok-keep.ensures.some c.in_ok-keep.ensures.none c.cut_beside.ensures.some c.cut_beside.ensures.none) in
+    let end = rewritten_keys records middle wrote final key s.0 c.args.value flat c.args.version same s.1 u c.cut_beside.ensures.same in
+    numbers_same records final (numbers_of final) end
+    (numbers_fewer records (numbers_of middle) (numbers_of final) gone.from (numbers_linked records lists (numbers_of middle) user _ (key_within records user key at) c.in_default.ensures.some c.requires.linked.numbers))

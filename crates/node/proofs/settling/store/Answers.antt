@@ -1,95 +1,160 @@
-use Rattle.std.proofs.Common.{◌∷◌, [], ap, is_some, sym, subst}
+use Rattle.std.proofs.Common.{◌∷◌, [], None, ap, is_some, refl, sym, subst}
+use Rattle.std.specs.Arc.{arc_value}
 use Rattle.std.specs.Map.{keys_of}
-use Rattle.node.specs.Kept.{Records, Users, kept_at, users_in}
-use Rattle.node.specs.Graphs.{IsLinked}
-use Rattle.node.specs.Writes.{SameSets}
-use Rattle.node.proofs.Rewriting.{some_kept}
-use Rattle.node.proofs.Relating.{known_users, numbers_back, numbers_grown, numbers_same, numbers_shrunk, sets_back, sets_shrunk, users_grown}
-use Rattle.node.proofs.Storing.{stored_again, stored_first, placed_linked, placed_there, popped_same, absent, present_at}
+use Rattle.std.specs.Option.{option_map, option_to_list}
+use Rattle.node.specs.Kept.{Records, Users, kept_at, items_of, record_of, users_of}
+use Rattle.node.specs.Graphs.{seen, IsLinkedBy}
+use Rattle.node.specs.Writes.{stored, SameSets}
+use Rattle.node.proofs.Relating.{distinct_kept, front_linked, linked_again, linked_put, users_put}
+use Rattle.node.proofs.Showing.{popped_rows, pushed_lists}
+use Rattle.node.proofs.Storing.{ready_recorded, stored_again, stored_first, first_linked, placed_linked, placed_asks, placed_members, placed_there, placed_others, absent, present_at}
 use Rattle.node.proofs.settling.store.Goals as goal
 
-pub returns-then-contains_key-clause-ok : goal.returns-then-contains_key-clause-ok
-returns-then-contains_key-clause-ok c =
-    let records = c.args.records.now in
-    let s = some_kept (kept_at records c.args.key.now) (present_at (kept_at records c.args.key.now) c.contains_key.result c.contains_key.ensures.there c.if-contains_key.true) in
-    let w = c.in_ok-rewrite.ensures.ok s.0 s.1 in
-    stored_again records c.rewrite.new.records (users_in records c.args.users.now) (users_in c.rewrite.new.records c.rewrite.new.users) c.args.key.now c.args.value c.args.groups c.args.version
-    c.in_ok-rewrite.ensures.users c.requires.ready s.0 s.1 c.requires.linked.linked w.0 w.1
+pub rewrite-requires-clause-recorded : goal.rewrite-requires-clause-recorded
+rewrite-requires-clause-recorded c = present_at (keys_of c.args.records.now) (kept_at c.args.records.now c.args.key.now) c.contains_key.result c.contains_key.ensures.there c.if-contains_key.true
 
-pub rewrite-requires-2-clause-linked : goal.rewrite-requires-2-clause-linked
-rewrite-requires-2-clause-linked c =
+pub rewrite-requires-clause-members : goal.rewrite-requires-clause-members
+rewrite-requires-clause-members c =
     let records = c.args.records.now in
-    let lists = c.args.users.now in
-    let placed = c.place.new.records in
-    let was = c.requires.linked in
-    let p = c.in_ok-place.ensures.ok in
-    let none = absent (kept_at records c.args.key.now) c.contains_key.result c.contains_key.ensures.there c.if-contains_key.false in
-    let more = (c.args.key.now, p.0) ∷ [] in
-    let grown = users_grown records placed more p.1 lists was.numbers in
+    let key = c.args.key.now in
+    let groups = items_of c.args.groups.items in
+    let own = present_at (keys_of records) (kept_at records key) c.contains_key.result c.contains_key.ensures.there c.if-contains_key.true in
+    ready_recorded (seen records) key groups own c.requires.ready
+
+pub returns-then-contains_key-clause-linked : goal.returns-then-contains_key-clause-linked
+returns-then-contains_key-clause-linked c =
+    let records = c.args.records.now in
+    let key = c.args.key.now in
+    let groups = items_of c.args.groups.items in
+    let new = c.rewrite.new.records in
     record {
-      linked = subst (IsLinked placed) (sym grown) (placed_linked records placed (users_in records lists) c.args.key.now p.0 p.1 p.3 p.5 none was.linked c.place.ensures.ordered);
-      numbers = numbers_grown records placed more p.1 lists was.numbers;
+      linked = stored_again (seen records) (seen new) key (arc_value c.args.value) groups c.args.version c.requires.ready (users_of records) (users_of new) c.in_ok-rewrite.ensures.users c.requires.linked.linked c.in_ok-rewrite.ensures.ok;
+      numbers = c.rewrite.ensures.numbers;
+      asks = c.rewrite.ensures.asks;
+      ordered = distinct_kept records new c.rewrite.ensures.keys c.requires.linked.ordered;
     }
 
-pub returns-in-Ok-clause-ok : goal.returns-in-Ok-clause-ok
-returns-in-Ok-clause-ok c =
-    let records = c.args.records.now in
-    let lists = c.args.users.now in
-    let placed = c.place.new.records in
-    let was = c.requires.linked in
-    let p = c.in_ok-place.ensures.ok in
-    let none = absent (kept_at records c.args.key.now) c.contains_key.result c.contains_key.ensures.there c.if-contains_key.false in
-    let more = (c.args.key.now, p.0) ∷ [] in
-    let grown = users_grown records placed more p.1 lists was.numbers in
-    let w = c.in-Ok.ensures.ok p.0 (placed_there records placed c.args.key.now p.0 p.1 none) in
-    stored_first records c.rewrite-2.new.records (users_in placed lists) (users_in c.rewrite-2.new.records c.rewrite-2.new.users) c.args.key.now c.args.value c.args.groups c.args.version
-    c.in-Ok.ensures.users c.requires.ready placed p.0 p.1 p.2 p.4 none
-    (subst (IsLinked placed) (sym grown) (placed_linked records placed (users_in records lists) c.args.key.now p.0 p.1 p.3 p.5 none was.linked c.place.ensures.ordered)) w.0 w.1
-
-pub returns-in-Err-clause-err : goal.returns-in-Err-clause-err
-returns-in-Err-clause-err c =
-    let records = c.args.records.now in
-    let lists = c.args.users.now in
-    let placed = c.place.new.records in
-    let was = c.requires.linked in
-    let p = c.in_ok-place.ensures.ok in
-    let none = absent (kept_at records c.args.key.now) c.contains_key.result c.contains_key.ensures.there c.if-contains_key.false in
-    let more = (c.args.key.now, p.0) ∷ [] in
-    let grown = users_grown records placed more p.1 lists was.numbers in
-    let e = c.in-Err.ensures.err in
-    let later = c.rewrite-2.new.users in
-    let same = subst (λ (u : Users). SameSets u (users_in placed later)) grown e.1 in
-    let known = known_users records (users_in records lists) (users_in placed later) was.linked same in
-    let numbers = numbers_same c.rewrite-2.new.records placed later (ap (λ (es : Records). keys_of es) (sym e.0)) c.in-Err.ensures.numbers in
-    let back = popped_same records placed c.rewrite-2.new.records c.pop-placed.new.self (c.args.key.now, p.0) c.pop-placed.result e.0 p.1 c.pop-placed.ensures.rest c.pop-placed.ensures.found in (
-      back,
-      sets_back records c.pop-placed.new.self (users_in records lists) later back
-          (sets_shrunk records placed more p.1 later was.linked.ordered c.place.ensures.ordered numbers known (users_in records lists) same),
-    )
-
-pub returns-in-Err-clause-numbers : goal.returns-in-Err-clause-numbers
-returns-in-Err-clause-numbers c =
-    let records = c.args.records.now in
-    let lists = c.args.users.now in
-    let placed = c.place.new.records in
-    let was = c.requires.linked in
-    let p = c.in_ok-place.ensures.ok in
-    let none = absent (kept_at records c.args.key.now) c.contains_key.result c.contains_key.ensures.there c.if-contains_key.false in
-    let more = (c.args.key.now, p.0) ∷ [] in
-    let grown = users_grown records placed more p.1 lists was.numbers in
-    let e = c.in-Err.ensures.err in
-    let later = c.rewrite-2.new.users in
-    let same = subst (λ (u : Users). SameSets u (users_in placed later)) grown e.1 in
-    let known = known_users records (users_in records lists) (users_in placed later) was.linked same in
-    let numbers = numbers_same c.rewrite-2.new.records placed later (ap (λ (es : Records). keys_of es) (sym e.0)) c.in-Err.ensures.numbers in
-    let back = popped_same records placed c.rewrite-2.new.records c.pop-placed.new.self (c.args.key.now, p.0) c.pop-placed.result e.0 p.1 c.pop-placed.ensures.rest c.pop-placed.ensures.found in
-    numbers_back records c.pop-placed.new.self later back (numbers_shrunk records placed more p.1 later was.linked.ordered c.place.ensures.ordered numbers known)
+pub returns-in_err-rewrite-clause-linked : goal.returns-in_err-rewrite-clause-linked
+returns-in_err-rewrite-clause-linked c =
+    let e = c.in_err-rewrite.ensures.err in linked_again c.args.records.now c.rewrite.new.records e.0 e.1 c.rewrite.ensures.numbers c.requires.linked
 
 pub place-requires-clause-none : goal.place-requires-clause-none
 place-requires-clause-none c = absent (kept_at c.args.records.now c.args.key.now) c.contains_key.result c.contains_key.ensures.there c.if-contains_key.false
 
+pub returns-in_err-place-clause-linked : goal.returns-in_err-place-clause-linked
+returns-in_err-place-clause-linked c = subst IsLinkedBy (sym c.in_err-place.ensures.err) c.requires.linked
+
 pub rewrite-requires-2-clause-recorded : goal.rewrite-requires-2-clause-recorded
 rewrite-requires-2-clause-recorded c =
+    let records = c.args.records.now in
+    let key = c.args.key.now in
+    let groups = items_of c.args.groups.items in
+    let placed = c.place.new.records in
     let p = c.in_ok-place.ensures.ok in
-    let none = absent (kept_at c.args.records.now c.args.key.now) c.contains_key.result c.contains_key.ensures.there c.if-contains_key.false in
-    ap is_some (placed_there c.args.records.now c.place.new.records c.args.key.now p.0 p.1 none)
+    let none = absent (kept_at records key) c.contains_key.result c.contains_key.ensures.there c.if-contains_key.false in
+    let more : Records = (key, p.0) ∷ [] in
+    let lists = pushed_lists records placed key p.0 p.1 p.3 none in
+    let there = placed_there records placed key p.0 (arc_value c.args.value) c.args.version p.1 none p.2 c.requires.linked.asks in
+    let others = placed_others records placed key p.0 (arc_value c.args.value) c.args.version p.1 none p.2 c.requires.linked.asks in
+    let asks = placed_asks records placed key p.0 (arc_value c.args.value) c.args.version p.1 none p.2 c.requires.linked.asks in
+    let missing = ap (option_map (record_of (keys_of records))) none in
+    ap is_some there
+
+pub rewrite-requires-2-clause-linked : goal.rewrite-requires-2-clause-linked
+rewrite-requires-2-clause-linked c =
+    let records = c.args.records.now in
+    let key = c.args.key.now in
+    let groups = items_of c.args.groups.items in
+    let placed = c.place.new.records in
+    let p = c.in_ok-place.ensures.ok in
+    let none = absent (kept_at records key) c.contains_key.result c.contains_key.ensures.there c.if-contains_key.false in
+    let more : Records = (key, p.0) ∷ [] in
+    let lists = pushed_lists records placed key p.0 p.1 p.3 none in
+    let there = placed_there records placed key p.0 (arc_value c.args.value) c.args.version p.1 none p.2 c.requires.linked.asks in
+    let others = placed_others records placed key p.0 (arc_value c.args.value) c.args.version p.1 none p.2 c.requires.linked.asks in
+    let asks = placed_asks records placed key p.0 (arc_value c.args.value) c.args.version p.1 none p.2 c.requires.linked.asks in
+    let missing = ap (option_map (record_of (keys_of records))) none in
+    linked_put records placed more p.1 lists c.requires.linked c.place.ensures.ordered asks
+    (placed_linked (seen records) (seen placed) (users_of records) key (stored None (arc_value c.args.value) [] c.args.version) there others refl missing c.requires.linked.linked)
+
+pub rewrite-requires-2-clause-members : goal.rewrite-requires-2-clause-members
+rewrite-requires-2-clause-members c =
+    let records = c.args.records.now in
+    let key = c.args.key.now in
+    let groups = items_of c.args.groups.items in
+    let placed = c.place.new.records in
+    let p = c.in_ok-place.ensures.ok in
+    let none = absent (kept_at records key) c.contains_key.result c.contains_key.ensures.there c.if-contains_key.false in
+    let more : Records = (key, p.0) ∷ [] in
+    let lists = pushed_lists records placed key p.0 p.1 p.3 none in
+    let there = placed_there records placed key p.0 (arc_value c.args.value) c.args.version p.1 none p.2 c.requires.linked.asks in
+    let others = placed_others records placed key p.0 (arc_value c.args.value) c.args.version p.1 none p.2 c.requires.linked.asks in
+    let asks = placed_asks records placed key p.0 (arc_value c.args.value) c.args.version p.1 none p.2 c.requires.linked.asks in
+    let missing = ap (option_map (record_of (keys_of records))) none in
+    placed_members (seen records) (seen placed) key groups (ap is_some there) others c.requires.ready
+
+pub returns-in-Ok-clause-ok : goal.returns-in-Ok-clause-ok
+returns-in-Ok-clause-ok c =
+    let records = c.args.records.now in
+    let key = c.args.key.now in
+    let groups = items_of c.args.groups.items in
+    let placed = c.place.new.records in
+    let p = c.in_ok-place.ensures.ok in
+    let none = absent (kept_at records key) c.contains_key.result c.contains_key.ensures.there c.if-contains_key.false in
+    let more : Records = (key, p.0) ∷ [] in
+    let lists = pushed_lists records placed key p.0 p.1 p.3 none in
+    let there = placed_there records placed key p.0 (arc_value c.args.value) c.args.version p.1 none p.2 c.requires.linked.asks in
+    let others = placed_others records placed key p.0 (arc_value c.args.value) c.args.version p.1 none p.2 c.requires.linked.asks in
+    let asks = placed_asks records placed key p.0 (arc_value c.args.value) c.args.version p.1 none p.2 c.requires.linked.asks in
+    let missing = ap (option_map (record_of (keys_of records))) none in
+    stored_first (seen records) (seen c.rewrite-2.new.records) key (arc_value c.args.value) groups c.args.version c.requires.ready (seen placed) there others missing c.in-Ok.ensures.ok
+
+pub returns-in-Ok-clause-linked : goal.returns-in-Ok-clause-linked
+returns-in-Ok-clause-linked c =
+    let records = c.args.records.now in
+    let key = c.args.key.now in
+    let groups = items_of c.args.groups.items in
+    let placed = c.place.new.records in
+    let p = c.in_ok-place.ensures.ok in
+    let none = absent (kept_at records key) c.contains_key.result c.contains_key.ensures.there c.if-contains_key.false in
+    let more : Records = (key, p.0) ∷ [] in
+    let lists = pushed_lists records placed key p.0 p.1 p.3 none in
+    let there = placed_there records placed key p.0 (arc_value c.args.value) c.args.version p.1 none p.2 c.requires.linked.asks in
+    let others = placed_others records placed key p.0 (arc_value c.args.value) c.args.version p.1 none p.2 c.requires.linked.asks in
+    let asks = placed_asks records placed key p.0 (arc_value c.args.value) c.args.version p.1 none p.2 c.requires.linked.asks in
+    let missing = ap (option_map (record_of (keys_of records))) none in
+    let new = c.rewrite-2.new.records in
+    let linked = linked_put records placed more p.1 lists c.requires.linked c.place.ensures.ordered asks
+    (placed_linked (seen records) (seen placed) (users_of records) key (stored None (arc_value c.args.value) [] c.args.version) there others refl missing c.requires.linked.linked) in
+    record {
+      linked = first_linked (seen records) (seen new) key (arc_value c.args.value) groups c.args.version c.requires.ready (seen placed) there others missing c.in-Ok.ensures.ok (users_of placed) (users_of new) c.in-Ok.ensures.users linked.linked;
+      numbers = c.in-Ok.ensures.numbers;
+      asks = c.in-Ok.ensures.asks;
+      ordered = distinct_kept placed new c.in-Ok.ensures.keys c.place.ensures.ordered;
+    }
+
+pub returns-in-Err-clause-err : goal.returns-in-Err-clause-err
+returns-in-Err-clause-err c =
+    let p = c.in_ok-place.ensures.ok in
+    popped_rows c.args.records.now c.place.new.records c.rewrite-2.new.records c.pop-placed.new.self (c.args.key.now, p.0) c.pop-placed.result c.in-Err.ensures.err.0 p.1 c.pop-placed.ensures.rest c.pop-placed.ensures.found
+
+pub returns-in-Err-clause-linked : goal.returns-in-Err-clause-linked
+returns-in-Err-clause-linked c =
+    let records = c.args.records.now in
+    let key = c.args.key.now in
+    let groups = items_of c.args.groups.items in
+    let placed = c.place.new.records in
+    let p = c.in_ok-place.ensures.ok in
+    let none = absent (kept_at records key) c.contains_key.result c.contains_key.ensures.there c.if-contains_key.false in
+    let more : Records = (key, p.0) ∷ [] in
+    let lists = pushed_lists records placed key p.0 p.1 p.3 none in
+    let there = placed_there records placed key p.0 (arc_value c.args.value) c.args.version p.1 none p.2 c.requires.linked.asks in
+    let others = placed_others records placed key p.0 (arc_value c.args.value) c.args.version p.1 none p.2 c.requires.linked.asks in
+    let asks = placed_asks records placed key p.0 (arc_value c.args.value) c.args.version p.1 none p.2 c.requires.linked.asks in
+    let missing = ap (option_map (record_of (keys_of records))) none in
+    let later = c.rewrite-2.new.records in
+    let front = c.pop-placed.new.self in
+    let e = c.in-Err.ensures.err in
+    front_linked records placed later front more (option_to_list c.pop-placed.result) p.1 c.pop-placed.ensures.rest e.0
+    (popped_rows records placed later front (key, p.0) c.pop-placed.result e.0 p.1 c.pop-placed.ensures.rest c.pop-placed.ensures.found) c.place.ensures.ordered c.in-Err.ensures.numbers c.requires.linked
+    (subst (λ (u : Users). SameSets u (users_of later)) (users_put records placed more p.1 lists c.requires.linked) e.1)

@@ -1,19 +1,17 @@
-use Rattle.std.proofs.Common.{length, ◌+◌, subst, ap, sym, ◌∙◌, arith}
+use Rattle.std.proofs.Common.{◌∙◌, ◌+◌, List, ap, sym, take}
+use Rattle.std.specs.Option.{option_map}
+use Rattle.std.specs.declared.alloc.Global.{Global}
+use Rattle.std.specs.declared.vec.Vec.{Vec}
+use Rattle.evaluation.specs.Graph.{Record}
+use Rattle.keys.specs.declared.key.Key.{Key}
+use Rattle.keys.specs.declared.value.Value.{Value}
 use Rattle.node.specs.Kept.{items_of}
-use Rattle.round.proofs.Stalling.{CopiesGroups, copies_more, copied_enough, copied_all}
+use Rattle.node.proofs.Lists.{some_is}
+use Rattle.round.proofs.Grouping.{items_taken}
 use Rattle.round.proofs.closing.groups_up_to.Goals as goal
 
-pub loop-group-init : goal.loop-group-init
-loop-group-init c = record { taken = ap items_of c.new-groups.ensures.items; count = ap (λ xs. length xs) c.new-groups.ensures.items; within = omega arith }
-
-pub returns-then-len-at : goal.returns-then-len-at
-returns-then-len-at c = λ r e. copied_enough c.recorded_groups-group-items.result.now c.loop-group.groups.items c.loop-group.group-index c.args.at (let n = c.len.ensures in let l = c.if-len-at.true in omega (arith, n, l)) c.loop-group.invariant r.groups
-    (c.recorded_groups-group-items.ensures r e)
-
-pub loop-group-preserved : goal.loop-group-preserved
-loop-group-preserved c = subst (λ xs. CopiesGroups c.recorded_groups-group-items.result.now xs (c.loop-group.group-index + 1) c.args.at) (sym c.in_ok-push.ensures.items)
-    (copies_more c.recorded_groups-group-items.result.now c.loop-group.groups.items c.loop-group.group-index c.args.at c.group-item.result c.in_ok-share_all.field-0 c.group-item.is c.loop-group-test.true
-    (c.in_ok-share_all.ensures ∙ c.as_slice.ensures.value) (let n = c.len.ensures in let l = c.if-len-at.false in omega (arith, n, l)) c.loop-group.invariant)
-
 pub returns : goal.returns
-returns c = λ r e. copied_all c.recorded_groups-group-items.result.now c.loop-group.groups.items c.loop-group.group-index c.args.at c.loop-group-test.false c.loop-group.invariant r.groups (c.recorded_groups-group-items.ensures r e)
+returns c = λ r e.
+    ap (λ (gs : List (Vec Key Global)). items_of gs) c.truncate.ensures.items
+    ∙ items_taken (c.args.at + 1) c.in-Some.groups.items
+    ∙ ap (take (c.args.at + 1)) (some_is (sym (ap (option_map (λ (gs : Vec (Vec Key Global) Global). items_of gs.items)) c.in-Some.is) ∙ c.in_ok-groups.ensures ∙ ap (option_map (λ (x : Record Key Value). x.groups)) e))

@@ -1,25 +1,25 @@
-use Rattle.std.proofs.Common.{◌+◌, ap}
+use Rattle.std.proofs.Common.{true, ◌+◌, ap}
 use Rattle.node.specs.Graphs.{Recorded, recorded}
-use Rattle.node.proofs.Collecting.{marking_linked, marking_marks}
-use Rattle.node.specs.Kept.{users_in}
-use Rattle.node.proofs.Relating.{linked_by}
+use Rattle.node.proofs.Collecting.{marking_linked, marking_marks, marks_asks, marks_lists}
+use Rattle.node.specs.Kept.{users_of}
+use Rattle.node.proofs.Relating.{linked_kept}
 use Rattle.node.proofs.Lawfulness.{touch_keeps}
 use Rattle.node.proofs.graph.Graph.mark.Goals as goal
 
 pub invariant_of-self : goal.invariant_of-self
 invariant_of-self c =
-    linked_by c.self.inside.records c.set_all.new.records c.self.inside.users c.set_all.ensures.keys
-    (marking_linked (users_in c.self.inside.records c.self.inside.users) c.self.inside.records c.set_all.new.records c.self.inside.version c.args.self.now c.self.view_is c.self.invariant.linked c.args.reached.now c.set_all.ensures.sets
-    c.requires.reached.0 c.requires.reached.1 c.set_all.ensures.keys)
-    c.self.invariant.numbers
+    linked_kept c.self.inside.records c.set_all.new.records c.set_all.ensures.keys (marks_lists true c.self.inside.records c.set_all.new.records c.args.reached.now c.set_all.ensures.sets)
+    (marking_linked (users_of c.self.inside.records) c.self.inside.records c.set_all.new.records c.set_all.ensures.keys c.self.inside.version c.args.self.now c.self.view_is c.self.invariant.linked c.args.reached.now c.set_all.ensures.sets
+    c.requires.reached.0 c.requires.reached.1)
+    (marks_asks true c.self.inside.records c.set_all.new.records c.args.reached.now c.set_all.ensures.keys c.set_all.ensures.sets c.self.invariant.asks) c.self.invariant
 
 pub returns-clause-marks : goal.returns-clause-marks
 returns-clause-marks c = λ paths r.
-    marking_marks (users_in c.self.inside.records c.self.inside.users) c.self.inside.records c.set_all.new.records c.self.inside.version c.args.self.now c.self.view_is c.self.invariant.linked c.args.reached.now c.set_all.ensures.sets
+    marking_marks (users_of c.self.inside.records) c.self.inside.records c.set_all.new.records c.set_all.ensures.keys c.self.inside.version c.args.self.now c.self.view_is c.self.invariant.linked c.args.reached.now c.set_all.ensures.sets
     paths r (c.self.inside.version + 1)
 
 pub returns-clause-lawful : goal.returns-clause-lawful
 returns-clause-lawful c = λ paths r.
     touch_keeps c.args.self.now (recorded (c.self.inside.version + 1) c.set_all.new.records) paths (ap (λ (g : Recorded). g.version + 1) c.self.view_is)
-    (marking_marks (users_in c.self.inside.records c.self.inside.users) c.self.inside.records c.set_all.new.records c.self.inside.version c.args.self.now c.self.view_is c.self.invariant.linked c.args.reached.now c.set_all.ensures.sets
+    (marking_marks (users_of c.self.inside.records) c.self.inside.records c.set_all.new.records c.set_all.ensures.keys c.self.inside.version c.args.self.now c.self.view_is c.self.invariant.linked c.args.reached.now c.set_all.ensures.sets
     paths r (c.self.inside.version + 1))

@@ -2,7 +2,7 @@ use Rattle.std.proofs.Common.{◌≡◌, ◌∙◌, List, sym, ap, subst}
 use Rattle.keys.specs.Touched.{touched_leaves}
 use Rattle.keys.specs.declared.key.Key.{Key}
 use Rattle.numbered.specs.Flats.{members_in}
-use Rattle.node.specs.Kept.{Records, users_in}
+use Rattle.node.specs.Kept.{Records, users_of}
 use Rattle.node.specs.Graphs.{recorded, record_at, AreReached, IsLinkedBy, IsTouched, paths_seen}
 use Rattle.node.proofs.Collecting.{unmarked_same, are_reached, shown_reached}
 use Rattle.node.proofs.Numbering.{members_same}
@@ -12,15 +12,15 @@ pub invariant_of-self : goal.invariant_of-self
 invariant_of-self c =
     let middle = c.mark_from-spread.new.records in
     let marked = members_in middle c.mark_from-spread.new.marked.items in
-    let same = unmarked_same (users_in c.self.inside.records c.self.inside.users) c.as_slice.result.now c.self.inside.records middle c.unmark_all.new.records marked (members_in middle c.as_slice-2.result.now) c.self.invariant.linked.ordered
+    let same = unmarked_same (users_of c.self.inside.records) c.as_slice.result.now c.self.inside.records middle c.unmark_all.new.records marked (members_in middle c.as_slice-2.result.now) c.self.invariant.ordered
     (ap (members_in middle) c.as_slice-2.ensures.value) c.mark_from-spread.ensures.keys c.unmark_all.ensures.keys c.mark_from-spread.ensures.marked c.unmark_all.ensures.sets in
-    subst (λ (es : Records). IsLinkedBy es c.self.inside.users) (sym same) c.self.invariant
+    subst (λ (es : Records). IsLinkedBy es) (sym same) c.self.invariant
 
 pub returns-in_err-spread-clause-same : goal.returns-in_err-spread-clause-same
 returns-in_err-spread-clause-same c =
     let middle = c.mark_from-spread.new.records in
     let marked = members_in middle c.mark_from-spread.new.marked.items in
-    let same = unmarked_same (users_in c.self.inside.records c.self.inside.users) c.as_slice.result.now c.self.inside.records middle c.unmark_all.new.records marked (members_in middle c.as_slice-2.result.now) c.self.invariant.linked.ordered
+    let same = unmarked_same (users_of c.self.inside.records) c.as_slice.result.now c.self.inside.records middle c.unmark_all.new.records marked (members_in middle c.as_slice-2.result.now) c.self.invariant.ordered
     (ap (members_in middle) c.as_slice-2.ensures.value) c.mark_from-spread.ensures.keys c.unmark_all.ensures.keys c.mark_from-spread.ensures.marked c.unmark_all.ensures.sets in
     ap (recorded c.self.inside.version) same ∙ c.self.view_is
 
@@ -28,15 +28,15 @@ pub invariant_of-self-2 : goal.invariant_of-self-2
 invariant_of-self-2 c =
     let middle = c.mark_from-spread.new.records in
     let marked = members_in middle c.mark_from-spread.new.marked.items in
-    let same = unmarked_same (users_in c.self.inside.records c.self.inside.users) c.as_slice.result.now c.self.inside.records middle c.unmark_all.new.records marked (members_in middle c.as_slice-2.result.now) c.self.invariant.linked.ordered
+    let same = unmarked_same (users_of c.self.inside.records) c.as_slice.result.now c.self.inside.records middle c.unmark_all.new.records marked (members_in middle c.as_slice-2.result.now) c.self.invariant.ordered
     (ap (members_in middle) c.as_slice-2.ensures.value) c.mark_from-spread.ensures.keys c.unmark_all.ensures.keys c.mark_from-spread.ensures.marked c.unmark_all.ensures.sets in
-    subst (λ (es : Records). IsLinkedBy es c.self.inside.users) (sym same) c.self.invariant
+    subst (λ (es : Records). IsLinkedBy es) (sym same) c.self.invariant
 
 pub returns-in_err-keys-clause-same : goal.returns-in_err-keys-clause-same
 returns-in_err-keys-clause-same c =
     let middle = c.mark_from-spread.new.records in
     let marked = members_in middle c.mark_from-spread.new.marked.items in
-    let same = unmarked_same (users_in c.self.inside.records c.self.inside.users) c.as_slice.result.now c.self.inside.records middle c.unmark_all.new.records marked (members_in middle c.as_slice-2.result.now) c.self.invariant.linked.ordered
+    let same = unmarked_same (users_of c.self.inside.records) c.as_slice.result.now c.self.inside.records middle c.unmark_all.new.records marked (members_in middle c.as_slice-2.result.now) c.self.invariant.ordered
     (ap (members_in middle) c.as_slice-2.ensures.value) c.mark_from-spread.ensures.keys c.unmark_all.ensures.keys c.mark_from-spread.ensures.marked c.unmark_all.ensures.sets in
     ap (recorded c.self.inside.version) same ∙ c.self.view_is
 
@@ -44,15 +44,15 @@ pub invariant_of-self-in_err-keys : goal.invariant_of-self-in_err-keys
 invariant_of-self-in_err-keys c =
     let middle = c.mark_from-spread.new.records in
     let marked = members_in middle c.mark_from-spread.new.marked.items in
-    let same = unmarked_same (users_in c.self.inside.records c.self.inside.users) c.as_slice.result.now c.self.inside.records middle c.unmark_all.new.records marked (members_in middle c.as_slice-2.result.now) c.self.invariant.linked.ordered
+    let same = unmarked_same (users_of c.self.inside.records) c.as_slice.result.now c.self.inside.records middle c.unmark_all.new.records marked (members_in middle c.as_slice-2.result.now) c.self.invariant.ordered
     (ap (members_in middle) c.as_slice-2.ensures.value) c.mark_from-spread.ensures.keys c.unmark_all.ensures.keys c.mark_from-spread.ensures.marked c.unmark_all.ensures.sets in
-    subst (λ (es : Records). IsLinkedBy es c.self.inside.users) (sym same) c.self.invariant
+    subst (λ (es : Records). IsLinkedBy es) (sym same) c.self.invariant
 
 pub returns-clause-same : goal.returns-clause-same
 returns-clause-same c =
     let middle = c.mark_from-spread.new.records in
     let marked = members_in middle c.mark_from-spread.new.marked.items in
-    let same = unmarked_same (users_in c.self.inside.records c.self.inside.users) c.as_slice.result.now c.self.inside.records middle c.unmark_all.new.records marked (members_in middle c.as_slice-2.result.now) c.self.invariant.linked.ordered
+    let same = unmarked_same (users_of c.self.inside.records) c.as_slice.result.now c.self.inside.records middle c.unmark_all.new.records marked (members_in middle c.as_slice-2.result.now) c.self.invariant.ordered
     (ap (members_in middle) c.as_slice-2.ensures.value) c.mark_from-spread.ensures.keys c.unmark_all.ensures.keys c.mark_from-spread.ensures.marked c.unmark_all.ensures.sets in
     ap (recorded c.self.inside.version) same ∙ c.self.view_is
 
@@ -64,5 +64,5 @@ returns-clause-reached c =
     subst (λ (ks : List Key). AreReached (record_at c.args.self.now) (IsTouched (paths_seen c.args.paths.now)) ks) (sym keys)
     (shown_reached c.self.inside.records c.self.inside.version c.args.self.now c.self.view_is c.as_slice.result.now (touched_leaves (paths_seen c.args.paths.now)) marked
     (c.as_slice.ensures.value ∙ c.in_ok-leaves.ensures)
-    (are_reached (users_in c.self.inside.records c.self.inside.users) c.as_slice.result.now c.self.inside.records middle marked c.self.invariant.linked
+    (are_reached (users_of c.self.inside.records) c.as_slice.result.now c.self.inside.records middle c.mark_from-spread.ensures.keys marked c.self.invariant.linked
     c.mark_from-spread.ensures.marked c.in_ok-spread.ensures.passed c.in_ok-spread.ensures.begun))

@@ -1,7 +1,8 @@
-use Rattle.std.proofs.Common.{◌∙◌, ap}
-use Rattle.node.specs.Kept.{items_of, users_in}
+use Rattle.std.proofs.Common.{ap, ◌∙◌}
+use Rattle.node.specs.Kept.{items_of}
 use Rattle.node.proofs.Lists.{on_err}
-use Rattle.node.proofs.Storing.{unstored_linked, ready_seen, stored_seen}
+use Rattle.node.proofs.Showing.{keeps_shown}
+use Rattle.node.proofs.Storing.{ready_seen, stored_seen}
 use Rattle.std.specs.Arc.{arc_value}
 use Rattle.node.specs.Graphs.{Recorded, recorded}
 use Rattle.node.proofs.Lawfulness.{record_keeps}
@@ -10,27 +11,14 @@ use Rattle.node.proofs.graph.Graph.record.Goals as goal
 pub store-requires-clause-ready : goal.store-requires-clause-ready
 store-requires-clause-ready c = ready_seen c.self.inside.records c.self.inside.version c.args.self.now c.self.view_is c.args.key (items_of c.args.groups.items) c.requires
 
-pub invariant_of-self : goal.invariant_of-self
-invariant_of-self c =
-    let e = c.in_err-store.ensures.err in
-    record {
-      linked = unstored_linked c.self.inside.records c.store.new.records (users_in c.self.inside.records c.self.inside.users) (users_in c.store.new.records c.store.new.users) e.0 e.1 c.self.invariant.linked;
-      numbers = c.store.ensures.numbers;
-    }
-
-pub invariant_of-self-2 : goal.invariant_of-self-2
-invariant_of-self-2 c = record { linked = c.in_ok-store.ensures.ok.linked; numbers = c.store.ensures.numbers }
-
 pub returns-in_err-store-clause-refused : goal.returns-in_err-store-clause-refused
-returns-in_err-store-clause-refused c =
-    let e = c.in_err-store.ensures.err in
-    on_err c.from_residual.result (ap (recorded c.self.inside.version) e.0 ∙ c.self.view_is)
+returns-in_err-store-clause-refused c = on_err c.from_residual.result (ap (λ records. record { version = c.self.inside.version; records = records }) (keeps_shown c.self.inside.records c.store.new.records c.in_err-store.ensures.err) ∙ c.self.view_is)
 
 pub returns-clause-recorded : goal.returns-clause-recorded
 returns-clause-recorded c =
-    stored_seen c.self.inside.records c.self.inside.version c.args.self.now c.self.view_is c.store.new.records c.args.key _ (items_of c.args.groups.items) c.in_ok-store.ensures.ok.sets
+    stored_seen c.self.inside.records c.self.inside.version c.args.self.now c.self.view_is c.store.new.records c.args.key _ (items_of c.args.groups.items) c.in_ok-store.ensures.ok
 
 pub returns-clause-lawful : goal.returns-clause-lawful
 returns-clause-lawful c =
     record_keeps c.args.self.now (recorded c.self.inside.version c.store.new.records) c.args.key (arc_value c.args.value) (items_of c.args.groups.items) (ap (λ (g : Recorded). g.version) c.self.view_is)
-    (stored_seen c.self.inside.records c.self.inside.version c.args.self.now c.self.view_is c.store.new.records c.args.key _ (items_of c.args.groups.items) c.in_ok-store.ensures.ok.sets) c.requires
+    (stored_seen c.self.inside.records c.self.inside.version c.args.self.now c.self.view_is c.store.new.records c.args.key _ (items_of c.args.groups.items) c.in_ok-store.ensures.ok) c.requires

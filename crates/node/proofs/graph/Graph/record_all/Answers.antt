@@ -1,7 +1,6 @@
-use Rattle.node.specs.Kept.{users_in}
-use Rattle.std.proofs.Common.{◌∙◌, ap}
+use Rattle.std.proofs.Common.{ap, ◌∙◌}
 use Rattle.node.proofs.Lists.{on_err}
-use Rattle.node.proofs.Storing.{unstored_linked}
+use Rattle.node.proofs.Showing.{keeps_shown}
 use Rattle.node.proofs.Batched.{ready_entries, all_seen}
 use Rattle.node.specs.Graphs.{Recorded, recorded}
 use Rattle.node.proofs.Lawfulness.{batch_keeps}
@@ -10,27 +9,14 @@ use Rattle.node.proofs.graph.Graph.record_all.Goals as goal
 pub store_all-requires-clause-ready : goal.store_all-requires-clause-ready
 store_all-requires-clause-ready c = ready_entries c.self.inside.records c.self.inside.version c.args.self.now c.self.view_is c.args.entries.items c.requires.ready
 
-pub invariant_of-self : goal.invariant_of-self
-invariant_of-self c =
-    let e = c.in_err-store_all.ensures.err in
-    record {
-      linked = unstored_linked c.self.inside.records c.store_all.new.records (users_in c.self.inside.records c.self.inside.users) (users_in c.store_all.new.records c.store_all.new.users) e.0 e.1 c.self.invariant.linked;
-      numbers = c.store_all.ensures.numbers;
-    }
-
-pub invariant_of-self-2 : goal.invariant_of-self-2
-invariant_of-self-2 c = record { linked = c.in_ok-store_all.ensures.ok.linked; numbers = c.store_all.ensures.numbers }
-
 pub returns-in_err-store_all-clause-refused : goal.returns-in_err-store_all-clause-refused
-returns-in_err-store_all-clause-refused c =
-    let e = c.in_err-store_all.ensures.err in
-    on_err c.from_residual.result (ap (recorded c.self.inside.version) e.0 ∙ c.self.view_is)
+returns-in_err-store_all-clause-refused c = on_err c.from_residual.result (ap (λ records. record { version = c.self.inside.version; records = records }) (keeps_shown c.self.inside.records c.store_all.new.records c.in_err-store_all.ensures.err) ∙ c.self.view_is)
 
 pub returns-clause-recorded : goal.returns-clause-recorded
 returns-clause-recorded c =
-    all_seen c.self.inside.records c.self.inside.version c.args.self.now c.self.view_is c.args.entries.items c.store_all.new.records c.in_ok-store_all.ensures.ok.sets
+    all_seen c.self.inside.records c.self.inside.version c.args.self.now c.self.view_is c.args.entries.items c.store_all.new.records c.in_ok-store_all.ensures.ok
 
 pub returns-clause-lawful : goal.returns-clause-lawful
 returns-clause-lawful c =
     batch_keeps c.args.self.now (recorded c.self.inside.version c.store_all.new.records) c.args.entries.items (ap (λ (g : Recorded). g.version) c.self.view_is)
-    (all_seen c.self.inside.records c.self.inside.version c.args.self.now c.self.view_is c.args.entries.items c.store_all.new.records c.in_ok-store_all.ensures.ok.sets) c.requires.ready
+    (all_seen c.self.inside.records c.self.inside.version c.args.self.now c.self.view_is c.args.entries.items c.store_all.new.records c.in_ok-store_all.ensures.ok) c.requires.ready

@@ -1,8 +1,0 @@
-use Rattle.std.proofs.Common.{take}
-use Rattle.evaluation.specs.Value.{In}
-use Rattle.node.specs.Kept.{numbers_at}
-use Rattle.node.specs.Edges.{HasCut}
-use Rattle.node.proofs.edges.cut_group_beside.Given as goal
-
-abbrev pub invariant-loop-member : goal.invariant-loop-member
-invariant-loop-member l = HasCut (numbers_at l.fn.users) (numbers_at l.users) l.user (λ j. In j (take l.member-index l.group)) (λ j. In j l.keep.keys)

@@ -1,0 +1,12 @@
+use Rattle.std.proofs.Common.{take}
+use Rattle.evaluation.specs.Value.{In}
+use Rattle.numbered.specs.Flats.{members_in}
+use Rattle.node.specs.Kept.{KeepsRecords, numbers_of}
+use Rattle.node.specs.Edges.{HasCut}
+use Rattle.node.proofs.edges.cut_others.Given as goal
+
+abbrev pub invariant-loop-member : goal.invariant-loop-member
+invariant-loop-member l = record {
+  cut : HasCut (numbers_of l.fn.records) (numbers_of l.records) l.user (λ j. In j (members_in l.fn.records (take l.member-index l.members))) (λ j. In j l.keep.keys);
+  same : KeepsRecords l.fn.records l.records;
+}
