@@ -1,16 +1,11 @@
 -- What a call answers, and the functions that are open.
 use Rattle.std.specs.Prelude.{◌≡◌, ℕ, List, map, reverse, Result, Ok, Err}
-use Rattle.std.specs.Arc.{arc_value}
 use Rattle.std.specs.declared.vec.Vec.{Vec}
 use Rattle.std.specs.declared.alloc.Global.{Global}
 use Rattle.meaning.specs.Outcome.{Checked, good, bad}
 use Rattle.heap.specs.declared.halt.Halt.{Halt}
 use Rattle.heap.specs.declared.halt.Halt.TheVariants.{Code, Memory}
 use Rattle.language.specs.World.{Block}
-use Rattle.std.specs.declared.sync.Arc.{Arc}
-use Rattle.tree.specs.Tree.{Fn}
-use Rattle.tree.specs.declared.stmt.Def.{Def}
-use Rattle.tree.specs.Statements.{fn_of}
 use Rattle.names.specs.declared.state.Slot.{Slot}
 use Rattle.names.specs.View.{block_of}
 use Rattle.calls.specs.declared.functions.Open.{Open}
@@ -27,7 +22,3 @@ open_of o = (o.label, o.name)
 -- the functions that are open, the last one first
 abbrev pub running_of : List Open → List (List ℕ × List ℕ)
 running_of opens = map open_of (reverse opens)
-
--- a function that is shared
-abbrev pub shared_fn : Arc Def Global → Fn
-shared_fn f = fn_of (arc_value f)

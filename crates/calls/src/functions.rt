@@ -1,19 +1,14 @@
 //! Functions by their names, their defaults, and those that are open.
 ghost use Rattle.std.specs.Prelude.{◌≡◌, map, option_map};
-ghost use Rattle.std.specs.Arc.{arc_value};
-ghost use Rattle.language.specs.Environment.{function_named, defs, values_named, defaults_among, defaults_of};
+ghost use Rattle.language.specs.Environment.{defaults_among, defaults_of};
 ghost use Rattle.language.specs.Calls.{is_running};
 ghost use Rattle.language.specs.Names.{names_at};
-ghost use Rattle.tree.specs.Statements.{fn_of, top_of};
-ghost use Rattle.names.specs.View.{world_of, kept_of, names_of};
-ghost use Rattle.calls.specs.View.{running_of, open_of, shared_fn};
+ghost use Rattle.names.specs.View.{world_of, names_of};
+ghost use Rattle.calls.specs.View.{running_of, open_of};
 
 use heap::Val;
-use names::{FileNames, Kept, State};
-use std::alloc::Global;
-use std::sync::Arc;
+use names::{FileNames, State};
 use texts::Text;
-use tree::{Def, Top};
 
 /// A function that is open: the label of its file and its name.
 #[derive(Drop)]
@@ -42,47 +37,6 @@ pub fn is_running(running: &[Open], label: &Text, name: &Text) -> bool
     is_among(running, label, name)
 }
 
-/// The first of these functions that has a name.
-pub fn function_named<'a>(
-    functions: &'a [Arc<Def, Global>],
-    x: &Text,
-) -> Option<&'a Arc<Def, Global>>
-    ensures { option_map (λ f. shared_fn f.now) result ≡ function_named x.now (map shared_fn functions.now) }
-{
-    for f in functions.iter() {
-        if *x == f.name {
-            return Some(f);
-        }
-    }
-    None
-}
-
-/// The first function of a file that has a name.
-pub fn function_of_file<'a>(tops: &'a [Top], x: &Text) -> Option<&'a Arc<Def, Global>>
-    ensures { option_map (λ f. shared_fn f.now) result ≡ function_named x.now (defs (map top_of tops.now)) }
-{
-    for top in tops.iter() {
-        if let Top::Def(f) = top {
-            if *x == f.name {
-                return Some(f);
-            }
-        }
-    }
-    None
-}
-
-// The defaults of a function of a file.
-fn values_named<'a>(defaults: &'a [Kept], x: &Text) -> &'a [Val]
-    ensures { result.now ≡ values_named x.now (map kept_of defaults.now) }
-{
-    for d in defaults.iter() {
-        if *x == d.function {
-            return d.values.as_slice();
-        }
-    }
-    &[]
-}
-
 /// The file with a label, of those whose names are on the heap.
 pub fn file_with<'a>(files: &'a [FileNames], label: &Text) -> Option<&'a FileNames>
     ensures { option_map (λ f. names_of f.now) result ≡ names_at label.now (map names_of files.now) }
@@ -100,7 +54,7 @@ pub fn defaults_among<'a>(files: &'a [FileNames], label: &Text, name: &Text) -> 
     ensures { result.now ≡ defaults_among name.now (names_at label.now (map names_of files.now)) }
 {
     match file_with(files, label) {
-        Some(file) => values_named(file.defaults.as_slice(), name),
+        Some(file) => file.defaults.named(name),
         None => &[],
     }
 }

@@ -9,6 +9,4 @@ mod gathering;
 
 pub use accepting::arguments;
 pub use blocks::{comprehension_block, file_block, function_block, own_block};
-pub use functions::{
-    Open, defaults_among, defaults_of, file_with, function_named, function_of_file, is_running,
-};
+pub use functions::{Open, defaults_among, defaults_of, file_with, is_running};

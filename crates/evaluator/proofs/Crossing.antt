@@ -61,7 +61,7 @@ function_sync : IsSync Function.the_row
 function_sync = search trees_cross depth 60 fits 20000
 
 module_send : IsSend Module.the_row
-module_send = search (frozen_send, frozen_sync, function_send, function_sync, trees_cross) depth 60 fits 20000
+module_send = search (frozen_send, frozen_sync, function_send, function_sync, TextSends.the_send, TextSends.the_sync, trees_cross) depth 60 fits 20000
 
 pub loaded_send : IsSend Loaded.the_row
 loaded_send = search (module_send, crosses, sendable) depth 60 fits 20000

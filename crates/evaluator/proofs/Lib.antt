@@ -9,3 +9,4 @@ pub mod Started
 pub mod Answering
 pub mod Trees
 pub mod Crossing
+pub mod Looked

@@ -19,7 +19,8 @@ ghost use Rattle.evaluator.specs.Machines.{Under, means, here_in, Falls};
 ghost use Rattle.evaluator.specs.Finding.{calls_on, body_runs, IsFunction};
 
 use crate::finding::{find, label_text};
-use crate::machine::{Environment, Machine};
+use crate::machine::Machine;
+use crate::setting::Setting;
 use calls::{Open, arguments, defaults_of, function_block, is_running};
 use frames::{Caller, Control, Exit, Frame, Signal, given, push};
 use grammar::FileKind;
@@ -55,7 +56,7 @@ fn function_at(heap: &Heap, place: usize) -> Result<Called, Halt>
 /// Begins a call of a function of a file, which stands on the heap.
 pub fn enter(
     m: &mut Machine,
-    e: &Environment,
+    e: &Setting<'_>,
     line: usize,
     place: usize,
     xs: &[Val],
@@ -73,10 +74,10 @@ pub fn enter(
         Some(label) => label,
         None => return Err(Halt::Code(5)),
     };
-    if let Err(halt) = need_names(&mut m.state, e.loads.as_slice(), &label) {
+    if let Err(halt) = need_names(&mut m.state, e.given().loads.as_slice(), &label) {
         return Err(halt);
     }
-    match find(e, &label, called.name.as_slice())? {
+    match find(e, &label, &called.name)? {
         Some(found) => call(m, label, found.path, &found.def, xs, names),
         None => Err(Halt::Code(5)),
     }

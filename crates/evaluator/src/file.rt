@@ -16,7 +16,7 @@ use heap::{Halt, Heap};
 use made_targets::targets_made;
 use module_values::{Loaded, Module};
 use modules::{frozen_module, load_items};
-use names::{Block, FileNames, Made, Standing, State};
+use names::{Block, FileNames, KeptDefaults, Made, Standing, State};
 use pieces::tick;
 use std::alloc::Global;
 use texts::Memory;
@@ -51,7 +51,7 @@ pub fn first_state(alloc: Global, e: &Environment) -> Result<State, Memory>
     files.push(FileNames {
         label,
         block,
-        defaults: Vec::new(alloc),
+        defaults: KeptDefaults::new(alloc),
     })?;
     Ok(State {
         heap: Heap::new(alloc, STEPS),

@@ -9,14 +9,14 @@ ghost use Rattle.language.specs.Modules.{body_at, all_bodies};
 ghost use Rattle.evaluator.specs.Machines.{env_of};
 ghost use Rattle.evaluator.specs.Finding.{IsDef, IsFound, IsLabel};
 
-use crate::machine::Environment;
-use heap::Halt;
-use module_values::{Function, Loaded, Module};
+use crate::setting::Setting;
+use heap::{Bytes, Halt};
+use module_values::{Loaded, Module};
 use modules::reached;
 use std::alloc::Global;
 use std::sync::Arc;
 use texts::Text;
-use tree::{Def, Top};
+use tree::Def;
 
 /// A function that was found, and the path of its file.
 #[derive(Drop)]
@@ -25,30 +25,24 @@ pub struct Found {
     pub def: Arc<Def, Global>,
 }
 
-// The function of a file with a name.
-fn own_function<'a>(tops: &'a [Top], name: &[u8]) -> Option<&'a Arc<Def, Global>>
-    ensures { IsDef name.now (function_named name.now (defs (map top_of tops.now))) (option_map (λ d. d.now) result) }
+// The function of the file with a name.
+fn own_function<'a>(e: &'a Setting<'_>, name: &Bytes) -> Option<&'a Arc<Def, Global>>
+    ensures { IsDef name.now (function_named name.now (defs (map top_of (arc_value e.now.file).tops.items))) (option_map (λ d. d.now) result) }
 {
-    for top in tops.iter() {
-        if let Top::Def(def) = top {
-            if name == def.name.as_str().as_bytes() {
-                return Some(def);
-            }
-        }
+    match e.function(name) {
+        Some(function) => Some(function.def()),
+        None => None,
     }
-    None
 }
 
 // The function of a module with a name.
-fn function_among<'a>(functions: &'a [Function], name: &[u8]) -> Option<&'a Arc<Def, Global>>
-    ensures { IsDef name.now (function_named name.now functions.now) (option_map (λ d. d.now) result) }
+fn function_in<'a>(m: &'a Module, name: &Bytes) -> Option<&'a Arc<Def, Global>>
+    ensures { IsDef name.now (function_named name.now m.now.functions) (option_map (λ d. d.now) result) }
 {
-    for function in functions.iter() {
-        if name == function.def().name.as_str().as_bytes() {
-            return Some(function.def());
-        }
+    match m.function(name) {
+        Some(function) => Some(function.def()),
+        None => None,
     }
-    None
 }
 
 // The module with a label.
@@ -86,29 +80,31 @@ fn module_at<'a>(loads: &'a [Loaded], label: &[u8]) -> Option<&'a Module>
 }
 
 /// The label of a file that is evaluated or reached, as a text.
-pub fn label_text(e: &Environment, label: &[u8]) -> Result<Option<Text>, Halt>
+pub fn label_text(e: &Setting<'_>, label: &[u8]) -> Result<Option<Text>, Halt>
     ensures ok { IfOk result (IsLabel (env_of e.now) label.now) }
     ensures err { IsOkUnless result Memory }
 {
-    if label == e.label.as_str().as_bytes() {
-        return Ok(Some(e.label.share()?));
+    let given = e.given();
+    if label == given.label.as_str().as_bytes() {
+        return Ok(Some(given.label.share()?));
     }
-    match module_at(e.loads.as_slice(), label) {
+    match module_at(given.loads.as_slice(), label) {
         Some(m) => Ok(Some(m.label().share()?)),
         None => Ok(None),
     }
 }
 
 /// The function with a name of the file with a label.
-pub fn find(e: &Environment, label: &Text, name: &[u8]) -> Result<Option<Found>, Halt>
+pub fn find(e: &Setting<'_>, label: &Text, name: &Bytes) -> Result<Option<Found>, Halt>
     ensures ok { IfOk result (IsFound (env_of e.now) label.now name.now) }
     ensures err { IsOkUnless result Memory }
 {
-    let (path, def) = if *label == e.label {
-        (&e.path, own_function(e.file.tops.as_slice(), name))
+    let given = e.given();
+    let (path, def) = if *label == given.label {
+        (&given.path, own_function(e, name))
     } else {
-        match reached(e.loads.as_slice(), label) {
-            Some(m) => (m.path(), function_among(m.functions(), name)),
+        match reached(given.loads.as_slice(), label) {
+            Some(m) => (m.path(), function_in(m, name)),
             None => return Ok(None),
         }
     };

@@ -8,6 +8,7 @@ mod finding;
 mod machine;
 mod outcome;
 mod running;
+mod setting;
 mod turning;
 
 pub use machine::Environment;

@@ -10,6 +10,7 @@ ghost use Rattle.evaluator.specs.Machines.{Under, Leads, Stops, TurnFalls, Falls
 use crate::acting::{added, begin_block, built_in, define, of_value};
 use crate::entering::{enter, leave};
 use crate::machine::{Environment, Machine, Stop, Turned};
+use crate::setting::Setting;
 use frames::{Caller, Control, Frame, Signal, control_line, frame_line, hand_down, step};
 use heap::{Builtin, Halt, Val};
 use names::{Slot, Standing};
@@ -34,7 +35,7 @@ fn stop(m: &Machine, line: usize, halt: Halt) -> Stop
 // Ends a call at the end of its body.
 fn end_call(
     m: &mut Machine,
-    e: &Environment,
+    e: &Setting<'_>,
     signal: Signal,
     caller: Box<Caller>,
 ) -> Result<Turned, Stop>
@@ -50,7 +51,7 @@ fn end_call(
 }
 
 // Hands a signal to the topmost frame.
-fn hand(m: &mut Machine, e: &Environment, signal: Signal) -> Result<Turned, Stop>
+fn hand(m: &mut Machine, e: &Setting<'_>, signal: Signal) -> Result<Turned, Stop>
     ensures leads { Leads e.now (λ env. means env m.old (c.Signal signal)) result m.new }
     ensures falls { IfOk result (λ turned. TurnFalls m.old (c.Signal signal) m.new turned) }
 {
@@ -73,7 +74,7 @@ fn hand(m: &mut Machine, e: &Environment, signal: Signal) -> Result<Turned, Stop
 // A package call.
 fn call_package(
     m: &mut Machine,
-    e: &Environment,
+    e: &Setting<'_>,
     line: usize,
     f: Builtin,
     xs: Vec<Val>,
@@ -82,7 +83,13 @@ fn call_package(
     ensures leads { Leads e.now (λ env. means env m.old (c.Package line f xs names)) result m.new }
     ensures falls { IfOk result (λ turned. TurnFalls m.old (c.Package line f xs names) m.new turned) }
 {
-    match package_call(&mut m.state, &e.package, f, xs.as_slice(), names.as_slice()) {
+    match package_call(
+        &mut m.state,
+        &e.given().package,
+        f,
+        xs.as_slice(),
+        names.as_slice(),
+    ) {
         Ok(Called::Value(value)) => Ok(Turned::Goes(Control::Signal(Signal::Value(value)))),
         Ok(Called::Waits(patterns)) => {
             Ok(Turned::Waits(Control::Package(line, f, xs, names), patterns))
@@ -92,7 +99,7 @@ fn call_package(
 }
 
 // What is neither a signal nor a package call.
-fn act(m: &mut Machine, e: &Environment, control: Control) -> Result<Control, Halt>
+fn act(m: &mut Machine, e: &Setting<'_>, control: Control) -> Result<Control, Halt>
     ensures goes { Under e.now (λ env. Goes (on env m.old.left (here_in m.old) (control_line m.old.at.line control)).site (means env m.old control) result (λ next. means env m.new next)) }
     ensures falls { IsActing control → IfOk result (λ next. Falls m.old control m.new next) }
     ensures stands { OnErr result (m.new.at ≡ m.old.at) }
@@ -115,7 +122,7 @@ fn act(m: &mut Machine, e: &Environment, control: Control) -> Result<Control, Ha
 }
 
 // One turn.
-fn turn(m: &mut Machine, e: &Environment, control: Control) -> Result<Turned, Stop>
+fn turn(m: &mut Machine, e: &Setting<'_>, control: Control) -> Result<Turned, Stop>
     ensures leads { Leads e.now (λ env. means env m.old control) result m.new }
     ensures falls { IfOk result (λ turned. TurnFalls m.old control m.new turned) }
 {
@@ -133,7 +140,7 @@ fn turn(m: &mut Machine, e: &Environment, control: Control) -> Result<Turned, St
 }
 
 // Turns until a step is paid for, or the end.
-fn stretch(m: &mut Machine, e: &Environment, control: Control) -> Result<Turned, Stop>
+fn stretch(m: &mut Machine, e: &Setting<'_>, control: Control) -> Result<Turned, Stop>
     ensures leads { Leads e.now (λ env. means env m.old control) result m.new }
     ensures fewer { IfOk result (λ turned. StepsFall m.old m.new turned) }
 {
@@ -152,8 +159,8 @@ fn stretch(m: &mut Machine, e: &Environment, control: Control) -> Result<Turned,
     }
 }
 
-/// Turns until the machine ends or waits.
-pub fn go(m: &mut Machine, e: &Environment, control: Control) -> Result<Turned, Stop>
+// Turns until the machine ends or waits.
+fn stretches(m: &mut Machine, e: &Setting<'_>, control: Control) -> Result<Turned, Stop>
     ensures leads { Leads e.now (λ env. means env m.old control) result m.new }
     ensures over { IfOk result IsOver }
 {
@@ -163,5 +170,16 @@ pub fn go(m: &mut Machine, e: &Environment, control: Control) -> Result<Turned, 
             Turned::Goes(next) => control = next,
             ended => return Ok(ended),
         }
+    }
+}
+
+/// Turns until the machine ends or waits.
+pub fn go(m: &mut Machine, e: &Environment, control: Control) -> Result<Turned, Stop>
+    ensures leads { Leads e.now (λ env. means env m.old control) result m.new }
+    ensures over { IfOk result IsOver }
+{
+    match Setting::new(m.state.heap.alloc, e) {
+        Ok(setting) => stretches(m, &setting, control),
+        Err(_) => Err(Stop::Memory),
     }
 }

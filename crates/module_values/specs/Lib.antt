@@ -3,3 +3,4 @@ pub mod Equal
 pub mod EqualLaws
 pub mod Stored
 pub mod Shown
+pub mod Named

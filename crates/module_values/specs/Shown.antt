@@ -5,7 +5,7 @@ use Rattle.module_values.specs.declared.targets.Held.TheVariants.{Single, Severa
 use Rattle.module_values.specs.declared.modules.Parts.{Parts}
 
 abbrev pub body_of : Parts → Body
-body_of p = record { label = p.label; path = p.path; own = p.own.items; loaded = p.loaded.items; functions = p.functions.items; defaults = p.defaults.items }
+body_of p = record { label = p.label; path = p.path; own = p.own.items; loaded = p.loaded.items; functions = p.functions; defaults = p.defaults.items }
 
 abbrev pub attribute_of : Held → Attribute
 attribute_of (Single text) = single text

@@ -2,9 +2,11 @@
 #![tactic(auto)]
 
 mod bindings;
+mod functions;
 mod modules;
 mod targets;
 
 pub use bindings::{Binding, Defaults, Function};
+pub use functions::Functions;
 pub use modules::{Loaded, Module};
 pub use targets::{Attribute, Held, Target, Targets, Texts};

@@ -1,11 +1,14 @@
 //! Modules.
-ghost use Rattle.std.specs.Prelude.{◌≡◌, IfOk};
+ghost use Rattle.std.specs.Prelude.{◌≡◌, IfOk, option_map};
 ghost use Rattle.std.specs.Cmp.{partial_equiv_from_equiv};
 ghost use Rattle.module_values.specs.Values.{Body};
 ghost use Rattle.module_values.specs.Equal.{body_eq, loaded_eq};
 ghost use Rattle.module_values.specs.EqualLaws.{bodies_equiv, loaded_equiv};
+ghost use Rattle.module_values.specs.Named.{first_named};
 
 use crate::bindings::{Binding, Defaults, Function};
+use crate::functions::Functions;
+use meaning::Bytes;
 use std::alloc::Global;
 use std::marker::Model;
 use std::sync::Arc;
@@ -18,7 +21,7 @@ struct Parts {
     path: Text,
     own: Vec<Binding>,
     loaded: Vec<Binding>,
-    functions: Vec<Function>,
+    functions: Functions,
     defaults: Vec<Defaults>,
 }
 
@@ -60,7 +63,7 @@ impl Module {
             path,
             own,
             loaded,
-            functions,
+            functions: Functions::new(functions)?,
             defaults,
         };
         let parts = Arc::new(alloc, parts)?;
@@ -108,6 +111,13 @@ impl Module {
         ensures { result.now ≡ self.now.functions }
     {
         self.parts.functions.as_slice()
+    }
+
+    /// The first of its functions with a name.
+    pub fn function(&self, name: &Bytes) -> Option<&Function>
+        ensures { option_map (λ f. f.now) result ≡ first_named name.now self.now.functions }
+    {
+        self.parts.functions.named(name)
     }
 
     /// Its functions' defaults.

@@ -40,6 +40,6 @@ pub fn keep_defaults(
     };
     let function = name.share()?;
     let file = &mut state.files[i];
-    file.defaults.insert(0, Kept { function, values })?;
+    file.defaults.add(Kept { function, values })?;
     Ok(())
 }

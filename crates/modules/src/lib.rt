@@ -12,6 +12,7 @@ mod thawed;
 
 pub use ending::frozen_module;
 pub use keeping::keep_defaults;
+pub use leaving::functions_of;
 pub use loading::load_items;
 pub use naming::need_names;
-pub use reaching::{exported, function_in, reached};
+pub use reaching::{exported, reached};

@@ -9,7 +9,7 @@ use crate::thawed::{thaw_defaults, thaw_names};
 use calls::file_with;
 use heap::Halt;
 use module_values::{Loaded, Module};
-use names::{Block, FileNames, State};
+use names::{Block, FileNames, KeptDefaults, State};
 use texts::Text;
 
 // Puts the names of a module on the heap.
@@ -24,12 +24,13 @@ fn thaw_body(state: &mut State, body: &Module) -> Result<(), Halt>
     if let Err(halt) = thaw_names(&mut state.heap, body.loaded(), &mut slots) {
         return Err(halt);
     }
-    let defaults = match thaw_defaults(&mut state.heap, body.defaults()) {
-        Ok(defaults) => defaults,
+    let kept = match thaw_defaults(&mut state.heap, body.defaults()) {
+        Ok(kept) => kept,
         Err(halt) => return Err(halt),
     };
     let label = body.label().share()?;
     let block = Block::new(slots)?;
+    let defaults = KeptDefaults::of_list(kept)?;
     state.files.push(FileNames {
         label,
         block,

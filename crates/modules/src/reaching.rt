@@ -1,16 +1,10 @@
 //! Modules that loads reach, and what they export.
 ghost use Rattle.std.specs.Prelude.{◌≡◌, ◌∷◌, option_map};
-ghost use Rattle.std.specs.Arc.{arc_value};
-ghost use Rattle.tree.specs.Statements.{fn_of};
-ghost use Rattle.language.specs.Environment.{function_named};
 ghost use Rattle.language.specs.Modules.{frozen_at, is_private, exported, body_at, all_bodies};
 
 use freezing::FrozenValue;
-use module_values::{Binding, Function, Loaded, Module};
-use std::alloc::Global;
-use std::sync::Arc;
+use module_values::{Binding, Loaded, Module};
 use texts::Text;
-use tree::Def;
 
 // The module with a label.
 fn module_at<'a>(modules: &'a [Module], label: &Text) -> Option<&'a Module>
@@ -76,17 +70,4 @@ pub fn exported<'a>(body: &'a Module, x: &Text) -> Option<&'a FrozenValue>
         return None;
     }
     frozen_at(body.own(), x)
-}
-
-/// The first function of a module that has a name.
-pub fn function_in<'a>(functions: &'a [Function], x: &Text) -> Option<&'a Arc<Def, Global>>
-    ensures { option_map (λ f. fn_of (arc_value f.now)) result ≡ function_named x.now functions.now }
-{
-    for f in functions.iter() {
-        let def = f.def();
-        if *x == def.name {
-            return Some(def);
-        }
-    }
-    None
 }

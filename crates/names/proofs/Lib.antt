@@ -1,3 +1,4 @@
 pub mod Found
 pub mod Distinct
 pub mod Adding
+pub mod Latest

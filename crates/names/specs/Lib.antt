@@ -2,3 +2,4 @@ pub mod View
 pub mod Places
 pub mod Once
 pub mod MadeOnce
+pub mod Newest

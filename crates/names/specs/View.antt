@@ -1,4 +1,5 @@
 -- What the state of an evaluation in memory is to the definitions, and what a call ensures that does a piece of it.
+pub use Rattle.names.specs.Newest.{kept_of}
 use Rattle.std.specs.Prelude.{◌≡◌, ℕ, List, map, Option, Result, Ok, Err}
 use Rattle.std.specs.declared.vec.Vec.{Vec}
 use Rattle.std.specs.declared.alloc.Global.{Global}
@@ -11,7 +12,6 @@ use Rattle.module_values.specs.Values as v
 use Rattle.language.specs.World.{World, Block, Names, Site, Here, Ends, ended, failed}
 use Rattle.names.specs.declared.state.Slot.{Slot}
 use Rattle.names.specs.declared.state.Block as m
-use Rattle.names.specs.declared.state.Kept.{Kept}
 use Rattle.names.specs.declared.state.FileNames.{FileNames}
 use Rattle.names.specs.declared.state.Attribute.{Attribute}
 use Rattle.names.specs.declared.state.Attribute.TheVariants as a
@@ -32,11 +32,8 @@ block_of block = map slot_of block.items
 abbrev pub held : m.Block → Block
 held b = block_of b.slots
 
-abbrev pub kept_of : Kept → List ℕ × List Val
-kept_of k = (k.function, k.values.items)
-
 abbrev pub names_of : FileNames → Names
-names_of f = record { label = f.label; block = held f.block; defaults = map kept_of f.defaults.items }
+names_of f = record { label = f.label; block = held f.block; defaults = f.defaults }
 
 abbrev pub attribute_of : Attribute → v.Attribute
 attribute_of (a.Single text) = v.single text

@@ -2,12 +2,14 @@
 #![tactic(auto)]
 
 mod blocks;
+mod keeping;
 mod made;
 mod places;
 mod reading;
 mod state;
 mod universal;
 
+pub use keeping::KeptDefaults;
 pub use made::Made;
 pub use reading::{bind, is_native_name, read, slot};
 pub use state::{Attribute, Attributed, Block, FileNames, Kept, Slot, Standing, State, Target};

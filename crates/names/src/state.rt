@@ -3,6 +3,7 @@ ghost use Rattle.std.specs.Prelude.{◌≡◌, true, cond};
 ghost use Rattle.std.specs.Option.{ForSome};
 ghost use Rattle.names.specs.Once.{names_in, differ};
 
+use crate::keeping::KeptDefaults;
 use crate::made::Made;
 use grammar::FileKind;
 use heap::{Builtin, Bytes, Heap, Val};
@@ -40,7 +41,7 @@ pub struct Kept {
 pub struct FileNames {
     pub label: Text,
     pub block: Block,
-    pub defaults: Vec<Kept>,
+    pub defaults: KeptDefaults,
 }
 
 /// What an attribute of a target holds.

@@ -6,13 +6,13 @@ use Rattle.tree.specs.declared.stmt.Def.{Def}
 use Rattle.tree.specs.Statements.{fn_of}
 use Rattle.language.specs.World.{Ends, then_runs, pure}
 use Rattle.language.specs.Arguments.{plain_part, named_part}
-use Rattle.language.specs.Environment.{functions_of, function_named}
 use Rattle.language.specs.Expressions.{call_object}
 use Rattle.language.specs.Calls.{call}
 use Rattle.language.specs.Laws.{with_answers}
 use Rattle.names.specs.View.{world_of}
 use Rattle.frames.specs.declared.frame.Control.{Control}
 use Rattle.frames.specs.Frames.{a_value, Goes, on, stack_does}
+use Rattle.evaluator.specs.declared.machine.Environment.{Environment}
 use Rattle.evaluator.specs.Machines.{env_of, here_in, means}
 use Rattle.evaluator.specs.Finding.{IsLabel, IsFound, calls_on}
 use Rattle.evaluator.specs.declared.finding.Found.{Found}
@@ -59,7 +59,7 @@ returns-in-Err-need_names-clause-goes c = λ more knows.
     let calls = object ∙ ap (λ (x : List ℕ). call env left x name xs ns h w) (sym is_label) in
     let after = λ (control : Control). means env (record m { state = c.need_names.new.state }) control in
     subst (λ (o : Ends Val). Goes h.site (then_runs (then_runs o k) j) (Err c.in-Err-need_names.halt) after) (sym calls)
-    (needs_goes env left label name xs ns h w (world_of c.need_names.new.state) c.in-Err-need_names.halt k j after (c.in-Err-need_names.ensures.says env h (sym c.as_slice-2.ensures.value)))
+    (needs_goes env left label name xs ns h w (world_of c.need_names.new.state) c.in-Err-need_names.halt k j after (c.in-Err-need_names.ensures.says env h (sym (c.as_slice-2.ensures.value ∙ ap (λ (g : Environment). g.loads.items) c.given.ensures))))
 
 pub returns-clause-goes : goal.returns-clause-goes
 returns-clause-goes c = λ more knows.
@@ -81,10 +81,9 @@ returns-clause-goes c = λ more knows.
     let is_label : label ≡ l = subst (λ (o : Option (List ℕ)). IsLabel e c.as_slice.result.now o) c.in-Some.is c.in_ok-label.ensures.ok ∙ c.as_slice.ensures in
     let calls = object ∙ ap (λ (x : List ℕ). call env left x name xs ns h w) (sym is_label) in
     let u = world_of c.need_names.new.state in
-    let needs = c.in_default.ensures.says env h (sym c.as_slice-2.ensures.value) in
-    let none = subst (λ (o : Option Found). IsFound e label c.as_slice-3.result.now o) c.in-None-2.is c.in_ok-found.ensures.ok in
-    let none' = ap (λ (x : List ℕ). function_named x (functions_of e label)) (sym c.as_slice-3.ensures) ∙ none in
-    ap (λ (o : Ends Val). then_runs (then_runs o k) j) (calls ∙ no_call env left label name xs ns h w u needs none')
+    let needs = c.in_default.ensures.says env h (sym (c.as_slice-2.ensures.value ∙ ap (λ (g : Environment). g.loads.items) c.given.ensures)) in
+    let none = subst (λ (o : Option Found). IsFound e label name o) c.in-None-2.is c.in_ok-found.ensures.ok in
+    ap (λ (o : Ends Val). then_runs (then_runs o k) j) (calls ∙ no_call env left label name xs ns h w u needs none)
 
 pub returns-in-Some-2-clause-goes : goal.returns-in-Some-2-clause-goes
 returns-in-Some-2-clause-goes c = λ more knows.
@@ -106,12 +105,10 @@ returns-in-Some-2-clause-goes c = λ more knows.
     let is_label : label ≡ l = subst (λ (o : Option (List ℕ)). IsLabel e c.as_slice.result.now o) c.in-Some.is c.in_ok-label.ensures.ok ∙ c.as_slice.ensures in
     let calls = object ∙ ap (λ (x : List ℕ). call env left x name xs ns h w) (sym is_label) in
     let u = world_of c.need_names.new.state in
-    let needs = c.in_default.ensures.says env h (sym c.as_slice-2.ensures.value) in
+    let needs = c.in_default.ensures.says env h (sym (c.as_slice-2.ensures.value ∙ ap (λ (g : Environment). g.loads.items) c.given.ensures)) in
     let found = c.in-Some-2.found in
-    let is = subst (λ (o : Option Found). IsFound e label c.as_slice-3.result.now o) c.in-Some-2.is c.in_ok-found.ensures.ok in
+    let is = subst (λ (o : Option Found). IsFound e label name o) c.in-Some-2.is c.in_ok-found.ensures.ok in
     let f = fn_of (arc_value found.def) in
-    let names = ap (λ (x : List ℕ). function_named x (functions_of e label)) (sym c.as_slice-3.ensures) ∙ is.0 in
-    let named = is.1 ∙ c.as_slice-3.ensures in
-    let chain = calls ∙ found_calls env left label name xs ns h f w u needs names named ∙ ap (λ (d : Def). calls_on env left label (fn_of d) xs ns h u) (sym c.deref.ensures) in
+    let chain = calls ∙ found_calls env left label name xs ns h f w u needs is.0 is.1 ∙ ap (λ (d : Def). calls_on env left label (fn_of d) xs ns h u) (sym c.deref.ensures) in
     let after = λ (control : Control). means env c.call.new.m control in
     subst (λ (o : Ends Val). Goes h.site (then_runs (then_runs o k) j) c.call.result after) (sym chain) (c.call.ensures.goes env c.args.line is.2)

@@ -1,10 +1,7 @@
-use Rattle.language.specs.Environment.{Env}
-use Rattle.evaluator.specs.Machines.{means}
-use Rattle.evaluator.proofs.Turned.{leads_on, none_left}
+use Rattle.std.proofs.Common.{subst}
+use Rattle.evaluator.specs.declared.machine.Environment.{Environment}
+use Rattle.evaluator.specs.Machines.{Leads, means}
 use Rattle.evaluator.proofs.turning.go.Goals as goal
 
-pub returns-in_default : goal.returns-in_default
-returns-in_default c = record {
-  leads = leads_on c.args.e.now (λ (env : Env). means env c.args.m.now c.args.control) (λ (env : Env). means env c.loop-next.m c.loop-next.control) c.in_ok-ended.ended c.stretch.new.m c.loop-next.invariant c.in_ok-ended.ensures.leads;
-  over = none_left c.in_ok-ended.ended c.in_default.not-Goes;
-}
+pub returns-in-Ok-clause-leads : goal.returns-in-Ok-clause-leads
+returns-in-Ok-clause-leads c = subst (λ (s : Environment). Leads s (λ env. means env c.args.m.now c.args.control) c.stretches.result c.stretches.new.m) c.in-Ok.ensures c.stretches.ensures.leads

@@ -1,7 +1,7 @@
 use Rattle.std.proofs.Common.{◌≡◌, ◌∷◌, List, get_or, map, ap, subst, ◌∙◌}
 use Rattle.language.specs.World.{Names, ended}
 use Rattle.names.specs.declared.state.FileNames.{FileNames}
-use Rattle.names.specs.View.{world_of, names_of, kept_of}
+use Rattle.names.specs.View.{world_of, names_of}
 use Rattle.names.specs.Places.{NoneSo, FirstSo, is_file}
 use Rattle.names.proofs.Found.{change_there}
 use Rattle.modules.proofs.Worlds.{change_none}
@@ -25,6 +25,6 @@ returns-clause-says c = λ here.
     let at_place : f ≡ get_or files i f = c.index_mut-file.ensures.value in
     let first : FirstSo (is_file label) files i = subst (λ (l : List FileNames). FirstSo (is_file label) l i) c.as_slice.ensures.value c.in-Some.ensures in
     let change = λ (g : Names). record g { defaults = (c.args.name.now, c.args.values.items) ∷ g.defaults } in
-    let kept = c.in_ok-insert.ensures.items in
-    ap (λ (fs : List Names). ended tt (record w { files = fs })) (change_there label change files i f (record f { defaults = c.insert.new.self }) first.within first.before (first.here f)
-    (ap (λ l. record (names_of f) { defaults = map kept_of l }) kept ∙ ap (λ y. record (names_of f) { defaults = (y, c.args.values.items) ∷ map kept_of f.defaults.items }) c.in_ok-function.ensures ∙ ap (λ (g : FileNames). change (names_of g)) at_place))
+    let kept = c.in_ok-add.ensures.added in
+    ap (λ (fs : List Names). ended tt (record w { files = fs })) (change_there label change files i f (record f { defaults = c.add.new.self }) first.within first.before (first.here f)
+    (ap (λ l. record (names_of f) { defaults = l }) kept ∙ ap (λ y. record (names_of f) { defaults = (y, c.args.values.items) ∷ f.defaults }) c.in_ok-function.ensures ∙ ap (λ (g : FileNames). change (names_of g)) at_place))

@@ -20,7 +20,8 @@ pub returns-clause-says : goal.returns-clause-says
 returns-clause-says c = λ here.
     let w = world_of c.args.state.now in
     let files = c.args.state.now.files.items in
-    let ds = map kept_of c.in-Ok.defaults.items in
-    body_goes c.args.body.now here w (block_of c.thaw_names.new.block) (block_of c.thaw_names-2.new.block) ds (store_of c.thaw_names.new.heap) (store_of c.thaw_names-2.new.heap) (store_of c.thaw_defaults.new.heap) (names_fact (block_of c.new-slots.result) [] c.own.result.now c.args.body.now.own (store_of c.args.state.now.heap) (store_of c.thaw_names.new.heap) (Ok tt) (block_of c.thaw_names.new.block) (ap slots_of c.new-slots.ensures.items) c.own.ensures c.in_default.ensures.says) (names_fact (block_of c.thaw_names.new.block) (block_of c.thaw_names.new.block) c.loaded.result.now c.args.body.now.loaded (store_of c.thaw_names.new.heap) (store_of c.thaw_names-2.new.heap) (Ok tt) (block_of c.thaw_names-2.new.block) refl c.loaded.ensures c.in_default-thaw_names.ensures.says) (defaults_fact c.defaults.result.now c.args.body.now.defaults (store_of c.thaw_names-2.new.heap) (store_of c.thaw_defaults.new.heap) (Ok c.in-Ok.defaults) c.defaults.ensures c.in-Ok.ensures.says)
+    let ds = map kept_of c.in-Ok.kept.items in
+    let kept = c.in_ok-defaults.defaults in
+    body_goes c.args.body.now here w (block_of c.thaw_names.new.block) (block_of c.thaw_names-2.new.block) ds (store_of c.thaw_names.new.heap) (store_of c.thaw_names-2.new.heap) (store_of c.thaw_defaults.new.heap) (names_fact (block_of c.new-slots.result) [] c.own.result.now c.args.body.now.own (store_of c.args.state.now.heap) (store_of c.thaw_names.new.heap) (Ok tt) (block_of c.thaw_names.new.block) (ap slots_of c.new-slots.ensures.items) c.own.ensures c.in_default.ensures.says) (names_fact (block_of c.thaw_names.new.block) (block_of c.thaw_names.new.block) c.loaded.result.now c.args.body.now.loaded (store_of c.thaw_names.new.heap) (store_of c.thaw_names-2.new.heap) (Ok tt) (block_of c.thaw_names-2.new.block) refl c.loaded.ensures c.in_default-thaw_names.ensures.says) (defaults_fact c.defaults.result.now c.args.body.now.defaults (store_of c.thaw_names-2.new.heap) (store_of c.thaw_defaults.new.heap) (Ok c.in-Ok.kept) c.defaults.ensures c.in-Ok.ensures.says)
     ∙ ap (λ (fs : List Names). ended tt (record w { store = store_of c.thaw_defaults.new.heap; files = fs }))
-    (sym (ap (λ (fs : List FileNames). map names_of fs) c.in_ok-push.ensures.items ∙ map_push names_of files _ ∙ ap (λ x. map names_of files ++ record { label = x; block = held c.in_ok-block.block; defaults = ds } ∷ []) (c.in_ok-label.ensures ∙ c.label.ensures) ∙ ap (λ (b : Block). map names_of files ++ record { label = c.args.body.now.label; block = b; defaults = ds } ∷ []) c.in_ok-block.ensures))
+    (sym (ap (λ (fs : List FileNames). map names_of fs) c.in_ok-push.ensures.items ∙ map_push names_of files _ ∙ ap (λ x. map names_of files ++ record { label = x; block = held c.in_ok-block.block; defaults = kept } ∷ []) (c.in_ok-label.ensures ∙ c.label.ensures) ∙ ap (λ (b : Block). map names_of files ++ record { label = c.args.body.now.label; block = b; defaults = kept } ∷ []) c.in_ok-block.ensures ∙ ap (λ l. map names_of files ++ record { label = c.args.body.now.label; block = block_of c.thaw_names-2.new.block; defaults = l } ∷ []) c.in_ok-defaults.ensures))

@@ -1,6 +1,6 @@
 use Rattle.std.proofs.Common.{◌≡◌}
 use Rattle.evaluator.specs.Machines.{Under, means}
-use Rattle.evaluator.proofs.turning.go.Given as goal
+use Rattle.evaluator.proofs.turning.stretches.Given as goal
 
 abbrev pub invariant-loop-next : goal.invariant-loop-next
 invariant-loop-next l = Under l.e (λ env. means env l.initial.m l.initial.control ≡ means env l.m l.control)

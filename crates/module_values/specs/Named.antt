@@ -1,0 +1,18 @@
+-- Functions by their names.
+use Rattle.std.specs.Prelude.{ℕ, List, [], ◌∷◌, Option, Some, None, if◌then◌else◌, slice_get}
+use Rattle.meaning.specs.Comparing.{same_text}
+use Rattle.tree.specs.Tree.{Fn}
+
+abbrev pub names_of : List Fn → List (List ℕ)
+names_of [] = []
+names_of (f ∷ fs) = f.name ∷ names_of fs
+
+-- the first function with a name
+abbrev pub first_named : List ℕ → List Fn → Option Fn
+first_named x [] = None
+first_named x (f ∷ fs) = if same_text x f.name then Some f else first_named x fs
+
+-- the function at a place, or none
+abbrev pub function_at : List Fn → Option ℕ → Option Fn
+function_at fs None = None
+function_at fs (Some i) = slice_get fs i

@@ -1,0 +1,116 @@
+//! Functions of a file, found by their names.
+ghost use Rattle.std.specs.Prelude.{◌≡◌, IfOk, IfSome, option_map};
+ghost use Rattle.module_values.specs.Named.{names_of, first_named, function_at};
+
+use crate::bindings::Function;
+use indexmap::IndexSet;
+use meaning::Bytes;
+use std::alloc::Global;
+use std::marker::Model;
+use texts::Memory;
+
+/// So many functions are looked through; for more a set of their names is made.
+const FEW: usize = 16;
+
+// The names of many functions, each at the place of its function.
+#[derive(Drop)]
+struct Index {
+    names: IndexSet<Bytes>,
+}
+
+/// The functions of a file, in its order, which are found by their names. A contract sees the functions.
+#[derive(Drop)]
+pub struct Functions {
+    items: Vec<Function>,
+    index: Option<Index>,
+}
+
+impl Model for Functions {
+    ghost use Rattle.std.specs.Prelude.{◌≡◌, List};
+    ghost use Rattle.std.specs.Option.{ForSome};
+    ghost use Rattle.std.specs.Coded.{coded_list};
+    ghost use Rattle.tree.specs.Tree.{Fn};
+    ghost use Rattle.same_trees.specs.Stored.{fn_code};
+    ghost use Rattle.module_values.specs.Named.{names_of};
+
+    ghost Value = { List Fn };
+
+    ghost coded = { coded_list fn_code };
+
+    ghost view = { λ f. f.items.items };
+
+    ghost invariant = { λ f. ForSome f.index (λ i. i.names.keys ≡ names_of f.items.items) };
+}
+
+// The first function with a name.
+fn first_named<'a>(functions: &'a [Function], name: &Bytes) -> Option<&'a Function>
+    ensures { option_map (λ f. f.now) result ≡ first_named name.now functions.now }
+{
+    for function in functions.iter() {
+        if name.as_slice() == function.def().name.as_str().as_bytes() {
+            return Some(function);
+        }
+    }
+    None
+}
+
+// The function at a place, or none.
+fn function_at<'a>(functions: &'a [Function], place: Option<usize>) -> Option<&'a Function>
+    ensures { option_map (λ f. f.now) result ≡ function_at functions.now place }
+{
+    match place {
+        Some(i) => functions.get(i),
+        None => None,
+    }
+}
+
+// The names of many functions, where each stands once.
+fn index_of(alloc: Global, functions: &[Function]) -> Result<Option<Index>, Memory>
+    ensures { IfOk result (λ o. IfSome o (λ i. i.names.keys ≡ names_of functions.now)) }
+{
+    if functions.len() <= FEW {
+        return Ok(None);
+    }
+    let mut names = IndexSet::new(alloc);
+    for function in functions.iter() {
+        let name = Bytes::of_text(function.def().name.share()?);
+        if !names.insert(name)? {
+            return Ok(None);
+        }
+    }
+    Ok(Some(Index { names }))
+}
+
+impl Functions {
+    /// These functions.
+    ///
+    /// # Errors
+    ///
+    /// `Memory` where memory is refused.
+    pub fn new(functions: Vec<Function>) -> Result<Functions, Memory>
+        ensures { IfOk result (λ f. f ≡ functions.items) }
+    {
+        let index = index_of(*functions.allocator(), functions.as_slice())?;
+        Ok(Functions {
+            items: functions,
+            index,
+        })
+    }
+
+    /// The functions.
+    pub fn as_slice(&self) -> &[Function]
+        ensures { result.now ≡ self.now }
+    {
+        self.items.as_slice()
+    }
+
+    /// The first function with a name. Among many, which differ in their names, it takes no search.
+    pub fn named(&self, name: &Bytes) -> Option<&Function>
+        ensures { option_map (λ f. f.now) result ≡ first_named name.now self.now }
+    {
+        match &self.index {
+            Some(index) => function_at(self.items.as_slice(), index.names.get_index_of(name)),
+            None => first_named(self.items.as_slice(), name),
+        }
+    }
+}

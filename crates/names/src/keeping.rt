@@ -1,0 +1,159 @@
+//! The defaults of a file's functions.
+ghost use Rattle.std.specs.Prelude.{◌≡◌, ◌∷◌, ◌++◌, [], map, false, IfOk, IfSome, IsSomeAnd, OnOk, OnErr};
+ghost use Rattle.language.specs.Environment.{values_named};
+ghost use Rattle.language.specs.Names.{has_name};
+ghost use Rattle.names.specs.Newest.{kept_of, newest_first, values_at, Lists};
+
+use crate::state::Kept;
+use heap::Val;
+use indexmap::IndexSet;
+use std::alloc::Global;
+use std::marker::Model;
+use texts::{Memory, Text};
+
+/// So many functions are looked through; for more a set of their names is made.
+const FEW: usize = 16;
+
+/// The defaults of a file's functions, which are found by the functions' names. A contract sees them with the newest first.
+#[derive(Drop)]
+pub struct KeptDefaults {
+    // The newest is the last.
+    kept: Vec<Kept>,
+    // The names of many functions, where each stands once.
+    index: Option<IndexSet<Text>>,
+}
+
+impl Model for KeptDefaults {
+    ghost use Rattle.std.specs.Prelude.{ℕ, List};
+    ghost use Rattle.meaning.specs.declared.val.Val.{Val};
+    ghost use Rattle.names.specs.Newest.{newest_first, Lists};
+
+    ghost Value = { List (List ℕ × List Val) };
+
+    ghost view = { λ d. newest_first d.kept.items };
+
+    ghost invariant = { λ d. Lists d.index d.kept.items };
+}
+
+// The defaults of the newest function with a name.
+fn newest_named<'a>(kept: &'a [Kept], name: &Text) -> &'a [Val]
+    ensures { result.now ≡ values_named name.now (newest_first kept.now) }
+{
+    let mut newest: &[Val] = &[];
+    for k in kept.iter() {
+        if *name == k.function {
+            newest = k.values.as_slice();
+        }
+    }
+    newest
+}
+
+// The names of functions, where each stands once.
+fn index_of(alloc: Global, kept: &[Kept]) -> Result<Option<IndexSet<Text>>, Memory>
+    ensures { IfOk result (λ index. Lists index kept.now) }
+{
+    let mut names = IndexSet::new(alloc);
+    for k in kept.iter() {
+        if names.contains(&k.function) {
+            return Ok(None);
+        }
+        names.insert(k.function.share()?)?;
+    }
+    Ok(Some(names))
+}
+
+// The defaults of the function at a place, or none.
+fn values_at<'a>(kept: &'a [Kept], place: Option<usize>) -> &'a [Val]
+    ensures { result.now ≡ values_at kept.now place }
+{
+    match place {
+        Some(i) => match kept.get(i) {
+            Some(k) => k.values.as_slice(),
+            None => &[],
+        },
+        None => &[],
+    }
+}
+
+// The names of functions with one more, where it is none of them.
+fn with_name(index: Option<IndexSet<Text>>, name: &Text) -> Result<Option<IndexSet<Text>>, Memory>
+    ensures { IfOk result (λ now. IfSome now (λ s. IsSomeAnd index (λ o. (has_name name.now o.keys ≡ false) × (s.keys ≡ o.keys ++ name.now ∷ [])))) }
+{
+    let Some(names) = index else {
+        return Ok(None);
+    };
+    let mut names = names;
+    if names.contains(name) {
+        return Ok(None);
+    }
+    names.insert(name.share()?)?;
+    Ok(Some(names))
+}
+
+impl KeptDefaults {
+    /// No defaults.
+    pub fn new(alloc: Global) -> KeptDefaults
+        ensures { result ≡ [] }
+    {
+        KeptDefaults {
+            kept: Vec::new(alloc),
+            index: None,
+        }
+    }
+
+    /// These defaults, the newest of which stands first.
+    ///
+    /// # Errors
+    ///
+    /// `Memory` where memory is refused.
+    pub fn of_list(kept: Vec<Kept>) -> Result<KeptDefaults, Memory>
+        ensures { IfOk result (λ d. d ≡ map kept_of kept.items) }
+    {
+        let mut kept = kept;
+        kept.reverse();
+        if kept.len() < FEW {
+            return Ok(KeptDefaults { kept, index: None });
+        }
+        let index = index_of(*kept.allocator(), kept.as_slice())?;
+        Ok(KeptDefaults { kept, index })
+    }
+
+    // From so many functions on they are found by a set of their names.
+    fn begin_index(&mut self) -> Result<(), Memory>
+        ensures { self.new ≡ self.old }
+    {
+        if self.kept.len() != FEW {
+            return Ok(());
+        }
+        self.index = index_of(*self.kept.allocator(), self.kept.as_slice())?;
+        Ok(())
+    }
+
+    /// Adds the defaults of a function, which are the newest.
+    ///
+    /// # Errors
+    ///
+    /// `Memory` where memory is refused: none are added.
+    pub fn add(&mut self, kept: Kept) -> Result<(), Memory>
+        ensures added { OnOk result (self.new ≡ kept_of kept ∷ self.old) }
+        ensures refused { OnErr result (self.new ≡ self.old) }
+    {
+        self.begin_index()?;
+        self.kept.reserve(1)?;
+        let index = self.index.take();
+        self.index = with_name(index, &kept.function)?;
+        self.kept.push_reserved(kept);
+        Ok(())
+    }
+
+    /// The defaults of the newest function with a name: none where there is none. Among many, which differ in their names,
+    /// it takes no search.
+    pub fn named(&self, name: &Text) -> &[Val]
+        ensures { result.now ≡ values_named name.now self.now }
+    {
+        match &self.index {
+            Some(names) => values_at(self.kept.as_slice(), names.get_index_of(name)),
+            None => newest_named(self.kept.as_slice(), name),
+        }
+    }
+}
