@@ -73,7 +73,7 @@ module _ (files : ℕ → Files) (paths : ℕ → List (List ℕ)) where
 
   -- a key that was last settled at a version was settled by a request of it
   last_request : {k : Key} {u : ℕ} {earlier : List Asked} → IsLastSettled files paths k u earlier → (q : Asked) × In q earlier × (q.version ≡ u)
-  last_request (by_newest {request = q} s e) = (q, first, e)
+  last_request (by_newest {evaluation = q} s e) = (q, first, e)
   last_request (by_earlier n l) = let r = last_request l in (r.0, after r.1, r.2)
 
   module _ (old new : Recorded) (roots : List Key) (earlier : List Asked) (linked : IsLinked files paths old earlier) (runs : List Run)

@@ -38,34 +38,34 @@ module _ (files : ℕ → Files) (paths : ℕ → List (List ℕ)) where
   abbrev pub leaves : ℕ → Key → Option Value
   leaves u = read (files u)
 
-  -- the request settles the key: its roots reach it at the files of its version
+  -- the evaluation settles the key: its roots reach it at the files of its version
   abbrev pub IsSettledBy : Key → Asked → Type 0
-  IsSettledBy k request = Reached next cycle (leaves request.version) request.roots k
+  IsSettledBy k evaluation = Reached next cycle (leaves evaluation.version) evaluation.roots k
 
-  -- none of the requests settles the key
+  -- none of the evaluations settles the key
   abbrev pub IsNeverSettled : Key → List Asked → Type 0
-  IsNeverSettled k requests = (request : Asked) → In request requests → ¬ IsSettledBy k request
+  IsNeverSettled k evaluations = (evaluation : Asked) → In evaluation evaluations → ¬ IsSettledBy k evaluation
 
-  -- one of the requests settles the key
+  -- one of the evaluations settles the key
   abbrev pub IsSettledOnce : Key → List Asked → Type 0
-  IsSettledOnce k requests = (request : Asked) × In request requests × IsSettledBy k request
+  IsSettledOnce k evaluations = (evaluation : Asked) × In evaluation evaluations × IsSettledBy k evaluation
 
-  -- of these requests, the newest first, the last one that settles the key comes at version u
+  -- of these evaluations, the newest first, the last one that settles the key comes at version u
   pub data IsLastSettled (k : Key) (u : ℕ) : List Asked → Type 0 where
-    by_newest : {request : Asked} {earlier : List Asked} → IsSettledBy k request → request.version ≡ u → IsLastSettled k u (request ∷ earlier)
-    by_earlier : {request : Asked} {earlier : List Asked} → ¬ IsSettledBy k request → IsLastSettled k u earlier → IsLastSettled k u (request ∷ earlier)
+    by_newest : {evaluation : Asked} {earlier : List Asked} → IsSettledBy k evaluation → evaluation.version ≡ u → IsLastSettled k u (evaluation ∷ earlier)
+    by_earlier : {evaluation : Asked} {earlier : List Asked} → ¬ IsSettledBy k evaluation → IsLastSettled k u earlier → IsLastSettled k u (evaluation ∷ earlier)
 
   -- settled at version u, k records j in a group: it asks one that has j
   abbrev pub Records : ℕ → Key → Key → Type 0
   Records u k j = (group : List Key) × AsksGroup next cycle (leaves u) k group × In j group
 
-  -- The items of a request stand in the order in which their keys were settled. An item stands behind those of the keys that its
+  -- The items of an evaluation stand in the order in which their keys were settled. An item stands behind those of the keys that its
   -- key records, unless neither of the two is grounded. The keys that are not stand last, in the order of keys.
-  pub record AreInOrder (request : Asked) (runs : List Run) : Type 0 where
-    pub behind : (before rest : List Run) (run : Run) → runs ≡ before ++ run ∷ rest → (j : Key) → Records request.version run.key j → In j (keys_of runs)
-        → (IsUngrounded next (leaves request.version) run.key → IsUngrounded next (leaves request.version) j → ⊥) → In j (keys_of before)
-    pub closed : (before rest : List Run) (run : Run) → runs ≡ before ++ run ∷ rest → IsUngrounded next (leaves request.version) run.key
-        → (later : Run) → In later rest → IsUngrounded next (leaves request.version) later.key × (key_cmp run.key later.key ≡ Less)
+  pub record AreInOrder (evaluation : Asked) (runs : List Run) : Type 0 where
+    pub behind : (before rest : List Run) (run : Run) → runs ≡ before ++ run ∷ rest → (j : Key) → Records evaluation.version run.key j → In j (keys_of runs)
+        → (IsUngrounded next (leaves evaluation.version) run.key → IsUngrounded next (leaves evaluation.version) j → ⊥) → In j (keys_of before)
+    pub closed : (before rest : List Run) (run : Run) → runs ≡ before ++ run ∷ rest → IsUngrounded next (leaves evaluation.version) run.key
+        → (later : Run) → In later rest → IsUngrounded next (leaves evaluation.version) later.key × (key_cmp run.key later.key ≡ Less)
 
   module _ (earlier : List Asked) where
     -- k may run at version v: it was never settled before, or it was, and a key that it recorded when it was last settled has had two values since
@@ -78,22 +78,22 @@ module _ (files : ℕ → Files) (paths : ℕ → List (List ℕ)) where
       first_read : IsNeverSettled k earlier → MayBeRead k v
       read_again : IsSettledOnce k earlier → ((u : ℕ) → IsLastSettled k u earlier → (w : ℕ) × (u < w) × (w ≤ v) × IsTouched (paths w) k) → MayBeRead k v
 
-    -- the item of a request is of a key that the request settles, and justified: a leaf with no turns may be read, another key with turns may run
-    pub record IsItemOf (request : Asked) (run : Run) : Type 0 where
-      pub version : run.version ≡ request.version
-      pub settled : IsSettledBy run.key request
-      pub justified : ((x : Value) × (leaves request.version run.key ≡ Some x) × (run.turns ≡ 0) × MayBeRead run.key request.version)
-          ⊎ ((leaves request.version run.key ≡ None) × (0 < run.turns) × MayRun run.key request.version)
+    -- the item of an evaluation is of a key that the evaluation settles, and justified: a leaf with no turns may be read, another key with turns may run
+    pub record IsItemOf (evaluation : Asked) (run : Run) : Type 0 where
+      pub version : run.version ≡ evaluation.version
+      pub settled : IsSettledBy run.key evaluation
+      pub justified : ((x : Value) × (leaves evaluation.version run.key ≡ Some x) × (run.turns ≡ 0) × MayBeRead run.key evaluation.version)
+          ⊎ ((leaves evaluation.version run.key ≡ None) × (0 < run.turns) × MayRun run.key evaluation.version)
 
-    -- the items of a request miss no key that it settles for the first time, and no grounded one whose value is another than when it was last settled
-    pub record MissesNone (request : Asked) (runs : List Run) : Type 0 where
-      pub new : (k : Key) → IsSettledBy k request → IsNeverSettled k earlier → In k (keys_of runs)
-      pub changed : (k : Key) (u : ℕ) (v w : Value) → IsSettledBy k request → IsLastSettled k u earlier → Grounded next (leaves request.version) k v → HasValue next (leaves u) cycle k w → v ≢ w → In k (keys_of runs)
+    -- the items of an evaluation miss no key that it settles for the first time, and no grounded one whose value is another than when it was last settled
+    pub record MissesNone (evaluation : Asked) (runs : List Run) : Type 0 where
+      pub new : (k : Key) → IsSettledBy k evaluation → IsNeverSettled k earlier → In k (keys_of runs)
+      pub changed : (k : Key) (u : ℕ) (v w : Value) → IsSettledBy k evaluation → IsLastSettled k u earlier → Grounded next (leaves evaluation.version) k v → HasValue next (leaves u) cycle k w → v ≢ w → In k (keys_of runs)
 
-    pub record AreItemsOf (request : Asked) (runs : List Run) : Type 0 where
-      pub each : (run : Run) → In run runs → IsItemOf request run
-      pub all : MissesNone request runs
-      pub order : AreInOrder request runs
+    pub record AreItemsOf (evaluation : Asked) (runs : List Run) : Type 0 where
+      pub each : (run : Run) → In run runs → IsItemOf evaluation run
+      pub all : MissesNone evaluation runs
+      pub order : AreInOrder evaluation runs
 
   -- the items of one request, which has these evaluations, after these earlier ones, the newest first
   abbrev pub AreItemsOfEach : List Asked → List Asked → List Run → Type 0
