@@ -4,7 +4,7 @@
 PROGRAM := crates/cli/out/cli
 EXAMPLE := examples/session.jsonl
 
-.PHONY: quick run build measures shelf-trials readers overlaps trials schedules test lint digests wrong-bodies answers limits allocations workers batches under hostile bench
+.PHONY: quick run build measures shelf-trials readers overlaps trials schedules test lint digests wrong-bodies answers limits allocations workers batches under hostile giving-back bench
 
 # Shows each line of an example with its answer. It proves nothing: the kit interprets the program.
 quick:
@@ -99,6 +99,10 @@ under: build
 # Deep and wide sources by 1 and 16 workers, the stack that they take, and the costs of lines at their limits.
 hostile: build
 	python3 tests/hostile.py --stack --costs
+
+# Values that are held by each kind of expression and statement while others are given back.
+giving-back: build
+	python3 tests/giving_back.py
 
 # Times of the program; prints a table.
 bench: build measures

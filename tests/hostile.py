@@ -195,8 +195,9 @@ COSTS = {
         + [put("s/BUILD", 'filegroup(name = str(len(glob(["**"], exclude_directories = 0))))\n'), load("s")],
         '{"packages":[{"name":"s","targets":[{"attrs":{},"kind":"filegroup","name":"40001"}]}]}'),
     "100,000 names that are not there": ([{"op": "find", "name": f"x{n}"} for n in range(100_000)], '{"build":null}'),
-    "values that nothing reaches": (calling("    for i in range(1000): x = [0] * 65536\n"), one("s")),
-    "values beyond the limit": (calling("    for i in range(20000): x = [0] * 65536\n"), "status 3, stop: memory"),
+    "1,000 lists that nothing reaches": (calling("    for i in range(1000): x = [0] * 65536\n"), one("s")),
+    "20,000 lists that nothing reaches": (calling("    for i in range(20000): x = [0] * 65536\n"), one("s")),
+    "2,000 lists that are reached": (calling("    x = [[0] * 65536 for i in range(2000)]\n"), "status 3, stop: memory"),
 }
 
 

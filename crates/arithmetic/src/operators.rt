@@ -1,11 +1,12 @@
 //! Arithmetic, joining and repeating.
-ghost use Rattle.std.specs.Prelude.{◌≡◌};
+ghost use Rattle.std.specs.Prelude.{◌≡◌, IfOk};
 ghost use Rattle.meaning.specs.Heap.{at};
 ghost use Rattle.meaning.specs.Operators.{add, subtract, multiply, divide, remainder, joins, repeats, negate, plus, is_true, object_is_true};
 ghost use Rattle.heap.specs.View.{store_of, Says};
 
 use crate::numbers;
 use heap::{Halt, Heap, Object, Val, joined, repeated};
+use texts::Memory;
 
 /// `a + b`
 pub fn add(heap: &mut Heap, a: Val, b: Val) -> Result<Val, Halt>
@@ -22,22 +23,22 @@ pub fn add(heap: &mut Heap, a: Val, b: Val) -> Result<Val, Halt>
 fn join(heap: &mut Heap, a: usize, b: usize) -> Result<Val, Halt>
     ensures { Says (joins (at a (store_of heap.old)) (at b (store_of heap.old)) (store_of heap.old)) result (store_of heap.new) }
 {
-    match heap.object(a) {
-        Some(Object::Text(x)) => match heap.object(b) {
+    match heap.object(a)? {
+        Some(Object::Text(x)) => match heap.object(b)? {
             Some(Object::Text(y)) => {
                 let bytes = joined(heap.alloc, x.as_slice(), y.as_slice())?;
                 heap.make_text(bytes)
             }
             _ => Err(Halt::Code(5)),
         },
-        Some(Object::List(x, _)) => match heap.object(b) {
+        Some(Object::List(x, _)) => match heap.object(b)? {
             Some(Object::List(y, _)) => {
                 let members = joined(heap.alloc, x.as_slice(), y.as_slice())?;
                 heap.make_list(members)
             }
             _ => Err(Halt::Code(5)),
         },
-        Some(Object::Tuple(x)) => match heap.object(b) {
+        Some(Object::Tuple(x)) => match heap.object(b)? {
             Some(Object::Tuple(y)) => {
                 let members = joined(heap.alloc, x.as_slice(), y.as_slice())?;
                 heap.make_tuple(members)
@@ -74,7 +75,7 @@ pub fn multiply(heap: &mut Heap, a: Val, b: Val) -> Result<Val, Halt>
 fn repeat(heap: &mut Heap, a: usize, n: i64) -> Result<Val, Halt>
     ensures { Says (repeats (at a (store_of heap.old)) n (store_of heap.old)) result (store_of heap.new) }
 {
-    match heap.object(a) {
+    match heap.object(a)? {
         Some(Object::Text(x)) => {
             let bytes = repeated(heap.alloc, x.as_slice(), n)?;
             heap.make_text(bytes)
@@ -133,29 +134,29 @@ pub fn plus(heap: &mut Heap, a: Val) -> Result<Val, Halt>
     }
 }
 
-/// Whether a value counts as true.
-pub fn is_true(heap: &Heap, a: Val) -> bool
-    ensures { result ≡ is_true a (store_of heap.now) }
+/// Whether a value counts as true. `Memory` where it has been given back.
+pub fn is_true(heap: &Heap, a: Val) -> Result<bool, Memory>
+    ensures { IfOk result (λ b. b ≡ is_true a (store_of heap.now)) }
 {
     match a {
-        Val::Nothing => false,
-        Val::Bool(b) => b,
-        Val::Int(n) => n != 0,
-        Val::Builtin(_) => true,
+        Val::Nothing => Ok(false),
+        Val::Bool(b) => Ok(b),
+        Val::Int(n) => Ok(n != 0),
+        Val::Builtin(_) => Ok(true),
         Val::At(place) => is_object_true(heap, place),
     }
 }
 
 // Whether an object counts as true.
-fn is_object_true(heap: &Heap, place: usize) -> bool
-    ensures { result ≡ object_is_true (at place (store_of heap.now)) }
+fn is_object_true(heap: &Heap, place: usize) -> Result<bool, Memory>
+    ensures { IfOk result (λ b. b ≡ object_is_true (at place (store_of heap.now))) }
 {
-    match heap.object(place) {
-        Some(Object::Text(bytes)) => !bytes.as_slice().is_empty(),
-        Some(Object::List(members, _)) => !members.is_empty(),
-        Some(Object::Tuple(members)) => !members.is_empty(),
-        Some(Object::Dict(entries, _)) => !entries.is_empty(),
-        Some(Object::Function(_, _)) => true,
-        None => false,
+    match heap.object(place)? {
+        Some(Object::Text(bytes)) => Ok(!bytes.as_slice().is_empty()),
+        Some(Object::List(members, _)) => Ok(!members.is_empty()),
+        Some(Object::Tuple(members)) => Ok(!members.is_empty()),
+        Some(Object::Dict(entries, _)) => Ok(!entries.is_empty()),
+        Some(Object::Function(_, _)) => Ok(true),
+        None => Ok(false),
     }
 }

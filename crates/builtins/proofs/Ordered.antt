@@ -1,5 +1,5 @@
 -- Ints and strings in order.
-use Rattle.std.proofs.Common.{◌≡◌, ℕ, Bool, true, false, cond, List, [], ◌∷◌, Option, Some, None, is_some, true≢false, refl, sym, ap, ◌∙◌}
+use Rattle.std.proofs.Common.{◌≡◌, ℕ, Bool, true, false, cond, List, [], ◌∷◌, Option, Some, None, is_some, map, true≢false, refl, sym, ap, ◌∙◌}
 use Rattle.std.specs.declared.cmp.Ordering.{Ordering}
 use Rattle.std.specs.declared.cmp.Ordering.TheVariants.{Less, Equal, Greater}
 use Rattle.std.specs.Ordering.{is_lt, is_gt, int_cmp, nat_cmp, ordering_reverse}
@@ -15,7 +15,7 @@ use Rattle.meaning.specs.declared.val.Val.{Val}
 use Rattle.meaning.specs.declared.val.Val.TheVariants as v
 use Rattle.meaning.specs.Heap.{Store}
 use Rattle.meaning.specs.Functions.{put_in, sort_from, plain_order, as_text, texts_order, is_int, all_so}
-use Rattle.builtins.specs.Ranks.{int_of, bytes_of, text_or_empty}
+use Rattle.builtins.specs.Ranks.{int_of, bytes_of, text_or_empty, with_bytes}
 use Rattle.builtins.proofs.Stable.{put, put_all, stable_is}
 
 module _ {K : Type 0} (R : K → K → Ordering) (o : IsTotalOrder R) (key : Val → K) where
@@ -89,13 +89,36 @@ texts_agree : (s : Store) (x y : Val) → is_text s x ≡ true → is_text s y �
 texts_agree s (v.At a) y h g = at_texts (as_text s (v.At a)) (as_text s y) h g
 texts_agree s x y h g = absurd (true≢false (sym h))
 
-texts_sorted : (s : Store) (xs ys : List Val) → all_so (λ x. is_some (as_text s x)) xs ≡ true → IsSortedByKey (bytes_of s) (slice_cmp nat_cmp) ys → IsStableByKey (bytes_of s) (slice_cmp nat_cmp) xs ys → ys ≡ sort_from (plain_order s) [] xs
-texts_sorted s xs ys texts up stable = sorted_by_key (slice_cmp nat_cmp) nat_list_cmp_total (bytes_of s) xs ys up stable ∙ sym (sort_alike (λ x. is_some (as_text s x)) (plain_order s) _ (texts_agree s) [] xs refl texts)
+module _ (s : Store) where
+  abbrev below : Val → Val → Bool
+  below x y = is_lt (slice_cmp nat_cmp (bytes_of s x) (bytes_of s y))
 
--- from the clauses of a sort by a closure that compares the bytes of strings
-pub texts_by_closure : {F : Type 0} {g : Mut F (Bor Val × (Bor Val × Unit {0})) Ordering} {f : F} (s : Store) (xs ys : List Val) → all_so (λ x. is_some (as_text s x)) xs ≡ true → IsSortedByClosure g f ys → IsStableByClosure g f xs ys → ((a : Bor Val × (Bor Val × Unit {0})) (r : Ordering) (f' : F) → Called g f a r f' → (r ≡ slice_cmp nat_cmp (bytes_of s a.0.now) (bytes_of s a.1.0.now)) × (f' ≡ f)) → ys ≡ sort_from (plain_order s) [] xs
-texts_by_closure {g = g} {f = f} s xs ys texts up stable called =
-    let lt : Val → Val → Bool = λ x y. is_lt (slice_cmp nat_cmp (bytes_of s x) (bytes_of s y)) in
-    let order : IsStrictWeakOrder lt = ranks_by nat_list_cmp_total (bytes_of s) in
-    let compares : ComparesAs g lt f = always_returns_same g (λ a r. is_lt r ≡ lt a.0.now a.1.0.now) f (λ a r f' k. (ap is_lt (called a r f' k).0, (called a r f' k).1)) in
-    texts_sorted s xs ys texts (up lt order compares) (stable lt order compares)
+  abbrev pairs_below : List ℕ × Val → List ℕ × Val → Bool
+  pairs_below p q = is_lt (slice_cmp nat_cmp p.0 q.0)
+
+  put_pairs : (x : Val) (ys : List Val) → put pairs_below (with_bytes s x) (map (with_bytes s) ys) ≡ map (with_bytes s) (put below x ys)
+  put_pairs x [] = refl
+  put_pairs x (y ∷ ys) = by (below x y) (put_pairs x ys)
+    where
+      by : (b : Bool) → put pairs_below (with_bytes s x) (map (with_bytes s) ys) ≡ map (with_bytes s) (put below x ys) → cond b (with_bytes s x ∷ with_bytes s y ∷ map (with_bytes s) ys) (with_bytes s y ∷ put pairs_below (with_bytes s x) (map (with_bytes s) ys)) ≡ map (with_bytes s) (cond b (x ∷ y ∷ ys) (y ∷ put below x ys))
+      by true m = refl
+      by false m = ap (λ l. with_bytes s y ∷ l) m
+
+  put_all_pairs : (done xs : List Val) → put_all pairs_below (map (with_bytes s) done) (map (with_bytes s) xs) ≡ map (with_bytes s) (put_all below done xs)
+  put_all_pairs done [] = refl
+  put_all_pairs done (x ∷ xs) = ap (λ l. put_all pairs_below l (map (with_bytes s) xs)) (put_pairs x done) ∙ put_all_pairs (put below x done) xs
+
+  without_bytes : (xs : List Val) → map (λ p. p.1) (map (with_bytes s) xs) ≡ xs
+  without_bytes [] = refl
+  without_bytes (x ∷ xs) = ap (λ l. x ∷ l) (without_bytes xs)
+
+  texts_in_order : (xs : List Val) → all_so (λ x. is_some (as_text s x)) xs ≡ true → put_all below [] xs ≡ sort_from (plain_order s) [] xs
+  texts_in_order xs texts = sym (sort_is (slice_cmp nat_cmp) nat_list_cmp_total (bytes_of s) [] xs) ∙ sym (sort_alike (λ x. is_some (as_text s x)) (plain_order s) _ (texts_agree s) [] xs refl texts)
+
+-- from the clauses of a sort of values behind their bytes, by a closure that compares the bytes
+pub pairs_by_closure : {F : Type 0} {g : Mut F (Bor (List ℕ × Val) × (Bor (List ℕ × Val) × Unit {0})) Ordering} {f : F} (s : Store) (xs : List Val) (ps ys : List (List ℕ × Val)) → ps ≡ map (with_bytes s) xs → all_so (λ x. is_some (as_text s x)) xs ≡ true → IsSortedByClosure g f ys → IsStableByClosure g f ps ys → ((a : Bor (List ℕ × Val) × (Bor (List ℕ × Val) × Unit {0})) (r : Ordering) (f' : F) → Called g f a r f' → (r ≡ slice_cmp nat_cmp a.0.now.0 a.1.0.now.0) × (f' ≡ f)) → map (λ p. p.1) ys ≡ sort_from (plain_order s) [] xs
+pairs_by_closure {g = g} {f = f} s xs ps ys is texts up stable called =
+    let order : IsStrictWeakOrder (pairs_below s) = ranks_by nat_list_cmp_total (λ p. p.0) in
+    let compares : ComparesAs g (pairs_below s) f = always_returns_same g (λ a r. is_lt r ≡ pairs_below s a.0.now a.1.0.now) f (λ a r f' k. (ap is_lt (called a r f' k).0, (called a r f' k).1)) in
+    let sorted = stable_is (pairs_below s) order ps ys (up (pairs_below s) order compares) (stable (pairs_below s) order compares) in
+    ap (map (λ p. p.1)) (sorted ∙ ap (put_all (pairs_below s) []) is ∙ put_all_pairs s [] xs) ∙ without_bytes s (put_all (below s) [] xs) ∙ texts_in_order s xs texts

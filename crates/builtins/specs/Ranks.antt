@@ -23,3 +23,7 @@ text_or_empty (Some t) = t
 -- the bytes of a string, and none of what is none
 abbrev pub bytes_of : Store → Val → List ℕ
 bytes_of s x = text_or_empty (as_text s x)
+
+-- a value behind its bytes
+abbrev pub with_bytes : Store → Val → List ℕ × Val
+with_bytes s x = (bytes_of s x, x)

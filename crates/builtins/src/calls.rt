@@ -82,7 +82,7 @@ fn of_one(heap: &mut Heap, f: Builtin, x: Val) -> Result<Val, Halt>
         Builtin::Zip => zip(heap, &[x]),
         Builtin::List => list(heap, x),
         Builtin::Tuple => tuple(heap, x),
-        Builtin::Bool => Ok(truth(heap, x)),
+        Builtin::Bool => Ok(truth(heap, x)?),
         Builtin::Any => any(heap, x),
         Builtin::All => all(heap, x),
         Builtin::Min => min(heap, &[x]),

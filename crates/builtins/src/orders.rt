@@ -1,5 +1,5 @@
 //! Ints and strings in order: `min` and `max`.
-ghost use Rattle.std.specs.Prelude.{◌≡◌, ◌∷◌, Some, option_map, is_some};
+ghost use Rattle.std.specs.Prelude.{◌≡◌, ◌∷◌, Some, option_map, is_some, IfOk};
 ghost use Rattle.std.specs.Ordering.{is_lt, is_gt};
 ghost use Rattle.meaning.specs.Heap.{at};
 ghost use Rattle.meaning.specs.Functions.{plain_order, texts_order, as_text, text_at, is_int, all_so, are_alike, best, best_of, extreme};
@@ -9,6 +9,7 @@ ghost use Rattle.builtins.specs.Ranks.{is_better};
 use heap::{Halt, Heap, Object, Val};
 use indexing::items;
 use std::cmp::Ordering;
+use texts::Memory;
 
 /// `min(..)`: fault 25 or 5.
 pub fn min(heap: &Heap, xs: &[Val]) -> Result<Val, Halt>
@@ -45,25 +46,25 @@ fn best_of(heap: &Heap, xs: &[Val], greatest: bool) -> Result<Val, Halt>
     match xs {
         [] => Err(Halt::Code(25)),
         [x, others @ ..] => {
-            if !are_alike(heap, xs) {
+            if !are_alike(heap, xs)? {
                 return Err(Halt::Code(5));
             }
-            Ok(best(heap, *x, others, greatest))
+            Ok(best(heap, *x, others, greatest)?)
         }
     }
 }
 
 // The first of the least or greatest of a value and others.
-fn best(heap: &Heap, x: Val, others: &[Val], greatest: bool) -> Val
-    ensures { result ≡ best (is_better greatest) (plain_order (store_of heap.now)) x others.now }
+fn best(heap: &Heap, x: Val, others: &[Val], greatest: bool) -> Result<Val, Memory>
+    ensures { IfOk result (λ y. y ≡ best (is_better greatest) (plain_order (store_of heap.now)) x others.now) }
 {
     let mut found = x;
     for y in others.iter() {
-        if is_better(plain_order(heap, *y, found), greatest) {
+        if is_better(plain_order(heap, *y, found)?, greatest) {
             found = *y;
         }
     }
-    found
+    Ok(found)
 }
 
 // Whether an order makes a value better.
@@ -73,11 +74,14 @@ fn is_better(o: Ordering, greatest: bool) -> bool
     if greatest { o.is_gt() } else { o.is_lt() }
 }
 
-/// Whether values are all ints, or all strings.
-pub fn are_alike(heap: &Heap, xs: &[Val]) -> bool
-    ensures { result ≡ are_alike (store_of heap.now) xs.now }
+/// Whether values are all ints, or all strings. `Memory` where one has been given back.
+pub fn are_alike(heap: &Heap, xs: &[Val]) -> Result<bool, Memory>
+    ensures { IfOk result (λ b. b ≡ are_alike (store_of heap.now) xs.now) }
 {
-    are_ints(xs) || are_texts(heap, xs)
+    if are_ints(xs) {
+        return Ok(true);
+    }
+    are_texts(heap, xs)
 }
 
 /// Whether values are all ints.
@@ -93,39 +97,39 @@ pub fn are_ints(xs: &[Val]) -> bool
 }
 
 // Whether values are all strings.
-fn are_texts(heap: &Heap, xs: &[Val]) -> bool
-    ensures { result ≡ all_so (λ x. is_some (as_text (store_of heap.now) x)) xs.now }
+fn are_texts(heap: &Heap, xs: &[Val]) -> Result<bool, Memory>
+    ensures { IfOk result (λ b. b ≡ all_so (λ x. is_some (as_text (store_of heap.now) x)) xs.now) }
 {
     for x in xs.iter() {
-        if text_of(heap, *x).is_none() {
-            return false;
+        if text_of(heap, *x)?.is_none() {
+            return Ok(false);
         }
     }
-    true
+    Ok(true)
 }
 
 // The order of two ints or two strings.
-fn plain_order(heap: &Heap, x: Val, y: Val) -> Ordering
-    ensures { result ≡ plain_order (store_of heap.now) x y }
+fn plain_order(heap: &Heap, x: Val, y: Val) -> Result<Ordering, Memory>
+    ensures { IfOk result (λ o. o ≡ plain_order (store_of heap.now) x y) }
 {
     match (x, y) {
-        (Val::Int(a), Val::Int(b)) => a.cmp(&b),
-        _ => match (text_of(heap, x), text_of(heap, y)) {
-            (Some(a), Some(b)) => a.cmp(b),
-            _ => Ordering::Equal,
+        (Val::Int(a), Val::Int(b)) => Ok(a.cmp(&b)),
+        _ => match (text_of(heap, x)?, text_of(heap, y)?) {
+            (Some(a), Some(b)) => Ok(a.cmp(b)),
+            _ => Ok(Ordering::Equal),
         },
     }
 }
 
-/// The bytes of a string.
-pub fn text_of<'a>(heap: &'a Heap, x: Val) -> Option<&'a [u8]>
-    ensures { as_text (store_of heap.now) x ≡ option_map (λ t. t.now) result }
+/// The bytes of a string. `Memory` where it has been given back.
+pub fn text_of<'a>(heap: &'a Heap, x: Val) -> Result<Option<&'a [u8]>, Memory>
+    ensures { IfOk result (λ found. as_text (store_of heap.now) x ≡ option_map (λ t. t.now) found) }
 {
     match x {
-        Val::At(place) => match heap.object(place) {
-            Some(Object::Text(bytes)) => Some(bytes.as_slice()),
-            _ => None,
+        Val::At(place) => match heap.object(place)? {
+            Some(Object::Text(bytes)) => Ok(Some(bytes.as_slice())),
+            _ => Ok(None),
         },
-        _ => None,
+        _ => Ok(None),
     }
 }

@@ -10,6 +10,7 @@ ghost use Rattle.builtins.specs.Parts.{type_text};
 
 use arithmetic::is_true;
 use heap::{Halt, Heap, Object, Val};
+use texts::Memory;
 
 /// `len(x)`: fault 5.
 pub fn len(heap: &Heap, x: Val) -> Result<Val, Halt>
@@ -29,7 +30,7 @@ fn object_length(heap: &Heap, place: usize) -> Result<usize, Halt>
     ensures value { Checks (length_of (at place (store_of heap.now))) result }
     ensures within { IfOk result (λ n. n < 2 ^ 63) }
 {
-    match heap.object(place) {
+    match heap.object(place)? {
         Some(Object::Text(bytes)) => Ok(bytes.as_slice().len()),
         Some(Object::List(members, _)) => Ok(members.len()),
         Some(Object::Tuple(members)) => Ok(members.len()),
@@ -65,7 +66,7 @@ fn type_name(heap: &Heap, x: Val) -> Result<&'static [u8], Halt>
 fn object_type(heap: &Heap, place: usize) -> Result<&'static [u8], Halt>
     ensures { ChecksBytes (object_type (at place (store_of heap.now))) result }
 {
-    match heap.object(place) {
+    match heap.object(place)? {
         Some(Object::Text(_)) => Ok(b"string"),
         Some(Object::List(_, _)) => Ok(b"list"),
         Some(Object::Tuple(_)) => Ok(b"tuple"),
@@ -76,8 +77,8 @@ fn object_type(heap: &Heap, place: usize) -> Result<&'static [u8], Halt>
 }
 
 /// `bool(x)`
-pub fn truth(heap: &Heap, x: Val) -> Val
-    ensures { truth_of (is_true x (store_of heap.now)) (store_of heap.now) ≡ gives result (store_of heap.now) }
+pub fn truth(heap: &Heap, x: Val) -> Result<Val, Memory>
+    ensures { IfOk result (λ b. truth_of (is_true x (store_of heap.now)) (store_of heap.now) ≡ gives b (store_of heap.now)) }
 {
-    Val::Bool(is_true(heap, x))
+    Ok(Val::Bool(is_true(heap, x)?))
 }

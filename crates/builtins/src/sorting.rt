@@ -1,16 +1,14 @@
 //! `sorted`.
-ghost use Rattle.std.specs.Prelude.{◌≡◌, [], true, IfOk, is_some};
-ghost use Rattle.std.specs.Ordering.{nat_cmp};
-ghost use Rattle.std.specs.Cmp.Lexicographic.{slice_cmp};
+ghost use Rattle.std.specs.Prelude.{◌≡◌, [], true, map, IfOk, is_some};
 ghost use Rattle.meaning.specs.Heap.{Store};
 ghost use Rattle.meaning.specs.Functions.{sorted, sorted_by, sorted_list, sort_from, plain_order, are_alike, all_so, is_int, as_text};
 ghost use Rattle.heap.specs.View.{store_of, Says};
-ghost use Rattle.builtins.specs.Ranks.{int_of, bytes_of};
+ghost use Rattle.builtins.specs.Ranks.{int_of, bytes_of, with_bytes};
 
-use crate::orders::{are_alike, are_ints, text_of};
-use heap::{Halt, Heap, Val};
+use crate::orders::{are_alike, are_ints};
+use heap::{Bytes, Halt, Heap, Object, Val};
 use indexing::items;
-use std::cmp::Ordering;
+use std::alloc::Global;
 use texts::{Memory, Text};
 
 /// `sorted(x, reverse = False)`: fault 25 or 5.
@@ -44,7 +42,7 @@ fn sorted_list(heap: &mut Heap, x: Val, reverse: bool) -> Result<Val, Halt>
     ensures { Says (sorted_list x reverse (store_of heap.old)) result (store_of heap.new) }
 {
     let members = items(heap, x)?;
-    if !are_alike(heap, members.as_slice()) {
+    if !are_alike(heap, members.as_slice())? {
         return Err(Halt::Code(5));
     }
     let mut members = sort(heap, members)?;
@@ -63,7 +61,7 @@ fn sort(heap: &Heap, members: Vec<Val>) -> Result<Vec<Val>, Memory>
         let members = sort_ints(members)?;
         Ok(members)
     } else {
-        let members = sort_texts(heap, members)?;
+        let members = sort_texts(heap, members.as_slice())?;
         Ok(members)
     }
 }
@@ -88,24 +86,48 @@ fn int_of(x: Val) -> i64
 }
 
 // Strings in order.
-fn sort_texts(heap: &Heap, mut members: Vec<Val>) -> Result<Vec<Val>, Memory>
-    requires { all_so (λ x. is_some (as_text (store_of heap.now) x)) members.items ≡ true }
-    ensures { IfOk result (λ v. v.items ≡ sort_from (plain_order (store_of heap.now)) [] members.items) }
+fn sort_texts(heap: &Heap, members: &[Val]) -> Result<Vec<Val>, Memory>
+    requires { all_so (λ x. is_some (as_text (store_of heap.now) x)) members.now ≡ true }
+    ensures { IfOk result (λ v. v.items ≡ sort_from (plain_order (store_of heap.now)) [] members.now) }
 {
-    members.sort_by(|x, y| bytes_order(heap, *x, *y))?;
+    let mut pairs = with_bytes(heap, members)?;
+    pairs.sort_by(|x, y| x.0.as_slice().cmp(y.0.as_slice()))?;
+    let members = values_of(heap.alloc, pairs.as_slice())?;
     Ok(members)
 }
 
-// The order of two strings.
-fn bytes_order(heap: &Heap, x: Val, y: Val) -> Ordering
-    ensures { result ≡ slice_cmp nat_cmp (bytes_of (store_of heap.now) x) (bytes_of (store_of heap.now) y) }
+// Values, each behind its bytes.
+fn with_bytes(heap: &Heap, members: &[Val]) -> Result<Vec<(Bytes, Val)>, Memory>
+    ensures { IfOk result (λ v. v.items ≡ map (with_bytes (store_of heap.now)) members.now) }
 {
-    bytes_of(heap, x).cmp(bytes_of(heap, y))
+    let mut all = Vec::new(heap.alloc);
+    for x in members.iter() {
+        let bytes = bytes_of(heap, *x)?;
+        all.push((bytes, *x))?;
+    }
+    Ok(all)
 }
 
-// The bytes of a string.
-fn bytes_of<'a>(heap: &'a Heap, x: Val) -> &'a [u8]
-    ensures { result.now ≡ bytes_of (store_of heap.now) x }
+// Values without their bytes.
+fn values_of(alloc: Global, pairs: &[(Bytes, Val)]) -> Result<Vec<Val>, Memory>
+    ensures { IfOk result (λ v. v.items ≡ map (λ p. p.1) pairs.now) }
 {
-    text_of(heap, x).unwrap_or(b"")
+    let mut all = Vec::new(alloc);
+    for pair in pairs.iter() {
+        all.push(pair.1)?;
+    }
+    Ok(all)
+}
+
+// The bytes of a string, and none of what is none.
+fn bytes_of(heap: &Heap, x: Val) -> Result<Bytes, Memory>
+    ensures { IfOk result (λ b. b ≡ bytes_of (store_of heap.now) x) }
+{
+    match x {
+        Val::At(place) => match heap.object(place)? {
+            Some(Object::Text(bytes)) => bytes.share(),
+            _ => Bytes::new(heap.alloc, Vec::new(heap.alloc)),
+        },
+        _ => Bytes::new(heap.alloc, Vec::new(heap.alloc)),
+    }
 }

@@ -1,5 +1,5 @@
 //! `any` and `all`.
-ghost use Rattle.std.specs.Prelude.{◌≡◌};
+ghost use Rattle.std.specs.Prelude.{◌≡◌, IfOk};
 ghost use Rattle.meaning.specs.Functions.{any_true, all_true};
 ghost use Rattle.builtins.specs.Parts.{any_from, all_from};
 ghost use Rattle.heap.specs.View.{store_of, Says};
@@ -7,25 +7,26 @@ ghost use Rattle.heap.specs.View.{store_of, Says};
 use arithmetic::is_true;
 use heap::{Halt, Heap, Val};
 use indexing::items;
+use texts::Memory;
 
 /// `any(x)`: fault 5.
 pub fn any(heap: &Heap, x: Val) -> Result<Val, Halt>
     ensures { Says (any_from x (store_of heap.now)) result (store_of heap.now) }
 {
     let members = items(heap, x)?;
-    Ok(Val::Bool(is_any_true(heap, members.as_slice())))
+    Ok(Val::Bool(is_any_true(heap, members.as_slice())?))
 }
 
 // Whether a member counts as true.
-fn is_any_true(heap: &Heap, members: &[Val]) -> bool
-    ensures { result ≡ any_true (store_of heap.now) members.now }
+fn is_any_true(heap: &Heap, members: &[Val]) -> Result<bool, Memory>
+    ensures { IfOk result (λ b. b ≡ any_true (store_of heap.now) members.now) }
 {
     for member in members.iter() {
-        if is_true(heap, *member) {
-            return true;
+        if is_true(heap, *member)? {
+            return Ok(true);
         }
     }
-    false
+    Ok(false)
 }
 
 /// `all(x)`: fault 5.
@@ -33,17 +34,17 @@ pub fn all(heap: &Heap, x: Val) -> Result<Val, Halt>
     ensures { Says (all_from x (store_of heap.now)) result (store_of heap.now) }
 {
     let members = items(heap, x)?;
-    Ok(Val::Bool(are_all_true(heap, members.as_slice())))
+    Ok(Val::Bool(are_all_true(heap, members.as_slice())?))
 }
 
 // Whether each member counts as true.
-fn are_all_true(heap: &Heap, members: &[Val]) -> bool
-    ensures { result ≡ all_true (store_of heap.now) members.now }
+fn are_all_true(heap: &Heap, members: &[Val]) -> Result<bool, Memory>
+    ensures { IfOk result (λ b. b ≡ all_true (store_of heap.now) members.now) }
 {
     for member in members.iter() {
-        if !is_true(heap, *member) {
-            return false;
+        if !is_true(heap, *member)? {
+            return Ok(false);
         }
     }
-    true
+    Ok(true)
 }

@@ -1,12 +1,15 @@
 //! Comparing by `==`.
-ghost use Rattle.std.specs.Prelude.{◌≡◌, map, slice_get};
+ghost use Rattle.std.specs.Prelude.{◌≡◌, map, slice_get, IfOk};
 ghost use Rattle.meaning.specs.Builtins.{builtin_number};
 ghost use Rattle.meaning.specs.Comparing.{equal, inner_equal, pair, pair_objects, equal_members, equal_entries, equal_entry, equal_found, visit_pair, members, entries};
-ghost use Rattle.heap.specs.View.{object_of, Says};
+ghost use Rattle.heap.specs.View.{object_in, Says};
 ghost use Rattle.comparing.specs.Seen.{pair_seen};
 
-use heap::{Builtin, Entry, Halt, Key, Object, Val, found, object_at, spend, tick, val_at};
+use heap::{
+    Builtin, Entry, Halt, HeapObject, Key, Object, Val, found, object_at, spend, tick, val_at,
+};
 use indexmap::IndexMap;
+use texts::Memory;
 
 /// What is left to compare of two values.
 #[derive(Drop)]
@@ -49,50 +52,50 @@ fn number(x: Builtin) -> u8
 }
 
 // What is left to compare of two values.
-fn make_pair<'a>(objects: &'a [Object], a: Val, b: Val) -> Pair<'a>
-    ensures { pair_seen result ≡ pair (map object_of objects.now) a b }
+fn make_pair<'a>(objects: &'a [HeapObject], a: Val, b: Val) -> Result<Pair<'a>, Memory>
+    ensures { IfOk result (λ p. pair_seen p ≡ pair (map object_in objects.now) a b) }
 {
     match (a, b) {
-        (Val::Nothing, Val::Nothing) => Pair::Settled(true),
-        (Val::Bool(x), Val::Bool(y)) => Pair::Settled(x == y),
-        (Val::Int(x), Val::Int(y)) => Pair::Settled(x == y),
-        (Val::Builtin(x), Val::Builtin(y)) => Pair::Settled(number(x) == number(y)),
+        (Val::Nothing, Val::Nothing) => Ok(Pair::Settled(true)),
+        (Val::Bool(x), Val::Bool(y)) => Ok(Pair::Settled(x == y)),
+        (Val::Int(x), Val::Int(y)) => Ok(Pair::Settled(x == y)),
+        (Val::Builtin(x), Val::Builtin(y)) => Ok(Pair::Settled(number(x) == number(y))),
         (Val::At(x), Val::At(y)) => pair_objects(objects, x, y),
-        _ => Pair::Settled(false),
+        _ => Ok(Pair::Settled(false)),
     }
 }
 
 // What is left to compare of two objects.
-fn pair_objects<'a>(objects: &'a [Object], a: usize, b: usize) -> Pair<'a>
-    ensures { pair_seen result ≡ pair_objects (slice_get (map object_of objects.now) a) (slice_get (map object_of objects.now) b) }
+fn pair_objects<'a>(objects: &'a [HeapObject], a: usize, b: usize) -> Result<Pair<'a>, Memory>
+    ensures { IfOk result (λ p. pair_seen p ≡ pair_objects (slice_get (map object_in objects.now) a) (slice_get (map object_in objects.now) b)) }
 {
-    match (object_at(objects, a), object_at(objects, b)) {
-        (Some(Object::Text(x)), Some(Object::Text(y))) => Pair::Settled(x == y),
+    match (object_at(objects, a)?, object_at(objects, b)?) {
+        (Some(Object::Text(x)), Some(Object::Text(y))) => Ok(Pair::Settled(x == y)),
         (Some(Object::List(x, _)), Some(Object::List(y, _))) => {
             if x.len() == y.len() {
-                Pair::Members(x.as_slice(), y.as_slice())
+                Ok(Pair::Members(x.as_slice(), y.as_slice()))
             } else {
-                Pair::Settled(false)
+                Ok(Pair::Settled(false))
             }
         }
         (Some(Object::Tuple(x)), Some(Object::Tuple(y))) => {
             if x.len() == y.len() {
-                Pair::Members(x.as_slice(), y.as_slice())
+                Ok(Pair::Members(x.as_slice(), y.as_slice()))
             } else {
-                Pair::Settled(false)
+                Ok(Pair::Settled(false))
             }
         }
         (Some(Object::Dict(x, _)), Some(Object::Dict(y, _))) => {
             if x.len() == y.len() {
-                Pair::Entries(x, y)
+                Ok(Pair::Entries(x, y))
             } else {
-                Pair::Settled(false)
+                Ok(Pair::Settled(false))
             }
         }
-        (Some(Object::Function(l, f)), Some(Object::Function(m, g))) => Pair::Settled(
-            l == m && f == g,
-        ),
-        _ => Pair::Settled(false),
+        (Some(Object::Function(l, f)), Some(Object::Function(m, g))) => {
+            Ok(Pair::Settled(l == m && f == g))
+        }
+        _ => Ok(Pair::Settled(false)),
     }
 }
 
@@ -100,10 +103,16 @@ fn pair_objects<'a>(objects: &'a [Object], a: usize, b: usize) -> Pair<'a>
 /// 12.
 #[cycle(comparing)]
 #[tactic(auto, using(crate::proofs::Compared::equal_is))]
-pub fn equal(objects: &[Object], steps: &mut u64, a: Val, b: Val, left: u32) -> Result<bool, Halt>
-    ensures { Says (equal left (map object_of objects.now) a b steps.old) result steps.new }
+pub fn equal(
+    objects: &[HeapObject],
+    steps: &mut u64,
+    a: Val,
+    b: Val,
+    left: u32,
+) -> Result<bool, Halt>
+    ensures { Says (equal left (map object_in objects.now) a b steps.old) result steps.new }
 {
-    match make_pair(objects, a, b) {
+    match make_pair(objects, a, b)? {
         Pair::Settled(same) => {
             tick(steps)?;
             Ok(same)
@@ -117,13 +126,13 @@ pub fn equal(objects: &[Object], steps: &mut u64, a: Val, b: Val, left: u32) -> 
 #[cycle(comparing)]
 #[tactic(auto, using(crate::proofs::Compared::lists_deep, crate::proofs::Compared::lists_more))]
 fn equal_lists(
-    objects: &[Object],
+    objects: &[HeapObject],
     steps: &mut u64,
     xs: &[Val],
     ys: &[Val],
     left: u32,
 ) -> Result<bool, Halt>
-    ensures { Says (visit_pair (inner_equal left (map object_of objects.now)) (members xs.now ys.now) steps.old) result steps.new }
+    ensures { Says (visit_pair (inner_equal left (map object_in objects.now)) (members xs.now ys.now) steps.old) result steps.new }
 {
     if left == 0 {
         return Err(Halt::Code(12));
@@ -136,13 +145,13 @@ fn equal_lists(
 #[cycle(comparing)]
 #[tactic(auto, using(crate::proofs::Compared::members_same, crate::proofs::Compared::members_differ, crate::proofs::Compared::members_first_over, crate::proofs::Compared::members_second_over))]
 fn equal_members(
-    objects: &[Object],
+    objects: &[HeapObject],
     steps: &mut u64,
     xs: &[Val],
     ys: &[Val],
     left: u32,
 ) -> Result<bool, Halt>
-    ensures { Says (equal_members (equal left (map object_of objects.now)) xs.now ys.now steps.old) result steps.new }
+    ensures { Says (equal_members (equal left (map object_in objects.now)) xs.now ys.now steps.old) result steps.new }
 {
     for i in 0..xs.len() {
         let Some(x) = val_at(xs, i) else {
@@ -164,13 +173,13 @@ fn equal_members(
 #[cycle(comparing)]
 #[tactic(auto, using(crate::proofs::Compared::dicts_deep, crate::proofs::Compared::dicts_more))]
 fn equal_dicts(
-    objects: &[Object],
+    objects: &[HeapObject],
     steps: &mut u64,
     xs: &IndexMap<Key, Entry>,
     ys: &IndexMap<Key, Entry>,
     left: u32,
 ) -> Result<bool, Halt>
-    ensures { Says (visit_pair (inner_equal left (map object_of objects.now)) (entries xs.now.entries ys.now.entries) steps.old) result steps.new }
+    ensures { Says (visit_pair (inner_equal left (map object_in objects.now)) (entries xs.now.entries ys.now.entries) steps.old) result steps.new }
 {
     if left == 0 {
         return Err(Halt::Code(12));
@@ -183,13 +192,13 @@ fn equal_dicts(
 #[cycle(comparing)]
 #[tactic(auto, using(crate::proofs::Compared::entries_same, crate::proofs::Compared::entries_differ))]
 fn equal_entries(
-    objects: &[Object],
+    objects: &[HeapObject],
     steps: &mut u64,
     xs: &IndexMap<Key, Entry>,
     ys: &IndexMap<Key, Entry>,
     left: u32,
 ) -> Result<bool, Halt>
-    ensures { Says (equal_entries (equal left (map object_of objects.now)) xs.now.entries ys.now.entries steps.old) result steps.new }
+    ensures { Says (equal_entries (equal left (map object_in objects.now)) xs.now.entries ys.now.entries steps.old) result steps.new }
 {
     for i in 0..xs.len() {
         let Some((key, entry)) = xs.get_index(i) else {
@@ -207,14 +216,14 @@ fn equal_entries(
 // Whether the right has a key with an equal value.
 #[cycle(comparing)]
 fn equal_entry(
-    objects: &[Object],
+    objects: &[HeapObject],
     steps: &mut u64,
     key: &Key,
     x: Val,
     ys: &IndexMap<Key, Entry>,
     left: u32,
 ) -> Result<bool, Halt>
-    ensures { Says (equal_entry (equal left (map object_of objects.now)) key.now x ys.now.entries steps.old) result steps.new }
+    ensures { Says (equal_entry (equal left (map object_in objects.now)) key.now x ys.now.entries steps.old) result steps.new }
 {
     spend(steps, key.parts.len())?;
     equal_found(objects, steps, x, found(ys, key), left)
@@ -223,13 +232,13 @@ fn equal_entry(
 // Whether a value is equal to the one of an entry, if there is an entry.
 #[cycle(comparing)]
 fn equal_found(
-    objects: &[Object],
+    objects: &[HeapObject],
     steps: &mut u64,
     x: Val,
     found: Option<Entry>,
     left: u32,
 ) -> Result<bool, Halt>
-    ensures { Says (equal_found (equal left (map object_of objects.now)) x found steps.old) result steps.new }
+    ensures { Says (equal_found (equal left (map object_in objects.now)) x found steps.old) result steps.new }
 {
     match found {
         Some(entry) => equal(objects, steps, x, entry.value, left),

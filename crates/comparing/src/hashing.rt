@@ -1,10 +1,10 @@
 //! Keys of dictionaries.
 ghost use Rattle.std.specs.Prelude.{◌≡◌, map, IfOk};
 ghost use Rattle.meaning.specs.Hashing.{key, inner_key, along, part_key, visit_key, as_key, parts};
-ghost use Rattle.heap.specs.View.{object_of, SaysItems};
+ghost use Rattle.heap.specs.View.{object_in, SaysItems};
 ghost use Rattle.comparing.specs.Seen.{key_seen};
 
-use heap::{Halt, Object, Part, Val, object_at, tick};
+use heap::{Halt, HeapObject, Object, Part, Val, object_at, tick};
 use std::alloc::Global;
 use texts::Memory;
 
@@ -17,15 +17,15 @@ pub enum AsKey<'a> {
 }
 
 // What a value is as a key.
-fn as_key<'a>(objects: &'a [Object], x: Val) -> Result<AsKey<'a>, Memory>
-    ensures { IfOk result (λ k. key_seen k ≡ as_key (map object_of objects.now) x) }
+fn as_key<'a>(objects: &'a [HeapObject], x: Val) -> Result<AsKey<'a>, Memory>
+    ensures { IfOk result (λ k. key_seen k ≡ as_key (map object_in objects.now) x) }
 {
     match x {
         Val::Nothing => Ok(AsKey::Part(Part::Nothing)),
         Val::Bool(b) => Ok(AsKey::Part(Part::Bool(b))),
         Val::Int(n) => Ok(AsKey::Part(Part::Int(n))),
         Val::Builtin(_) => Ok(AsKey::NoKey),
-        Val::At(place) => match object_at(objects, place) {
+        Val::At(place) => match object_at(objects, place)? {
             Some(Object::Text(bytes)) => Ok(AsKey::Part(Part::Text(bytes.share()?))),
             Some(Object::Tuple(members)) => Ok(AsKey::Parts(members.as_slice())),
             _ => Ok(AsKey::NoKey),
@@ -39,12 +39,12 @@ fn as_key<'a>(objects: &'a [Object], x: Val) -> Result<AsKey<'a>, Memory>
 #[tactic(auto, using(crate::proofs::Hashed::key_is))]
 pub fn key(
     alloc: Global,
-    objects: &[Object],
+    objects: &[HeapObject],
     steps: &mut u64,
     x: Val,
     left: u32,
 ) -> Result<Vec<Part>, Halt>
-    ensures { SaysItems (key left (map object_of objects.now) x steps.old) result steps.new }
+    ensures { SaysItems (key left (map object_in objects.now) x steps.old) result steps.new }
 {
     match as_key(objects, x)? {
         AsKey::Part(part) => one_part(alloc, steps, part),
@@ -71,12 +71,12 @@ fn one_part(alloc: Global, steps: &mut u64, x: Part) -> Result<Vec<Part>, Halt>
 #[tactic(auto, using(crate::proofs::Hashed::tuple_deep, crate::proofs::Hashed::tuple_more))]
 fn tuple_key(
     alloc: Global,
-    objects: &[Object],
+    objects: &[HeapObject],
     steps: &mut u64,
     members: &[Val],
     left: u32,
 ) -> Result<Vec<Part>, Halt>
-    ensures { SaysItems (visit_key (inner_key left (map object_of objects.now)) (parts members.now) steps.old) result steps.new }
+    ensures { SaysItems (visit_key (inner_key left (map object_in objects.now)) (parts members.now) steps.old) result steps.new }
 {
     if left == 0 {
         return Err(Halt::Code(12));
@@ -93,12 +93,12 @@ fn tuple_key(
 #[cycle(hashing)]
 fn along(
     alloc: Global,
-    objects: &[Object],
+    objects: &[HeapObject],
     steps: &mut u64,
     members: &[Val],
     left: u32,
 ) -> Result<Vec<Part>, Halt>
-    ensures { SaysItems (along (key left (map object_of objects.now)) members.now steps.old) result steps.new }
+    ensures { SaysItems (along (key left (map object_in objects.now)) members.now steps.old) result steps.new }
 {
     let mut all = Vec::new(alloc);
     for member in members.iter() {

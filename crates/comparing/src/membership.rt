@@ -3,11 +3,11 @@ ghost use Rattle.std.specs.Prelude.{◌≡◌, map};
 ghost use Rattle.meaning.specs.Comparing.{equal};
 ghost use Rattle.meaning.specs.Membership.{any_equal, is_part, text_has, object_has, hashed_has, has_key, has};
 ghost use Rattle.meaning.specs.Heap.{at};
-ghost use Rattle.heap.specs.View.{object_of, store_of, Says, Checks};
+ghost use Rattle.heap.specs.View.{object_in, store_of, Says, Checks};
 
 use crate::equality::equal;
 use crate::walks::hash;
-use heap::{DEEPEST, Halt, Heap, Key, Object, Val, found, object_at, val_at};
+use heap::{DEEPEST, Halt, Heap, HeapObject, Key, Object, Val, found, object_at, val_at};
 use memchr::memmem;
 
 // Whether a text is a part of another.
@@ -21,13 +21,13 @@ fn is_part(part: &[u8], whole: &[u8]) -> bool
 // Whether a value is equal to one of the members, each being compared in order up to the first.
 #[tactic(auto, using(crate::proofs::Membered::any_same, crate::proofs::Membered::any_differ, crate::proofs::Membered::any_over))]
 fn any_equal(
-    objects: &[Object],
+    objects: &[HeapObject],
     steps: &mut u64,
     x: Val,
     members: &[Val],
     left: u32,
 ) -> Result<bool, Halt>
-    ensures { Says (any_equal (equal left (map object_of objects.now)) x members.now steps.old) result steps.new }
+    ensures { Says (any_equal (equal left (map object_in objects.now)) x members.now steps.old) result steps.new }
 {
     for i in 0..members.len() {
         let Some(y) = val_at(members, i) else {
@@ -57,7 +57,7 @@ pub fn has(heap: &mut Heap, x: Val, a: Val) -> Result<bool, Halt>
 fn object_has(heap: &mut Heap, a: usize, x: Val) -> Result<bool, Halt>
     ensures { Says (object_has (at a (store_of heap.old)) x (store_of heap.old)) result (store_of heap.new) }
 {
-    match heap.objects.get(a) {
+    match object_at(heap.objects.as_slice(), a)? {
         Some(Object::Text(whole)) => text_has(heap.objects.as_slice(), whole.as_slice(), x),
         Some(Object::List(members, _)) => {
             any_equal(
@@ -96,18 +96,18 @@ fn hashed_has(heap: &mut Heap, a: usize, x: Val) -> Result<bool, Halt>
 fn has_key(heap: &Heap, a: usize, key: &Key) -> Result<bool, Halt>
     ensures { Says (has_key (at a (store_of heap.now)) key.now (store_of heap.now)) result (store_of heap.now) }
 {
-    match heap.object(a) {
+    match heap.object(a)? {
         Some(Object::Dict(entries, _)) => Ok(found(entries, key).is_some()),
         _ => Err(Halt::Code(5)),
     }
 }
 
 // Whether a value is a part of a text.
-fn text_has(objects: &[Object], whole: &[u8], x: Val) -> Result<bool, Halt>
-    ensures { Checks (text_has (map object_of objects.now) whole.now x) result }
+fn text_has(objects: &[HeapObject], whole: &[u8], x: Val) -> Result<bool, Halt>
+    ensures { Checks (text_has (map object_in objects.now) whole.now x) result }
 {
     match x {
-        Val::At(place) => match object_at(objects, place) {
+        Val::At(place) => match object_at(objects, place)? {
             Some(Object::Text(part)) => Ok(is_part(part.as_slice(), whole)),
             _ => Err(Halt::Code(5)),
         },

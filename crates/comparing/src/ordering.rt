@@ -1,13 +1,14 @@
 //! The order of values.
-ghost use Rattle.std.specs.Prelude.{◌≡◌, map, slice_get};
+ghost use Rattle.std.specs.Prelude.{◌≡◌, map, slice_get, IfOk};
 ghost use Rattle.meaning.specs.Comparing.{equal, order, inner_order, sides, side_objects, visit_sides, listed, parting};
 ghost use Rattle.comparing.specs.Ended.{ended};
-ghost use Rattle.heap.specs.View.{object_of, Says};
+ghost use Rattle.heap.specs.View.{object_in, Says};
 ghost use Rattle.comparing.specs.Seen.{SaysParting, sides_seen};
 
 use crate::equality::equal;
-use heap::{Halt, Object, Val, object_at, tick, val_at};
+use heap::{Halt, HeapObject, Object, Val, object_at, tick, val_at};
 use std::cmp::Ordering;
+use texts::Memory;
 
 /// What is left to order of two values.
 #[derive(Drop)]
@@ -25,33 +26,31 @@ pub enum Parting {
 }
 
 // What is left to order of two values.
-fn make_sides<'a>(objects: &'a [Object], a: Val, b: Val) -> Sides<'a>
-    ensures { sides_seen result ≡ sides (map object_of objects.now) a b }
+fn make_sides<'a>(objects: &'a [HeapObject], a: Val, b: Val) -> Result<Sides<'a>, Memory>
+    ensures { IfOk result (λ s. sides_seen s ≡ sides (map object_in objects.now) a b) }
 {
     match (a, b) {
-        (Val::Int(x), Val::Int(y)) => Sides::Ordered(x.cmp(&y)),
+        (Val::Int(x), Val::Int(y)) => Ok(Sides::Ordered(x.cmp(&y))),
         (Val::At(x), Val::At(y)) => side_objects(objects, x, y),
-        _ => Sides::NoOrder,
+        _ => Ok(Sides::NoOrder),
     }
 }
 
 // What is left to order of two objects.
-fn side_objects<'a>(objects: &'a [Object], a: usize, b: usize) -> Sides<'a>
-    ensures { sides_seen result ≡ side_objects (slice_get (map object_of objects.now) a) (slice_get (map object_of objects.now) b) }
+fn side_objects<'a>(objects: &'a [HeapObject], a: usize, b: usize) -> Result<Sides<'a>, Memory>
+    ensures { IfOk result (λ s. sides_seen s ≡ side_objects (slice_get (map object_in objects.now) a) (slice_get (map object_in objects.now) b)) }
 {
-    match (object_at(objects, a), object_at(objects, b)) {
-        (Some(Object::Text(x)), Some(Object::Text(y))) => Sides::Ordered(
-            x.as_slice().cmp(y.as_slice()),
-        ),
-        (Some(Object::List(x, _)), Some(Object::List(y, _))) => Sides::Listed(
-            x.as_slice(),
-            y.as_slice(),
-        ),
-        (Some(Object::Tuple(x)), Some(Object::Tuple(y))) => Sides::Listed(
-            x.as_slice(),
-            y.as_slice(),
-        ),
-        _ => Sides::NoOrder,
+    match (object_at(objects, a)?, object_at(objects, b)?) {
+        (Some(Object::Text(x)), Some(Object::Text(y))) => {
+            Ok(Sides::Ordered(x.as_slice().cmp(y.as_slice())))
+        }
+        (Some(Object::List(x, _)), Some(Object::List(y, _))) => {
+            Ok(Sides::Listed(x.as_slice(), y.as_slice()))
+        }
+        (Some(Object::Tuple(x)), Some(Object::Tuple(y))) => {
+            Ok(Sides::Listed(x.as_slice(), y.as_slice()))
+        }
+        _ => Ok(Sides::NoOrder),
     }
 }
 
@@ -60,15 +59,15 @@ fn side_objects<'a>(objects: &'a [Object], a: usize, b: usize) -> Sides<'a>
 #[cycle(ordering)]
 #[tactic(auto, using(crate::proofs::Compared::order_is))]
 pub fn order(
-    objects: &[Object],
+    objects: &[HeapObject],
     steps: &mut u64,
     a: Val,
     b: Val,
     left: u32,
 ) -> Result<Ordering, Halt>
-    ensures { Says (order left (map object_of objects.now) a b steps.old) result steps.new }
+    ensures { Says (order left (map object_in objects.now) a b steps.old) result steps.new }
 {
-    match make_sides(objects, a, b) {
+    match make_sides(objects, a, b)? {
         Sides::Ordered(o) => {
             tick(steps)?;
             Ok(o)
@@ -85,13 +84,13 @@ pub fn order(
 #[cycle(ordering)]
 #[tactic(auto, using(crate::proofs::Compared::sides_deep, crate::proofs::Compared::sides_more))]
 fn order_lists(
-    objects: &[Object],
+    objects: &[HeapObject],
     steps: &mut u64,
     xs: &[Val],
     ys: &[Val],
     left: u32,
 ) -> Result<Ordering, Halt>
-    ensures { Says (visit_sides (inner_order left (map object_of objects.now)) (listed xs.now ys.now) steps.old) result steps.new }
+    ensures { Says (visit_sides (inner_order left (map object_in objects.now)) (listed xs.now ys.now) steps.old) result steps.new }
 {
     if left == 0 {
         return Err(Halt::Code(12));
@@ -106,13 +105,13 @@ fn order_lists(
 // Where two lists part.
 #[tactic(auto, using(crate::proofs::Compared::parts_same, crate::proofs::Compared::parts_differ, crate::proofs::Compared::parts_end, crate::proofs::Compared::parts_last, crate::proofs::Compared::parts_greater))]
 fn part(
-    objects: &[Object],
+    objects: &[HeapObject],
     steps: &mut u64,
     xs: &[Val],
     ys: &[Val],
     left: u32,
 ) -> Result<Parting, Halt>
-    ensures { SaysParting (parting (equal left (map object_of objects.now)) xs.now ys.now steps.old) result steps.new }
+    ensures { SaysParting (parting (equal left (map object_in objects.now)) xs.now ys.now steps.old) result steps.new }
 {
     for i in 0..xs.len() {
         let Some(x) = val_at(xs, i) else {

@@ -44,7 +44,7 @@ struct Called {
 fn function_at(heap: &Heap, place: usize) -> Result<Called, Halt>
     ensures { IsFunction (at place (store_of heap.now)) result }
 {
-    match heap.object(place) {
+    match heap.object(place)? {
         Some(Object::Function(label, name)) => Ok(Called {
             label: label.share()?,
             name: name.share()?,

@@ -9,6 +9,7 @@ mod machine;
 mod outcome;
 mod running;
 mod setting;
+mod tidying;
 mod turning;
 
 pub use machine::Environment;

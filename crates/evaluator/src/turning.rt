@@ -11,6 +11,7 @@ use crate::acting::{added, begin_block, built_in, define, of_value};
 use crate::entering::{enter, leave};
 use crate::machine::{Environment, Machine, Stop, Turned};
 use crate::setting::Setting;
+use crate::tidying::tidy;
 use frames::{Caller, Control, Frame, Signal, control_line, frame_line, hand_down, step};
 use heap::{Builtin, Halt, Val};
 use names::{Slot, Standing};
@@ -167,7 +168,12 @@ fn stretches(m: &mut Machine, e: &Setting<'_>, control: Control) -> Result<Turne
     let mut control = control;
     loop {
         match stretch(m, e, control)? {
-            Turned::Goes(next) => control = next,
+            Turned::Goes(next) => {
+                if tidy(m, &next).is_err() {
+                    return Err(Stop::Memory);
+                }
+                control = next;
+            }
             ended => return Ok(ended),
         }
     }

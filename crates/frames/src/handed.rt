@@ -61,14 +61,15 @@ pub fn branch_known(
     next: usize,
     other: Arc<Vec<Stmt>, Global>,
     x: Val,
-) -> Control
-    ensures goes { (env : Env) (n : ℕ) (here : Here) (frames : List Frame) → above env n here (frame_does env n here (f.Branch ss bs next other) (a_value x)) frames (world_of state.now) ≡ machine_does env n here result frames (world_of state.now) }
-    ensures light { control_weight result ≤ 2 }
+) -> Result<Control, Halt>
+    ensures goes { (env : Env) (n : ℕ) (here : Here) (line : ℕ) (frames : List Frame) → Goes (on env n here line).site (above env n here (frame_does env n here (f.Branch ss bs next other) (a_value x)) frames (world_of state.now)) result (λ control. machine_does env n here control frames (world_of state.now)) }
+    ensures light { IfOk result (λ control. control_weight control ≤ 2) }
 {
-    if is_true(&state.heap, x) {
-        Control::Suite(ss, 0)
+    let holds = is_true(&state.heap, x)?;
+    if holds {
+        Ok(Control::Suite(ss, 0))
     } else {
-        Control::Branches(bs, next, other)
+        Ok(Control::Branches(bs, next, other))
     }
 }
 
@@ -80,14 +81,15 @@ pub fn clause_known(
     inner: usize,
     got: Box<Gathered>,
     x: Val,
-) -> Control
-    ensures goes { (env : Env) (n : ℕ) (here : Here) (frames : List Frame) → above env n here (frame_does env n here (f.Only line of inner got) (a_value x)) frames (world_of state.now) ≡ machine_does env n here result frames (world_of state.now) }
-    ensures light { control_weight result ≤ 1 }
+) -> Result<Control, Halt>
+    ensures goes { (env : Env) (n : ℕ) (here : Here) (frames : List Frame) → Goes (on env n here line).site (above env n here (frame_does env n here (f.Only line of inner got) (a_value x)) frames (world_of state.now)) result (λ control. machine_does env n here control frames (world_of state.now)) }
+    ensures light { IfOk result (λ control. control_weight control ≤ 1) }
 {
-    if is_true(&state.heap, x) {
-        Control::Clauses(line, of, inner, got)
+    let holds = is_true(&state.heap, x)?;
+    if holds {
+        Ok(Control::Clauses(line, of, inner, got))
     } else {
-        Control::Signal(Signal::Gathered(got))
+        Ok(Control::Signal(Signal::Gathered(got)))
     }
 }
 

@@ -135,13 +135,13 @@ pub fn deliver_value(
         Frame::Assign(line, target) => assign(state, frames, at, line, &target, x),
         Frame::Change(line, op, aim, v) => change(state, at, frames, line, op, aim, v, x),
         Frame::Return => Ok(Control::Signal(Signal::Exit(Exit::Returns(x)))),
-        Frame::Branch(ss, bs, next, other) => Ok(branch_known(state, ss, bs, next, other, x)),
+        Frame::Branch(ss, bs, next, other) => branch_known(state, ss, bs, next, other, x),
         Frame::For(line, target, body) => { turns_over(state, line, target, body, x) }
         Frame::First(line, target, of) => Ok(Control::First(line, target, of, x)),
         Frame::Each(line, target, of, inner, got) => {
             clause_over(state, line, target, of, inner, got, x)
         }
-        Frame::Only(line, of, inner, got) => Ok(clause_known(state, line, of, inner, got, x)),
+        Frame::Only(line, of, inner, got) => clause_known(state, line, of, inner, got, x),
         Frame::OneMore(line, got) => member_gathered(line, got, x),
         Frame::OneKey(line, e, got) => {
             begin_above(state, frames, at, Frame::OneEntry(line, x, got), line, &e)

@@ -15,6 +15,7 @@ mod moves;
 mod once;
 mod operands;
 mod places;
+mod reaching;
 mod stack;
 mod statements;
 mod stepping;
@@ -28,5 +29,6 @@ pub use frame::{
 };
 pub use moves::hand_down;
 pub use places::{control_line, frame_line};
+pub use reaching::{reach_control, reach_frames};
 pub use stack::push;
 pub use stepping::step;

@@ -50,13 +50,15 @@ pub fn right_operand(
 {
     match op {
         BinaryOp::Or => {
-            if is_true(&state.heap, x) {
+            let holds = is_true(&state.heap, x)?;
+            if holds {
                 return Ok(Control::Signal(Signal::Value(x)));
             }
             begin(state, frames, at, line, b)
         }
         BinaryOp::And => {
-            if is_true(&state.heap, x) {
+            let holds = is_true(&state.heap, x)?;
+            if holds {
                 return begin(state, frames, at, line, b);
             }
             Ok(Control::Signal(Signal::Value(x)))
@@ -78,7 +80,8 @@ pub fn choose(
     ensures goes { (env : Env) (n : ℕ) (running : List (List ℕ × List ℕ)) → let here = here_of at.now at.now.line running in Goes (on env n here line).site (above env n here (valued (by_truth x (ex env n here (shared_tree a.now) line) (ex env n here (shared_tree b.now) line))) frames.old.items (world_of state.old)) result (λ control. machine_does env n here control frames.new.items (world_of state.new)) }
     ensures steps { IfOk result (λ _. state.new.heap.steps < state.old.heap.steps) }
 {
-    if is_true(&state.heap, x) {
+    let holds = is_true(&state.heap, x)?;
+    if holds {
         return begin(state, frames, at, line, a);
     }
     begin(state, frames, at, line, b)

@@ -1,11 +1,11 @@
 //! The walk that freezes a value.
 ghost use Rattle.std.specs.Prelude.{map, slice_get};
 ghost use Rattle.meaning.specs.Freezing.{freeze, inner_freeze, at_once, visit_held, held_object, listed, tupled, mapped, freeze_members, freeze_entry, freeze_entries};
-ghost use Rattle.heap.specs.View.{object_of};
+ghost use Rattle.heap.specs.View.{object_in};
 ghost use Rattle.freezing.specs.View.{frozen_of, SaysFrozen, SaysMembers, SaysEntry, SaysEntries};
 
 use crate::frozen::{Frozen, FrozenEntry};
-use heap::{Entry, Halt, Key, Object, Val, object_at, tick, val_at};
+use heap::{Entry, Halt, HeapObject, Key, Object, Val, object_at, tick, val_at};
 use indexmap::IndexMap;
 use std::alloc::Global;
 
@@ -14,12 +14,12 @@ use std::alloc::Global;
 #[tactic(auto, using(crate::proofs::Froze::freeze_is))]
 pub fn freeze(
     alloc: Global,
-    objects: &[Object],
+    objects: &[HeapObject],
     steps: &mut u64,
     x: Val,
     left: u32,
 ) -> Result<Frozen, Halt>
-    ensures { SaysFrozen (freeze left (map object_of objects.now) x steps.old) result steps.new }
+    ensures { SaysFrozen (freeze left (map object_in objects.now) x steps.old) result steps.new }
 {
     match x {
         Val::Nothing => settled(steps, Frozen::nothing()),
@@ -42,14 +42,14 @@ fn settled(steps: &mut u64, f: Frozen) -> Result<Frozen, Halt>
 #[cycle(freezing)]
 fn freeze_object(
     alloc: Global,
-    objects: &[Object],
+    objects: &[HeapObject],
     steps: &mut u64,
     place: usize,
     left: u32,
 ) -> Result<Frozen, Halt>
-    ensures { SaysFrozen (visit_held (inner_freeze left (map object_of objects.now)) (held_object (slice_get (map object_of objects.now) place)) steps.old) result steps.new }
+    ensures { SaysFrozen (visit_held (inner_freeze left (map object_in objects.now)) (held_object (slice_get (map object_in objects.now) place)) steps.old) result steps.new }
 {
-    match object_at(objects, place) {
+    match object_at(objects, place)? {
         Some(Object::Text(bytes)) => settled(steps, Frozen::text(bytes.share()?)),
         Some(Object::List(members, _)) => freeze_list(
             alloc,
@@ -82,12 +82,12 @@ fn freeze_object(
 #[tactic(auto, using(crate::proofs::Froze::list_deep, crate::proofs::Froze::list_more))]
 fn freeze_list(
     alloc: Global,
-    objects: &[Object],
+    objects: &[HeapObject],
     steps: &mut u64,
     members: &[Val],
     left: u32,
 ) -> Result<Frozen, Halt>
-    ensures { SaysFrozen (visit_held (inner_freeze left (map object_of objects.now)) (listed members.now) steps.old) result steps.new }
+    ensures { SaysFrozen (visit_held (inner_freeze left (map object_in objects.now)) (listed members.now) steps.old) result steps.new }
 {
     if left == 0 {
         return Err(Halt::Code(12));
@@ -102,12 +102,12 @@ fn freeze_list(
 #[tactic(auto, using(crate::proofs::Froze::tuple_deep, crate::proofs::Froze::tuple_more))]
 fn freeze_tuple(
     alloc: Global,
-    objects: &[Object],
+    objects: &[HeapObject],
     steps: &mut u64,
     members: &[Val],
     left: u32,
 ) -> Result<Frozen, Halt>
-    ensures { SaysFrozen (visit_held (inner_freeze left (map object_of objects.now)) (tupled members.now) steps.old) result steps.new }
+    ensures { SaysFrozen (visit_held (inner_freeze left (map object_in objects.now)) (tupled members.now) steps.old) result steps.new }
 {
     if left == 0 {
         return Err(Halt::Code(12));
@@ -121,12 +121,12 @@ fn freeze_tuple(
 #[cycle(freezing)]
 fn freeze_members(
     alloc: Global,
-    objects: &[Object],
+    objects: &[HeapObject],
     steps: &mut u64,
     members: &[Val],
     left: u32,
 ) -> Result<Vec<Frozen>, Halt>
-    ensures { SaysMembers (freeze_members (freeze left (map object_of objects.now)) members.now steps.old) result steps.new }
+    ensures { SaysMembers (freeze_members (freeze left (map object_in objects.now)) members.now steps.old) result steps.new }
 {
     let mut all = Vec::new(alloc);
     for i in 0..members.len() {
@@ -146,12 +146,12 @@ fn freeze_members(
 #[tactic(auto, using(crate::proofs::Froze::dict_deep, crate::proofs::Froze::dict_more))]
 fn freeze_dict(
     alloc: Global,
-    objects: &[Object],
+    objects: &[HeapObject],
     steps: &mut u64,
     entries: &IndexMap<Key, Entry>,
     left: u32,
 ) -> Result<Frozen, Halt>
-    ensures { SaysFrozen (visit_held (inner_freeze left (map object_of objects.now)) (mapped entries.now.entries) steps.old) result steps.new }
+    ensures { SaysFrozen (visit_held (inner_freeze left (map object_in objects.now)) (mapped entries.now.entries) steps.old) result steps.new }
 {
     if left == 0 {
         return Err(Halt::Code(12));
@@ -165,12 +165,12 @@ fn freeze_dict(
 #[cycle(freezing)]
 fn freeze_entries(
     alloc: Global,
-    objects: &[Object],
+    objects: &[HeapObject],
     steps: &mut u64,
     entries: &IndexMap<Key, Entry>,
     left: u32,
 ) -> Result<Vec<FrozenEntry>, Halt>
-    ensures { SaysEntries (freeze_entries (freeze left (map object_of objects.now)) entries.now.entries steps.old) result steps.new }
+    ensures { SaysEntries (freeze_entries (freeze left (map object_in objects.now)) entries.now.entries steps.old) result steps.new }
 {
     let mut all = Vec::new(alloc);
     for i in 0..entries.len() {
@@ -189,12 +189,12 @@ fn freeze_entries(
 #[cycle(freezing)]
 fn freeze_entry(
     alloc: Global,
-    objects: &[Object],
+    objects: &[HeapObject],
     steps: &mut u64,
     entry: Entry,
     left: u32,
 ) -> Result<FrozenEntry, Halt>
-    ensures { SaysEntry (freeze_entry (freeze left (map object_of objects.now)) entry steps.old) result steps.new }
+    ensures { SaysEntry (freeze_entry (freeze left (map object_in objects.now)) entry steps.old) result steps.new }
 {
     let key = freeze(alloc, objects, steps, entry.key, left)?;
     let value = freeze(alloc, objects, steps, entry.value, left)?;

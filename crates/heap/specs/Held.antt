@@ -1,6 +1,8 @@
 -- The bytes that an evaluation's values are counted for.
 use Rattle.std.specs.Prelude.{◌≡◌, ℕ, ◌+◌, ◌*◌, ◌<◌, ◌≤◌, length, Option, Some, None, Result, Ok, Err}
 use Rattle.meaning.specs.Heap.{Obj, text, list, tuple, dict, function, Store, at}
+use Rattle.heap.specs.declared.object.Shape.{Shape}
+use Rattle.heap.specs.declared.object.Shape.TheVariants as sh
 use Rattle.heap.specs.declared.halt.Halt.{Halt}
 use Rattle.heap.specs.declared.halt.Halt.TheVariants.{Code, Memory}
 
@@ -15,6 +17,13 @@ object_bytes (list members frozen) = length members * 16 + 64
 object_bytes (tuple members) = length members * 16 + 64
 object_bytes (dict entries frozen) = length entries * 96 + 64
 object_bytes (function label name) = 64
+
+-- the same, by how many bytes, members or entries it has
+abbrev pub shape_bytes : Shape → ℕ
+shape_bytes (sh.Bytes n) = n + 64
+shape_bytes (sh.Members n) = n * 16 + 64
+shape_bytes (sh.Entries n) = n * 96 + 64
+shape_bytes sh.Plain = 64
 
 abbrev pub found_bytes : Option Obj → ℕ
 found_bytes (Some object) = object_bytes object

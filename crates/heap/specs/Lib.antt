@@ -1,3 +1,5 @@
 pub mod View
 pub mod Sized
 pub mod Held
+pub mod Objects
+pub mod Written

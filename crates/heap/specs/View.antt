@@ -3,22 +3,19 @@ use Rattle.std.specs.Prelude.{◌≡◌, List, map, Result, Ok, Err}
 use Rattle.std.specs.declared.vec.Vec.{Vec}
 use Rattle.std.specs.declared.alloc.Global.{Global}
 use Rattle.meaning.specs.Outcome.{Out, gives, faults, Checked, good, bad}
-use Rattle.meaning.specs.Heap.{Obj, text, list, tuple, dict, function, Store}
-use Rattle.heap.specs.declared.heap.Object.{Object}
-use Rattle.heap.specs.declared.heap.Object.TheVariants as o
+use Rattle.meaning.specs.Heap.{Obj, Store}
+use Rattle.heap.specs.declared.heap_object.HeapObject.{HeapObject}
 use Rattle.heap.specs.declared.heap.Heap.{Heap}
 use Rattle.heap.specs.declared.halt.Halt.{Halt}
 use Rattle.heap.specs.declared.halt.Halt.TheVariants.{Code, Memory}
+use Rattle.heap.specs.Written.{last_written}
 
-abbrev pub object_of : Object → Obj
-object_of (o.Text bytes) = text bytes
-object_of (o.List members frozen) = list members.items frozen
-object_of (o.Tuple members) = tuple members.items
-object_of (o.Dict entries frozen) = dict entries.entries frozen
-object_of (o.Function label name) = function label name
+-- the object that stands there, also where its memory has been given back
+unfoldable pub object_in : HeapObject → Obj
+object_in h = last_written h.written.items
 
 abbrev pub store_of : Heap → Store
-store_of h = record { heap = map object_of h.objects.items; iterated = h.iterated.items; steps = h.steps }
+store_of h = record { heap = map object_in h.objects.items; iterated = h.iterated.items; steps = h.steps }
 
 -- the call gives what the definition gives, with the same state after it, or its fault; where memory is refused
 -- nothing is said

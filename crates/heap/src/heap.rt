@@ -1,13 +1,17 @@
 //! The heap.
-ghost use Rattle.std.specs.Prelude.{◌≡◌, [], map, option_map, slice_get, OnOk, ◌+◌, ◌*◌, ◌-◌, ◌≤◌};
-ghost use Rattle.meaning.specs.Heap.{at, makes, makes_text, makes_list, makes_tuple};
-ghost use Rattle.heap.specs.View.{object_of, store_of, Says};
+ghost use Rattle.std.specs.Prelude.{◌≡◌, [], map, option_map, slice_get, IfOk, OnOk, ◌+◌, ◌*◌, ◌-◌, ◌≤◌, nat_le};
+ghost use Rattle.meaning.specs.Outcome.{gives};
+ghost use Rattle.meaning.specs.Heap.{at, puts, makes, makes_text, makes_list, makes_tuple};
+ghost use Rattle.heap.specs.Objects.{object_of};
+ghost use Rattle.heap.specs.View.{object_in, store_of, Says};
 ghost use Rattle.heap.specs.Held.{most_held, object_bytes, place_bytes, Counted};
 
 use crate::halt::Halt;
-use indexmap::IndexMap;
-use meaning::{Bytes, Entry, Key, Val};
+use crate::heap_object::HeapObject;
+use crate::object::{ENTRY, MEMBER, Object, shape_of, size_of};
+use meaning::{Bytes, Val};
 use std::alloc::Global;
+use texts::Memory;
 
 /// The most bytes of a string, and members of a list, tuple or dictionary.
 pub const LONGEST: usize = 65536;
@@ -16,50 +20,23 @@ pub const LONGEST: usize = 65536;
 pub const DEEPEST: u32 = 64;
 
 /// The most bytes that the objects of one evaluation may take together, with the copies that loops go over. An object that
-/// is reached no more still counts. Texts that are shared with a file or a module count too.
+/// has been given back does not count. Texts that are shared with a file or a module count too.
 pub const MOST_HELD: u64 = 1_073_741_824;
 
-// What counts for an object whatever it has, for a member of a list or tuple, and for an entry of a dictionary, in bytes.
-const OBJECT: u128 = 64;
-
-const MEMBER: u128 = 16;
-
-const ENTRY: u128 = 96;
-
-/// An object of the heap. The flag of a list or dictionary says that it is frozen.
-#[derive(Drop)]
-pub enum Object {
-    Text(Bytes),
-    List(Vec<Val>, bool),
-    Tuple(Vec<Val>),
-    Dict(IndexMap<Key, Entry>, bool),
-    /// A function of a file: the file's label, and the name.
-    Function(Bytes, Bytes),
-}
+// So many bytes are held before it is first looked for objects that are reached no more.
+const FIRST_FULL: u64 = 67_108_864;
 
 /// What the values of an evaluation stand on: the objects, the places of those that are iterated, and the steps that
 /// are left.
 #[derive(Drop)]
 pub struct Heap {
     pub alloc: Global,
-    pub objects: Vec<Object>,
+    pub objects: Vec<HeapObject>,
     pub iterated: Vec<usize>,
     pub steps: u64,
     held: u64,
-}
-
-// The bytes that an object counts for.
-fn size_of(object: &Object) -> u128
-    ensures { result ≡ object_bytes (object_of object.now) }
-{
-    let own = match object {
-        Object::Text(bytes) => bytes.as_slice().len() as u128,
-        Object::List(members, _) => members.len() as u128 * MEMBER,
-        Object::Tuple(members) => members.len() as u128 * MEMBER,
-        Object::Dict(entries, _) => entries.len() as u128 * ENTRY,
-        Object::Function(_, _) => 0,
-    };
-    own + OBJECT
+    // So many bytes are enough to look for objects that are reached no more.
+    full_at: u64,
 }
 
 impl Heap {
@@ -74,14 +51,42 @@ impl Heap {
             iterated: Vec::new(alloc),
             steps,
             held: 0,
+            full_at: FIRST_FULL,
         }
     }
 
-    /// The object at a place.
-    pub fn object(&self, place: usize) -> Option<&Object>
-        ensures { at place (store_of self.now) ≡ option_map (λ o. object_of o.now) result }
+    /// The object at a place. `Memory` where it has been given back.
+    pub fn object(&self, place: usize) -> Result<Option<&Object>, Memory>
+        ensures { IfOk result (λ found. at place (store_of self.now) ≡ option_map (λ o. object_of o.now) found) }
     {
-        self.objects.get(place)
+        object_at(self.objects.as_slice(), place)
+    }
+
+    /// The object at a place, to be changed and then put there again. Until then it counts as given back. `Memory` where it
+    /// has been given back.
+    pub fn take(&mut self, place: usize) -> Result<Option<Object>, Memory>
+        ensures same { store_of self.new ≡ store_of self.old }
+        ensures taken { IfOk result (λ found. at place (store_of self.old) ≡ option_map object_of found) }
+        ensures held { self.new.held ≡ self.old.held }
+    {
+        match self.objects.get_mut(place) {
+            Some(found) => match found.take() {
+                Ok(object) => Ok(Some(object)),
+                Err(memory) => Err(memory),
+            },
+            None => Ok(None),
+        }
+    }
+
+    /// Another object at a place, if one stands there. The bytes that it takes more are counted by `hold_members` and
+    /// `hold_entry`.
+    pub fn put(&mut self, place: usize, object: Object)
+        ensures put { puts place (object_of object) (store_of self.old) ≡ gives tt (store_of self.new) }
+        ensures held { self.new.held ≡ self.old.held }
+    {
+        if let Some(found) = self.objects.get_mut(place) {
+            found.write(object);
+        }
     }
 
     /// The bytes that all objects made so far and all copies that loops go over count for.
@@ -102,6 +107,21 @@ impl Heap {
         }
         self.held = all as u64;
         Ok(())
+    }
+
+    /// Whether it is time to give back what is reached no more.
+    pub fn is_full(&self) -> bool
+        ensures { result ≡ nat_le self.now.full_at self.now.held }
+    {
+        self.held >= self.full_at
+    }
+
+    /// The next time to give back is when twice as many bytes are held as now.
+    pub(crate) fn wait_until_full(&mut self)
+        ensures same { store_of self.new ≡ store_of self.old }
+        ensures held { self.new.held ≡ self.old.held }
+    {
+        self.full_at = self.held.saturating_mul(2).max(FIRST_FULL);
     }
 
     /// Counts members that a list is about to get, 16 bytes each. `Memory` where the objects would take more than
@@ -137,6 +157,15 @@ impl Heap {
         ensures counted { self.new.held ≡ self.old.held - place_bytes place (store_of self.old) }
     {
         let bytes = self.size_at(place);
+        self.release(bytes);
+    }
+
+    // Bytes count no more.
+    pub(crate) fn release(&mut self, bytes: u128)
+        ensures same { store_of self.new ≡ store_of self.old }
+        ensures counted { self.new.held ≡ self.old.held - bytes }
+        ensures kept { self.new.objects ≡ self.old.objects }
+    {
         self.held = (self.held as u128).saturating_sub(bytes) as u64;
     }
 
@@ -145,7 +174,7 @@ impl Heap {
         ensures { result ≡ place_bytes place (store_of self.now) }
     {
         match self.objects.get(place) {
-            Some(object) => size_of(object),
+            Some(object) => object.size(),
             None => 0,
         }
     }
@@ -156,9 +185,9 @@ impl Heap {
         ensures within { OnOk result (self.new.held ≤ most_held) }
         ensures says { Says (makes (object_of object) (store_of self.old)) result (store_of self.new) }
     {
-        self.hold(size_of(&object))?;
+        self.hold(size_of(shape_of(&object)))?;
         let place = self.objects.len();
-        self.objects.push(object)?;
+        self.objects.push(HeapObject::new(object))?;
         Ok(Val::At(place))
     }
 
@@ -197,9 +226,15 @@ impl Heap {
     }
 }
 
-/// The object at a place.
-pub fn object_at(objects: &[Object], place: usize) -> Option<&Object>
-    ensures { slice_get (map object_of objects.now) place ≡ option_map (λ o. object_of o.now) result }
+/// The object at a place. `Memory` where it has been given back.
+pub fn object_at(objects: &[HeapObject], place: usize) -> Result<Option<&Object>, Memory>
+    ensures { IfOk result (λ found. slice_get (map object_in objects.now) place ≡ option_map (λ o. object_of o.now) found) }
 {
-    objects.get(place)
+    match objects.get(place) {
+        Some(found) => {
+            let object = found.object()?;
+            Ok(Some(object))
+        }
+        None => Ok(None),
+    }
 }

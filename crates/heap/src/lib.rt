@@ -4,12 +4,18 @@
 mod dictionaries;
 mod halt;
 mod heap;
+mod heap_object;
 mod lists;
+mod object;
+mod reached;
 mod steps;
 
 pub use dictionaries::{found, has_room, keys, set_entry};
 pub use halt::Halt;
-pub use heap::{DEEPEST, Heap, LONGEST, Object, object_at};
+pub use heap::{DEEPEST, Heap, LONGEST, object_at};
+pub use heap_object::HeapObject;
 pub use lists::{cut, joined, member, place, repeated, val_at};
 pub use meaning::{Builtin, Bytes, Entry, Key, Operator, Part, Val};
+pub use object::Object;
+pub use reached::Reached;
 pub use steps::{spend, tick};

@@ -24,7 +24,7 @@ pub fn set_index(heap: &mut Heap, a: Val, i: Val, x: Val) -> Result<(), Halt>
 fn set_object(heap: &mut Heap, a: usize, i: Val, x: Val) -> Result<(), Halt>
     ensures { Says (set_object a (at a (store_of heap.old)) i x (store_of heap.old)) result (store_of heap.new) }
 {
-    match heap.object(a) {
+    match heap.object(a)? {
         Some(Object::List(_, frozen)) => {
             let frozen = *frozen;
             let n = as_int(i)?;
@@ -63,16 +63,14 @@ fn may_change(heap: &Heap, a: usize, frozen: bool) -> Result<(), Halt>
 fn set_member(heap: &mut Heap, a: usize, i: i64, x: Val) -> Result<(), Halt>
     ensures { Says (set_member a (at a (store_of heap.old)) i x (store_of heap.old)) result (store_of heap.new) }
 {
-    let Some(object) = heap.objects.get_mut(a) else {
-        return Err(Halt::Code(5));
-    };
-    let Object::List(members, _) = object else {
+    let Some(Object::List(mut members, frozen)) = heap.take(a)? else {
         return Err(Halt::Code(5));
     };
     let Some(at) = place(i, members.len()) else {
         return Err(Halt::Code(8));
     };
     members[at] = x;
+    heap.put(a, Object::List(members, frozen));
     Ok(())
 }
 
@@ -80,16 +78,14 @@ fn set_member(heap: &mut Heap, a: usize, i: i64, x: Val) -> Result<(), Halt>
 fn set_key(heap: &mut Heap, a: usize, key: Key, entry: Entry) -> Result<(), Halt>
     ensures { Says (set_key a (at a (store_of heap.old)) key entry (store_of heap.old)) result (store_of heap.new) }
 {
-    let Some(object) = heap.objects.get_mut(a) else {
+    let Some(Object::Dict(mut entries, frozen)) = heap.take(a)? else {
         return Err(Halt::Code(5));
     };
-    let Object::Dict(entries, _) = object else {
-        return Err(Halt::Code(5));
-    };
-    if !has_room(entries, &key) {
+    if !has_room(&entries, &key) {
         return Err(Halt::Code(13));
     }
-    set_entry(entries, key, entry)?;
+    set_entry(&mut entries, key, entry)?;
+    heap.put(a, Object::Dict(entries, frozen));
     heap.hold_entry()?;
     Ok(())
 }

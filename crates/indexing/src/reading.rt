@@ -42,7 +42,7 @@ pub fn index(heap: &mut Heap, a: Val, i: Val) -> Result<Val, Halt>
 fn index_object(heap: &mut Heap, a: usize, i: Val) -> Result<Val, Halt>
     ensures { Says (index_object (at a (store_of heap.old)) i (store_of heap.old)) result (store_of heap.new) }
 {
-    match heap.object(a) {
+    match heap.object(a)? {
         Some(Object::Text(bytes)) => {
             let byte = found_at(bytes.as_slice(), i)?;
             make_letter(heap, byte)
@@ -68,7 +68,7 @@ fn found_key(heap: &mut Heap, a: usize, i: Val) -> Result<Val, Halt>
 fn at_key(heap: &Heap, a: usize, key: &Key) -> Result<Val, Halt>
     ensures { Says (at_key (at a (store_of heap.now)) key.now (store_of heap.now)) result (store_of heap.now) }
 {
-    match heap.object(a) {
+    match heap.object(a)? {
         Some(Object::Dict(entries, _)) => match found(entries, key) {
             Some(entry) => Ok(entry.value),
             None => Err(Halt::Code(8)),
@@ -100,7 +100,7 @@ pub fn slice(heap: &mut Heap, a: Val, i: Val, j: Val) -> Result<Val, Halt>
 fn slice_object(heap: &mut Heap, a: usize, i: Val, j: Val) -> Result<Val, Halt>
     ensures { Says (slice_object (at a (store_of heap.old)) i j (store_of heap.old)) result (store_of heap.new) }
 {
-    match heap.object(a) {
+    match heap.object(a)? {
         Some(Object::Text(bytes)) => {
             let part = cut(heap.alloc, bytes.as_slice(), i, j)?;
             heap.make_text(part)
@@ -131,7 +131,7 @@ pub fn items(heap: &Heap, a: Val) -> Result<Vec<Val>, Halt>
 fn object_items(heap: &Heap, a: usize) -> Result<Vec<Val>, Halt>
     ensures { ChecksItems (items_of (at a (store_of heap.now))) result }
 {
-    match heap.object(a) {
+    match heap.object(a)? {
         Some(Object::List(members, _)) => Ok(Vec::from_slice(heap.alloc, members.as_slice())?),
         Some(Object::Tuple(members)) => Ok(Vec::from_slice(heap.alloc, members.as_slice())?),
         Some(Object::Dict(entries, _)) => Ok(keys(heap.alloc, entries)?),

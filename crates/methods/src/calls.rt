@@ -1,5 +1,5 @@
 //! Calls of methods.
-ghost use Rattle.std.specs.Prelude.{◌≡◌};
+ghost use Rattle.std.specs.Prelude.{◌≡◌, IfOk};
 ghost use Rattle.meaning.specs.Heap.{at};
 ghost use Rattle.meaning.specs.Methods.{method, object_method, has_method};
 ghost use Rattle.heap.specs.View.{store_of, Says};
@@ -9,7 +9,7 @@ use crate::lists::list_method;
 use crate::names::is_name;
 use crate::strings::text_method;
 use heap::{Halt, Heap, Object, Val};
-use texts::Text;
+use texts::{Memory, Text};
 
 /// `x.name(..)`, by its plain and its named arguments. No method takes a named one. Fault 5 for an unknown method, then
 /// 25, then 5 for a wrong type, and the faults of the method: 6, 7, 11, 12 or 13.
@@ -25,7 +25,7 @@ pub fn method(
     match x {
         Val::At(place) => {
             if !named.is_empty() {
-                if has_method(heap, place, name) {
+                if has_method(heap, place, name)? {
                     return Err(Halt::Code(25));
                 }
                 return Err(Halt::Code(5));
@@ -37,10 +37,12 @@ pub fn method(
 }
 
 // A method of what stands at a place.
+#[tactic(auto, using(crate::proofs::Bridges::text_here, crate::proofs::Bridges::list_here, crate::proofs::Bridges::dict_here))]
 fn object_method(heap: &mut Heap, a: usize, name: &str, xs: &[Val]) -> Result<Val, Halt>
     ensures { Says (object_method a (at a (store_of heap.old)) name.now xs.now (store_of heap.old)) result (store_of heap.new) }
 {
-    match heap.object(a) {
+    let found = heap.object(a)?;
+    match found {
         Some(Object::Text(bytes)) => {
             let whole = bytes.share()?;
             text_method(heap, whole.as_slice(), name, xs)
@@ -54,25 +56,25 @@ fn object_method(heap: &mut Heap, a: usize, name: &str, xs: &[Val]) -> Result<Va
 }
 
 // Whether what stands at a place has such a method.
-fn has_method(heap: &Heap, a: usize, name: &str) -> bool
-    ensures { result ≡ has_method (at a (store_of heap.now)) name.now }
+fn has_method(heap: &Heap, a: usize, name: &str) -> Result<bool, Memory>
+    ensures { IfOk result (λ b. b ≡ has_method (at a (store_of heap.now)) name.now) }
 {
-    match heap.object(a) {
-        Some(Object::Text(_)) => {
+    match heap.object(a)? {
+        Some(Object::Text(_)) => Ok(
             is_name(name, "startswith")
                 || is_name(name, "endswith")
                 || is_name(name, "join")
                 || is_name(name, "split")
                 || is_name(name, "replace")
-                || is_name(name, "strip")
-        }
-        Some(Object::List(_, _)) => is_name(name, "append") || is_name(name, "extend"),
-        Some(Object::Dict(_, _)) => {
+                || is_name(name, "strip"),
+        ),
+        Some(Object::List(_, _)) => Ok(is_name(name, "append") || is_name(name, "extend")),
+        Some(Object::Dict(_, _)) => Ok(
             is_name(name, "get")
                 || is_name(name, "keys")
                 || is_name(name, "values")
-                || is_name(name, "items")
-        }
-        _ => false,
+                || is_name(name, "items"),
+        ),
+        _ => Ok(false),
     }
 }

@@ -37,7 +37,7 @@ pub fn dict_method(heap: &mut Heap, a: usize, name: &str, xs: &[Val]) -> Result<
 fn get(heap: &mut Heap, a: usize, xs: &[Val]) -> Result<Val, Halt>
     ensures { Says (get_at (at a (store_of heap.old)) xs.now (store_of heap.old)) result (store_of heap.new) }
 {
-    match heap.object(a) {
+    match heap.object(a)? {
         Some(Object::Dict(_, _)) => {
             let (k, other) = match xs {
                 [k] => (*k, Val::Nothing),
@@ -63,7 +63,7 @@ fn get_or_else(heap: &mut Heap, a: usize, k: Val, other: Val) -> Result<Val, Hal
 fn all_keys(heap: &mut Heap, a: usize) -> Result<Val, Halt>
     ensures { Says (keys_at (at a (store_of heap.old)) (store_of heap.old)) result (store_of heap.new) }
 {
-    match heap.object(a) {
+    match heap.object(a)? {
         Some(Object::Dict(entries, _)) => {
             let all = keys(heap.alloc, entries)?;
             heap.make_list(all)
@@ -76,7 +76,7 @@ fn all_keys(heap: &mut Heap, a: usize) -> Result<Val, Halt>
 fn all_values(heap: &mut Heap, a: usize) -> Result<Val, Halt>
     ensures { Says (values_at (at a (store_of heap.old)) (store_of heap.old)) result (store_of heap.new) }
 {
-    match heap.object(a) {
+    match heap.object(a)? {
         Some(Object::Dict(entries, _)) => {
             let all = values(heap.alloc, entries)?;
             heap.make_list(all)
@@ -89,7 +89,7 @@ fn all_values(heap: &mut Heap, a: usize) -> Result<Val, Halt>
 fn all_items(heap: &mut Heap, a: usize) -> Result<Val, Halt>
     ensures { Says (items_at (at a (store_of heap.old)) (store_of heap.old)) result (store_of heap.new) }
 {
-    match heap.object(a) {
+    match heap.object(a)? {
         Some(Object::Dict(entries, _)) => {
             let pairs = pairs(heap.alloc, entries)?;
             let all = tuples(heap, pairs.as_slice())?;
@@ -143,7 +143,7 @@ fn tuple(heap: &mut Heap, pair: Entry) -> Result<Val, Halt>
 fn found_or(heap: &Heap, a: usize, key: &Key, other: Val) -> Result<Val, Halt>
     ensures { Says (found_other (at a (store_of heap.now)) other key.now (store_of heap.now)) result (store_of heap.now) }
 {
-    match heap.objects.get(a) {
+    match heap.object(a)? {
         Some(Object::Dict(entries, _)) => match found(entries, key) {
             Some(entry) => Ok(entry.value),
             None => Ok(other),

@@ -38,7 +38,7 @@ pub fn add_in_place(heap: &mut Heap, x: Val, y: Val) -> Result<Val, Halt>
 fn add_objects(heap: &mut Heap, a: usize, b: usize) -> Result<Val, Halt>
     ensures { Says (objects_added a (at a (store_of heap.old)) b (at b (store_of heap.old)) (store_of heap.old)) result (store_of heap.new) }
 {
-    let more = match (heap.object(a), heap.object(b)) {
+    let more = match (heap.object(a)?, heap.object(b)?) {
         (Some(Object::List(_, _)), Some(Object::List(members, _))) => {
             Vec::from_slice(heap.alloc, members.as_slice())?
         }
@@ -77,7 +77,7 @@ fn extend(heap: &mut Heap, a: usize, xs: &[Val]) -> Result<Val, Halt>
 fn adds(heap: &mut Heap, a: usize, more: &[Val]) -> Result<(), Halt>
     ensures { Says (adds a (at a (store_of heap.old)) more.now (store_of heap.old)) result (store_of heap.new) }
 {
-    match heap.object(a) {
+    match heap.object(a)? {
         Some(Object::List(_, frozen)) => {
             let frozen = *frozen;
             may_change(heap, a, frozen)?;
@@ -105,16 +105,14 @@ fn may_change(heap: &Heap, a: usize, frozen: bool) -> Result<(), Halt>
 fn extend_members(heap: &mut Heap, a: usize, more: &[Val]) -> Result<(), Halt>
     ensures { Says (extended a (at a (store_of heap.old)) more.now (store_of heap.old)) result (store_of heap.new) }
 {
-    let Some(object) = heap.objects.get_mut(a) else {
-        return Err(Halt::Code(5));
-    };
-    let Object::List(members, _) = object else {
+    let Some(Object::List(mut members, frozen)) = heap.take(a)? else {
         return Err(Halt::Code(5));
     };
     if members.len() > LONGEST || more.len() > LONGEST - members.len() {
         return Err(Halt::Code(13));
     }
     members.extend_from_slice(more)?;
+    heap.put(a, Object::List(members, frozen));
     heap.hold_members(more.len())?;
     Ok(())
 }

@@ -44,7 +44,7 @@ fn text_at<'a>(heap: &'a Heap, x: Val) -> Result<&'a [u8], Halt>
     ensures { ChecksText (bytes_of x (store_of heap.now)) result }
 {
     match x {
-        Val::At(place) => match heap.object(place) {
+        Val::At(place) => match heap.object(place)? {
             Some(Object::Text(bytes)) => Ok(bytes.as_slice()),
             _ => Err(Halt::Code(5)),
         },

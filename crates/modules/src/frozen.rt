@@ -5,14 +5,15 @@ ghost use Rattle.language.specs.Names.{slot_in, names_at};
 ghost use Rattle.language.specs.Environment.{defs};
 ghost use Rattle.tree.specs.Statements.{top_of};
 ghost use Rattle.heap.specs.View.{store_of, Says, SaysItems};
-ghost use Rattle.names.specs.View.{slots_of, names_of};
+ghost use Rattle.names.specs.View.{held, names_of};
 ghost use Rattle.modules.specs.Frozen.{freeze_values, freeze_names, freeze_defaults, bound_value, block_among, slot_names, SaysFrozen};
 
 use calls::{defaults_among, file_with};
 use freezing::FrozenValue;
 use heap::{Halt, Heap, Val};
 use module_values::{Binding, Defaults};
-use names::{FileNames, Slot};
+use names::{Block, FileNames, Slot, slot_in};
+use std::sync::atomic::AtomicUsize;
 use texts::Text;
 use tree::Top;
 
@@ -39,26 +40,24 @@ fn freeze_values(heap: &mut Heap, xs: &[Val]) -> Result<Vec<FrozenValue>, Halt>
     Ok(all)
 }
 
-// The value of a name of a block, where it has one.
-fn bound_value(block: &[Slot], x: &Text) -> Option<Val>
-    ensures { result ≡ bound_value (slot_in x.now (slots_of block.now)) }
+// The value of a name of a block, where it has one. The name is looked for at the place first.
+fn bound_value(block: &Block, x: &Text, place: usize) -> Option<Val>
+    ensures { result ≡ bound_value (slot_in x.now (held block.now)) }
 {
-    for slot in block.iter() {
-        if *x == slot.name {
-            return slot.value;
-        }
+    match slot_in(block, x, &AtomicUsize::new(place)) {
+        Some(value) => value,
+        None => None,
     }
-    None
 }
 
 // The values of names of a block, frozen in order: fault 4 for one without a value, 11 or 12.
-fn freeze_names(heap: &mut Heap, block: &[Slot], names: &[Slot]) -> Result<Vec<Binding>, Halt>
-    ensures says { SaysItems (freeze_names (slots_of block.now) (slot_names names.now) (store_of heap.old)) result (store_of heap.new) }
+fn freeze_names(heap: &mut Heap, block: &Block, names: &[Slot]) -> Result<Vec<Binding>, Halt>
+    ensures says { SaysItems (freeze_names (held block.now) (slot_names names.now) (store_of heap.old)) result (store_of heap.new) }
     ensures steps { IfOk result (λ _. heap.new.steps ≤ heap.old.steps) }
 {
     let mut all = Vec::new(heap.alloc);
     for slot in names.iter() {
-        let Some(x) = bound_value(block, &slot.name) else {
+        let Some(x) = bound_value(block, &slot.name, all.len()) else {
             return Err(Halt::Code(4));
         };
         let value = match freeze_value(heap, x) {
@@ -82,8 +81,11 @@ pub fn freeze_globals(
     ensures steps { IfOk result (λ _. heap.new.steps ≤ heap.old.steps) }
 {
     match file_with(files, label) {
-        Some(file) => freeze_names(heap, file.block.slots.as_slice(), names),
-        None => freeze_names(heap, &[], names),
+        Some(file) => freeze_names(heap, &file.block, names),
+        None => {
+            let nothing = Block::new(Vec::new(heap.alloc))?;
+            freeze_names(heap, &nothing, names)
+        }
     }
 }
 

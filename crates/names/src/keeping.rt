@@ -4,8 +4,9 @@ ghost use Rattle.language.specs.Environment.{values_named};
 ghost use Rattle.language.specs.Names.{has_name};
 ghost use Rattle.names.specs.Newest.{kept_of, newest_first, values_at, Lists};
 
+use crate::reaching::reach_defaults;
 use crate::state::Kept;
-use heap::Val;
+use heap::{Reached, Val};
 use indexmap::IndexSet;
 use std::alloc::Global;
 use std::marker::Model;
@@ -111,14 +112,19 @@ impl KeptDefaults {
     {
         let mut kept = kept;
         kept.reverse();
-        if kept.len() < FEW {
+        if kept.len() <= FEW {
             return Ok(KeptDefaults { kept, index: None });
         }
         let index = index_of(*kept.allocator(), kept.as_slice())?;
         Ok(KeptDefaults { kept, index })
     }
 
-    // From so many functions on they are found by a set of their names.
+    /// The values of all defaults are reached.
+    pub fn reach(&self, reached: &mut Reached) -> Result<(), Memory> {
+        reach_defaults(reached, self.kept.as_slice())
+    }
+
+    // Before there are more than so many functions the set of their names is made.
     fn begin_index(&mut self) -> Result<(), Memory>
         ensures { self.new ≡ self.old }
     {

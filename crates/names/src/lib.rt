@@ -5,12 +5,15 @@ mod blocks;
 mod keeping;
 mod made;
 mod places;
+mod reaching;
 mod reading;
 mod state;
 mod universal;
 
+pub use blocks::slot_in;
 pub use keeping::KeptDefaults;
 pub use made::Made;
+pub use reaching::{reach_blocks, reach_names};
 pub use reading::{bind, is_native_name, read, slot};
 pub use state::{Attribute, Attributed, Block, FileNames, Kept, Slot, Standing, State, Target};
 pub use universal::package_function;

@@ -10,7 +10,7 @@ pub fn text_in(heap: &Heap, x: Val) -> Result<Bytes, Halt>
     ensures { Checks (bytes_of x (store_of heap.now)) result }
 {
     match x {
-        Val::At(place) => match heap.object(place) {
+        Val::At(place) => match heap.object(place)? {
             Some(Object::Text(bytes)) => {
                 let bytes = bytes.share()?;
                 Ok(bytes)
@@ -26,7 +26,7 @@ pub fn texts_in(heap: &Heap, x: Val) -> Result<Vec<Bytes>, Halt>
     ensures { ChecksItems (texts_in x (store_of heap.now)) result }
 {
     match x {
-        Val::At(place) => match heap.object(place) {
+        Val::At(place) => match heap.object(place)? {
             Some(Object::List(members, _)) => all_texts(heap, members.as_slice()),
             _ => Err(Halt::Code(5)),
         },

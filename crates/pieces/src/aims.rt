@@ -43,7 +43,7 @@ fn unpack(heap: &Heap, n: usize, x: Val) -> Result<Vec<Val>, Halt>
     let Val::At(place) = x else {
         return Err(Halt::Code(5));
     };
-    let members = match heap.object(place) {
+    let members = match heap.object(place)? {
         Some(Object::List(members, _)) => members,
         Some(Object::Tuple(members)) => members,
         _ => return Err(Halt::Code(5)),

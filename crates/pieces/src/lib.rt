@@ -7,6 +7,7 @@ mod calling;
 mod gathering;
 mod objects;
 mod operators;
+mod reaching;
 
 pub use aims::{Aim, present, store};
 pub use calling::{add, call_builtin, call_method};
@@ -16,3 +17,4 @@ pub use objects::{
     unlock,
 };
 pub use operators::{both, is_true, unary};
+pub use reaching::{reach_aim, reach_aims, reach_entries, reach_gathered};

@@ -9,11 +9,12 @@ ghost use Rattle.names.specs.View.{world_of, Ran};
 
 use heap::{Halt, Heap, Operator, Val};
 use names::State;
+use texts::Memory;
 use tree::{BinaryOp, UnaryOp};
 
-/// Whether a value is true.
-pub fn is_true(heap: &Heap, x: Val) -> bool
-    ensures { result ≡ o.is_true x (store_of heap.now) }
+/// Whether a value is true. `Memory` where it has been given back.
+pub fn is_true(heap: &Heap, x: Val) -> Result<bool, Memory>
+    ensures { IfOk result (λ b. b ≡ o.is_true x (store_of heap.now)) }
 {
     values::is_true(heap, x)
 }
@@ -24,7 +25,7 @@ pub fn unary(state: &mut State, op: UnaryOp, x: Val) -> Result<Val, Halt>
     ensures steps { IfOk result (λ _. state.new.heap.steps ≤ state.old.heap.steps) }
 {
     match op {
-        UnaryOp::Not => Ok(Val::Bool(!is_true(&state.heap, x))),
+        UnaryOp::Not => Ok(Val::Bool(!is_true(&state.heap, x)?)),
         UnaryOp::Plus => values::plus(&mut state.heap, x),
         UnaryOp::Minus => values::negate(&mut state.heap, x),
     }

@@ -48,7 +48,7 @@ pub fn text(heap: &mut Heap, x: Val) -> Result<Val, Halt>
 fn object_text(heap: &mut Heap, place: usize) -> Result<Val, Halt>
     ensures { Says (str_object (at place (store_of heap.old)) (At place) (store_of heap.old)) result (store_of heap.new) }
 {
-    match heap.object(place) {
+    match heap.object(place)? {
         Some(Object::Text(_)) => return Ok(Val::At(place)),
         Some(Object::List(_, _)) => {}
         Some(Object::Tuple(_)) => {}

@@ -2,12 +2,12 @@
 ghost use Rattle.std.specs.Prelude.{◌≡◌, ◌++◌, map, slice_get, codes, OnOk};
 ghost use Rattle.meaning.specs.Builtins.{builtin_name};
 ghost use Rattle.meaning.specs.Printing.{print, inner_print, visit_shown, shown_object, listed, tupled, mapped, separated, container, plain, int_text, entry_text, pair_text, tuple_end, quoted};
-ghost use Rattle.heap.specs.View.{object_of};
+ghost use Rattle.heap.specs.View.{object_in};
 ghost use Rattle.printing.specs.Kept.{kept, more, before, Tells};
 
 use crate::quoting::write_quoted;
 use crate::written::Written;
-use heap::{Builtin, Entry, Halt, Key, Object, Val, object_at, tick, val_at};
+use heap::{Builtin, Entry, Halt, HeapObject, Key, Object, Val, object_at, tick, val_at};
 use indexmap::IndexMap;
 use itoa::Buffer;
 use texts::Memory;
@@ -17,13 +17,13 @@ use texts::Memory;
 #[cycle(printing)]
 #[tactic(auto, using(crate::proofs::Printed::print_is, crate::proofs::Printed::print_plainly))]
 pub fn print(
-    objects: &[Object],
+    objects: &[HeapObject],
     steps: &mut u64,
     x: Val,
     left: u32,
     out: &mut Written,
 ) -> Result<(), Halt>
-    ensures { Tells (print left (map object_of objects.now) x) steps.old (kept out.old) result steps.new (kept out.new) }
+    ensures { Tells (print left (map object_in objects.now) x) steps.old (kept out.old) result steps.new (kept out.new) }
 {
     match x {
         Val::Nothing => print_plain(steps, b"None", out)?,
@@ -89,15 +89,15 @@ fn print_text(steps: &mut u64, bytes: &[u8], out: &mut Written) -> Result<(), Ha
 // Writes an object.
 #[cycle(printing)]
 fn print_object(
-    objects: &[Object],
+    objects: &[HeapObject],
     steps: &mut u64,
     place: usize,
     left: u32,
     out: &mut Written,
 ) -> Result<(), Halt>
-    ensures { Tells (visit_shown (inner_print left (map object_of objects.now)) (shown_object (slice_get (map object_of objects.now) place))) steps.old (kept out.old) result steps.new (kept out.new) }
+    ensures { Tells (visit_shown (inner_print left (map object_in objects.now)) (shown_object (slice_get (map object_in objects.now) place))) steps.old (kept out.old) result steps.new (kept out.new) }
 {
-    match object_at(objects, place) {
+    match object_at(objects, place)? {
         Some(Object::Text(bytes)) => print_text(steps, bytes.as_slice(), out)?,
         Some(Object::List(members, _)) => print_list(
             objects,
@@ -121,13 +121,13 @@ fn print_object(
 #[cycle(printing)]
 #[tactic(auto, using(crate::proofs::Printed::list_deep, crate::proofs::Printed::list_more))]
 fn print_list(
-    objects: &[Object],
+    objects: &[HeapObject],
     steps: &mut u64,
     members: &[Val],
     left: u32,
     out: &mut Written,
 ) -> Result<(), Halt>
-    ensures { Tells (visit_shown (inner_print left (map object_of objects.now)) (listed members.now)) steps.old (kept out.old) result steps.new (kept out.new) }
+    ensures { Tells (visit_shown (inner_print left (map object_in objects.now)) (listed members.now)) steps.old (kept out.old) result steps.new (kept out.new) }
 {
     if left == 0 {
         return Err(Halt::Code(12));
@@ -140,13 +140,13 @@ fn print_list(
 #[cycle(printing)]
 #[tactic(auto, using(crate::proofs::Printed::tuple_deep, crate::proofs::Printed::tuple_more))]
 fn print_tuple(
-    objects: &[Object],
+    objects: &[HeapObject],
     steps: &mut u64,
     members: &[Val],
     left: u32,
     out: &mut Written,
 ) -> Result<(), Halt>
-    ensures { Tells (visit_shown (inner_print left (map object_of objects.now)) (tupled members.now)) steps.old (kept out.old) result steps.new (kept out.new) }
+    ensures { Tells (visit_shown (inner_print left (map object_in objects.now)) (tupled members.now)) steps.old (kept out.old) result steps.new (kept out.new) }
 {
     if left == 0 {
         return Err(Halt::Code(12));
@@ -174,7 +174,7 @@ fn tuple_end(members: &[Val]) -> &'static [u8]
 #[cycle(printing)]
 #[tactic(auto, using(crate::proofs::Told::contained))]
 fn print_enclosed(
-    objects: &[Object],
+    objects: &[HeapObject],
     steps: &mut u64,
     before: &[u8],
     members: &[Val],
@@ -182,7 +182,7 @@ fn print_enclosed(
     left: u32,
     out: &mut Written,
 ) -> Result<(), Halt>
-    ensures { Tells (container before.now (separated (print left (map object_of objects.now)) members.now) after.now) steps.old (kept out.old) result steps.new (kept out.new) }
+    ensures { Tells (container before.now (separated (print left (map object_in objects.now)) members.now) after.now) steps.old (kept out.old) result steps.new (kept out.new) }
 {
     tick(steps)?;
     out.write(before)?;
@@ -194,13 +194,13 @@ fn print_enclosed(
 // Writes members with a comma and a space between them.
 #[cycle(printing)]
 fn print_members(
-    objects: &[Object],
+    objects: &[HeapObject],
     steps: &mut u64,
     members: &[Val],
     left: u32,
     out: &mut Written,
 ) -> Result<(), Halt>
-    ensures { Tells (separated (print left (map object_of objects.now)) members.now) steps.old (kept out.old) result steps.new (kept out.new) }
+    ensures { Tells (separated (print left (map object_in objects.now)) members.now) steps.old (kept out.old) result steps.new (kept out.new) }
 {
     for i in 0..members.len() {
         let Some(x) = val_at(members, i) else {
@@ -231,13 +231,13 @@ fn write_before(out: &mut Written, i: usize) -> Result<(), Memory>
 #[cycle(printing)]
 #[tactic(auto, using(crate::proofs::Printed::dict_deep, crate::proofs::Printed::dict_more))]
 fn print_dict(
-    objects: &[Object],
+    objects: &[HeapObject],
     steps: &mut u64,
     entries: &IndexMap<Key, Entry>,
     left: u32,
     out: &mut Written,
 ) -> Result<(), Halt>
-    ensures { Tells (visit_shown (inner_print left (map object_of objects.now)) (mapped entries.now.entries)) steps.old (kept out.old) result steps.new (kept out.new) }
+    ensures { Tells (visit_shown (inner_print left (map object_in objects.now)) (mapped entries.now.entries)) steps.old (kept out.old) result steps.new (kept out.new) }
 {
     if left == 0 {
         return Err(Halt::Code(12));
@@ -250,13 +250,13 @@ fn print_dict(
 #[cycle(printing)]
 #[tactic(auto, using(crate::proofs::Told::contained))]
 fn print_braced(
-    objects: &[Object],
+    objects: &[HeapObject],
     steps: &mut u64,
     entries: &IndexMap<Key, Entry>,
     left: u32,
     out: &mut Written,
 ) -> Result<(), Halt>
-    ensures { Tells (container (codes "{") (separated (pair_text (print left (map object_of objects.now))) entries.now.entries) (codes "}")) steps.old (kept out.old) result steps.new (kept out.new) }
+    ensures { Tells (container (codes "{") (separated (pair_text (print left (map object_in objects.now))) entries.now.entries) (codes "}")) steps.old (kept out.old) result steps.new (kept out.new) }
 {
     tick(steps)?;
     out.write(b"{")?;
@@ -268,13 +268,13 @@ fn print_braced(
 // Writes entries with a comma and a space between them.
 #[cycle(printing)]
 fn print_entries(
-    objects: &[Object],
+    objects: &[HeapObject],
     steps: &mut u64,
     entries: &IndexMap<Key, Entry>,
     left: u32,
     out: &mut Written,
 ) -> Result<(), Halt>
-    ensures { Tells (separated (pair_text (print left (map object_of objects.now))) entries.now.entries) steps.old (kept out.old) result steps.new (kept out.new) }
+    ensures { Tells (separated (pair_text (print left (map object_in objects.now))) entries.now.entries) steps.old (kept out.old) result steps.new (kept out.new) }
 {
     for i in 0..entries.len() {
         let Some((_key, entry)) = entries.get_index(i) else {
@@ -292,13 +292,13 @@ fn print_entries(
 // Writes a key and its value.
 #[cycle(printing)]
 fn print_entry(
-    objects: &[Object],
+    objects: &[HeapObject],
     steps: &mut u64,
     entry: Entry,
     left: u32,
     out: &mut Written,
 ) -> Result<(), Halt>
-    ensures { Tells (entry_text (print left (map object_of objects.now)) entry) steps.old (kept out.old) result steps.new (kept out.new) }
+    ensures { Tells (entry_text (print left (map object_in objects.now)) entry) steps.old (kept out.old) result steps.new (kept out.new) }
 {
     print(objects, steps, entry.key, left, out)?;
     out.write(b": ")?;

@@ -1,6 +1,6 @@
 use Rattle.std.proofs.Common.{◌≡◌, ◌+◌, ◌*◌, drop, map}
 use Rattle.meaning.specs.Comparing.{equal, equal_members, equal_entries}
-use Rattle.heap.specs.View.{object_of}
+use Rattle.heap.specs.View.{object_in}
 use Rattle.comparing.proofs.equality.+comparing.Given as goal
 
 abbrev pub decreases-equal : goal.decreases-equal
@@ -23,12 +23,12 @@ decreases-equal_found l = 5 * l.left + 2
 
 abbrev pub invariant-equal_members-loop-i : goal.invariant-equal_members-loop-i
 invariant-equal_members-loop-i l =
-    let eq = equal l.left (map object_of l.objects) in
+    let eq = equal l.left (map object_in l.objects) in
     equal_members eq (drop l.i l.xs) (drop l.i l.ys) l.steps ≡ equal_members eq l.xs l.ys l.fn.steps
 
 abbrev pub invariant-equal_entries-loop-i : goal.invariant-equal_entries-loop-i
 invariant-equal_entries-loop-i l =
-    let eq = equal l.left (map object_of l.objects) in
+    let eq = equal l.left (map object_in l.objects) in
     equal_entries eq (drop l.i l.xs.entries) l.ys.entries l.steps ≡ equal_entries eq l.xs.entries l.ys.entries l.fn.steps
 
 abbrev pub decreases-equal_entry : goal.decreases-equal_entry

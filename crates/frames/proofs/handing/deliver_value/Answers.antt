@@ -212,7 +212,7 @@ returns-in-Branch-clause-goes c = λ env n running.
     let w = world_of c.args.state.now in
     let frames = c.args.frames.now.items in
     let after = λ (control : Control). machine_does env n here control frames (world_of c.args.state.now) in
-    subst (λ (fr : Frame). Goes (on env n here (frame_line c.args.at.now.line fr)).site (above env n here (frame_does env n here fr (a_value c.args.x)) frames w) (Ok c.branch_known.result) after) (sym c.in-Branch.is) (c.branch_known.ensures.goes env n here frames)
+    subst (λ (fr : Frame). Goes (on env n here (frame_line c.args.at.now.line fr)).site (above env n here (frame_does env n here fr (a_value c.args.x)) frames w) c.branch_known.result after) (sym c.in-Branch.is) (c.branch_known.ensures.goes env n here c.args.at.now.line frames)
 
 pub returns-in-Only-clause-goes : goal.returns-in-Only-clause-goes
 returns-in-Only-clause-goes c = λ env n running.
@@ -220,4 +220,4 @@ returns-in-Only-clause-goes c = λ env n running.
     let w = world_of c.args.state.now in
     let frames = c.args.frames.now.items in
     let after = λ (control : Control). machine_does env n here control frames (world_of c.args.state.now) in
-    subst (λ (fr : Frame). Goes (on env n here (frame_line c.args.at.now.line fr)).site (above env n here (frame_does env n here fr (a_value c.args.x)) frames w) (Ok c.clause_known.result) after) (sym c.in-Only.is) (c.clause_known.ensures.goes env n here frames)
+    subst (λ (fr : Frame). Goes (on env n here (frame_line c.args.at.now.line fr)).site (above env n here (frame_does env n here fr (a_value c.args.x)) frames w) c.clause_known.result after) (sym c.in-Only.is) (c.clause_known.ensures.goes env n here frames)

@@ -13,24 +13,24 @@ use Rattle.frames.proofs.Bind.{under}
 use Rattle.frames.proofs.Operated.{truly, right_other, spent}
 use Rattle.frames.proofs.operands.right_operand.Goals as goal
 
-pub returns-then-is_true-2-clause-goes : goal.returns-then-is_true-2-clause-goes
-returns-then-is_true-2-clause-goes c = λ env n running.
+pub returns-then-holds-2-clause-goes : goal.returns-then-holds-2-clause-goes
+returns-then-holds-2-clause-goes c = λ env n running.
     let here = here_of c.args.at.now c.args.at.now.line running in
     let line = c.args.line in
     let w = world_of c.args.state.now in
     let frames = c.args.frames.now.items in
-    let before = ap (λ op. above env n here (valued (right op c.args.x (ex env n here (shared_tree c.args.b.now) line) (on env n here line))) frames w) c.in-And.is ∙ truly env n here line frames w c.args.x (ex env n here (shared_tree c.args.b.now) line) (pure c.args.x) true c.if-is_true-2.ensures
-    ∙ ap (λ (d : Expr). above env n here (valued (ex env n here (tree_of d) line)) frames w) (sym c.deref-then-is_true-2.ensures) in
-    let after = λ (control : Control). machine_does env n here control c.begin-then-is_true-2.new.frames.items (world_of c.begin-then-is_true-2.new.state) in
-    subst (λ (q : Ends Sig). Goes (on env n here line).site q c.begin-then-is_true-2.result after) (sym before) (c.begin-then-is_true-2.ensures.goes env n running)
+    let before = ap (λ op. above env n here (valued (right op c.args.x (ex env n here (shared_tree c.args.b.now) line) (on env n here line))) frames w) c.in-And.is ∙ truly env n here line frames w c.args.x (ex env n here (shared_tree c.args.b.now) line) (pure c.args.x) true (sym c.if-holds-2.true ∙ c.in_ok-holds-in-And.ensures)
+    ∙ ap (λ (d : Expr). above env n here (valued (ex env n here (tree_of d) line)) frames w) (sym c.deref-then-holds-2.ensures) in
+    let after = λ (control : Control). machine_does env n here control c.begin-then-holds-2.new.frames.items (world_of c.begin-then-holds-2.new.state) in
+    subst (λ (q : Ends Sig). Goes (on env n here line).site q c.begin-then-holds-2.result after) (sym before) (c.begin-then-holds-2.ensures.goes env n running)
 
-pub returns-else-is_true-clause-goes : goal.returns-else-is_true-clause-goes
-returns-else-is_true-clause-goes c = λ env n running.
+pub returns-else-holds-clause-goes : goal.returns-else-holds-clause-goes
+returns-else-holds-clause-goes c = λ env n running.
     let here = here_of c.args.at.now c.args.at.now.line running in
     let line = c.args.line in
     let w = world_of c.args.state.now in
     let frames = c.args.frames.now.items in
-    let before = ap (λ op. above env n here (valued (right op c.args.x (ex env n here (shared_tree c.args.b.now) line) (on env n here line))) frames w) c.in-Or.is ∙ truly env n here line frames w c.args.x (pure c.args.x) (ex env n here (shared_tree c.args.b.now) line) false c.if-is_true.ensures
+    let before = ap (λ op. above env n here (valued (right op c.args.x (ex env n here (shared_tree c.args.b.now) line) (on env n here line))) frames w) c.in-Or.is ∙ truly env n here line frames w c.args.x (pure c.args.x) (ex env n here (shared_tree c.args.b.now) line) false (sym c.if-holds.false ∙ c.in_ok-holds-in-Or.ensures)
     ∙ ap (λ (d : Expr). above env n here (valued (ex env n here (tree_of d) line)) frames w) (sym c.deref.ensures) in
     let after = λ (control : Control). machine_does env n here control c.begin.new.frames.items (world_of c.begin.new.state) in
     subst (λ (q : Ends Sig). Goes (on env n here line).site q c.begin.result after) (sym before) (c.begin.ensures.goes env n running)

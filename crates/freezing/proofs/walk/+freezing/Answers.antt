@@ -2,19 +2,19 @@ use Rattle.std.proofs.Common.{List, ◌+◌, ◌∷◌, [], drop, map, ap, ◌�
 use Rattle.std.proofs.lemmas.List.{map-append}
 use Rattle.meaning.specs.Outcome.{and_then, gives}
 use Rattle.meaning.specs.Freezing.{Fz, freeze, freeze_members, freeze_entries}
-use Rattle.heap.specs.View.{object_of}
+use Rattle.heap.specs.View.{object_in}
 use Rattle.freezing.specs.View.{frozen_of, entry_of, onto, pairs_onto}
 use Rattle.freezing.proofs.Froze.{member_frozen, member_halts, entry_frozen, entry_halts}
 use Rattle.freezing.proofs.walk.+freezing.Goals as goal
 
 pub freeze_members-returns-in-Err : goal.freeze_members-returns-in-Err
 freeze_members-returns-in-Err t c =
-    let fz = freeze c.args.left (map object_of c.args.objects.now) in
+    let fz = freeze c.args.left (map object_in c.args.objects.now) in
     member_halts fz c.args.members.now c.loop-i.i c.loop-i.steps (map frozen_of c.loop-i.all.items) _ c.loop-i.invariant c.in-Some.x c.in-Some.ensures c.in-Err.halt c.freeze.new.steps c.in-Err.ensures
 
 pub freeze_members-loop-i-preserved : goal.freeze_members-loop-i-preserved
 freeze_members-loop-i-preserved t c =
-    let fz = freeze c.args.left (map object_of c.args.objects.now) in
+    let fz = freeze c.args.left (map object_in c.args.objects.now) in
     let xs = c.args.members.now in
     let next = member_frozen fz xs c.loop-i.i c.loop-i.steps (map frozen_of c.loop-i.all.items) _ c.loop-i.invariant c.in-Some.x c.in-Some.ensures (frozen_of c.in-Ok.f) c.freeze.new.steps c.in-Ok.ensures in
     let done = ap (map frozen_of) c.in_ok-push-in-Ok.ensures.items ∙ map-append frozen_of c.loop-i.all.items (c.in-Ok.f ∷ []) in
@@ -22,12 +22,12 @@ freeze_members-loop-i-preserved t c =
 
 pub freeze_entries-returns-in-Err : goal.freeze_entries-returns-in-Err
 freeze_entries-returns-in-Err t c =
-    let fz = freeze c.args.left (map object_of c.args.objects.now) in
+    let fz = freeze c.args.left (map object_in c.args.objects.now) in
     entry_halts fz c.args.entries.now.entries c.loop-i.i c.loop-i.steps (map entry_of c.loop-i.all.items) _ c.loop-i.invariant c.in-Some._key.now c.in-Some.entry.now c.in-Some.ensures.entry c.in-Err.halt c.freeze_entry.new.steps c.in-Err.ensures
 
 pub freeze_entries-loop-i-preserved : goal.freeze_entries-loop-i-preserved
 freeze_entries-loop-i-preserved t c =
-    let fz = freeze c.args.left (map object_of c.args.objects.now) in
+    let fz = freeze c.args.left (map object_in c.args.objects.now) in
     let xs = c.args.entries.now.entries in
     let next = entry_frozen fz xs c.loop-i.i c.loop-i.steps (map entry_of c.loop-i.all.items) _ c.loop-i.invariant c.in-Some._key.now c.in-Some.entry.now c.in-Some.ensures.entry (entry_of c.in-Ok.e) c.freeze_entry.new.steps c.in-Ok.ensures in
     let done = ap (map entry_of) c.in_ok-push-in-Ok.ensures.items ∙ map-append entry_of c.loop-i.all.items (c.in-Ok.e ∷ []) in

@@ -1,7 +1,7 @@
 use Rattle.std.proofs.Common.{◌≡◌, ◌+◌, ◌*◌, drop, map}
 use Rattle.meaning.specs.Outcome.{and_then, gives}
 use Rattle.meaning.specs.Freezing.{freeze, freeze_members, freeze_entries}
-use Rattle.heap.specs.View.{object_of}
+use Rattle.heap.specs.View.{object_in}
 use Rattle.freezing.specs.View.{frozen_of, entry_of, onto, pairs_onto}
 use Rattle.freezing.proofs.walk.+freezing.Given as goal
 
@@ -31,10 +31,10 @@ decreases-freeze_entries l = 8 * l.left + 9
 
 abbrev pub invariant-freeze_members-loop-i : goal.invariant-freeze_members-loop-i
 invariant-freeze_members-loop-i l =
-    let fz = freeze l.left (map object_of l.objects) in
+    let fz = freeze l.left (map object_in l.objects) in
     and_then (freeze_members fz (drop l.i l.members) l.steps) (λ fs. gives (onto (map frozen_of l.all.items) fs)) ≡ freeze_members fz l.members l.fn.steps
 
 abbrev pub invariant-freeze_entries-loop-i : goal.invariant-freeze_entries-loop-i
 invariant-freeze_entries-loop-i l =
-    let fz = freeze l.left (map object_of l.objects) in
+    let fz = freeze l.left (map object_in l.objects) in
     and_then (freeze_entries fz (drop l.i l.entries.entries) l.steps) (λ ps. gives (pairs_onto (map entry_of l.all.items) ps)) ≡ freeze_entries fz l.entries.entries l.fn.steps

@@ -1,6 +1,6 @@
 use Rattle.std.proofs.Common.{◌≡◌, ◌+◌, ◌*◌, drop, map}
 use Rattle.meaning.specs.Printing.{print, separated, pair_text}
-use Rattle.heap.specs.View.{object_of}
+use Rattle.heap.specs.View.{object_in}
 use Rattle.printing.specs.Kept.{kept, told}
 use Rattle.printing.proofs.Told.{left_of}
 use Rattle.printing.proofs.walk.+printing.Given as goal
@@ -37,10 +37,10 @@ decreases-print_entries l = 8 * l.left + 9
 
 abbrev pub invariant-print_members-loop-i : goal.invariant-print_members-loop-i
 invariant-print_members-loop-i l =
-    let show = print l.left (map object_of l.objects) in
+    let show = print l.left (map object_in l.objects) in
     told (left_of show l.i (drop l.i l.members)) l.steps (kept l.out) ≡ told (separated show l.members) l.fn.steps (kept l.fn.out)
 
 abbrev pub invariant-print_entries-loop-i : goal.invariant-print_entries-loop-i
 invariant-print_entries-loop-i l =
-    let show = pair_text (print l.left (map object_of l.objects)) in
+    let show = pair_text (print l.left (map object_in l.objects)) in
     told (left_of show l.i (drop l.i l.entries.entries)) l.steps (kept l.out) ≡ told (separated show l.entries.entries) l.fn.steps (kept l.fn.out)

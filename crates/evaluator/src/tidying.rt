@@ -1,0 +1,37 @@
+//! Giving back what an evaluation reaches no more.
+ghost use Rattle.std.specs.Prelude.{◌≡◌};
+ghost use Rattle.names.specs.View.{world_of};
+ghost use Rattle.language.specs.Environment.{Env};
+ghost use Rattle.evaluator.specs.Machines.{means};
+
+use crate::machine::Machine;
+use frames::{Control, Frame, reach_control, reach_frames};
+use heap::Reached;
+use names::{State, reach_names};
+use texts::Memory;
+
+// Gives back all objects that neither names, nor frames, nor what comes next, reach.
+fn give_back(state: &mut State, frames: &[Frame], control: &Control) -> Result<(), Memory>
+    ensures same { world_of state.new ≡ world_of state.old }
+    ensures steps { state.new.heap.steps ≡ state.old.heap.steps }
+{
+    let mut reached = Reached::new(state.heap.alloc, &state.heap)?;
+    reach_control(&mut reached, control)?;
+    reach_frames(&mut reached, frames)?;
+    reach_names(&mut reached, state)?;
+    state.heap.follow(&mut reached)?;
+    state.heap.give_back(&reached);
+    Ok(())
+}
+
+/// Gives back what is reached no more, where it is time for that. No outcome hangs on what is given back: what is needed
+/// later and was given back ends the evaluation as where memory is refused.
+pub fn tidy(m: &mut Machine, control: &Control) -> Result<(), Memory>
+    ensures same { (env : Env) → means env m.new control.now ≡ means env m.old control.now }
+    ensures steps { m.new.state.heap.steps ≡ m.old.state.heap.steps }
+{
+    if !m.state.heap.is_full() {
+        return Ok(());
+    }
+    give_back(&mut m.state, m.frames.as_slice(), control)
+}

@@ -1,0 +1,10 @@
+-- What stands on the heap: what was written there last.
+use Rattle.std.specs.Prelude.{List, [], ◌∷◌}
+use Rattle.meaning.specs.Heap.{Obj, function}
+use Rattle.heap.specs.declared.object.Object.{Object}
+use Rattle.heap.specs.Objects.{object_of}
+
+-- what was written last; where nothing was, which never happens, some object
+abbrev pub last_written : {B : Type 0} → List (Object × B) → Obj
+last_written [] = function [] []
+last_written (o ∷ _) = object_of o.0

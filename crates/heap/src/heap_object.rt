@@ -1,0 +1,92 @@
+//! Objects as they stand on the heap.
+ghost use Rattle.std.specs.Prelude.{◌≡◌, IfOk};
+ghost use Rattle.heap.specs.Objects.{object_of};
+ghost use Rattle.std.specs.Option.{ForSome};
+ghost use Rattle.heap.specs.Written.{last_written};
+ghost use Rattle.heap.specs.Held.{object_bytes, shape_bytes};
+
+use crate::object::{Object, Shape, shape_of, size_of};
+use http_server::Log;
+use texts::Memory;
+
+/// An object that stands on the heap. A contract sees the object, also where its memory has been given back; then it
+/// cannot be read, which is answered by `Memory`. So giving back what is still needed can refuse, and never lie.
+#[derive(Drop)]
+pub struct HeapObject {
+    // None where the object has been given back.
+    object: Option<Object>,
+    // What the size of the object hangs on. The object stands for that while it is there.
+    shape: Shape,
+    // What was written here, for contracts alone. It takes no memory.
+    written: Log<Object, ()>,
+    ghost same: { ForSome object (λ o. last_written written.items ≡ object_of o) },
+    ghost sized: { shape_bytes shape ≡ object_bytes (last_written written.items) },
+}
+
+impl HeapObject {
+    ghost use Rattle.heap.specs.View.{object_in};
+
+    /// An object that comes to stand on the heap.
+    #[tactic(auto, unfolding(crate::specs::View::object_in))]
+    pub fn new(object: Object) -> HeapObject
+        ensures { object_in result ≡ object_of object }
+    {
+        let written = Log::new().and(&object, &());
+        let shape = shape_of(&object);
+        HeapObject {
+            object: Some(object),
+            shape,
+            written,
+        }
+    }
+
+    /// The object. `Memory` where it has been given back.
+    #[tactic(auto, unfolding(crate::specs::View::object_in))]
+    pub fn object(&self) -> Result<&Object, Memory>
+        ensures { IfOk result (λ object. object_of object.now ≡ object_in self.now) }
+    {
+        match &self.object {
+            Some(object) => Ok(object),
+            None => Err(Memory),
+        }
+    }
+
+    /// The object, to be changed and then written again. Until then it counts as given back. `Memory` where it has been
+    /// given back before.
+    #[tactic(auto, unfolding(crate::specs::View::object_in))]
+    pub fn take(&mut self) -> Result<Object, Memory>
+        ensures taken { IfOk result (λ object. object_of object ≡ object_in self.old) }
+        ensures same { object_in self.new ≡ object_in self.old }
+    {
+        self.object.take().ok_or(Memory)
+    }
+
+    /// Another object in the place of this one.
+    #[tactic(auto, unfolding(crate::specs::View::object_in))]
+    pub fn write(&mut self, object: Object)
+        ensures { object_in self.new ≡ object_of object }
+    {
+        self.written = Log::new().and(&object, &());
+        self.shape = shape_of(&object);
+        self.object = Some(object);
+    }
+
+    /// Gives the object's memory back, and tells the bytes that it counted for, or 0 where that was done before.
+    #[tactic(auto, unfolding(crate::specs::View::object_in))]
+    pub fn give_back(&mut self) -> u128
+        ensures { object_in self.new ≡ object_in self.old }
+    {
+        match self.object.take() {
+            Some(_) => size_of(self.shape),
+            None => 0,
+        }
+    }
+
+    /// The bytes that the object counts for.
+    #[tactic(auto, unfolding(crate::specs::View::object_in))]
+    pub fn size(&self) -> u128
+        ensures { result ≡ object_bytes (object_in self.now) }
+    {
+        size_of(self.shape)
+    }
+}

@@ -1,0 +1,60 @@
+//! Objects, and the bytes that they count for.
+ghost use Rattle.std.specs.Prelude.{◌≡◌};
+ghost use Rattle.heap.specs.Objects.{object_of};
+ghost use Rattle.heap.specs.Held.{object_bytes, shape_bytes};
+
+use indexmap::IndexMap;
+use meaning::{Bytes, Entry, Key, Val};
+
+// What counts for an object whatever it has, for a member of a list or tuple, and for an entry of a dictionary, in bytes.
+const OBJECT: u128 = 64;
+
+pub(crate) const MEMBER: u128 = 16;
+
+pub(crate) const ENTRY: u128 = 96;
+
+/// An object of the heap. The flag of a list or dictionary says that it is frozen.
+#[derive(Drop)]
+pub enum Object {
+    Text(Bytes),
+    List(Vec<Val>, bool),
+    Tuple(Vec<Val>),
+    Dict(IndexMap<Key, Entry>, bool),
+    /// A function of a file: the file's label, and the name.
+    Function(Bytes, Bytes),
+}
+
+/// What the bytes of an object hang on: how many bytes, members or entries it has.
+#[derive(Clone, Copy)]
+pub enum Shape {
+    Bytes(usize),
+    Members(usize),
+    Entries(usize),
+    Plain,
+}
+
+/// What the bytes of an object hang on.
+pub fn shape_of(object: &Object) -> Shape
+    ensures { shape_bytes result ≡ object_bytes (object_of object.now) }
+{
+    match object {
+        Object::Text(bytes) => Shape::Bytes(bytes.as_slice().len()),
+        Object::List(members, _) => Shape::Members(members.len()),
+        Object::Tuple(members) => Shape::Members(members.len()),
+        Object::Dict(entries, _) => Shape::Entries(entries.len()),
+        Object::Function(_, _) => Shape::Plain,
+    }
+}
+
+/// The bytes that an object counts for.
+pub fn size_of(shape: Shape) -> u128
+    ensures { result ≡ shape_bytes shape }
+{
+    let own = match shape {
+        Shape::Bytes(n) => n as u128,
+        Shape::Members(n) => n as u128 * MEMBER,
+        Shape::Entries(n) => n as u128 * ENTRY,
+        Shape::Plain => 0,
+    };
+    own + OBJECT
+}

@@ -1,0 +1,118 @@
+//! What is still reached, and giving back all else.
+ghost use Rattle.std.specs.Prelude.{◌≡◌, ◌≤◌};
+ghost use Rattle.heap.specs.View.{store_of};
+
+use crate::heap::Heap;
+use crate::object::Object;
+use meaning::{Entry, Val};
+use std::alloc::Global;
+use texts::Memory;
+
+/// The objects that are known to be reached. Nothing that a contract says hangs on it: an object that is missing here, is
+/// given back and is read later is answered by `Memory`.
+#[derive(Drop)]
+pub struct Reached {
+    // For each place whether its object is reached.
+    marks: Vec<bool>,
+    // The places whose members are not looked at yet.
+    open: Vec<usize>,
+}
+
+impl Reached {
+    /// Nothing is reached among the objects of a heap.
+    pub fn new(alloc: Global, heap: &Heap) -> Result<Reached, Memory> {
+        let mut marks = Vec::with_capacity(alloc, heap.objects.len())?;
+        for _i in 0..heap.objects.len() {
+            marks.push(false)?;
+        }
+        Ok(Reached {
+            marks,
+            open: Vec::new(alloc),
+        })
+    }
+
+    /// A value is reached.
+    pub fn add(&mut self, x: Val) -> Result<(), Memory> {
+        if let Val::At(place) = x {
+            if let Some(mark) = self.marks.get_mut(place) {
+                if !*mark {
+                    *mark = true;
+                    self.open.push(place)?;
+                }
+            }
+        }
+        Ok(())
+    }
+
+    /// Values are reached.
+    pub fn add_all(&mut self, xs: &[Val]) -> Result<(), Memory> {
+        for x in xs {
+            self.add(*x)?;
+        }
+        Ok(())
+    }
+
+    /// An entry of a dictionary is reached.
+    pub fn add_entry(&mut self, entry: Entry) -> Result<(), Memory> {
+        self.add(entry.key)?;
+        self.add(entry.value)
+    }
+
+    // Whether the object at a place is reached.
+    fn has(&self, place: usize) -> bool {
+        self.marks.get(place).copied().unwrap_or(true)
+    }
+
+    // What an object holds is reached.
+    fn add_members(&mut self, object: Option<&Object>) -> Result<(), Memory> {
+        match object {
+            Some(Object::List(members, _)) => self.add_all(members.as_slice()),
+            Some(Object::Tuple(members)) => self.add_all(members.as_slice()),
+            Some(Object::Dict(entries, _)) => {
+                for entry in entries.values() {
+                    self.add_entry(*entry)?;
+                }
+                Ok(())
+            }
+            _ => Ok(()),
+        }
+    }
+}
+
+impl Heap {
+    /// What reached objects hold is reached too.
+    pub fn follow(&self, reached: &mut Reached) -> Result<(), Memory> {
+        // Each object is opened once at most.
+        for _i in 0..self.objects.len() {
+            match reached.open.pop() {
+                Some(place) => reached.add_members(self.object(place)?)?,
+                None => return Ok(()),
+            }
+        }
+        Ok(())
+    }
+
+    /// Gives the memory of all objects back that are not reached. For a contract they still stand there.
+    pub fn give_back(&mut self, reached: &Reached)
+        ensures same { store_of self.new ≡ store_of self.old }
+        ensures held { self.new.held ≤ self.old.held }
+    {
+        for place in 0..self.objects.len() {
+            if !reached.has(place) {
+                self.give_back_at(place);
+            }
+        }
+        self.wait_until_full();
+    }
+
+    // Gives the memory of the object at a place back.
+    fn give_back_at(&mut self, place: usize)
+        ensures same { store_of self.new ≡ store_of self.old }
+        ensures held { self.new.held ≤ self.old.held }
+    {
+        if let Some(found) = self.objects.get_mut(place) {
+            let bytes = found.give_back();
+            self.release(bytes);
+        }
+    }
+}

@@ -1,0 +1,43 @@
+//! Which objects aims and what is gathered reach.
+
+use crate::aims::Aim;
+use crate::gathering::Gathered;
+use heap::{Entry, Key, Reached};
+use indexmap::IndexMap;
+use texts::Memory;
+
+/// What a target aims at is reached.
+#[cycle(reaching)]
+pub fn reach_aim(reached: &mut Reached, aim: &Aim) -> Result<(), Memory> {
+    match aim {
+        Aim::Name(_, _) => Ok(()),
+        Aim::Member(container, i) => {
+            reached.add(*container)?;
+            reached.add(*i)
+        }
+        Aim::Each(aims) => reach_aims(reached, aims.as_slice()),
+    }
+}
+
+/// What targets aim at is reached.
+#[cycle(reaching)]
+pub fn reach_aims(reached: &mut Reached, aims: &[Aim]) -> Result<(), Memory> {
+    for i in 0..aims.len() {
+        reach_aim(reached, &aims[i])?;
+    }
+    Ok(())
+}
+
+/// The keys and values of entries are reached.
+pub fn reach_entries(reached: &mut Reached, entries: &IndexMap<Key, Entry>) -> Result<(), Memory> {
+    for entry in entries.values() {
+        reached.add_entry(*entry)?;
+    }
+    Ok(())
+}
+
+/// What is gathered is reached.
+pub fn reach_gathered(reached: &mut Reached, got: &Gathered) -> Result<(), Memory> {
+    reached.add_all(got.members.as_slice())?;
+    reach_entries(reached, &got.entries)
+}
