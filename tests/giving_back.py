@@ -3,7 +3,8 @@
 
 An evaluation that holds 64 MiB looks for values that nothing reaches, and gives them back. Here each kind of expression
 and statement holds a new value while a call makes more lists than that. A value that went missing would stop the program
-with `stop: memory`. The same file with a call that makes nothing has to be answered alike.
+with `stop: memory`. So would one file that makes more than an evaluation may hold, if nothing were given back. The same
+file with a call that makes nothing has to be answered alike.
 """
 import argparse
 import json
@@ -74,6 +75,7 @@ CASES = {
     "an argument of a builtin function": "return [str(c([s('a')])), len(c(s('b'))), list(c((s('d'),)))]",
     "two after another": "x = s('a')\nc(0)\ny = s('b')\nc(0)\nreturn [x, y, c(s('d'))]",
     "what a call gives": "return pair(c(s('a')), pair(s('b'), c(s('d'))))",
+    "more than the limit in all": "x = [c(s(str(i))) for i in range(8)]\nreturn x",
     "a returned value": "return c([s('a'), {s('b'): s('d')}])",
     "a string that is true": "x = [y for y in [s('a'), ''] if y]\nc(0)\nreturn [bool(y) for y in x]",
     "the least and the greatest": "return [min(s('b'), c(s('a'))), max([s('a'), c(s('b'))])]",
