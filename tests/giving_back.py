@@ -1,7 +1,7 @@
 #!/usr/bin/env python3
 """Tests that nothing which an evaluation still needs is given back, by the built program. Run it by `make giving-back`.
 
-An evaluation that holds 64 MiB looks for values that nothing reaches, and gives them back. Here each kind of expression
+An evaluation that holds 16 MiB looks for values that nothing reaches, and gives them back. Here each kind of expression
 and statement holds a new value while a call makes more lists than that. A value that went missing would stop the program
 with `stop: memory`. So would one file that makes more than an evaluation may hold, if nothing were given back. The same
 file with a call that makes nothing has to be answered alike.
@@ -15,8 +15,8 @@ import sys
 ROOT = os.path.dirname(os.path.dirname(os.path.abspath(__file__)))
 LOADER = f"{ROOT}/crates/cli/out/cli"
 
-# c(v) is v, after lists of 140 MiB; n(v) is v. Each call of s makes another string.
-MAKES = "def c(v):\n    for i in range(140):\n        x = [0] * 65536\n    return v\n"
+# c(v) is v, after lists of 40 MiB; n(v) is v. Each call of s makes another string.
+MAKES = "def c(v):\n    for i in range(40):\n        x = [0] * 65536\n    return v\n"
 MAKES_NONE = "def c(v):\n    return v\n"
 SHARED = """def s(v):
     return v + "-" + str(len(v))

@@ -34,6 +34,7 @@ fn make_dict(heap: &mut Heap, entries: IndexMap<Key, Entry>) -> Result<Val, Halt
     if entries.len() > LONGEST {
         return Err(Halt::Code(13));
     }
+    let entries = Box::new(heap.alloc, entries)?;
     heap.make(Object::Dict(entries, false))
 }
 

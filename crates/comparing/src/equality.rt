@@ -225,7 +225,7 @@ fn equal_entry(
 ) -> Result<bool, Halt>
     ensures { Says (equal_entry (equal left (map object_in objects.now)) key.now x ys.now.entries steps.old) result steps.new }
 {
-    spend(steps, key.parts.len())?;
+    spend(steps, key.parts().len())?;
     equal_found(objects, steps, x, found(ys, key), left)
 }
 

@@ -1,10 +1,10 @@
 //! Keys of dictionaries.
 ghost use Rattle.std.specs.Prelude.{◌≡◌, map, IfOk};
 ghost use Rattle.meaning.specs.Hashing.{key, inner_key, along, part_key, visit_key, as_key, parts};
-ghost use Rattle.heap.specs.View.{object_in, SaysItems};
+ghost use Rattle.heap.specs.View.{object_in, Says, SaysItems};
 ghost use Rattle.comparing.specs.Seen.{key_seen};
 
-use heap::{Halt, HeapObject, Object, Part, Val, object_at, tick};
+use heap::{Halt, HeapObject, Key, Object, Part, Val, object_at, tick};
 use std::alloc::Global;
 use texts::Memory;
 
@@ -54,6 +54,49 @@ pub fn key(
         }
         AsKey::Parts(members) => tuple_key(alloc, objects, steps, members, left),
     }
+}
+
+/// A key, by the same walk. One of a single part takes no list.
+#[tactic(auto, using(crate::proofs::Hashed::key_is))]
+pub fn key_of(
+    alloc: Global,
+    objects: &[HeapObject],
+    steps: &mut u64,
+    x: Val,
+    left: u32,
+) -> Result<Key, Halt>
+    ensures { Says (key left (map object_in objects.now) x steps.old) result steps.new }
+{
+    match as_key(objects, x)? {
+        AsKey::Part(part) => part_alone(steps, part),
+        AsKey::NoKey => {
+            tick(steps)?;
+            Err(Halt::Code(5))
+        }
+        AsKey::Parts(members) => tuple_alone(alloc, objects, steps, members, left),
+    }
+}
+
+// A key of one part, as a key.
+fn part_alone(steps: &mut u64, x: Part) -> Result<Key, Halt>
+    ensures { Says (part_key x steps.old) result steps.new }
+{
+    tick(steps)?;
+    Ok(Key::one(x))
+}
+
+// The key of a tuple, as a key.
+fn tuple_alone(
+    alloc: Global,
+    objects: &[HeapObject],
+    steps: &mut u64,
+    members: &[Val],
+    left: u32,
+) -> Result<Key, Halt>
+    ensures { Says (visit_key (inner_key left (map object_in objects.now)) (parts members.now) steps.old) result steps.new }
+{
+    let parts = tuple_key(alloc, objects, steps, members, left)?;
+    Ok(Key::several(parts))
 }
 
 // A key of one part.

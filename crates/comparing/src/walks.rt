@@ -5,7 +5,7 @@ ghost use Rattle.meaning.specs.Indexing.{hash};
 ghost use Rattle.heap.specs.View.{store_of, Says};
 
 use crate::equality;
-use crate::hashing::key;
+use crate::hashing::key_of;
 use crate::ordering::order;
 use heap::{DEEPEST, Halt, Heap, Key, Val};
 use std::cmp::Ordering;
@@ -15,14 +15,13 @@ pub fn hash(heap: &mut Heap, x: Val) -> Result<Key, Halt>
     ensures says { Says (hash x (store_of heap.old)) result (store_of heap.new) }
     ensures kept { heap.new.objects ≡ heap.old.objects }
 {
-    let parts = key(
+    key_of(
         heap.alloc,
         heap.objects.as_slice(),
         &mut heap.steps,
         x,
         DEEPEST,
-    )?;
-    Ok(Key { parts })
+    )
 }
 
 /// `a == b`: fault 11 or 12.

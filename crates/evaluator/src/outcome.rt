@@ -33,9 +33,10 @@ pub enum Outcome {
 /// file is given and the patterns; the evaluation stands where that of this file waits.
 #[derive(Drop)]
 pub struct Suspended {
-    pub(crate) environment: Environment,
-    pub(crate) machine: Machine,
-    pub(crate) control: Control,
+    // Boxed, so that an outcome is moved as a few words.
+    pub(crate) environment: Box<Environment>,
+    pub(crate) machine: Box<Machine>,
+    pub(crate) control: Box<Control>,
     pub(crate) patterns: Vec<Text>,
 }
 
@@ -50,9 +51,9 @@ impl Model for Suspended {
 
     ghost coded = { code_by (Environment × List (List ℕ)) (coded× e.the_row.coded (coded_list (coded_list coded_ℕ))) (λ w. (w.environment, w.patterns)) (λ p. record { environment = p.0; patterns = p.1 }) (λ _. refl) };
 
-    ghost view = { λ s. record { environment = s.environment; patterns = s.patterns.items } };
+    ghost view = { λ s. record { environment = s.environment.value; patterns = s.patterns.items } };
 
-    ghost invariant = { λ s. Waits s.environment s.machine s.control s.patterns.items };
+    ghost invariant = { λ s. Waits s.environment.value s.machine.value s.control.value s.patterns.items };
 }
 
 // How many bytes of values an evaluation may have that is kept while it waits.

@@ -53,7 +53,11 @@ fn go_on(environment: Environment, machine: Machine, control: Control) -> Result
     let mut machine = machine;
     match go(&mut machine, &environment, control) {
         Ok(Turned::Waits(control, patterns)) => {
-            let asked = share_all(machine.state.heap.alloc, patterns.as_slice())?;
+            let alloc = machine.state.heap.alloc;
+            let asked = share_all(alloc, patterns.as_slice())?;
+            let environment = Box::new(alloc, environment)?;
+            let machine = Box::new(alloc, machine)?;
+            let control = Box::new(alloc, control)?;
             let suspended = Suspended {
                 environment,
                 machine,
@@ -108,11 +112,15 @@ pub fn resume(suspended: Suspended, results: Vec<Arc<Vec<Text>, Global>>) -> Res
         control,
         patterns,
     } = suspended;
-    let mut environment = environment;
+    let mut environment = Box::into_inner(environment);
     add_answers(
         &mut environment.package.answers,
         patterns.as_slice(),
         results.as_slice(),
     )?;
-    go_on(environment, machine, control)
+    go_on(
+        environment,
+        Box::into_inner(machine),
+        Box::into_inner(control),
+    )
 }

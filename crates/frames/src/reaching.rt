@@ -1,11 +1,9 @@
 //! Which objects a machine's frames, and what it does next, reach.
 
-use crate::frame::{
-    Caller, Control, Exit, Frame, Gathering, Pairs, Purpose, Receiver, Series, Signal, Turns,
-};
+use crate::frame::{Control, Exit, Frame, Gathering, Purpose, Receiver, Series, Signal, Turns};
 use heap::{Reached, Val};
 use names::reach_blocks;
-use pieces::{reach_aim, reach_aims, reach_entries, reach_gathered};
+use pieces::{Aim, Gathered, reach_aim, reach_aims, reach_gathered};
 use texts::Memory;
 
 // What the values of several expressions are for.
@@ -13,7 +11,7 @@ fn reach_purpose(reached: &mut Reached, purpose: &Purpose) -> Result<(), Memory>
     match purpose {
         Purpose::Call(f, _) => reached.add(*f),
         Purpose::Method(Receiver::Of(x), _, _) => reached.add(*x),
-        _ => Ok(()),
+        Purpose::Method(Receiver::Native, _, _) | Purpose::Tuple | Purpose::List => Ok(()),
     }
 }
 
@@ -23,9 +21,10 @@ fn reach_series(reached: &mut Reached, series: &Series) -> Result<(), Memory> {
     reach_purpose(reached, &series.purpose)
 }
 
-// The entries of a dictionary that are done.
-fn reach_pairs(reached: &mut Reached, pairs: &Pairs) -> Result<(), Memory> {
-    reach_entries(reached, &pairs.done)
+// A loop, with the value of its turn.
+fn reach_turn(reached: &mut Reached, turns: &Turns, x: Val) -> Result<(), Memory> {
+    reached.add(x)?;
+    reach_turns(reached, turns)
 }
 
 // A loop.
@@ -40,11 +39,39 @@ fn reach_gathering(reached: &mut Reached, gathering: &Gathering) -> Result<(), M
     reached.add_all(gathering.items.as_slice())
 }
 
+// A clause of a comprehension, and what is gathered.
+fn reach_clause(
+    reached: &mut Reached,
+    gathering: &Gathering,
+    got: &Gathered,
+) -> Result<(), Memory> {
+    reach_gathering(reached, gathering)?;
+    reach_gathered(reached, got)
+}
+
+// A value, and what is gathered.
+fn reach_one_more(reached: &mut Reached, x: Val, got: &Gathered) -> Result<(), Memory> {
+    reached.add(x)?;
+    reach_gathered(reached, got)
+}
+
+// A target, and a value for it.
+fn reach_change(reached: &mut Reached, aim: &Aim, x: Val) -> Result<(), Memory> {
+    reached.add(x)?;
+    reach_aim(reached, aim)
+}
+
+// A value, and arguments.
+fn reach_arguments(reached: &mut Reached, x: Val, xs: &[Val]) -> Result<(), Memory> {
+    reached.add(x)?;
+    reached.add_all(xs)
+}
+
 // How a statement ends.
 fn reach_exit(reached: &mut Reached, exit: &Exit) -> Result<(), Memory> {
     match exit {
         Exit::Returns(x) => reached.add(*x),
-        _ => Ok(()),
+        Exit::GoesOn | Exit::Breaks | Exit::Continues => Ok(()),
     }
 }
 
@@ -58,127 +85,80 @@ fn reach_signal(reached: &mut Reached, signal: &Signal) -> Result<(), Memory> {
     }
 }
 
-// What waits for a value of an expression.
-fn reach_operand(reached: &mut Reached, frame: &Frame) -> Result<(), Memory> {
+// What waits for a value of an expression, of a target or of a statement. Each frame that holds a value stands here.
+fn reach_frame(reached: &mut Reached, frame: &Frame) -> Result<(), Memory> {
     match frame {
         Frame::Items(_, series) => reach_series(reached, series),
-        Frame::Key(_, pairs, _) => reach_pairs(reached, pairs),
+        Frame::Key(_, pairs, _) => reached.add_entries(&pairs.done),
         Frame::Entry(_, pairs, _, k) => {
             reached.add(*k)?;
-            reach_pairs(reached, pairs)
+            reached.add_entries(&pairs.done)
         }
         Frame::Both(_, _, x) => reached.add(*x),
         Frame::Index(_, x) => reached.add(*x),
         Frame::From(_, x, _) => reached.add(*x),
-        Frame::To(_, x, y) => {
-            reached.add(*x)?;
-            reached.add(*y)
-        }
-        Frame::Default(_, _, _, done) => reached.add_all(done.as_slice()),
-        _ => Ok(()),
-    }
-}
-
-// What waits in a statement.
-fn reach_statement(reached: &mut Reached, frame: &Frame) -> Result<(), Memory> {
-    match frame {
+        Frame::To(_, x, y) => reached.add_all(&[*x, *y]),
         Frame::Member(_, x) => reached.add(*x),
         Frame::Aims(_, _, done) => reach_aims(reached, done.as_slice()),
         Frame::Store(_, x) => reached.add(*x),
-        Frame::Change(_, _, aim, x) => {
-            reached.add(*x)?;
-            reach_aim(reached, aim)
-        }
-        Frame::Turn(turns, x) => {
-            reached.add(*x)?;
-            reach_turns(reached, turns)
-        }
+        Frame::Change(_, _, aim, x) => reach_change(reached, aim, *x),
+        Frame::Turn(turns, x) => reach_turn(reached, turns, *x),
         Frame::Turns(turns) => reach_turns(reached, turns),
-        Frame::Leave(caller) => reach_caller(reached, caller),
-        _ => Ok(()),
-    }
-}
-
-// The names of a caller.
-fn reach_caller(reached: &mut Reached, caller: &Caller) -> Result<(), Memory> {
-    reach_blocks(reached, caller.blocks.as_slice())
-}
-
-// What waits in a comprehension.
-fn reach_clause(reached: &mut Reached, frame: &Frame) -> Result<(), Memory> {
-    match frame {
+        Frame::Leave(caller) => reach_blocks(reached, caller.blocks.as_slice()),
+        Frame::Default(_, _, _, done) => reached.add_all(done.as_slice()),
+        Frame::Unary(_, _) | Frame::Right(_, _, _) | Frame::Choice(_, _, _) => Ok(()),
+        Frame::Indexed(_, _) | Frame::Sliced(_, _, _) | Frame::Called(_, _, _) => Ok(()),
+        Frame::On(_, _, _, _) | Frame::Container(_, _) | Frame::Discard => Ok(()),
+        Frame::Assign(_, _) | Frame::Augment(_, _, _) | Frame::Return => Ok(()),
+        Frame::Branch(_, _, _, _) | Frame::For(_, _, _) | Frame::Rest(_, _) => Ok(()),
+        Frame::EndBlock | Frame::MakeList(_) | Frame::MakeDict(_) | Frame::Tops(_, _) => Ok(()),
+        Frame::First(_, _, _) => Ok(()),
         Frame::Each(_, _, _, _, got) => reach_gathered(reached, got),
         Frame::Only(_, _, _, got) => reach_gathered(reached, got),
         Frame::Aimed(gathering, x, got) => {
             reached.add(*x)?;
-            reach_gathering(reached, gathering)?;
-            reach_gathered(reached, got)
+            reach_clause(reached, gathering, got)
         }
         Frame::Gather(gathering) => reach_gathering(reached, gathering),
         Frame::OneMore(_, got) => reach_gathered(reached, got),
         Frame::OneKey(_, _, got) => reach_gathered(reached, got),
-        Frame::OneEntry(_, x, got) => {
-            reached.add(*x)?;
-            reach_gathered(reached, got)
-        }
-        _ => Ok(()),
+        Frame::OneEntry(_, x, got) => reach_one_more(reached, *x, got),
     }
 }
 
 /// The values that frames hold are reached.
 pub fn reach_frames(reached: &mut Reached, frames: &[Frame]) -> Result<(), Memory> {
     for frame in frames {
-        reach_operand(reached, frame)?;
-        reach_statement(reached, frame)?;
-        reach_clause(reached, frame)?;
+        reach_frame(reached, frame)?;
     }
     Ok(())
 }
 
-// What a call is about to be made with.
-fn reach_call(reached: &mut Reached, control: &Control) -> Result<(), Memory> {
-    match control {
-        Control::Enter(_, place, xs, _) => {
-            reached.add(Val::At(*place))?;
-            reached.add_all(xs.as_slice())
-        }
-        Control::Builtin(_, _, xs, _) => reached.add_all(xs.as_slice()),
-        Control::Method(_, x, _, xs, _) => {
-            reached.add(*x)?;
-            reached.add_all(xs.as_slice())
-        }
-        Control::Package(_, _, xs, _) => reached.add_all(xs.as_slice()),
-        Control::Defaults(_, _, _, xs) => reached.add_all(xs.as_slice()),
-        Control::Define(_, _, xs) => reached.add_all(xs.as_slice()),
-        _ => Ok(()),
-    }
-}
-
-// What an expression or a statement is about to go on with.
-fn reach_next(reached: &mut Reached, control: &Control) -> Result<(), Memory> {
-    match control {
-        Control::Signal(signal) => reach_signal(reached, signal),
-        Control::Items(_, series) => reach_series(reached, series),
-        Control::Entries(_, pairs, _) => reach_pairs(reached, pairs),
-        Control::Aims(_, _, done) => reach_aims(reached, done.as_slice()),
-        Control::Turns(turns) => reach_turns(reached, turns),
-        Control::Clauses(_, _, _, got) => reach_gathered(reached, got),
-        Control::Gather(gathering, got) => {
-            reach_gathering(reached, gathering)?;
-            reach_gathered(reached, got)
-        }
-        Control::First(_, _, _, x) => reached.add(*x),
-        Control::Add(_, aim, x, y) => {
-            reached.add(*x)?;
-            reached.add(*y)?;
-            reach_aim(reached, aim)
-        }
-        _ => Ok(()),
-    }
+// A target and two values for it.
+fn reach_sum(reached: &mut Reached, aim: &Aim, x: Val, y: Val) -> Result<(), Memory> {
+    reached.add(y)?;
+    reach_change(reached, aim, x)
 }
 
 /// The values that a machine goes on with are reached.
 pub fn reach_control(reached: &mut Reached, control: &Control) -> Result<(), Memory> {
-    reach_call(reached, control)?;
-    reach_next(reached, control)
+    match control {
+        Control::Signal(signal) => reach_signal(reached, signal),
+        Control::Items(_, series) => reach_series(reached, series),
+        Control::Entries(_, pairs, _) => reached.add_entries(&pairs.done),
+        Control::Aims(_, _, done) => reach_aims(reached, done.as_slice()),
+        Control::Turns(turns) => reach_turns(reached, turns),
+        Control::Clauses(_, _, _, got) => reach_gathered(reached, got),
+        Control::Gather(gathering, got) => reach_clause(reached, gathering, got),
+        Control::First(_, _, _, x) => reached.add(*x),
+        Control::Enter(_, place, xs, _) => reach_arguments(reached, Val::At(*place), xs.as_slice()),
+        Control::Builtin(_, _, xs, _) => reached.add_all(xs.as_slice()),
+        Control::Method(_, x, _, xs, _) => reach_arguments(reached, *x, xs.as_slice()),
+        Control::Package(_, _, xs, _) => reached.add_all(xs.as_slice()),
+        Control::Add(_, aim, x, y) => reach_sum(reached, aim, *x, *y),
+        Control::Defaults(_, _, _, xs) => reached.add_all(xs.as_slice()),
+        Control::Define(_, _, xs) => reached.add_all(xs.as_slice()),
+        Control::Eval(_, _) | Control::Aim(_, _) | Control::Suite(_, _) => Ok(()),
+        Control::Branches(_, _, _) | Control::Tops(_, _) => Ok(()),
+    }
 }

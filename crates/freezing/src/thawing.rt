@@ -1,5 +1,5 @@
 //! Frozen values on a heap.
-ghost use Rattle.std.specs.Prelude.{◌≡◌, ◌++◌, map, OnOk};
+ghost use Rattle.std.specs.Prelude.{◌≡◌, ◌++◌, map, IfOk, OnOk};
 ghost use Rattle.meaning.specs.Freezing.{tuple, frozen_key, frozen_keys, thaw, thaw_members, thaw_pairs, thaw_entry};
 ghost use Rattle.heap.specs.View.{store_of, Says, SaysItems};
 ghost use Rattle.freezing.specs.View.{frozen_of, entry_of, members_of, pairs_of, SaysSet};
@@ -7,6 +7,7 @@ ghost use Rattle.freezing.specs.View.{frozen_of, entry_of, members_of, pairs_of,
 use crate::frozen::{Frozen, FrozenEntry};
 use heap::{Entry, Halt, Heap, Key, Object, Part, Val, set_entry};
 use indexmap::IndexMap;
+use std::alloc::Global;
 use texts::Memory;
 
 /// A frozen value on a heap, where its lists and dictionaries are frozen. It takes no steps.
@@ -31,6 +32,7 @@ pub fn thaw(heap: &mut Heap, f: &Frozen) -> Result<Val, Halt>
         Frozen::Dict(entries) => {
             let mut all = IndexMap::new(heap.alloc);
             thaw_entries(heap, entries.as_slice(), &mut all)?;
+            let all = Box::new(heap.alloc, all)?;
             heap.make(Object::Dict(all, true))
         }
         Frozen::Function(label, name) => heap.make(Object::Function(label.share()?, name.share()?)),
@@ -75,12 +77,28 @@ fn thaw_entries(
 fn thaw_entry(heap: &mut Heap, e: &FrozenEntry, all: &mut IndexMap<Key, Entry>) -> Result<(), Halt>
     ensures { SaysSet (thaw_entry all.old.entries (entry_of e.now) (store_of heap.old)) result all.new.entries (store_of heap.new) }
 {
-    let mut parts = Vec::new(heap.alloc);
-    add_key(&e.key, &mut parts)?;
+    let at = frozen_key_of(heap.alloc, &e.key)?;
     let key = thaw(heap, &e.key)?;
     let value = thaw(heap, &e.value)?;
-    set_entry(all, Key { parts }, Entry { key, value })?;
+    set_entry(all, at, Entry { key, value })?;
     Ok(())
+}
+
+// A key. One of a single part takes no list.
+fn frozen_key_of(alloc: Global, f: &Frozen) -> Result<Key, Memory>
+    ensures { IfOk result (λ k. k ≡ frozen_key (frozen_of f.now)) }
+{
+    match f {
+        Frozen::Nothing => Ok(Key::one(Part::Nothing)),
+        Frozen::Bool(b) => Ok(Key::one(Part::Bool(*b))),
+        Frozen::Int(n) => Ok(Key::one(Part::Int(*n))),
+        Frozen::Text(bytes) => Ok(Key::one(Part::Text(bytes.share()?))),
+        _ => {
+            let mut parts = Vec::new(alloc);
+            add_key(f, &mut parts)?;
+            Ok(Key::several(parts))
+        }
+    }
 }
 
 // The parts of a key, behind others.

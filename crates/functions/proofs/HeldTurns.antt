@@ -1,6 +1,7 @@
 -- Turns that go on from a held evaluation, and what a turn holds.
 use Rattle.std.proofs.Common.{◌≡◌, ℕ, List, ◌++◌, length, take, drop, None, Some, ◌∙◌, ap, sym, subst, arith, length-append, append_assoc}
 use Rattle.std.specs.Arc.{arc_value}
+use Rattle.std.specs.Global.{Box}
 use Rattle.std.specs.declared.sync.Arc.{Arc}
 use Rattle.std.specs.declared.alloc.Global.{Global}
 use Rattle.std.proofs.Math.Seq.{take-append_seam}
@@ -37,8 +38,8 @@ module _ (k own : Key) (answers : List (Arc Value Global)) (same : own ≡ k) wh
   asks_plainly group h = (h, λ more. (same, tt))
 
   -- a group that is asked with something held
-  pub asks_holding : (group : Vec Key Global) (continuation : Continuation) (taken : ℕ) → taken ≡ length answers → IsMade (next k) (values answers) (reply.Wait group continuation)
-      → IsTurn fits next k (values answers) (turn.Ask (record { key = own; held = Some (record { taken = taken; continuation = continuation }) }) group)
-  asks_holding group continuation taken size h =
+  pub asks_holding : (group : Vec Key Global) (continuation : Continuation) (taken : ℕ) (held : Box Held) → held.value ≡ record { taken = taken; continuation = continuation } → taken ≡ length answers
+      → IsMade (next k) (values answers) (reply.Wait group continuation) → IsTurn fits next k (values answers) (turn.Ask (record { key = own; held = Some held }) group)
+  asks_holding group continuation taken held is size h =
       let many : length (values answers) ≡ length answers = length-map answers (λ (x : Arc Value Global). arc_value x) in
-      (h.0, λ more. (same, holds_from taken continuation k (values answers) more (size ∙ sym many) h.1))
+      (h.0, λ more. (same, subst (λ it. IsHeld it k (values answers ++ more)) (sym is) (holds_from taken continuation k (values answers) more (size ∙ sym many) h.1)))

@@ -11,7 +11,6 @@ use Rattle.keys.specs.declared.value.Value.{Value}
 use Rattle.std.specs.Arc.{arc_value}
 use Rattle.tree.specs.Statements.{file_of}
 use Rattle.functions.specs.Sources.{rounds, after_loads}
-use Rattle.functions.specs.declared.reply.Parsed.{Parsed}
 use Rattle.functions.specs.declared.reply.Paused.{Paused}
 use Rattle.functions.specs.declared.reply.Continuation.{Continuation}
 use Rattle.functions.specs.declared.reply.Continuation.TheVariants as continuation

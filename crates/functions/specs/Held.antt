@@ -1,5 +1,6 @@
 -- What is kept of a node, and from which answers it goes on.
 use Rattle.std.specs.Prelude.{◌≡◌, ◌≤◌, List, length, take, Option, Some, None}
+use Rattle.std.specs.Global.{Box}
 use Rattle.keys.specs.declared.key.Key.{Key}
 use Rattle.keys.specs.declared.value.Value.{Value}
 use Rattle.functions.specs.Goes.{GoesOn}
@@ -12,9 +13,9 @@ pub record IsHeld (held : Held) (k : Key) (answers : List Value) : Type 0 where
   pub within : held.taken ≤ length answers
   pub is : GoesOn (next k) (take held.taken answers) held.continuation
 
-abbrev pub HoldsFrom : Option Held → Key → List Value → Type 0
+abbrev pub HoldsFrom : Option (Box Held) → Key → List Value → Type 0
 HoldsFrom None k answers = Unit {0}
-HoldsFrom (Some held) k answers = IsHeld held k answers
+HoldsFrom (Some held) k answers = IsHeld held.value k answers
 
 -- the state is of the key, and what it holds goes on from these answers
 abbrev pub fits : Kept → Key → List Value → Type 0

@@ -37,7 +37,8 @@ pub struct Held {
 #[derive(Drop)]
 pub struct Kept {
     key: Key,
-    held: Option<Held>,
+    // Boxed, so that the states of the many nodes that hold nothing are moved as a few words.
+    held: Option<Box<Held>>,
 }
 
 // The reply of a node that goes by directories, of which nothing waits.
@@ -80,7 +81,7 @@ fn go_on(alloc: Global, continuation: Continuation, answers: &[Arc<Value>]) -> R
 fn reply_of(
     alloc: Global,
     key: &Key,
-    held: Option<Held>,
+    held: Option<Box<Held>>,
     answers: &[Arc<Value>],
 ) -> Result<Reply, Memory>
     requires { HoldsFrom held key.now (values answers.now) }
@@ -88,7 +89,13 @@ fn reply_of(
 {
     match held {
         None => from_start(alloc, key, answers),
-        Some(held) => go_on(alloc, held.continuation, &answers[held.taken..]),
+        Some(held) => {
+            let Held {
+                taken,
+                continuation,
+            } = Box::into_inner(held);
+            go_on(alloc, continuation, &answers[taken..])
+        }
     }
 }
 
@@ -142,10 +149,11 @@ impl Rules for Loading {
             Reply::Ask(group) => Ok(Turn::Ask(Kept { key, held: None }, group)),
             Reply::Wait(group, continuation) => {
                 let taken = answers.len();
-                let held = Some(Held {
+                let held = Held {
                     taken,
                     continuation,
-                });
+                };
+                let held = Some(Box::new(self.alloc, held)?);
                 Ok(Turn::Ask(Kept { key, held }, group))
             }
             Reply::Done(value) => Ok(Turn::Done(value)),

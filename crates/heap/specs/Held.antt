@@ -8,7 +8,7 @@ use Rattle.heap.specs.declared.halt.Halt.TheVariants.{Code, Memory}
 
 -- what one evaluation may hold
 abbrev pub most_held : ℕ
-most_held = 1073741824
+most_held = 268435456
 
 -- an object counts for 64 bytes, and for 1 a byte, 16 a member, 96 an entry
 abbrev pub object_bytes : Obj → ℕ

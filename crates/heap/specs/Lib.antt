@@ -3,3 +3,4 @@ pub mod Sized
 pub mod Held
 pub mod Objects
 pub mod Written
+pub mod Gone

@@ -7,5 +7,5 @@ abbrev pub object_of : Object → Obj
 object_of (o.Text bytes) = text bytes
 object_of (o.List members frozen) = list members.items frozen
 object_of (o.Tuple members) = tuple members.items
-object_of (o.Dict entries frozen) = dict entries.entries frozen
+object_of (o.Dict entries frozen) = dict entries.value.entries frozen
 object_of (o.Function label name) = function label name

@@ -1,9 +1,10 @@
 //! The heap.
-ghost use Rattle.std.specs.Prelude.{◌≡◌, [], map, option_map, slice_get, IfOk, OnOk, ◌+◌, ◌*◌, ◌-◌, ◌≤◌, nat_le};
+ghost use Rattle.std.specs.Prelude.{◌≡◌, [], map, option_map, slice_get, IfOk, OnOk, OnErr, ◌+◌, ◌*◌, ◌-◌, ◌≤◌, nat_le};
 ghost use Rattle.meaning.specs.Outcome.{gives};
 ghost use Rattle.meaning.specs.Heap.{at, puts, makes, makes_text, makes_list, makes_tuple};
 ghost use Rattle.heap.specs.Objects.{object_of};
 ghost use Rattle.heap.specs.View.{object_in, store_of, Says};
+ghost use Rattle.heap.specs.Gone.{IsGone};
 ghost use Rattle.heap.specs.Held.{most_held, object_bytes, place_bytes, Counted};
 
 use crate::halt::Halt;
@@ -21,10 +22,10 @@ pub const DEEPEST: u32 = 64;
 
 /// The most bytes that the objects of one evaluation may take together, with the copies that loops go over. An object that
 /// has been given back does not count. Texts that are shared with a file or a module count too.
-pub const MOST_HELD: u64 = 1_073_741_824;
+pub const MOST_HELD: u64 = 268_435_456;
 
 // So many bytes are held before it is first looked for objects that are reached no more.
-const FIRST_FULL: u64 = 67_108_864;
+const FIRST_FULL: u64 = 16_777_216;
 
 /// What the values of an evaluation stand on: the objects, the places of those that are iterated, and the steps that
 /// are left.
@@ -57,7 +58,8 @@ impl Heap {
 
     /// The object at a place. `Memory` where it has been given back.
     pub fn object(&self, place: usize) -> Result<Option<&Object>, Memory>
-        ensures { IfOk result (λ found. at place (store_of self.now) ≡ option_map (λ o. object_of o.now) found) }
+        ensures found { IfOk result (λ found. at place (store_of self.now) ≡ option_map (λ o. object_of o.now) found) }
+        ensures gone { OnErr result (IsGone self.now.objects.items place) }
     {
         object_at(self.objects.as_slice(), place)
     }
@@ -67,6 +69,7 @@ impl Heap {
     pub fn take(&mut self, place: usize) -> Result<Option<Object>, Memory>
         ensures same { store_of self.new ≡ store_of self.old }
         ensures taken { IfOk result (λ found. at place (store_of self.old) ≡ option_map object_of found) }
+        ensures gone { OnErr result (IsGone self.old.objects.items place) }
         ensures held { self.new.held ≡ self.old.held }
     {
         match self.objects.get_mut(place) {
@@ -228,7 +231,8 @@ impl Heap {
 
 /// The object at a place. `Memory` where it has been given back.
 pub fn object_at(objects: &[HeapObject], place: usize) -> Result<Option<&Object>, Memory>
-    ensures { IfOk result (λ found. slice_get (map object_in objects.now) place ≡ option_map (λ o. object_of o.now) found) }
+    ensures found { IfOk result (λ found. slice_get (map object_in objects.now) place ≡ option_map (λ o. object_of o.now) found) }
+    ensures gone { OnErr result (IsGone objects.now place) }
 {
     match objects.get(place) {
         Some(found) => {

@@ -1,5 +1,5 @@
 //! Objects as they stand on the heap.
-ghost use Rattle.std.specs.Prelude.{◌≡◌, IfOk};
+ghost use Rattle.std.specs.Prelude.{◌≡◌, IfOk, OnErr, None};
 ghost use Rattle.heap.specs.Objects.{object_of};
 ghost use Rattle.std.specs.Option.{ForSome};
 ghost use Rattle.heap.specs.Written.{last_written};
@@ -25,6 +25,7 @@ pub struct HeapObject {
 
 impl HeapObject {
     ghost use Rattle.heap.specs.View.{object_in};
+    ghost use Rattle.heap.specs.Gone.{counted_bytes};
 
     /// An object that comes to stand on the heap.
     #[tactic(auto, unfolding(crate::specs::View::object_in))]
@@ -43,7 +44,8 @@ impl HeapObject {
     /// The object. `Memory` where it has been given back.
     #[tactic(auto, unfolding(crate::specs::View::object_in))]
     pub fn object(&self) -> Result<&Object, Memory>
-        ensures { IfOk result (λ object. object_of object.now ≡ object_in self.now) }
+        ensures object { IfOk result (λ object. object_of object.now ≡ object_in self.now) }
+        ensures gone { OnErr result (self.now.object ≡ None) }
     {
         match &self.object {
             Some(object) => Ok(object),
@@ -57,6 +59,7 @@ impl HeapObject {
     pub fn take(&mut self) -> Result<Object, Memory>
         ensures taken { IfOk result (λ object. object_of object ≡ object_in self.old) }
         ensures same { object_in self.new ≡ object_in self.old }
+        ensures gone { OnErr result (self.old.object ≡ None) }
     {
         self.object.take().ok_or(Memory)
     }
@@ -74,7 +77,9 @@ impl HeapObject {
     /// Gives the object's memory back, and tells the bytes that it counted for, or 0 where that was done before.
     #[tactic(auto, unfolding(crate::specs::View::object_in))]
     pub fn give_back(&mut self) -> u128
-        ensures { object_in self.new ≡ object_in self.old }
+        ensures same { object_in self.new ≡ object_in self.old }
+        ensures bytes { result ≡ counted_bytes self.old }
+        ensures gone { self.new.object ≡ None }
     {
         match self.object.take() {
             Some(_) => size_of(self.shape),

@@ -1,5 +1,5 @@
 //! Lists of bytes or members, apart from any heap.
-ghost use Rattle.std.specs.Prelude.{◌≡◌, ◌≤◌, ◌*◌, ◌++◌, not, length, slice_get, IfOk, IfSome};
+ghost use Rattle.std.specs.Prelude.{◌≡◌, ◌≤◌, ◌*◌, ◌++◌, not, length, slice_get, IfOk, IfSome, OnOk};
 ghost use Rattle.meaning.specs.Heap.{is_sized};
 ghost use Rattle.meaning.specs.Operators.{repeated, times};
 ghost use Rattle.meaning.specs.Indexing.{place, member, bound, bound_or, cut, between};
@@ -10,6 +10,9 @@ use crate::heap::LONGEST;
 use meaning::Val;
 use std::alloc::Global;
 use texts::Memory;
+
+// So many times over, a list is copied as a whole.
+const BLOCK: usize = 256;
 
 /// One list after the other, or fault 13.
 pub fn joined<T: Copy>(alloc: Global, a: &[T], b: &[T]) -> Result<Vec<T>, Halt>
@@ -59,16 +62,31 @@ fn is_too_long(n: usize, len: usize) -> bool
     }
 }
 
-// A list so many times over.
-#[tactic(auto, using(crate::proofs::Times::times_more))]
+// A list so many times over. Where it is many times, blocks that hold it many times are copied.
+#[tactic(auto, using(crate::proofs::Times::times_blocks))]
 fn times<T: Copy>(alloc: Global, a: &[T], n: usize) -> Result<Vec<T>, Memory>
     ensures { IfOk result (λ v. v.items ≡ times n a.now) }
 {
-    let mut all = Vec::new(alloc);
+    let mut all = Vec::with_capacity(alloc, n.saturating_mul(a.len()))?;
+    if n < BLOCK {
+        add_times(&mut all, a, n)?;
+        return Ok(all);
+    }
+    let mut block = Vec::new(alloc);
+    add_times(&mut block, a, BLOCK)?;
+    add_times(&mut all, block.as_slice(), n / BLOCK)?;
+    add_times(&mut all, a, n % BLOCK)?;
+    Ok(all)
+}
+
+// Adds a list so many times.
+fn add_times<T: Copy>(all: &mut Vec<T>, a: &[T], n: usize) -> Result<(), Memory>
+    ensures { OnOk result (all.new.items ≡ all.old.items ++ times n a.now) }
+{
     for _i in 0..n {
         all.extend_from_slice(a)?;
     }
-    Ok(all)
+    Ok(())
 }
 
 /// The place that an index names among so many: negative from the end.

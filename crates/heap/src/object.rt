@@ -19,7 +19,8 @@ pub enum Object {
     Text(Bytes),
     List(Vec<Val>, bool),
     Tuple(Vec<Val>),
-    Dict(IndexMap<Key, Entry>, bool),
+    /// Boxed, so that the many other objects are small.
+    Dict(Box<IndexMap<Key, Entry>>, bool),
     /// A function of a file: the file's label, and the name.
     Function(Bytes, Bytes),
 }

@@ -1,10 +1,12 @@
 //! What is still reached, and giving back all else.
-ghost use Rattle.std.specs.Prelude.{◌≡◌, ◌≤◌};
+ghost use Rattle.std.specs.Prelude.{◌≡◌, ◌≤◌, ◌-◌};
 ghost use Rattle.heap.specs.View.{store_of};
+ghost use Rattle.heap.specs.Gone.{bytes_at};
 
 use crate::heap::Heap;
 use crate::object::Object;
-use meaning::{Entry, Val};
+use indexmap::IndexMap;
+use meaning::{Entry, Key, Val};
 use std::alloc::Global;
 use texts::Memory;
 
@@ -52,10 +54,13 @@ impl Reached {
         Ok(())
     }
 
-    /// An entry of a dictionary is reached.
-    pub fn add_entry(&mut self, entry: Entry) -> Result<(), Memory> {
-        self.add(entry.key)?;
-        self.add(entry.value)
+    /// The keys and values of entries are reached.
+    pub fn add_entries(&mut self, entries: &IndexMap<Key, Entry>) -> Result<(), Memory> {
+        for entry in entries.values() {
+            self.add(entry.key)?;
+            self.add(entry.value)?;
+        }
+        Ok(())
     }
 
     // Whether the object at a place is reached.
@@ -68,13 +73,8 @@ impl Reached {
         match object {
             Some(Object::List(members, _)) => self.add_all(members.as_slice()),
             Some(Object::Tuple(members)) => self.add_all(members.as_slice()),
-            Some(Object::Dict(entries, _)) => {
-                for entry in entries.values() {
-                    self.add_entry(*entry)?;
-                }
-                Ok(())
-            }
-            _ => Ok(()),
+            Some(Object::Dict(entries, _)) => self.add_entries(entries),
+            Some(Object::Text(_) | Object::Function(_, _)) | None => Ok(()),
         }
     }
 }
@@ -108,7 +108,7 @@ impl Heap {
     // Gives the memory of the object at a place back.
     fn give_back_at(&mut self, place: usize)
         ensures same { store_of self.new ≡ store_of self.old }
-        ensures held { self.new.held ≤ self.old.held }
+        ensures held { self.new.held ≡ self.old.held - bytes_at self.old.objects.items place }
     {
         if let Some(found) = self.objects.get_mut(place) {
             let bytes = found.give_back();

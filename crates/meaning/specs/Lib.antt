@@ -16,3 +16,4 @@ pub mod Membership
 pub mod Binary
 pub mod Functions
 pub mod Methods
+pub mod Keyed

@@ -1,5 +1,5 @@
 //! Keys of dictionaries.
-ghost use Rattle.std.specs.Prelude.{◌≡◌};
+ghost use Rattle.std.specs.Prelude.{◌≡◌, ◌∷◌, []};
 ghost use Rattle.std.specs.Hash as fed;
 ghost use Rattle.std.specs.Cmp.{partial_equiv_from_equiv};
 ghost use Rattle.meaning.specs.Keys.{same_part, same_key};
@@ -9,6 +9,7 @@ ghost use Rattle.meaning.specs.KeyLaws.{parts_equiv, parts_alike, keys_equiv, ke
 use crate::bytes::Bytes;
 use std::hash::{Hash, Hasher};
 use std::marker::Model;
+use std::slice::from_ref;
 
 /// A part of a key.
 #[derive(Drop)]
@@ -59,19 +60,57 @@ impl Hash for Part {
     }
 }
 
+// The parts of a key. Most keys have one, which takes no list.
+#[derive(Drop)]
+enum Parts {
+    One(Part),
+    Several(Vec<Part>),
+}
+
 /// A key: the parts of a value without pointers, a tuple's members after their number. A contract sees the parts.
 #[derive(Drop)]
 pub struct Key {
-    pub parts: Vec<Part>,
+    parts: Parts,
 }
 
 impl Model for Key {
     ghost use Rattle.std.specs.Prelude.{List};
     ghost use Rattle.meaning.specs.declared.key.Part.{Part};
+    ghost use Rattle.meaning.specs.Keyed.{parts_of};
 
     ghost Value = { List Part };
 
-    ghost view = { λ k. k.parts.items };
+    ghost view = { λ k. parts_of k.parts };
+}
+
+impl Key {
+    /// The key of one part.
+    pub fn one(part: Part) -> Key
+        ensures { result ≡ part ∷ [] }
+    {
+        Key {
+            parts: Parts::One(part),
+        }
+    }
+
+    /// The key of these parts.
+    pub fn several(parts: Vec<Part>) -> Key
+        ensures { result ≡ parts.items }
+    {
+        Key {
+            parts: Parts::Several(parts),
+        }
+    }
+
+    /// The parts.
+    pub fn parts(&self) -> &[Part]
+        ensures { result.now ≡ self.now }
+    {
+        match &self.parts {
+            Parts::One(part) => from_ref(part),
+            Parts::Several(parts) => parts.as_slice(),
+        }
+    }
 }
 
 impl PartialEq for Key {
@@ -80,7 +119,7 @@ impl PartialEq for Key {
     ghost laws = { partial_equiv_from_equiv keys_equiv };
 
     fn eq(&self, other: &Key) -> bool {
-        self.parts.as_slice() == other.parts.as_slice()
+        self.parts() == other.parts()
     }
 }
 
@@ -94,6 +133,6 @@ impl Hash for Key {
     ghost respects_eq = { keys_alike.fed };
 
     fn hash<H: Hasher>(&self, state: &mut H) {
-        self.parts.as_slice().hash(state);
+        self.parts().hash(state);
     }
 }

@@ -17,4 +17,4 @@ pub use objects::{
     unlock,
 };
 pub use operators::{both, is_true, unary};
-pub use reaching::{reach_aim, reach_aims, reach_entries, reach_gathered};
+pub use reaching::{reach_aim, reach_aims, reach_gathered};

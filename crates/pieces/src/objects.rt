@@ -55,6 +55,7 @@ pub fn make_dict(heap: &mut Heap, entries: IndexMap<Key, Entry>) -> Result<Val, 
     if entries.len() > LONGEST {
         return Err(Halt::Code(13));
     }
+    let entries = Box::new(heap.alloc, entries)?;
     heap.make(Object::Dict(entries, false))
 }
 

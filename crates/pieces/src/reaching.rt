@@ -2,8 +2,7 @@
 
 use crate::aims::Aim;
 use crate::gathering::Gathered;
-use heap::{Entry, Key, Reached};
-use indexmap::IndexMap;
+use heap::Reached;
 use texts::Memory;
 
 /// What a target aims at is reached.
@@ -28,16 +27,8 @@ pub fn reach_aims(reached: &mut Reached, aims: &[Aim]) -> Result<(), Memory> {
     Ok(())
 }
 
-/// The keys and values of entries are reached.
-pub fn reach_entries(reached: &mut Reached, entries: &IndexMap<Key, Entry>) -> Result<(), Memory> {
-    for entry in entries.values() {
-        reached.add_entry(*entry)?;
-    }
-    Ok(())
-}
-
 /// What is gathered is reached.
 pub fn reach_gathered(reached: &mut Reached, got: &Gathered) -> Result<(), Memory> {
     reached.add_all(got.members.as_slice())?;
-    reach_entries(reached, &got.entries)
+    reached.add_entries(&got.entries)
 }

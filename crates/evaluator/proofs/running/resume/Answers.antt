@@ -3,13 +3,15 @@ use Rattle.std.specs.Prelude.{zip}
 use Rattle.language.specs.Environment.{Answers}
 use Rattle.language.specs.Laws.{with_answers}
 use Rattle.evaluator.specs.Machines.{env_of}
-use Rattle.evaluator.specs.Files.{shared_texts}
+use Rattle.evaluator.specs.Files.{Stands, shared_texts}
 use Rattle.evaluator.proofs.Started.{stands_on}
 use Rattle.evaluator.proofs.running.resume.Goals as goal
 
 pub go_on-requires : goal.go_on-requires
 go_on-requires c =
-    let inside = c.suspended.inside in
-    let e = inside.environment in
+    let e = c.into_inner-environment.result in
+    let m = c.into_inner.result in
+    let control = c.into_inner-2.result in
     let extra = zip c.as_slice.result.now (map shared_texts c.as_slice-2.result.now) in
-    stands_on e inside.machine inside.control (record e { «package» = record e.package { answers = c.add_answers.new.answers } }) extra (ap (λ (g : Answers). with_answers g (env_of e)) c.in_ok-add_answers.ensures) c.suspended.invariant.stands
+    let stands : Stands e m control = rw (c.into_inner-environment.ensures, c.into_inner.ensures, c.into_inner-2.ensures) c.suspended.invariant.stands in
+    stands_on e m control (record e { «package» = record e.package { answers = c.add_answers.new.answers } }) extra (ap (λ (g : Answers). with_answers g (env_of e)) c.in_ok-add_answers.ensures) stands

@@ -1,6 +1,5 @@
-use Rattle.std.proofs.Common.{◌∙◌, ap, sym, subst, IfOk, ◌++◌}
+use Rattle.std.proofs.Common.{◌∙◌, ap, sym, ◌++◌}
 use Rattle.keys.specs.Turns.{values}
-use Rattle.functions.specs.Goes.{IsMade}
 use Rattle.functions.specs.Modules.{after_lookups}
 use Rattle.functions.specs.Sources.{by_file}
 use Rattle.functions.proofs.Further.{carried_on}

@@ -16,12 +16,13 @@ returns-in-Ask-clause-is_next c = λ key f.
     let group = c.in-Ask.group in
     asks_plainly key c.args.state.key answers f.0 group (subst (λ k. IsMade (next k) (values answers) (reply.Ask group)) f.0 (rw c.in-Ask.is at c.in_ok-group.ensures))
 
-pub returns-in-Wait-clause-is_next : goal.returns-in-Wait-clause-is_next
-returns-in-Wait-clause-is_next c = λ key f.
+pub returns-in_ok-new-in-Wait-clause-is_next : goal.returns-in_ok-new-in-Wait-clause-is_next
+returns-in_ok-new-in-Wait-clause-is_next c = λ key f.
     let answers = c.args.answers.now in
     let group = c.in-Wait.group in
     let continuation = c.in-Wait.continuation in
-    asks_holding key c.args.state.key answers f.0 group continuation _ refl (subst (λ k. IsMade (next k) (values answers) (reply.Wait group continuation)) f.0 (rw c.in-Wait.is at c.in_ok-group.ensures))
+    let held = c.in_ok-new-in-Wait.field-0 in
+    asks_holding key c.args.state.key answers f.0 group continuation _ held c.in_ok-new-in-Wait.ensures.ok refl (subst (λ k. IsMade (next k) (values answers) (reply.Wait group continuation)) f.0 (rw c.in-Wait.is at c.in_ok-group.ensures))
 
 pub returns-in-Done-clause-is_next : goal.returns-in-Done-clause-is_next
 returns-in-Done-clause-is_next c = λ key f.

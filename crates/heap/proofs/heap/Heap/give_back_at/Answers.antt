@@ -6,5 +6,5 @@ use Rattle.heap.proofs.heap.Heap.give_back_at.Goals as goal
 pub returns-in-Some-clause-same : goal.returns-in-Some-clause-same
 returns-in-Some-clause-same c =
     let found = c.in-Some.found.now in
-    let same = map-set_same object_in c.args.self.now.objects.items c.args.place c.give_back-bytes.new.self found (c.give_back-bytes.ensures ∙ ap object_in c.in-Some.ensures.value) in
+    let same = map-set_same object_in c.args.self.now.objects.items c.args.place c.give_back-bytes.new.self found (c.give_back-bytes.ensures.same ∙ ap object_in c.in-Some.ensures.value) in
     c.release.ensures.same ∙ rw same refl
