@@ -15,7 +15,7 @@ import sys
 ROOT = os.path.dirname(os.path.dirname(os.path.abspath(__file__)))
 LOADER = f"{ROOT}/crates/cli/out/cli"
 
-# c(v) is v, after lists of 40 MiB; n(v) is v. Each call of s makes another string.
+# c(v) is v, after lists of 40 MiB. Each call of s makes another string.
 MAKES = "def c(v):\n    for i in range(40):\n        x = [0] * 65536\n    return v\n"
 MAKES_NONE = "def c(v):\n    return v\n"
 SHARED = """def s(v):
