@@ -1,7 +1,7 @@
 #!/usr/bin/env python3
 """Tests that nothing which an evaluation still needs is given back, by the built program. Run it by `make giving-back`.
 
-An evaluation that holds 16 MiB looks for values that nothing reaches, and gives them back. Here each kind of expression
+An evaluation that holds 8 MiB looks for values that nothing reaches, and gives them back. Here each kind of expression
 and statement holds a new value while a call makes more lists than that. A value that went missing would stop the program
 with `stop: memory`. So would one file that makes more than an evaluation may hold, if nothing were given back. The same
 file with a call that makes nothing has to be answered alike.

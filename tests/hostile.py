@@ -197,6 +197,8 @@ COSTS = {
     "100,000 names that are not there": ([{"op": "find", "name": f"x{n}"} for n in range(100_000)], '{"build":null}'),
     "1,000 lists that nothing reaches": (calling("    for i in range(1000): x = [0] * 65536\n"), one("s")),
     "20,000 lists that nothing reaches": (calling("    for i in range(20000): x = [0] * 65536\n"), one("s")),
+    "2,000 lists in one expression, none of them reached": (
+        calling("    x = [" + "len([0] * 65536), " * 2000 + "]\n"), one("s")),
     "2,000 lists that are reached": (calling("    x = [[0] * 65536 for i in range(2000)]\n"), "status 3, stop: memory"),
 }
 

@@ -1,6 +1,6 @@
 //! `dict`.
 ghost use Rattle.std.specs.Prelude.{◌≡◌, [], map, IfOk};
-ghost use Rattle.meaning.specs.Heap.{at, makes_dict};
+ghost use Rattle.meaning.specs.Heap.{at};
 ghost use Rattle.meaning.specs.declared.val.Val.TheVariants.{At};
 ghost use Rattle.meaning.specs.Functions.{dict_of, dict_from, entries_of, add_all, add_each, add_named, grows, pair_of, object_pair, two_of};
 ghost use Rattle.heap.specs.View.{store_of, Says, Checks};
@@ -8,7 +8,7 @@ ghost use Rattle.builtins.specs.Seen.{SaysEntries, pairs_of};
 
 use crate::names::is_twice;
 use comparing::hash;
-use heap::{Bytes, Entry, Halt, Heap, Key, LONGEST, Object, Val, has_room, set_entry};
+use heap::{Bytes, Entry, Halt, Heap, Key, Object, Val, has_room, set_entry};
 use indexing::items;
 use indexmap::IndexMap;
 use std::alloc::Global;
@@ -24,18 +24,7 @@ pub fn dict(heap: &mut Heap, xs: &[Val], names: &[(Text, Val)]) -> Result<Val, H
     let mut entries = IndexMap::new(heap.alloc);
     add_from(heap, &mut entries, xs)?;
     add_named(heap, &mut entries, names)?;
-    make_dict(heap, entries)
-}
-
-// A new dictionary, or fault 13.
-fn make_dict(heap: &mut Heap, entries: IndexMap<Key, Entry>) -> Result<Val, Halt>
-    ensures { Says (makes_dict entries.entries (store_of heap.old)) result (store_of heap.new) }
-{
-    if entries.len() > LONGEST {
-        return Err(Halt::Code(13));
-    }
-    let entries = Box::new(heap.alloc, entries)?;
-    heap.make(Object::Dict(entries, false))
+    heap.make_dict(entries)
 }
 
 // Adds what the arguments without a name give to a dictionary that is empty.

@@ -56,7 +56,7 @@ pub fn key(
     }
 }
 
-/// A key, by the same walk. One of a single part takes no list.
+/// A key, by the same walk. The key of a value that is no tuple takes no list.
 #[tactic(auto, using(crate::proofs::Hashed::key_is))]
 pub fn key_of(
     alloc: Global,
@@ -68,35 +68,20 @@ pub fn key_of(
     ensures { Says (key left (map object_in objects.now) x steps.old) result steps.new }
 {
     match as_key(objects, x)? {
-        AsKey::Part(part) => part_alone(steps, part),
-        AsKey::NoKey => {
-            tick(steps)?;
-            Err(Halt::Code(5))
+        AsKey::Part(part) => key_of_part(steps, part),
+        _ => {
+            let parts = key(alloc, objects, steps, x, left)?;
+            Ok(Key::several(parts))
         }
-        AsKey::Parts(members) => tuple_alone(alloc, objects, steps, members, left),
     }
 }
 
-// A key of one part, as a key.
-fn part_alone(steps: &mut u64, x: Part) -> Result<Key, Halt>
+// The key that is one part, for a step.
+fn key_of_part(steps: &mut u64, x: Part) -> Result<Key, Halt>
     ensures { Says (part_key x steps.old) result steps.new }
 {
     tick(steps)?;
     Ok(Key::one(x))
-}
-
-// The key of a tuple, as a key.
-fn tuple_alone(
-    alloc: Global,
-    objects: &[HeapObject],
-    steps: &mut u64,
-    members: &[Val],
-    left: u32,
-) -> Result<Key, Halt>
-    ensures { Says (visit_key (inner_key left (map object_in objects.now)) (parts members.now) steps.old) result steps.new }
-{
-    let parts = tuple_key(alloc, objects, steps, members, left)?;
-    Ok(Key::several(parts))
 }
 
 // A key of one part.

@@ -14,9 +14,6 @@ use Rattle.language.specs.World.{World, Here, Runs, then_runs}
 use Rattle.language.specs.Expressions.{between}
 use Rattle.frames.specs.Frames.{right}
 
-pub tree-Binary : (op : BinaryOp) (a b : Arc Expr Global) → tree_of (x.Binary op a b) ≡ t.binary op (shared_tree a) (shared_tree b)
-tree-Binary op a b = ap tree_of (sym (x.rolls-Binary op a b)) ∙ fold-roll-Expr Cl Ex clause_step expr_step (Expr-F.Binary op a b)
-
 -- the first operand, and what is done behind it
 pub between_is : (op : BinaryOp) (first second : Runs Val) (h : Here) (w : World) → between op first second h w ≡ then_runs (first w) (λ v. right op v second h)
 between_is o.Or first second h w = refl

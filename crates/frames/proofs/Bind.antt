@@ -82,6 +82,11 @@ pub lighten : (r : Result Control Halt) (s a b s' : ℕ) (f : Control → ℕ) �
 lighten (Ok control) s a b s' f le h = record { steps = h.steps; weight = λ e. omega (arith, h.weight e) }
 lighten (Err halt) s a b s' f le h = tt
 
+-- what is lighter has no more steps
+pub no_more : (r : Result Control Halt) (s a s' : ℕ) (f : Control → ℕ) → IfOk r (λ control. Lighter s a s' (f control)) → IfOk r (λ _. s' ≤ s)
+no_more (Ok control) s a s' f h = h.steps
+no_more (Err halt) s a s' f h = tt
+
 pub tick_is : (here : Here) (w : World) → tick here w ≡ at_site here.site w (walks (λ objects. o.tick) w.store)
 unfolding tick
 tick_is here w = refl

@@ -1,18 +1,22 @@
 -- Several expressions, one after another.
-use Rattle.std.proofs.Common.{◌≡◌, ℕ, List, [], ◌∷◌, ◌++◌, drop, refl, ap, sym, ◌∙◌, append_assoc, Vec, Global}
+use Rattle.std.proofs.Common.{◌≡◌, ℕ, List, [], ◌∷◌, ◌++◌, drop, refl, ap, sym, ◌∙◌, append_assoc, Err, Vec, Global}
 use Rattle.std.proofs.lemmas.List.{append-nil}
 use Rattle.std.specs.declared.sync.Arc.{Arc}
 use Rattle.std.specs.Arc.{arc_value}
 use Rattle.meaning.specs.declared.val.Val.{Val}
 use Rattle.tree.specs.declared.expr.Expr.{Expr}
 use Rattle.tree.specs.View.{tree_of, trees_of}
-use Rattle.language.specs.World.{World, Here, Ends, ended, failed, waits, Runs, then_runs, pure}
+use Rattle.language.specs.World.{World, Site, Here, Ends, ended, failed, waits, Runs, then_runs, pure}
 use Rattle.language.specs.Environment.{Env}
 use Rattle.language.specs.Expressions.{values}
 use Rattle.language.specs.Calls.{call}
+use Rattle.heap.specs.declared.halt.Halt.{Halt}
+use Rattle.heap.specs.declared.halt.Halt.TheVariants.{Code, Memory}
+use Rattle.names.specs.View.{RanItems}
+use Rattle.frames.specs.declared.frame.Control.{Control}
 use Rattle.frames.specs.declared.frame.Frame.{Frame}
 use Rattle.frames.specs.declared.frame.Purpose.{Purpose}
-use Rattle.frames.specs.Frames.{Sig, a_value, on, ex, valued, above, stack_does, use_items, items_from}
+use Rattle.frames.specs.Frames.{Sig, a_value, Goes, on, ex, valued, above, stack_does, use_items, items_from}
 
 more_items : {B : Type 0} (m : Ends (List Val)) (v : Val) (done : List Val) (k : List Val → Runs Val) (p : Val → Runs Sig) (j : Sig → Runs B) → then_runs (then_runs (then_runs (then_runs m (λ xs. pure (v ∷ xs))) (λ xs. k (done ++ xs))) p) j ≡ then_runs (then_runs (then_runs m (λ xs. k ((done ++ v ∷ []) ++ xs))) p) j
 more_items (ended xs u) v done k p j = ap (λ l. then_runs (then_runs (k l u) p) j) (sym (append_assoc done (v ∷ []) xs))
@@ -23,6 +27,11 @@ first_item : {B : Type 0} (m : Ends Val) (rest : Runs (List Val)) (done : List V
 first_item (ended v w) rest done k p j = more_items (rest w) v done k p j
 first_item (failed c site) rest done k p j = refl
 first_item (waits ps) rest done k p j = refl
+
+-- items that stop
+pub items_stop : (m : Ends (List Val)) (k : List Val → Runs Val) (p : Val → Runs Sig) (j : Sig → Runs Sig) (site : Site) (halt : Halt) (u : World) (after : Control → Ends Sig) → RanItems site m (Err halt) u → Goes site (then_runs (then_runs (then_runs m k) p) j) (Err halt) after
+items_stop m k p j site (Code c) u after h = ap (λ q. then_runs (then_runs (then_runs q k) p) j) h
+items_stop m k p j site Memory u after h = tt
 
 module _ (env : Env) (n : ℕ) (here : Here) (line : ℕ) (p : Purpose) (frames : List Frame) (w : World) where
   pub item_first : (e : Expr) (rest : List Expr) (done : List Val) → above env n here (valued (items_from env n here p (trees_of (e ∷ rest)) done line)) frames w ≡ then_runs (ex env n here (tree_of e) line w) (λ v. above env n here (valued (items_from env n here p (trees_of rest) (done ++ v ∷ []) line)) frames)

@@ -16,6 +16,7 @@ use Rattle.language.specs.Statements as s
 use Rattle.language.specs.Statements.{goes_on, unless_over, after_turn, turns, exec, suite}
 use Rattle.language.specs.Calls.{call}
 use Rattle.names.specs.View.{Ran}
+use Rattle.quiet.specs.Done.{Done}
 use Rattle.frames.specs.declared.frame.Frame.{Frame}
 use Rattle.frames.specs.declared.frame.Control.{Control}
 use Rattle.frames.specs.Frames.{Sig, Goes, an_exit, on_exit, body, exited, above, stack_does}
@@ -34,6 +35,19 @@ module _ (env : Env) (n : ℕ) (here : Here) (frames : List Frame) (w : World) w
       ∙ through e (rest (arc_value ss)) p (stack_does env n here frames) an_exit (on_exit here (λ exit. exited (rest (arc_value ss) exit))) (λ x u. refl)
       ∙ ap (λ (v : Vec Stmt Global). then_runs (then_runs e p) (λ sig u. then_runs (on_exit here (λ exit. exited (rest v exit)) sig u) (stack_does env n here frames))) (sym same)
       ∙ ap (λ i. then_runs (then_runs e p) i) (sym pushed)
+
+  -- the statements from a place on, of which the first is done
+  pub stmt_done : (ss : List Stmt) (st : Stmt) (k m : ℕ) (u : World) → drop k ss ≡ st ∷ drop m ss → exec env (call env n) (stmt_of st) here w ≡ ended goes_on u → above env n here (exited (body env n here (stmts_of (drop k ss)))) frames w ≡ above env n here (exited (body env n here (stmts_of (drop m ss)))) frames u
+  stmt_done ss st k m u first done =
+      ap (λ (l : List Stmt). above env n here (exited (body env n here (stmts_of l))) frames w) first
+      ∙ ap (λ q. then_runs (then_runs (then_runs q (λ x. unless_over x (body env n here (stmts_of (drop m ss))))) (λ x. pure (an_exit x))) (stack_does env n here frames)) done
+
+  -- and of which the first stops
+  pub stmt_stops : (ss : List Stmt) (st : Stmt) (k m : ℕ) (site : Site) (halt : Halt) (u : World) (after : Control → Ends Sig) → drop k ss ≡ st ∷ drop m ss → Done site (exec env (call env n) (stmt_of st) here w) (Err halt) u → Goes site (above env n here (exited (body env n here (stmts_of (drop k ss)))) frames w) (Err halt) after
+  stmt_stops ss st k m site (Code c) u after first stops =
+      ap (λ (l : List Stmt). above env n here (exited (body env n here (stmts_of l))) frames w) first
+      ∙ ap (λ q. then_runs (then_runs (then_runs q (λ x. unless_over x (body env n here (stmts_of (drop m ss))))) (λ x. pure (an_exit x))) (stack_does env n here frames)) stops
+  stmt_stops ss st k m site Memory u after first stops = tt
 
   -- a turn, whose target is aimed at above a frame that then stores in it
   pub turn_begins : (m : Ends ta.Aim) (sb : ta.Aim → Runs s.Exit) (behind : s.Exit → Runs s.Exit) (unl : s.Exit → Runs s.Exit) (j : Sig → Runs Sig)

@@ -50,6 +50,7 @@ use Rattle.language.specs.Calls.{call, given}
 use Rattle.language.specs.Files.{keep_defaults}
 use Rattle.names.specs.View.{held, here_of}
 use Rattle.pieces.specs.View.{before, aim_of, gathered_of}
+pub use Rattle.quiet.specs.Done.{first_line, stmt_line}
 use Rattle.frames.specs.declared.frame.Exit.{Exit}
 use Rattle.frames.specs.declared.frame.Exit.TheVariants as x
 use Rattle.frames.specs.declared.frame.Signal.{Signal}
@@ -154,22 +155,6 @@ suite_from n ss = stmts_of (drop n (arc_value ss).items)
 
 abbrev pub branches_from : ℕ → Arc (Vec Branch Global) Global → Branches
 branches_from n bs = branch_trees (drop n (arc_value bs).items)
-
--- the line of a statement: that of its first branch
-abbrev pub first_line : Branches → ℕ
-first_line t.no_branches = 0
-first_line (t.more_branches (t.branch line condition ss) bs) = line
-
-abbrev pub stmt_line : t.St → ℕ
-stmt_line (t.pass line) = line
-stmt_line (t.break line) = line
-stmt_line (t.continue line) = line
-stmt_line (t.return line e) = line
-stmt_line (t.eval line e) = line
-stmt_line (t.assign line target e) = line
-stmt_line (t.augment line target op e) = line
-stmt_line (t.if_else bs ss) = first_line bs
-stmt_line (t.for_each line target e ss) = line
 
 -- the line of a statement of a file
 abbrev pub top_line : Tp → ℕ

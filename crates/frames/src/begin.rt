@@ -11,6 +11,7 @@ use crate::forms::{
     begin_list_of, begin_method, begin_slice, begin_unary, text_value,
 };
 use crate::frame::{Control, Frame, Purpose, Signal};
+use crate::once::at_once;
 use heap::{Halt, Val};
 use names::{Standing, State, read};
 use pieces::tick;
@@ -27,9 +28,27 @@ fn literal(word: Literal) -> Val
     }
 }
 
-/// Begins an expression.
-#[tactic(auto, unfolding(language::specs::World::tick))]
+/// Begins an expression: with its value at once, where nothing in it can wait.
 pub fn begin(
+    state: &mut State,
+    frames: &mut Vec<Frame>,
+    at: &Standing,
+    line: usize,
+    e: &Expr,
+) -> Result<Control, Halt>
+    ensures goes { (env : Env) (n : ℕ) (running : List (List ℕ × List ℕ)) → let here = here_of at.now at.now.line running in Goes (on env n here line).site (above env n here (valued (ex env n here (tree_of e.now) line)) frames.old.items (world_of state.old)) result (λ control. machine_does env n here control frames.new.items (world_of state.new)) }
+    ensures steps { IfOk result (λ _. state.new.heap.steps < state.old.heap.steps) }
+{
+    match at_once(state, at, e) {
+        Ok(Some(x)) => Ok(Control::Signal(Signal::Value(x))),
+        Ok(None) => begin_parts(state, frames, at, line, e),
+        Err(halt) => Err(halt),
+    }
+}
+
+/// Begins an expression with its first part.
+#[tactic(auto, unfolding(language::specs::World::tick))]
+pub fn begin_parts(
     state: &mut State,
     frames: &mut Vec<Frame>,
     at: &Standing,

@@ -16,8 +16,8 @@ use crate::handed::{
     branch_known, clause_known, default_done, entry_done, entry_gathered, index_done,
     member_gathered, slice_done,
 };
-use crate::items::begin_above;
-use crate::making::{clause_over, items_of, turns_over};
+use crate::items::{begin_above, begin_arguments};
+use crate::making::{clause_over, turns_over};
 use crate::once::{both_done, item_done};
 use crate::operands::{choose, entry_value, right_operand, slice_from, slice_to, unary_done};
 use crate::stack::push;
@@ -121,11 +121,11 @@ pub fn deliver_value(
         Frame::From(line, v, j) => slice_to(state, frames, at, line, v, x, &j),
         Frame::To(line, v, y) => slice_done(state, line, v, y, x),
         Frame::Called(line, es, names) => {
-            items_of(state.heap.alloc, line, es, Purpose::Call(x, names))
+            begin_arguments(state, at, line, &es, Purpose::Call(x, names))
         }
         Frame::On(line, name, es, names) => {
             let purpose = Purpose::Method(Receiver::Of(x), name, names);
-            items_of(state.heap.alloc, line, es, purpose)
+            begin_arguments(state, at, line, &es, purpose)
         }
         Frame::Container(line, i) => {
             begin_above(state, frames, at, Frame::Member(line, x), line, &i)

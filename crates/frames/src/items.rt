@@ -1,5 +1,5 @@
 //! How items and entries go on, and what they are for.
-ghost use Rattle.std.specs.Prelude.{◌≡◌, ◌<◌, ◌+◌, ◌≤◌, ℕ, List, length, IfOk};
+ghost use Rattle.std.specs.Prelude.{◌≡◌, ◌<◌, ◌+◌, ◌≤◌, ℕ, List, [], length, IfOk};
 ghost use Rattle.std.specs.List.{list_any};
 ghost use Rattle.std.specs.Arc.{arc_value};
 ghost use Rattle.meaning.specs.Builtins.{same_builtin};
@@ -11,18 +11,20 @@ ghost use Rattle.language.specs.Arguments.{plain_part, named_part};
 ghost use Rattle.language.specs.Calls.{call};
 ghost use Rattle.names.specs.View.{world_of, here_of};
 ghost use Rattle.tree.specs.View.{tree_of};
-ghost use Rattle.frames.specs.Frames.{Goes, on, ex, valued, a_value, use_items, items_from, entries_from, trees_from, receiver_of, frame_does, calls_below, here_below, above, machine_does};
+ghost use Rattle.frames.specs.Frames.{Goes, on, ex, valued, a_value, use_items, items_from, shared_trees, receiver_of, frame_does, calls_below, here_below, above, machine_does};
 ghost use Rattle.frames.specs.Weight.{Lighter, frames_weight, control_weight};
 ghost use Rattle.frames.specs.declared.frame.Control.TheVariants as c;
 ghost use Rattle.language.specs.World.{then_runs};
 
-use crate::begin::begin;
+use crate::begin::{begin, begin_parts};
 use crate::frame::{Control, Frame, Purpose, Receiver, Series, Signal};
+use crate::making::items_of;
 use crate::once::one_item;
 use crate::stack::push;
 use heap::{Builtin, Halt, Val};
 use names::{Standing, State, package_function};
-use pieces::{make_dict, make_list, make_tuple};
+use pieces::{make_list, make_tuple};
+use quiet::{are_quiet_at, values_at};
 use std::alloc::Global;
 use std::sync::Arc;
 use texts::Text;
@@ -97,6 +99,27 @@ fn use_items(state: &mut State, line: usize, xs: Vec<Val>, p: Purpose) -> Result
     }
 }
 
+/// Begins the arguments of a call, or its function where nothing in them can wait.
+pub fn begin_arguments(
+    state: &mut State,
+    at: &Standing,
+    line: usize,
+    es: &Arc<Vec<Expr>, Global>,
+    purpose: Purpose,
+) -> Result<Control, Halt>
+    ensures goes { (env : Env) (n : ℕ) (running : List (List ℕ × List ℕ)) (frames : List Frame) → let here = here_of at.now at.now.line running in Goes (on env n here line).site (above env n here (valued (items_from env n here purpose (shared_trees es.now) [] line)) frames (world_of state.old)) result (λ control. machine_does env n here control frames (world_of state.new)) }
+    ensures steps { IfOk result (λ _. state.new.heap.steps ≤ state.old.heap.steps) }
+    ensures light { IfOk result (λ control. control_weight control < 9) }
+{
+    if !are_quiet_at(state, at, es.as_slice()) {
+        return items_of(state.heap.alloc, line, Arc::try_clone(es)?, purpose);
+    }
+    match values_at(state, at, es.as_slice()) {
+        Ok(xs) => use_items(state, line, xs, purpose),
+        Err(halt) => Err(halt),
+    }
+}
+
 /// An expression that begins above a frame that waits for its value.
 pub fn begin_above(
     state: &mut State,
@@ -111,6 +134,22 @@ pub fn begin_above(
 {
     push(frames, frame)?;
     begin(state, frames, at, line, e)
+}
+
+/// The same, where the expression begins with its first part.
+pub fn parts_above(
+    state: &mut State,
+    frames: &mut Vec<Frame>,
+    at: &Standing,
+    frame: Frame,
+    line: usize,
+    e: &Expr,
+) -> Result<Control, Halt>
+    ensures goes { (env : Env) (n : ℕ) (running : List (List ℕ × List ℕ)) → let here = here_of at.now at.now.line running in calls_below frame n ≡ n → here_below frame here ≡ here → Goes (on env n here line).site (then_runs (ex env n here (tree_of e.now) line (world_of state.old)) (λ v. above env n here (frame_does env n here frame (a_value v)) frames.old.items)) result (λ control. machine_does env n here control frames.new.items (world_of state.new)) }
+    ensures steps { IfOk result (λ _. state.new.heap.steps < state.old.heap.steps) }
+{
+    push(frames, frame)?;
+    begin_parts(state, frames, at, line, e)
 }
 
 /// Goes on with several expressions.

@@ -1,11 +1,15 @@
 //! How suites, branches and loops go on.
-ghost use Rattle.std.specs.Prelude.{◌≡◌, ◌<◌, ◌+◌, ◌≤◌, ℕ, List, IfOk};
-ghost use Rattle.language.specs.World.{Here};
+ghost use Rattle.std.specs.Prelude.{◌≡◌, ◌<◌, ◌+◌, ◌≤◌, ℕ, List, length, IfOk};
+ghost use Rattle.std.specs.Arc.{arc_value};
+ghost use Rattle.tree.specs.View.{tree_of};
+ghost use Rattle.language.specs.World.{Here, then_runs};
+ghost use Rattle.language.specs.Targets.{to_name};
 ghost use Rattle.language.specs.Environment.{Env};
 ghost use Rattle.names.specs.View.{world_of, here_of};
-ghost use Rattle.frames.specs.Frames.{Goes, on, machine_does, suite_from, branches_from, suite_line, first_line};
+ghost use Rattle.frames.specs.Frames.{Goes, on, an_aim, aims_at, frame_does, above, machine_does, suite_from, branches_from, suite_line, first_line};
 ghost use Rattle.frames.specs.Weight.{Lighter, frames_weight, control_weight};
 ghost use Rattle.frames.specs.declared.frame.Control.TheVariants as c;
+ghost use Rattle.frames.specs.declared.frame.Frame.TheVariants as f;
 
 use crate::frame::{Control, Exit, Frame, Signal, Turns};
 use crate::items::begin_above;
@@ -13,12 +17,15 @@ use crate::making::next_turns;
 use crate::stack::push;
 use crate::statements::{begin_stmt, line_of};
 use crate::targets::begin_aim;
-use heap::Halt;
-use names::{Standing, State};
+use heap::{Halt, Val};
+use names::{Standing, State, bind};
 use pieces::{tick, unlock};
+use quiet::run;
 use std::alloc::Global;
 use std::sync::Arc;
-use tree::{Branch, Stmt};
+use std::sync::atomic::AtomicUsize;
+use texts::Text;
+use tree::{Branch, Expr, Stmt};
 
 /// Goes on with a suite.
 pub fn next_stmt(
@@ -34,6 +41,30 @@ pub fn next_stmt(
     if next >= ss.len() {
         return Ok(Control::Signal(Signal::Exit(Exit::GoesOn)));
     }
+    let stmt = &ss[next];
+    match run(state, at, stmt) {
+        Ok(done) => {
+            if done {
+                return Ok(Control::Suite(ss, next + 1));
+            }
+            stmt_above(state, frames, at, ss, next)
+        }
+        Err(halt) => Err(halt),
+    }
+}
+
+// Begins a statement above a frame that waits for its end.
+fn stmt_above(
+    state: &mut State,
+    frames: &mut Vec<Frame>,
+    at: &Standing,
+    ss: Arc<Vec<Stmt>, Global>,
+    next: usize,
+) -> Result<Control, Halt>
+    requires { next < length (arc_value ss).items }
+    ensures goes { (env : Env) (n : ℕ) (running : List (List ℕ × List ℕ)) → let here = here_of at.now at.now.line running in Goes (on env n here (suite_line (suite_from next ss))).site (machine_does env n here (c.Suite ss next) frames.old.items (world_of state.old)) result (λ control. machine_does env n here control frames.new.items (world_of state.new)) }
+    ensures steps { IfOk result (λ _. state.new.heap.steps < state.old.heap.steps) }
+{
     let again = Arc::try_clone(&ss)?;
     push(frames, Frame::Rest(again, next + 1))?;
     let stmt = &ss[next];
@@ -88,6 +119,49 @@ pub fn next_turn(
     let line = now.line;
     let target = Arc::try_clone(&now.target)?;
     let next = next_turns(turns);
-    push(frames, Frame::Turn(next, value))?;
-    begin_aim(state, frames, at, line, &target)
+    aim_turn(state, frames, at, line, &target, next, value)
+}
+
+// Aims at the target of a turn. A name is bound at once, and the body is next.
+fn aim_turn(
+    state: &mut State,
+    frames: &mut Vec<Frame>,
+    at: &Standing,
+    line: usize,
+    target: &Expr,
+    turns: Box<Turns>,
+    x: Val,
+) -> Result<Control, Halt>
+    requires { line ≡ turns.value.line }
+    ensures goes { (env : Env) (n : ℕ) (running : List (List ℕ × List ℕ)) → let here = here_of at.now at.now.line running in Goes (on env n here line).site (then_runs (aims_at env n here (tree_of target.now) line (world_of state.old)) (λ a. above env n here (frame_does env n here (f.Turn turns x) (an_aim a)) frames.old.items)) result (λ control. machine_does env n here control frames.new.items (world_of state.new)) }
+    ensures steps { IfOk result (λ _. state.new.heap.steps ≤ state.old.heap.steps) }
+{
+    match target {
+        Expr::Name(name, last) => begin_named(state, frames, at, name, last, turns, x),
+        _ => {
+            push(frames, Frame::Turn(turns, x))?;
+            begin_aim(state, frames, at, line, target)
+        }
+    }
+}
+
+// Binds the name that a turn is for, and begins the body.
+fn begin_named(
+    state: &mut State,
+    frames: &mut Vec<Frame>,
+    at: &Standing,
+    name: &Text,
+    last: &AtomicUsize,
+    turns: Box<Turns>,
+    x: Val,
+) -> Result<Control, Halt>
+    ensures goes { (env : Env) (n : ℕ) (running : List (List ℕ × List ℕ)) → let here = here_of at.now at.now.line running in Goes (on env n here turns.value.line).site (above env n here (frame_does env n here (f.Turn turns x) (an_aim (to_name name.now))) frames.old.items (world_of state.old)) result (λ control. machine_does env n here control frames.new.items (world_of state.new)) }
+    ensures steps { state.new.heap ≡ state.old.heap }
+{
+    if let Err(halt) = bind(state, at, name, last, x) {
+        return Err(halt);
+    }
+    let body = Arc::try_clone(&turns.body)?;
+    push(frames, Frame::Turns(turns))?;
+    Ok(Control::Suite(body, 0))
 }

@@ -13,34 +13,27 @@ ghost use Rattle.frames.specs.Weight.{control_weight};
 ghost use Rattle.frames.specs.declared.frame.Frame.{Frame};
 
 use crate::frame::{Control, Frame, Series, Signal};
-use crate::items::begin_above;
+use crate::items::parts_above;
 use crate::stack::push;
 use heap::{Halt, Val};
-use names::{Standing, State, read};
-use pieces::{both, tick};
+use names::{Standing, State};
+use pieces::both;
+use quiet::{is_quiet_at, value_at};
 use std::alloc::Global;
 use std::sync::Arc;
 use tree::{BinaryOp, Expr};
 
-// The value of a name or a number; with another expression nothing is done.
-#[tactic(auto, unfolding(language::specs::World::tick))]
-fn at_once(state: &mut State, at: &Standing, e: &Expr) -> Result<Option<Val>, Halt>
+/// The value of an expression in which nothing can wait; with another one nothing is done.
+pub fn at_once(state: &mut State, at: &Standing, e: &Expr) -> Result<Option<Val>, Halt>
     ensures says { (env : Env) (n line : ℕ) (running : List (List ℕ × List ℕ)) → let here = here_of at.now at.now.line running in AtOnce (on env n here line).site (ex env n here (tree_of e.now) line (world_of state.old)) result (world_of state.new) }
     ensures costs { Costs result state.old state.new }
 {
-    match e {
-        Expr::Name(x, last) => {
-            tick(&mut state.heap)?;
-            match read(state, at, x, last) {
-                Ok(value) => Ok(Some(value)),
-                Err(halt) => Err(halt),
-            }
-        }
-        Expr::Int(n) => {
-            tick(&mut state.heap)?;
-            Ok(Some(Val::Int(*n)))
-        }
-        _ => Ok(None),
+    if !is_quiet_at(state, at, e) {
+        return Ok(None);
+    }
+    match value_at(state, at, e) {
+        Ok(x) => Ok(Some(x)),
+        Err(halt) => Err(halt),
     }
 }
 
@@ -69,7 +62,7 @@ pub fn one_item(
 {
     match at_once(state, at, e) {
         Ok(Some(x)) => item_done(line, series, x),
-        Ok(None) => begin_above(state, frames, at, Frame::Items(line, series), line, e),
+        Ok(None) => parts_above(state, frames, at, Frame::Items(line, series), line, e),
         Err(halt) => Err(halt),
     }
 }
@@ -98,7 +91,7 @@ pub fn second_operand(
 {
     match at_once(state, at, e) {
         Ok(Some(y)) => both_done(state, op, x, y),
-        Ok(None) => begin_above(state, frames, at, Frame::Both(line, op, x), line, e),
+        Ok(None) => parts_above(state, frames, at, Frame::Both(line, op, x), line, e),
         Err(halt) => Err(halt),
     }
 }

@@ -29,7 +29,7 @@ pub fn unary_done(state: &mut State, op: UnaryOp, x: Val) -> Result<Control, Hal
     ensures steps { IfOk result (λ _. state.new.heap.steps ≤ state.old.heap.steps) }
     ensures light { IfOk result (λ control. control_weight control ≡ 0) }
 {
-    match unary(state, op, x) {
+    match unary(&mut state.heap, op, x) {
         Ok(value) => Ok(Control::Signal(Signal::Value(value))),
         Err(halt) => Err(halt),
     }

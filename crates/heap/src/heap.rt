@@ -1,7 +1,7 @@
 //! The heap.
 ghost use Rattle.std.specs.Prelude.{◌≡◌, [], map, option_map, slice_get, IfOk, OnOk, OnErr, ◌+◌, ◌*◌, ◌-◌, ◌≤◌, nat_le};
 ghost use Rattle.meaning.specs.Outcome.{gives};
-ghost use Rattle.meaning.specs.Heap.{at, puts, makes, makes_text, makes_list, makes_tuple};
+ghost use Rattle.meaning.specs.Heap.{at, puts, makes, makes_text, makes_list, makes_tuple, makes_dict};
 ghost use Rattle.heap.specs.Objects.{object_of};
 ghost use Rattle.heap.specs.View.{object_in, store_of, Says};
 ghost use Rattle.heap.specs.Gone.{IsGone};
@@ -10,7 +10,8 @@ ghost use Rattle.heap.specs.Held.{most_held, object_bytes, place_bytes, Counted}
 use crate::halt::Halt;
 use crate::heap_object::HeapObject;
 use crate::object::{ENTRY, MEMBER, Object, shape_of, size_of};
-use meaning::{Bytes, Val};
+use indexmap::IndexMap;
+use meaning::{Bytes, Entry, Key, Val};
 use std::alloc::Global;
 use texts::Memory;
 
@@ -25,7 +26,7 @@ pub const DEEPEST: u32 = 64;
 pub const MOST_HELD: u64 = 268_435_456;
 
 // So many bytes are held before it is first looked for objects that are reached no more.
-const FIRST_FULL: u64 = 16_777_216;
+const FIRST_FULL: u64 = 8_388_608;
 
 /// What the values of an evaluation stand on: the objects, the places of those that are iterated, and the steps that
 /// are left.
@@ -225,6 +226,18 @@ impl Heap {
             return Err(Halt::Code(13));
         }
         let made = self.make(Object::Tuple(members))?;
+        Ok(made)
+    }
+
+    /// A new dictionary, or fault 13.
+    pub fn make_dict(&mut self, entries: IndexMap<Key, Entry>) -> Result<Val, Halt>
+        ensures { Says (makes_dict entries.entries (store_of self.old)) result (store_of self.new) }
+    {
+        if entries.len() > LONGEST {
+            return Err(Halt::Code(13));
+        }
+        let entries = Box::new(self.alloc, entries)?;
+        let made = self.make(Object::Dict(entries, false))?;
         Ok(made)
     }
 }

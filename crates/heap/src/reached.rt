@@ -23,10 +23,8 @@ pub struct Reached {
 impl Reached {
     /// Nothing is reached among the objects of a heap.
     pub fn new(alloc: Global, heap: &Heap) -> Result<Reached, Memory> {
-        let mut marks = Vec::with_capacity(alloc, heap.objects.len())?;
-        for _i in 0..heap.objects.len() {
-            marks.push(false)?;
-        }
+        let mut marks = Vec::new(alloc);
+        marks.resize(heap.objects.len(), false)?;
         Ok(Reached {
             marks,
             open: Vec::new(alloc),

@@ -41,7 +41,7 @@ impl Key {
         let mut text = String::from_str(alloc, directory)?;
         text.push_str(" ")?;
         text.push_str(pattern)?;
-        Ok(Key::Glob(Text::new(alloc, text.as_str())?))
+        Ok(Key::Glob(Text::from_string(alloc, text)?))
     }
 
     /// The same key, its text shared.

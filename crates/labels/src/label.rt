@@ -1,5 +1,5 @@
 //! Labels: names of targets and of module files.
-ghost use Rattle.std.specs.Prelude.{◌≡◌, ℕ, List, IfOk, IsTrue, IsErrOf, None, Some};
+ghost use Rattle.std.specs.Prelude.{◌≡◌, ℕ, List, IfOk, IsTrue, IsErrOf, None, Some, option_map};
 ghost use Rattle.std.specs.List.{after_last};
 ghost use Rattle.labels.specs.Labels as labels;
 ghost use Rattle.labels.specs.Paths.{is_path};
@@ -94,8 +94,38 @@ fn joined(alloc: Global, package_name: &str, name: &str) -> Result<Text, Memory>
     if package_name.is_empty() {
         return Text::new(alloc, name);
     }
-    let text = format!(in alloc; "{package_name}/{name}")?;
-    Text::new(alloc, text.as_str())
+    let room = package_name.len().saturating_add(name.len());
+    let mut path = String::with_capacity(alloc, room.saturating_add(1))?;
+    path.push_str(package_name)?;
+    path.push_str("/")?;
+    path.push_str(name)?;
+    Text::from_string(alloc, path)
+}
+
+// The text of the label of a target.
+fn written(alloc: Global, package_name: &str, name: &str) -> Result<Text, Memory>
+    ensures { IfOk result (λ t. t ≡ labels.label_text (record { package_name = package_name.now; name = name.now })) }
+{
+    let room = package_name.len().saturating_add(name.len());
+    let mut text = String::with_capacity(alloc, room.saturating_add(3))?;
+    text.push_str("//")?;
+    text.push_str(package_name)?;
+    text.push_str(":")?;
+    text.push_str(name)?;
+    Text::from_string(alloc, text)
+}
+
+/// The text of the label that `Label::read` gives, always `//P:T`, where only the text is wanted. Any other text is
+/// `Code15`.
+pub fn label_text(alloc: Global, text: &str, present: &str) -> Result<Text, BadLabel>
+    ensures ok { IfOk result (λ t. option_map labels.label_text (labels.label_of text.now present.now) ≡ Some t) }
+    ensures bad { IsErrOf result BadLabel.Code15 → labels.label_of text.now present.now ≡ None }
+{
+    let (package_name, name) = would_name(text, present);
+    if !is_target(package_name, name) {
+        return Err(BadLabel::Code15);
+    }
+    Ok(written(alloc, package_name, name)?)
 }
 
 /// A label: the name of a target in a package, and of the file at that name.
@@ -132,9 +162,8 @@ impl Label {
         if !is_target(package_name, name) {
             return Err(BadLabel::Code15);
         }
-        let text = format!(in alloc; "//{package_name}:{name}")?;
         Ok(Label {
-            text: Text::new(alloc, text.as_str())?,
+            text: written(alloc, package_name, name)?,
             package_name: Text::new(alloc, package_name)?,
             name: Text::new(alloc, name)?,
             file: joined(alloc, package_name, name)?,

@@ -4,5 +4,5 @@
 mod label;
 mod path;
 
-pub use label::{BadLabel, Label};
+pub use label::{BadLabel, Label, label_text};
 pub use path::{BadPath, Path, is_package_name, is_path};

@@ -33,7 +33,7 @@ fn text_of(alloc: Global, graph: &Graph, key: &Key) -> Result<Text, Memory>
     let mut out = Draft::new(alloc);
     write_package_held(alloc, &mut out, graph, key)?;
     let text = out.into_text();
-    Text::new(alloc, text.as_str())
+    Text::from_string(alloc, text)
 }
 
 // Returns the text of the first entry for a name.

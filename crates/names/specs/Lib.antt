@@ -3,3 +3,4 @@ pub mod Places
 pub mod Once
 pub mod MadeOnce
 pub mod Newest
+pub mod Scope

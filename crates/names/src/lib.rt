@@ -14,6 +14,8 @@ pub use blocks::slot_in;
 pub use keeping::KeptDefaults;
 pub use made::Made;
 pub use reaching::{reach_blocks, reach_names};
-pub use reading::{bind, is_native_name, read, slot};
-pub use state::{Attribute, Attributed, Block, FileNames, Kept, Slot, Standing, State, Target};
-pub use universal::package_function;
+pub use reading::{bind, is_native_name, read, read_in_scope, slot, slot_in_scope};
+pub use state::{
+    Attribute, Attributed, Block, FileNames, Kept, Scope, Slot, Standing, State, Target,
+};
+pub use universal::{is_native, package_function, plain_function};

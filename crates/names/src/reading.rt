@@ -2,12 +2,14 @@
 ghost use Rattle.std.specs.Prelude.{◌≡◌, ℕ, List, map};
 ghost use Rattle.language.specs.Names.{or_else, slot_among, file_slot, names_at, read, read_slot, read_universal, bind, bind_global, is_native_name};
 ghost use Rattle.names.specs.View.{world_of, here_of, held, names_of, Ran};
-ghost use Rattle.names.specs.declared.state.State.{State};
+ghost use Rattle.names.specs.Scope.{world_in};
+ghost use Rattle.meaning.specs.Heap.{Store};
+ghost use Rattle.module_values.specs.Values.{Target};
 ghost use Rattle.language.specs.World.{World};
 ghost use Rattle.tree.specs.Tree as tree;
 
 use crate::blocks::{bind_among, bind_in, file_at, slot_among, slot_in};
-use crate::state::{FileNames, Standing, State};
+use crate::state::{FileNames, Scope, Standing, State};
 use crate::universal::{is_native, universal};
 use heap::{Halt, Val};
 use std::sync::atomic::AtomicUsize;
@@ -23,19 +25,31 @@ fn file_slot(files: &[FileNames], label: &Text, x: &Text, last: &AtomicUsize) ->
     }
 }
 
+/// What a name is in a scope: one of the blocks, else a global of the file; `last` is where it was found last.
+pub fn slot_in_scope(scope: &Scope<'_>, x: &Text, last: &AtomicUsize) -> Option<Option<Val>>
+    ensures { result ≡ or_else (slot_among x.now (map held scope.now.blocks.now)) (file_slot x.now (names_at scope.now.at.now.label (map names_of scope.now.files.now))) }
+{
+    match slot_among(scope.blocks, x, last) {
+        Some(value) => Some(value),
+        None => file_slot(scope.files, &scope.at.label, x, last),
+    }
+}
+
 /// What a name is where it stands: one of the blocks, else a global of the file; `last` is where it was found last.
 pub fn slot(state: &State, at: &Standing, x: &Text, last: &AtomicUsize) -> Option<Option<Val>>
     ensures { result ≡ or_else (slot_among x.now (map held state.now.blocks.items)) (file_slot x.now (names_at at.now.label (map names_of state.now.files.items))) }
 {
-    match slot_among(state.blocks.as_slice(), x, last) {
-        Some(value) => Some(value),
-        None => file_slot(state.files.as_slice(), &at.label, x, last),
-    }
+    let scope = Scope {
+        blocks: state.blocks.as_slice(),
+        files: state.files.as_slice(),
+        at,
+    };
+    slot_in_scope(&scope, x, last)
 }
 
 // The value of a universal name.
 fn read_universal(at: &Standing, x: &Text) -> Result<Val, Halt>
-    ensures { (line : ℕ) (running : List (List ℕ × List ℕ)) (state : State) → let here = here_of at.now line running in Ran here.site (read_universal x.now here (world_of state)) result (world_of state) }
+    ensures { (line : ℕ) (running : List (List ℕ × List ℕ)) (w : World) → let here = here_of at.now line running in Ran here.site (read_universal x.now here w) result w }
 {
     if is_native(at.kind, x) {
         return Err(Halt::Code(5));
@@ -46,15 +60,27 @@ fn read_universal(at: &Standing, x: &Text) -> Result<Val, Halt>
     }
 }
 
+/// The value of a name in a scope: fault 4 where it has none, and 5 for `native` that is not before a dot.
+pub fn read_in_scope(scope: &Scope<'_>, x: &Text, last: &AtomicUsize) -> Result<Val, Halt>
+    ensures { (line : ℕ) (running : List (List ℕ × List ℕ)) (store : Store) (targets : List Target) → let here = here_of scope.now.at.now line running in let w = world_in store scope.now targets in Ran here.site (read x.now here w) result w }
+{
+    match slot_in_scope(scope, x, last) {
+        Some(Some(value)) => Ok(value),
+        Some(None) => Err(Halt::Code(4)),
+        None => read_universal(scope.at, x),
+    }
+}
+
 /// The value of a name: fault 4 where it has none, and 5 for `native` that is not before a dot.
 pub fn read(state: &State, at: &Standing, x: &Text, last: &AtomicUsize) -> Result<Val, Halt>
     ensures { (line : ℕ) (running : List (List ℕ × List ℕ)) → let here = here_of at.now line running in Ran here.site (read x.now here (world_of state.now)) result (world_of state.now) }
 {
-    match slot(state, at, x, last) {
-        Some(Some(value)) => Ok(value),
-        Some(None) => Err(Halt::Code(4)),
-        None => read_universal(at, x),
-    }
+    let scope = Scope {
+        blocks: state.blocks.as_slice(),
+        files: state.files.as_slice(),
+        at,
+    };
+    read_in_scope(&scope, x, last)
 }
 
 /// Whether a name is the `native` of .bzl files.

@@ -86,3 +86,11 @@ pub struct Standing {
     /// The first line of the function, or 0 at file level.
     pub line: usize,
 }
+
+/// Where a name is looked for: the blocks, the names of the files that are on the heap, and where the code stands.
+#[derive(Drop)]
+pub struct Scope<'a> {
+    pub blocks: &'a [Block],
+    pub files: &'a [FileNames],
+    pub at: &'a Standing,
+}

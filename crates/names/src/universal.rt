@@ -81,6 +81,13 @@ fn first_named(x: &Text, functions: &[Builtin]) -> Option<Builtin>
     None
 }
 
+/// The function with a name that every file has.
+pub fn plain_function(x: &Text) -> Option<Builtin>
+    ensures { result ≡ first_named x.now plain_functions }
+{
+    first_named(x, &PLAIN)
+}
+
 /// The package call with a name.
 pub fn package_function(x: &Text) -> Option<Builtin>
     ensures { result ≡ first_named x.now package_functions }
@@ -93,11 +100,11 @@ pub fn universal(kind: FileKind, x: &Text) -> Option<Builtin>
     ensures { result ≡ universal kind x.now }
 {
     match kind {
-        FileKind::Build => match first_named(x, &PLAIN) {
+        FileKind::Build => match plain_function(x) {
             Some(f) => Some(f),
             None => package_function(x),
         },
-        FileKind::Bzl => first_named(x, &PLAIN),
+        FileKind::Bzl => plain_function(x),
     }
 }
 

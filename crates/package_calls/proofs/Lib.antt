@@ -7,3 +7,4 @@ pub mod Gathering
 pub mod Asking
 pub mod Ruled
 pub mod Within
+pub mod Spelled

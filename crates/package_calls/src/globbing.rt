@@ -250,5 +250,5 @@ fn question(alloc: Global, directories: bool, pattern: &Text) -> Result<Text, Me
     }
     let mut text = String::from_str(alloc, pattern.as_str())?;
     text.push_str(" dirs")?;
-    Text::new(alloc, text.as_str())
+    Text::from_string(alloc, text)
 }

@@ -7,7 +7,7 @@ ghost use Rattle.language.specs.Rules.{label_in};
 ghost use Rattle.heap.specs.View.{Checks};
 
 use heap::{Bytes, Halt};
-use labels::{BadLabel, Label};
+use labels::{BadLabel, label_text};
 use pattern::{BadPattern, Pattern};
 use std::alloc::Global;
 use texts::Text;
@@ -23,17 +23,15 @@ pub fn is_path(bytes: &[u8]) -> bool
 }
 
 /// The text of a label that is read in a package, or fault 15.
+#[tactic(auto, using(crate::proofs::Spelled::spelled, crate::proofs::Spelled::misspelled))]
 pub fn label_in(alloc: Global, package_name: &Text, bytes: &[u8]) -> Result<Bytes, Halt>
     ensures { Checks (label_in package_name.now bytes.now) result }
 {
     let Ok(text) = std::str::from_utf8(bytes) else {
         return Err(Halt::Code(15));
     };
-    match Label::read(alloc, text, package_name.as_str()) {
-        Ok(label) => {
-            let text = label.text().share()?;
-            Ok(Bytes::of_text(text))
-        }
+    match label_text(alloc, text, package_name.as_str()) {
+        Ok(text) => Ok(Bytes::of_text(text)),
         Err(BadLabel::Code15) => Err(Halt::Code(15)),
         Err(BadLabel::Memory) => Err(Halt::Memory),
     }

@@ -52,11 +52,7 @@ pub fn make_dict(heap: &mut Heap, entries: IndexMap<Key, Entry>) -> Result<Val, 
     ensures says { Says (h.makes_dict entries.entries (store_of heap.old)) result (store_of heap.new) }
     ensures steps { IfOk result (λ _. heap.new.steps ≤ heap.old.steps) }
 {
-    if entries.len() > LONGEST {
-        return Err(Halt::Code(13));
-    }
-    let entries = Box::new(heap.alloc, entries)?;
-    heap.make(Object::Dict(entries, false))
+    heap.make_dict(entries)
 }
 
 /// `a[i]`

@@ -2,13 +2,12 @@
 ghost use Rattle.std.specs.Prelude.{◌≡◌, ◌≤◌, IfOk};
 ghost use Rattle.meaning.specs.Operators as o;
 ghost use Rattle.meaning.specs.Binary.{binary};
-ghost use Rattle.language.specs.World.{Here};
+ghost use Rattle.language.specs.World.{Here, World};
 ghost use Rattle.heap.specs.View.{store_of, Says};
 ghost use Rattle.language.specs.Expressions as e;
-ghost use Rattle.names.specs.View.{world_of, Ran};
+ghost use Rattle.names.specs.View.{Ran};
 
 use heap::{Halt, Heap, Operator, Val};
-use names::State;
 use texts::Memory;
 use tree::{BinaryOp, UnaryOp};
 
@@ -20,14 +19,14 @@ pub fn is_true(heap: &Heap, x: Val) -> Result<bool, Memory>
 }
 
 /// An operator before an operand.
-pub fn unary(state: &mut State, op: UnaryOp, x: Val) -> Result<Val, Halt>
-    ensures says { (here : Here) → Ran here.site (e.unary op x here (world_of state.old)) result (world_of state.new) }
-    ensures steps { IfOk result (λ _. state.new.heap.steps ≤ state.old.heap.steps) }
+pub fn unary(heap: &mut Heap, op: UnaryOp, x: Val) -> Result<Val, Halt>
+    ensures says { (here : Here) (w : World) → Ran here.site (e.unary op x here (record w { store = store_of heap.old })) result (record w { store = store_of heap.new }) }
+    ensures steps { IfOk result (λ _. heap.new.steps ≤ heap.old.steps) }
 {
     match op {
-        UnaryOp::Not => Ok(Val::Bool(!is_true(&state.heap, x)?)),
-        UnaryOp::Plus => values::plus(&mut state.heap, x),
-        UnaryOp::Minus => values::negate(&mut state.heap, x),
+        UnaryOp::Not => Ok(Val::Bool(!is_true(heap, x)?)),
+        UnaryOp::Plus => values::plus(heap, x),
+        UnaryOp::Minus => values::negate(heap, x),
     }
 }
 

@@ -1,5 +1,6 @@
 //! A shared text.
 ghost use Rattle.std.specs.Prelude.{◌≡◌, nat_eq, IfOk, IsTrue, Some, refl};
+ghost use Rattle.std.specs.String.{string_bytes};
 ghost use Rattle.std.specs.Hash as fed;
 ghost use Rattle.std.proofs.Common.{rules};
 ghost use Rattle.std.specs.Cmp.{partial_equiv_from_equiv, partial_order_from_own_ties};
@@ -36,6 +37,14 @@ impl Text {
         ensures { IfOk result (λ t. t ≡ text.now) }
     {
         let inner = Arc::new(alloc, String::from_str(alloc, text)?)?;
+        Ok(Text { inner })
+    }
+
+    /// The text of a string, whose bytes are taken over and not copied.
+    pub fn from_string(alloc: Global, text: String) -> Result<Text, Memory>
+        ensures { IfOk result (λ t. t ≡ string_bytes text) }
+    {
+        let inner = Arc::new(alloc, text)?;
         Ok(Text { inner })
     }
 

@@ -64,6 +64,6 @@ fn without_escapes(alloc: Global, bytes: &[u8]) -> Result<Text, Memory>
             out.push(char::from(*b))?;
         }
     }
-    let text = Text::new(alloc, out.as_str())?;
+    let text = Text::from_string(alloc, out)?;
     Ok(text)
 }

@@ -120,7 +120,7 @@ fn add_under(alloc: Global, all: &mut Vec<Text>, name: &Text, paths: &[Text]) ->
 {
     for path in paths {
         let text = format!(in alloc; "{}/{}", name.as_str(), path.as_str())?;
-        all.push(Text::new(alloc, text.as_str())?)?;
+        all.push(Text::from_string(alloc, text)?)?;
     }
     Ok(())
 }

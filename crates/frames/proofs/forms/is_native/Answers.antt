@@ -3,7 +3,7 @@ use Rattle.language.specs.Names.{is_native_name}
 use Rattle.tree.specs.Tree.{Ex}
 use Rattle.tree.specs.View.{tree_of}
 use Rattle.names.specs.View.{world_of, here_of}
-use Rattle.frames.proofs.Trees.{tree-Name}
+use Rattle.quiet.proofs.Trees.{tree-Name}
 use Rattle.frames.proofs.forms.is_native.Goals as goal
 
 pub returns-in-Name : goal.returns-in-Name

@@ -12,7 +12,7 @@ use Rattle.names.specs.View.{world_of, here_of}
 use Rattle.frames.specs.declared.frame.Control.{Control}
 use Rattle.frames.specs.declared.frame.Frame.TheVariants as f
 use Rattle.frames.specs.Frames.{Sig, an_aim, an_exit, Goes, on, aims_at, aimed, assigned, above, stack_does, machine_does}
-use Rattle.frames.proofs.Trees.{tree-Name}
+use Rattle.quiet.proofs.Trees.{tree-Name}
 use Rattle.frames.specs.Weight.{aim_size, frames_weight, control_weight}
 use Rattle.frames.proofs.Bind.{under, handed, lighten}
 use Rattle.frames.proofs.handing.assign.Goals as goal

@@ -221,3 +221,17 @@ returns-in-Only-clause-goes c = λ env n running.
     let frames = c.args.frames.now.items in
     let after = λ (control : Control). machine_does env n here control frames (world_of c.args.state.now) in
     subst (λ (fr : Frame). Goes (on env n here (frame_line c.args.at.now.line fr)).site (above env n here (frame_does env n here fr (a_value c.args.x)) frames w) c.clause_known.result after) (sym c.in-Only.is) (c.clause_known.ensures.goes env n here frames)
+
+pub returns-in-Called-clause-goes : goal.returns-in-Called-clause-goes
+returns-in-Called-clause-goes c = λ env n running.
+    let here = here_of c.args.at.now c.args.at.now.line running in
+    let frames = c.args.frames.now.items in
+    let after = λ (control : Control). machine_does env n here control frames (world_of c.begin_arguments.new.state) in
+    subst (λ (fr : Frame). Goes (on env n here (frame_line c.args.at.now.line fr)).site (above env n here (frame_does env n here fr (a_value c.args.x)) frames (world_of c.args.state.now)) c.begin_arguments.result after) (sym c.in-Called.is) (c.begin_arguments.ensures.goes env n running frames)
+
+pub returns-in-On-clause-goes : goal.returns-in-On-clause-goes
+returns-in-On-clause-goes c = λ env n running.
+    let here = here_of c.args.at.now c.args.at.now.line running in
+    let frames = c.args.frames.now.items in
+    let after = λ (control : Control). machine_does env n here control frames (world_of c.begin_arguments-in-On.new.state) in
+    subst (λ (fr : Frame). Goes (on env n here (frame_line c.args.at.now.line fr)).site (above env n here (frame_does env n here fr (a_value c.args.x)) frames (world_of c.args.state.now)) c.begin_arguments-in-On.result after) (sym c.in-On.is) (c.begin_arguments-in-On.ensures.goes env n running frames)

@@ -16,9 +16,9 @@ use Rattle.names.specs.View.{world_of, here_of}
 use Rattle.frames.specs.declared.frame.Control.{Control}
 use Rattle.frames.specs.declared.frame.Turns.{Turns}
 use Rattle.frames.specs.declared.frame.Frame.TheVariants as f
-use Rattle.frames.specs.Frames.{Sig, an_aim, an_exit, Goes, on, body, exited, aims_at, turn_of, turns_behind, above, machine_does, stack_does, shared_suite}
+use Rattle.frames.specs.Frames.{Sig, an_aim, frame_does, an_exit, Goes, on, body, exited, aims_at, turn_of, turns_behind, above, machine_does, stack_does, shared_suite}
 use Rattle.frames.proofs.Suites.{turn_begins, turn_stops}
-use Rattle.frames.proofs.Bind.{handed, tick_ends, tick_is}
+use Rattle.frames.proofs.Bind.{tick_ends, tick_is}
 use Rattle.frames.proofs.loops.next_turn.Goals as goal
 
 pub returns-in-Err-clause-goes : goal.returns-in-Err-clause-goes
@@ -70,7 +70,6 @@ returns-clause-goes c = λ env n running.
     ∙ ap (λ q. then_runs (then_runs (then_runs (then_runs (then_runs q (λ _. aims_at env n here target u.line >>= sb)) behind) unl) p) j) (tick_ends h w (store_of c.tick.new.heap) c.in_default.ensures.says)
     ∙ turn_begins env n here frames w (aims_at env n here target u.line ticked) sb behind unl j
     ∙ ap (λ (d : Turns). then_runs (aims_at env n here target u.line ticked) (λ a. above env n here (exited ((store a v (on env n here d.line) >>= λ _. body env n here (shared_suite d.body)) >>= turns_behind env n here d)) frames)) (sym (c.next_turns-next.ensures ∙ ap (λ (d : Turns). record d { next = d.next + 1 }) (sym c.deref-now.ensures)))
-    ∙ handed env n here (f.Turn c.next_turns-next.result v) frames c.push.new.frames.items an_aim (aims_at env n here target u.line ticked) (c.in_ok-push.ensures.ok env n here) refl refl
-    ∙ ap (λ (d : Expr). above env n here (λ z. then_runs (aims_at env n here (tree_of d) u.line z) (λ a. pure (an_aim a))) c.push.new.frames.items ticked) (sym (c.deref.ensures ∙ c.in_ok-target.ensures)) in
-    let after = λ (control : Control). machine_does env n here control c.begin_aim.new.frames.items (world_of c.begin_aim.new.state) in
-    subst (λ (d : Turns). Goes (on env n here d.line).site (above env n here (exited (turns_behind env n here d goes_on)) frames w) c.begin_aim.result after) c.deref-now.ensures (subst (λ (q : Ends Sig). Goes h.site q c.begin_aim.result after) (sym before) (c.begin_aim.ensures.goes env n running))
+    ∙ ap (λ (d : Expr). then_runs (aims_at env n here (tree_of d) u.line ticked) (λ a. above env n here (frame_does env n here (f.Turn c.next_turns-next.result v) (an_aim a)) frames)) (sym (c.deref.ensures ∙ c.in_ok-target.ensures)) in
+    let after = λ (control : Control). machine_does env n here control c.aim_turn.new.frames.items (world_of c.aim_turn.new.state) in
+    subst (λ (d : Turns). Goes (on env n here d.line).site (above env n here (exited (turns_behind env n here d goes_on)) frames w) c.aim_turn.result after) c.deref-now.ensures (subst (λ (q : Ends Sig). Goes h.site q c.aim_turn.result after) (sym before) (c.aim_turn.ensures.goes env n running))

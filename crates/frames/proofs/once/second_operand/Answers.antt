@@ -38,9 +38,9 @@ returns-in-Ok-None-clause-goes c = λ env n running.
     let frames = c.args.frames.now.items in
     let m = ex env n here (tree_of c.args.e.now) line w in
     let behind = λ (y : Val). above env n here (valued (on_heap h (binary (operator_of c.args.op) c.args.x y))) frames in
-    let after = λ (control : Control). machine_does env n here control c.begin_above.new.frames.items (world_of c.begin_above.new.state) in
+    let after = λ (control : Control). machine_does env n here control c.parts_above.new.frames.items (world_of c.parts_above.new.state) in
     let same : c.at_once.new.state ≡ c.args.state.now = subst (λ (o : Option Val). Costs (Ok o) c.args.state.now c.at_once.new.state) c.in-Ok-None.field-0-is c.in-Ok-None.ensures.costs in
-    subst (λ (s : State). Goes h.site (then_runs (ex env n here (tree_of c.args.e.now) line (world_of s)) behind) c.begin_above.result after) same (c.begin_above.ensures.goes env n running refl refl)
+    subst (λ (s : State). Goes h.site (then_runs (ex env n here (tree_of c.args.e.now) line (world_of s)) behind) c.parts_above.result after) same (c.parts_above.ensures.goes env n running refl refl)
 
 pub returns-in-Err-clause-goes : goal.returns-in-Err-clause-goes
 returns-in-Err-clause-goes c = λ env n running.

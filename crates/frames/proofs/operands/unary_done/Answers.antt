@@ -1,11 +1,19 @@
+use Rattle.std.proofs.Common.{ap}
+use Rattle.heap.specs.View.{store_of}
 use Rattle.language.specs.Expressions.{unary}
-use Rattle.language.specs.World.{pure}
+use Rattle.language.specs.World.{World, Ends, then_runs, pure}
 use Rattle.names.specs.View.{world_of}
 use Rattle.meaning.specs.declared.val.Val.{Val}
 use Rattle.frames.specs.Frames.{a_value, on, stack_does}
 use Rattle.frames.proofs.Operated.{stops}
 use Rattle.frames.proofs.operands.unary_done.Goals as goal
 
+pub returns-in-Ok-clause-goes : goal.returns-in-Ok-clause-goes
+returns-in-Ok-clause-goes c = λ env n here line frames.
+    ap (λ (q : Ends Val). then_runs (then_runs q (λ v. pure (a_value v))) (stack_does env n here frames)) (c.in-Ok.ensures.says (on env n here line) (world_of c.args.state.now))
+
 pub returns-in-Err-clause-goes : goal.returns-in-Err-clause-goes
 returns-in-Err-clause-goes c = λ env n here line frames.
-    stops (unary c.args.op c.args.x (on env n here line) (world_of c.args.state.now)) (λ (v : Val). pure (a_value v)) (stack_does env n here frames) (on env n here line).site c.in-Err.halt (world_of c.unary.new.state) _ (c.in-Err.ensures.says (on env n here line))
+    let w = world_of c.args.state.now in
+    let u : World = record w { store = store_of c.unary.new.heap } in
+    stops (unary c.args.op c.args.x (on env n here line) w) (λ (v : Val). pure (a_value v)) (stack_does env n here frames) (on env n here line).site c.in-Err.halt u _ (c.in-Err.ensures.says (on env n here line) w)

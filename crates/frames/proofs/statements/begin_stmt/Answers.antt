@@ -13,7 +13,7 @@ use Rattle.language.specs.Statements.{exec, augment, present, changed, goes_on}
 use Rattle.language.specs.Calls.{call}
 use Rattle.names.specs.View.{world_of, here_of}
 use Rattle.frames.specs.Frames.{an_exit, on, ex, aims_at, exited, above, stack_does, stmt_line}
-use Rattle.frames.proofs.Trees.{stmt-Augment}
+use Rattle.quiet.proofs.Trees.{stmt-Augment}
 use Rattle.frames.proofs.Bind.{under, tick_ends}
 use Rattle.frames.proofs.Clauses.{went}
 use Rattle.frames.proofs.statements.begin_stmt.Goals as goal

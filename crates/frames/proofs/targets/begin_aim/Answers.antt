@@ -8,7 +8,7 @@ use Rattle.language.specs.Targets as ta
 use Rattle.language.specs.Targets.{to_member}
 use Rattle.names.specs.View.{world_of, here_of}
 use Rattle.frames.specs.Frames.{Sig, an_aim, Goes, on, ex, aimed, aims_at, above, stack_does, machine_does}
-use Rattle.frames.proofs.Trees.{tree-Index}
+use Rattle.quiet.proofs.Trees.{tree-Index}
 use Rattle.frames.proofs.Bind.{under}
 use Rattle.frames.proofs.targets.begin_aim.Goals as goal
 

@@ -1,4 +1,5 @@
 use Rattle.std.proofs.Common.{◌≡◌, ◌++◌, ◌∙◌, ap}
+use Rattle.std.specs.String.{string_bytes}
 use Rattle.std.proofs.lemmas.Result.{IfOk-weaker}
 use Rattle.node.specs.Graphs.{record_at, present}
 use Rattle.answers.specs.Tokens.{tokens_of}
@@ -9,5 +10,5 @@ use Rattle.loader.proofs.publishing.text_of.Goals as goal
 pub returns : goal.returns
 returns c =
     let d = package_told c.args.key.now (present (record_at c.args.graph.now c.args.key.now)) in
-    IfOk-weaker c.new.result (λ t. t ≡ c.as_str.result.now) (λ t. t ≡ compact_text d)
-    (λ t is. is ∙ (c.as_str.ensures.value ∙ c.into_text-text.ensures.value d (c.in_ok-write_package_held.ensures ∙ ap (λ ts. ts ++ tokens_of d) c.new-out.ensures))) c.new.ensures
+    IfOk-weaker c.from_string.result (λ t. t ≡ string_bytes c.into_text-text.result) (λ t. t ≡ compact_text d)
+    (λ t is. is ∙ c.into_text-text.ensures.value d (c.in_ok-write_package_held.ensures ∙ ap (λ ts. ts ++ tokens_of d) c.new-out.ensures)) c.from_string.ensures

@@ -4,7 +4,7 @@ use Rattle.names.proofs.Found.{first_append}
 use Rattle.names.proofs.universal.universal.Goals as goal
 
 pub returns-in-Some : goal.returns-in-Some
-returns-in-Some c = rw c.in-Build.is (sym (first_append c.args.x.now plain_functions package_functions ∙ ap (λ o. or_else o (first_named c.args.x.now package_functions)) (sym c.first_named.ensures ∙ c.in-Some.is)))
+returns-in-Some c = rw c.in-Build.is (sym (first_append c.args.x.now plain_functions package_functions ∙ ap (λ o. or_else o (first_named c.args.x.now package_functions)) (sym c.plain_function.ensures ∙ c.in-Some.is)))
 
 pub returns-in-None : goal.returns-in-None
-returns-in-None c = rw c.in-Build.is (c.package_function.ensures ∙ sym (first_append c.args.x.now plain_functions package_functions ∙ ap (λ o. or_else o (first_named c.args.x.now package_functions)) (sym c.first_named.ensures ∙ c.in-None.is)))
+returns-in-None c = rw c.in-Build.is (c.package_function.ensures ∙ sym (first_append c.args.x.now plain_functions package_functions ∙ ap (λ o. or_else o (first_named c.args.x.now package_functions)) (sym c.plain_function.ensures ∙ c.in-None.is)))

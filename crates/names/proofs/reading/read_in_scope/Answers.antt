@@ -1,0 +1,15 @@
+use Rattle.std.proofs.Common.{Some, sym, ap, ◌∙◌}
+use Rattle.language.specs.Names.{read_slot}
+use Rattle.names.specs.View.{here_of}
+use Rattle.names.specs.Scope.{world_in}
+use Rattle.names.proofs.Found.{read_is}
+use Rattle.names.proofs.reading.read_in_scope.Goals as goal
+
+pub returns-in-Some-Some : goal.returns-in-Some-Some
+returns-in-Some-Some c = λ line running store targets. let here = here_of c.args.scope.now.at.now line running in let w = world_in store c.args.scope.now targets in read_is c.args.x.now here w ∙ ap (λ o. read_slot o c.args.x.now here w) (sym c.slot_in_scope.ensures ∙ c.in-Some-Some.is ∙ ap (λ o. Some o) c.in-Some-Some.field-0-is)
+
+pub returns-in-Some-None : goal.returns-in-Some-None
+returns-in-Some-None c = λ line running store targets. let here = here_of c.args.scope.now.at.now line running in let w = world_in store c.args.scope.now targets in read_is c.args.x.now here w ∙ ap (λ o. read_slot o c.args.x.now here w) (sym c.slot_in_scope.ensures ∙ c.in-Some-None.is ∙ ap (λ o. Some o) c.in-Some-None.field-0-is)
+
+pub returns-in-None : goal.returns-in-None
+returns-in-None c = λ line running store targets. let here = here_of c.args.scope.now.at.now line running in let w = world_in store c.args.scope.now targets in rw (read_is c.args.x.now here w ∙ ap (λ o. read_slot o c.args.x.now here w) (sym c.slot_in_scope.ensures ∙ c.in-None.is)) (c.read_universal.ensures line running w)

@@ -1,0 +1,4 @@
+pub mod Size
+pub mod Trees
+pub mod Runs
+pub mod Plain

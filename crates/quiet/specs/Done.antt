@@ -1,0 +1,52 @@
+-- How far a statement leads that is run at once: it goes on, or stops at a fault; with another one nothing is done.
+use Rattle.std.specs.Prelude.{◌≡◌, ◌<◌, ◌≤◌, ℕ, Bool, true, false, Result, Ok, Err}
+use Rattle.meaning.specs.declared.val.Val.{Val}
+use Rattle.heap.specs.declared.halt.Halt.{Halt}
+use Rattle.heap.specs.declared.halt.Halt.TheVariants.{Code, Memory}
+use Rattle.tree.specs.declared.expr.BinaryOp.{BinaryOp}
+use Rattle.tree.specs.Tree as t
+use Rattle.tree.specs.Tree.{Ex, St, Branches}
+use Rattle.language.specs.World.{Site, World, Here, Ends, ended, failed, Runs, ◌>>=◌, pure, tick}
+use Rattle.language.specs.Environment.{Env}
+use Rattle.language.specs.Expressions.{Call, value}
+use Rattle.language.specs.Statements as s
+use Rattle.language.specs.Statements.{Exit, goes_on}
+use Rattle.names.specs.declared.state.State.{State}
+
+-- the line of a statement: that of its first branch
+abbrev pub first_line : Branches → ℕ
+first_line t.no_branches = 0
+first_line (t.more_branches (t.branch line condition ss) bs) = line
+
+abbrev pub stmt_line : St → ℕ
+stmt_line (t.pass line) = line
+stmt_line (t.break line) = line
+stmt_line (t.continue line) = line
+stmt_line (t.return line e) = line
+stmt_line (t.eval line e) = line
+stmt_line (t.assign line target e) = line
+stmt_line (t.augment line target op e) = line
+stmt_line (t.if_else bs ss) = first_line bs
+stmt_line (t.for_each line target e ss) = line
+
+abbrev pub Done : Site → Ends Exit → Result Bool Halt → World → Type 0
+Done site says (Ok true) w = says ≡ ended goes_on w
+Done site says (Ok false) w = Unit {0}
+Done site says (Err (Code c)) w = says ≡ failed c site
+Done site says (Err Memory) w = Unit {0}
+
+-- a statement that is done costs a step; where it is not, nothing was done
+abbrev pub Costs : Result Bool Halt → State → State → Type 0
+Costs (Ok true) old new = new.heap.steps < old.heap.steps
+Costs (Ok false) old new = new ≡ old
+Costs (Err halt) old new = Unit {0}
+
+-- a statement of each kind, with its step
+abbrev pub eval_does : Ex → Env → Call → Here → Runs Exit
+eval_does e env call here = tick here >>= λ _. value env call e here >>= λ _. pure goes_on
+
+abbrev pub assign_does : Ex → Ex → Env → Call → Here → Runs Exit
+assign_does target e env call here = tick here >>= λ _. s.assign env call target e here
+
+abbrev pub augment_does : Ex → BinaryOp → Ex → Env → Call → Here → Runs Exit
+augment_does target op e env call here = tick here >>= λ _. s.augment env call target op e here

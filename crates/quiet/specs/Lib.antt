@@ -1,0 +1,5 @@
+pub mod Quiet
+pub mod Making
+pub mod Parts
+pub mod View
+pub mod Done

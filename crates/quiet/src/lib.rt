@@ -1,0 +1,12 @@
+//! Expressions in which nothing can wait: no function of a file and no package call is called there, and no comprehension
+//! begins. They are evaluated without frames.
+#![tactic(auto)]
+
+mod evaluating;
+mod making;
+mod quiet;
+mod standing;
+mod statements;
+
+pub use standing::{are_quiet_at, is_quiet_at, value_at, values_at};
+pub use statements::run;

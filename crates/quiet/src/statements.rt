@@ -1,0 +1,190 @@
+//! Statements whose parts are quiet, run at once.
+ghost use Rattle.std.specs.Prelude.{◌≡◌, ◌≤◌, ℕ, List, IfOk};
+ghost use Rattle.heap.specs.View.{store_of};
+ghost use Rattle.language.specs.World.{Here, World, at_line};
+ghost use Rattle.language.specs.Environment.{Env};
+ghost use Rattle.language.specs.Expressions.{Call};
+ghost use Rattle.language.specs.Statements as s;
+ghost use Rattle.tree.specs.Tree as t;
+ghost use Rattle.tree.specs.Statements.{stmt_of};
+ghost use Rattle.tree.specs.View.{tree_of};
+ghost use Rattle.names.specs.View.{world_of, here_of, Ran};
+ghost use Rattle.quiet.specs.Done.{Done, Costs, stmt_line, eval_does, assign_does, augment_does};
+
+use crate::standing::{is_quiet_at, value_at};
+use heap::{Halt, Heap, Val};
+use names::{Standing, State, bind, read};
+use pieces::{add, both, set_index, tick};
+use std::sync::atomic::AtomicUsize;
+use texts::Text;
+use tree::{BinaryOp, Expr, Stmt};
+
+// What an augmented assignment makes of the present value and another.
+fn changed(heap: &mut Heap, op: BinaryOp, x: Val, y: Val) -> Result<Val, Halt>
+    ensures says { (here : Here) (w : World) → Ran here.site (s.changed op x y here (record w { store = store_of heap.old })) result (record w { store = store_of heap.new }) }
+    ensures steps { IfOk result (λ _. heap.new.steps ≤ heap.old.steps) }
+{
+    match op {
+        BinaryOp::Add => add(heap, x, y),
+        op => both(heap, op, x, y),
+    }
+}
+
+// An expression whose value is left.
+fn evaluate(state: &mut State, at: &Standing, e: &Expr) -> Result<bool, Halt>
+    ensures says { (env : Env) (call : Call) (line : ℕ) (running : List (List ℕ × List ℕ)) → let here = here_of at.now line running in Done here.site (eval_does (tree_of e.now) env call here (world_of state.old)) result (world_of state.new) }
+    ensures costs { Costs result state.old state.new }
+{
+    if !is_quiet_at(state, at, e) {
+        return Ok(false);
+    }
+    if let Err(halt) = tick(&mut state.heap) {
+        return Err(halt);
+    }
+    match value_at(state, at, e) {
+        Ok(_) => Ok(true),
+        Err(halt) => Err(halt),
+    }
+}
+
+// `x = e`
+fn assign_name(
+    state: &mut State,
+    at: &Standing,
+    x: &Text,
+    last: &AtomicUsize,
+    e: &Expr,
+) -> Result<bool, Halt>
+    ensures says { (env : Env) (call : Call) (line : ℕ) (running : List (List ℕ × List ℕ)) → let here = here_of at.now line running in Done here.site (assign_does (t.name x.now) (tree_of e.now) env call here (world_of state.old)) result (world_of state.new) }
+    ensures costs { Costs result state.old state.new }
+{
+    if !is_quiet_at(state, at, e) {
+        return Ok(false);
+    }
+    if let Err(halt) = tick(&mut state.heap) {
+        return Err(halt);
+    }
+    let value = match value_at(state, at, e) {
+        Ok(value) => value,
+        Err(halt) => return Err(halt),
+    };
+    match bind(state, at, x, last, value) {
+        Ok(()) => Ok(true),
+        Err(halt) => Err(halt),
+    }
+}
+
+// `a[i] = e`
+fn assign_member(
+    state: &mut State,
+    at: &Standing,
+    a: &Expr,
+    i: &Expr,
+    e: &Expr,
+) -> Result<bool, Halt>
+    ensures says { (env : Env) (call : Call) (line : ℕ) (running : List (List ℕ × List ℕ)) → let here = here_of at.now line running in Done here.site (assign_does (t.index (tree_of a.now) (tree_of i.now)) (tree_of e.now) env call here (world_of state.old)) result (world_of state.new) }
+    ensures costs { Costs result state.old state.new }
+{
+    if !is_quiet_at(state, at, e) || !is_quiet_at(state, at, a) || !is_quiet_at(state, at, i) {
+        return Ok(false);
+    }
+    if let Err(halt) = tick(&mut state.heap) {
+        return Err(halt);
+    }
+    let value = match value_at(state, at, e) {
+        Ok(value) => value,
+        Err(halt) => return Err(halt),
+    };
+    let container = match value_at(state, at, a) {
+        Ok(container) => container,
+        Err(halt) => return Err(halt),
+    };
+    let index = match value_at(state, at, i) {
+        Ok(index) => index,
+        Err(halt) => return Err(halt),
+    };
+    match set_index(&mut state.heap, container, index, value) {
+        Ok(()) => Ok(true),
+        Err(halt) => Err(halt),
+    }
+}
+
+// `x += e`, and so with the other operators.
+fn augment_name(
+    state: &mut State,
+    at: &Standing,
+    x: &Text,
+    last: &AtomicUsize,
+    op: BinaryOp,
+    e: &Expr,
+) -> Result<bool, Halt>
+    ensures says { (env : Env) (call : Call) (line : ℕ) (running : List (List ℕ × List ℕ)) → let here = here_of at.now line running in Done here.site (augment_does (t.name x.now) op (tree_of e.now) env call here (world_of state.old)) result (world_of state.new) }
+    ensures costs { Costs result state.old state.new }
+{
+    if !is_quiet_at(state, at, e) {
+        return Ok(false);
+    }
+    if let Err(halt) = tick(&mut state.heap) {
+        return Err(halt);
+    }
+    let present = match read(state, at, x, last) {
+        Ok(present) => present,
+        Err(halt) => return Err(halt),
+    };
+    let value = match value_at(state, at, e) {
+        Ok(value) => value,
+        Err(halt) => return Err(halt),
+    };
+    let made = match changed(&mut state.heap, op, present, value) {
+        Ok(made) => made,
+        Err(halt) => return Err(halt),
+    };
+    match bind(state, at, x, last, made) {
+        Ok(()) => Ok(true),
+        Err(halt) => Err(halt),
+    }
+}
+
+// An assignment, where the target is a name or an index.
+fn assign(state: &mut State, at: &Standing, target: &Expr, e: &Expr) -> Result<bool, Halt>
+    ensures says { (env : Env) (call : Call) (line : ℕ) (running : List (List ℕ × List ℕ)) → let here = here_of at.now line running in Done here.site (assign_does (tree_of target.now) (tree_of e.now) env call here (world_of state.old)) result (world_of state.new) }
+    ensures costs { Costs result state.old state.new }
+{
+    match target {
+        Expr::Name(x, last) => assign_name(state, at, x, last, e),
+        Expr::Index(a, i) => assign_member(state, at, a, i, e),
+        _ => Ok(false),
+    }
+}
+
+// An augmented assignment, where the target is a name.
+fn augment(
+    state: &mut State,
+    at: &Standing,
+    target: &Expr,
+    op: BinaryOp,
+    e: &Expr,
+) -> Result<bool, Halt>
+    ensures says { (env : Env) (call : Call) (line : ℕ) (running : List (List ℕ × List ℕ)) → let here = here_of at.now line running in Done here.site (augment_does (tree_of target.now) op (tree_of e.now) env call here (world_of state.old)) result (world_of state.new) }
+    ensures costs { Costs result state.old state.new }
+{
+    match target {
+        Expr::Name(x, last) => augment_name(state, at, x, last, op, e),
+        _ => Ok(false),
+    }
+}
+
+/// Runs a statement whose parts are quiet: an expression, an assignment to a name or an index, or an augmented assignment
+/// to a name. It is done, and the statement behind it is next; or it is another one, and nothing is done. The faults
+/// are those of the statement.
+pub fn run(state: &mut State, at: &Standing, stmt: &Stmt) -> Result<bool, Halt>
+    ensures says { (env : Env) (call : Call) (running : List (List ℕ × List ℕ)) → let here = here_of at.now at.now.line running in Done (at_line (stmt_line (stmt_of stmt.now)) here).site (s.exec env call (stmt_of stmt.now) here (world_of state.old)) result (world_of state.new) }
+    ensures costs { Costs result state.old state.new }
+{
+    match stmt {
+        Stmt::Eval(_, e) => evaluate(state, at, e),
+        Stmt::Assign(_, target, e) => assign(state, at, target, e),
+        Stmt::Augment(_, target, op, e) => augment(state, at, target, *op, e),
+        _ => Ok(false),
+    }
+}
