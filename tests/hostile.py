@@ -199,6 +199,7 @@ COSTS = {
     "20,000 lists that nothing reaches": (calling("    for i in range(20000): x = [0] * 65536\n"), one("s")),
     "2,000 lists in one expression, none of them reached": (
         calling("    x = [" + "len([0] * 65536), " * 2000 + "]\n"), one("s")),
+    "2,000 lists by the statements of one suite": (calling("    x = [0] * 65536\n" * 2000), one("s")),
     "2,000 lists that are reached": (calling("    x = [[0] * 65536 for i in range(2000)]\n"), "status 3, stop: memory"),
 }
 

@@ -5,6 +5,7 @@ ghost use Rattle.arithmetic.specs.Wide.{wide_value, IsNarrow, IsNonzero};
 ghost use Rattle.heap.specs.View.{Checks};
 
 use heap::{Halt, Val};
+use meaning::faults;
 
 /// A number: itself, or -1 less what is told.
 #[derive(Clone, Copy)]
@@ -43,13 +44,13 @@ fn narrow(x: Wide) -> Result<Val, Halt>
     match x {
         Wide::Up(n) => {
             if n > i64::MAX as u64 {
-                return Err(Halt::Code(9));
+                return Err(Halt::Code(faults::OVERFLOW));
             }
             Ok(Val::Int(n as i64))
         }
         Wide::Down(n) => {
             if n > i64::MAX as u64 {
-                return Err(Halt::Code(9));
+                return Err(Halt::Code(faults::OVERFLOW));
             }
             Ok(Val::Int(-(n as i64) - 1))
         }
@@ -85,7 +86,7 @@ pub fn divide(x: i64, y: i64) -> Result<Val, Halt>
     ensures { Checks (unless_zero y (floor_div x y)) result }
 {
     if y == 0 {
-        return Err(Halt::Code(10));
+        return Err(Halt::Code(faults::ZERO_DIVISOR));
     }
     narrow(quotient(x, widen(y)))
 }
@@ -108,7 +109,7 @@ pub fn remainder(x: i64, y: i64) -> Result<Val, Halt>
     ensures { Checks (unless_zero y (floor_rem x y)) result }
 {
     if y == 0 {
-        return Err(Halt::Code(10));
+        return Err(Halt::Code(faults::ZERO_DIVISOR));
     }
     narrow(rest(x, widen(y)))
 }

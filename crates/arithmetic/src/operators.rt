@@ -6,6 +6,7 @@ ghost use Rattle.heap.specs.View.{store_of, Says};
 
 use crate::numbers;
 use heap::{Halt, Heap, Object, Val, joined, repeated};
+use meaning::faults;
 use texts::Memory;
 
 /// `a + b`
@@ -13,9 +14,12 @@ pub fn add(heap: &mut Heap, a: Val, b: Val) -> Result<Val, Halt>
     ensures { Says (add a b (store_of heap.old)) result (store_of heap.new) }
 {
     match (a, b) {
-        (Val::Int(x), Val::Int(y)) => x.checked_add(y).map(Val::Int).ok_or(Halt::Code(9)),
+        (Val::Int(x), Val::Int(y)) => x
+            .checked_add(y)
+            .map(Val::Int)
+            .ok_or(Halt::Code(faults::OVERFLOW)),
         (Val::At(x), Val::At(y)) => join(heap, x, y),
-        _ => Err(Halt::Code(5)),
+        _ => Err(Halt::Code(faults::WRONG_TYPE)),
     }
 }
 
@@ -29,23 +33,23 @@ fn join(heap: &mut Heap, a: usize, b: usize) -> Result<Val, Halt>
                 let bytes = joined(heap.alloc, x.as_slice(), y.as_slice())?;
                 heap.make_text(bytes)
             }
-            _ => Err(Halt::Code(5)),
+            _ => Err(Halt::Code(faults::WRONG_TYPE)),
         },
         Some(Object::List(x, _)) => match heap.object(b)? {
             Some(Object::List(y, _)) => {
                 let members = joined(heap.alloc, x.as_slice(), y.as_slice())?;
                 heap.make_list(members)
             }
-            _ => Err(Halt::Code(5)),
+            _ => Err(Halt::Code(faults::WRONG_TYPE)),
         },
         Some(Object::Tuple(x)) => match heap.object(b)? {
             Some(Object::Tuple(y)) => {
                 let members = joined(heap.alloc, x.as_slice(), y.as_slice())?;
                 heap.make_tuple(members)
             }
-            _ => Err(Halt::Code(5)),
+            _ => Err(Halt::Code(faults::WRONG_TYPE)),
         },
-        _ => Err(Halt::Code(5)),
+        _ => Err(Halt::Code(faults::WRONG_TYPE)),
     }
 }
 
@@ -54,8 +58,11 @@ pub fn subtract(heap: &mut Heap, a: Val, b: Val) -> Result<Val, Halt>
     ensures { Says (subtract a b (store_of heap.old)) result (store_of heap.new) }
 {
     match (a, b) {
-        (Val::Int(x), Val::Int(y)) => x.checked_sub(y).map(Val::Int).ok_or(Halt::Code(9)),
-        _ => Err(Halt::Code(5)),
+        (Val::Int(x), Val::Int(y)) => x
+            .checked_sub(y)
+            .map(Val::Int)
+            .ok_or(Halt::Code(faults::OVERFLOW)),
+        _ => Err(Halt::Code(faults::WRONG_TYPE)),
     }
 }
 
@@ -64,10 +71,13 @@ pub fn multiply(heap: &mut Heap, a: Val, b: Val) -> Result<Val, Halt>
     ensures { Says (multiply a b (store_of heap.old)) result (store_of heap.new) }
 {
     match (a, b) {
-        (Val::Int(x), Val::Int(y)) => x.checked_mul(y).map(Val::Int).ok_or(Halt::Code(9)),
+        (Val::Int(x), Val::Int(y)) => x
+            .checked_mul(y)
+            .map(Val::Int)
+            .ok_or(Halt::Code(faults::OVERFLOW)),
         (Val::At(x), Val::Int(n)) => repeat(heap, x, n),
         (Val::Int(n), Val::At(x)) => repeat(heap, x, n),
-        _ => Err(Halt::Code(5)),
+        _ => Err(Halt::Code(faults::WRONG_TYPE)),
     }
 }
 
@@ -88,9 +98,9 @@ fn repeat(heap: &mut Heap, a: usize, n: i64) -> Result<Val, Halt>
             let members = repeated(heap.alloc, x.as_slice(), n)?;
             heap.make_tuple(members)
         }
-        Some(Object::Dict(_, _)) => Err(Halt::Code(5)),
-        Some(Object::Function(_, _)) => Err(Halt::Code(5)),
-        None => Err(Halt::Code(5)),
+        Some(Object::Dict(_, _)) => Err(Halt::Code(faults::WRONG_TYPE)),
+        Some(Object::Function(_, _)) => Err(Halt::Code(faults::WRONG_TYPE)),
+        None => Err(Halt::Code(faults::WRONG_TYPE)),
     }
 }
 
@@ -100,7 +110,7 @@ pub fn divide(heap: &mut Heap, a: Val, b: Val) -> Result<Val, Halt>
 {
     match (a, b) {
         (Val::Int(x), Val::Int(y)) => numbers::divide(x, y),
-        _ => Err(Halt::Code(5)),
+        _ => Err(Halt::Code(faults::WRONG_TYPE)),
     }
 }
 
@@ -110,7 +120,7 @@ pub fn remainder(heap: &mut Heap, a: Val, b: Val) -> Result<Val, Halt>
 {
     match (a, b) {
         (Val::Int(x), Val::Int(y)) => numbers::remainder(x, y),
-        _ => Err(Halt::Code(5)),
+        _ => Err(Halt::Code(faults::WRONG_TYPE)),
     }
 }
 
@@ -119,8 +129,11 @@ pub fn negate(heap: &mut Heap, a: Val) -> Result<Val, Halt>
     ensures { Says (negate a (store_of heap.old)) result (store_of heap.new) }
 {
     match a {
-        Val::Int(x) => x.checked_neg().map(Val::Int).ok_or(Halt::Code(9)),
-        _ => Err(Halt::Code(5)),
+        Val::Int(x) => x
+            .checked_neg()
+            .map(Val::Int)
+            .ok_or(Halt::Code(faults::OVERFLOW)),
+        _ => Err(Halt::Code(faults::WRONG_TYPE)),
     }
 }
 
@@ -130,7 +143,7 @@ pub fn plus(heap: &mut Heap, a: Val) -> Result<Val, Halt>
 {
     match a {
         Val::Int(x) => Ok(Val::Int(x)),
-        _ => Err(Halt::Code(5)),
+        _ => Err(Halt::Code(faults::WRONG_TYPE)),
     }
 }
 

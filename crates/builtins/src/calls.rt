@@ -13,6 +13,7 @@ use crate::sorting::sorted;
 use crate::truths::{all, any};
 use crate::zipping::zip;
 use heap::{Builtin, Halt, Heap, Val};
+use meaning::faults;
 use printing::{print, text};
 use texts::Text;
 
@@ -33,7 +34,7 @@ fn unnamed(heap: &mut Heap, f: Builtin, xs: &[Val], names: &[(Text, Val)]) -> Re
     ensures { Says (unnamed f xs.now names.now (store_of heap.old)) result (store_of heap.new) }
 {
     if !names.is_empty() {
-        return Err(Halt::Code(25));
+        return Err(Halt::Code(faults::WRONG_ARGUMENTS));
     }
     match xs {
         [] => of_none(heap, f),
@@ -51,19 +52,19 @@ fn of_none(heap: &mut Heap, f: Builtin) -> Result<Val, Halt>
         Builtin::Tuple => no_tuple(heap),
         Builtin::Bool => Ok(Val::Bool(false)),
         Builtin::Zip => zip(heap, &[]),
-        Builtin::Len => Err(Halt::Code(25)),
-        Builtin::Range => Err(Halt::Code(25)),
-        Builtin::Str => Err(Halt::Code(25)),
-        Builtin::Repr => Err(Halt::Code(25)),
-        Builtin::Type => Err(Halt::Code(25)),
-        Builtin::Reversed => Err(Halt::Code(25)),
-        Builtin::Enumerate => Err(Halt::Code(25)),
-        Builtin::Any => Err(Halt::Code(25)),
-        Builtin::All => Err(Halt::Code(25)),
-        Builtin::Min => Err(Halt::Code(25)),
-        Builtin::Max => Err(Halt::Code(25)),
-        Builtin::Fail => Err(Halt::Code(25)),
-        _ => Err(Halt::Code(5)),
+        Builtin::Len => Err(Halt::Code(faults::WRONG_ARGUMENTS)),
+        Builtin::Range => Err(Halt::Code(faults::WRONG_ARGUMENTS)),
+        Builtin::Str => Err(Halt::Code(faults::WRONG_ARGUMENTS)),
+        Builtin::Repr => Err(Halt::Code(faults::WRONG_ARGUMENTS)),
+        Builtin::Type => Err(Halt::Code(faults::WRONG_ARGUMENTS)),
+        Builtin::Reversed => Err(Halt::Code(faults::WRONG_ARGUMENTS)),
+        Builtin::Enumerate => Err(Halt::Code(faults::WRONG_ARGUMENTS)),
+        Builtin::Any => Err(Halt::Code(faults::WRONG_ARGUMENTS)),
+        Builtin::All => Err(Halt::Code(faults::WRONG_ARGUMENTS)),
+        Builtin::Min => Err(Halt::Code(faults::WRONG_ARGUMENTS)),
+        Builtin::Max => Err(Halt::Code(faults::WRONG_ARGUMENTS)),
+        Builtin::Fail => Err(Halt::Code(faults::WRONG_ARGUMENTS)),
+        _ => Err(Halt::Code(faults::WRONG_TYPE)),
     }
 }
 
@@ -87,8 +88,8 @@ fn of_one(heap: &mut Heap, f: Builtin, x: Val) -> Result<Val, Halt>
         Builtin::All => all(heap, x),
         Builtin::Min => min(heap, &[x]),
         Builtin::Max => max(heap, &[x]),
-        Builtin::Fail => Err(Halt::Code(24)),
-        _ => Err(Halt::Code(5)),
+        Builtin::Fail => Err(Halt::Code(faults::FAIL_CALLED)),
+        _ => Err(Halt::Code(faults::WRONG_TYPE)),
     }
 }
 
@@ -102,18 +103,18 @@ fn of_several(heap: &mut Heap, f: Builtin, xs: &[Val]) -> Result<Val, Halt>
         Builtin::Zip => zip(heap, xs),
         Builtin::Min => min(heap, xs),
         Builtin::Max => max(heap, xs),
-        Builtin::Len => Err(Halt::Code(25)),
-        Builtin::Str => Err(Halt::Code(25)),
-        Builtin::Repr => Err(Halt::Code(25)),
-        Builtin::Type => Err(Halt::Code(25)),
-        Builtin::Reversed => Err(Halt::Code(25)),
-        Builtin::Enumerate => Err(Halt::Code(25)),
-        Builtin::List => Err(Halt::Code(25)),
-        Builtin::Tuple => Err(Halt::Code(25)),
-        Builtin::Bool => Err(Halt::Code(25)),
-        Builtin::Any => Err(Halt::Code(25)),
-        Builtin::All => Err(Halt::Code(25)),
-        Builtin::Fail => Err(Halt::Code(25)),
-        _ => Err(Halt::Code(5)),
+        Builtin::Len => Err(Halt::Code(faults::WRONG_ARGUMENTS)),
+        Builtin::Str => Err(Halt::Code(faults::WRONG_ARGUMENTS)),
+        Builtin::Repr => Err(Halt::Code(faults::WRONG_ARGUMENTS)),
+        Builtin::Type => Err(Halt::Code(faults::WRONG_ARGUMENTS)),
+        Builtin::Reversed => Err(Halt::Code(faults::WRONG_ARGUMENTS)),
+        Builtin::Enumerate => Err(Halt::Code(faults::WRONG_ARGUMENTS)),
+        Builtin::List => Err(Halt::Code(faults::WRONG_ARGUMENTS)),
+        Builtin::Tuple => Err(Halt::Code(faults::WRONG_ARGUMENTS)),
+        Builtin::Bool => Err(Halt::Code(faults::WRONG_ARGUMENTS)),
+        Builtin::Any => Err(Halt::Code(faults::WRONG_ARGUMENTS)),
+        Builtin::All => Err(Halt::Code(faults::WRONG_ARGUMENTS)),
+        Builtin::Fail => Err(Halt::Code(faults::WRONG_ARGUMENTS)),
+        _ => Err(Halt::Code(faults::WRONG_TYPE)),
     }
 }

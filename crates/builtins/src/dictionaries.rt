@@ -11,6 +11,7 @@ use comparing::hash;
 use heap::{Bytes, Entry, Halt, Heap, Key, Object, Val, has_room, set_entry};
 use indexing::items;
 use indexmap::IndexMap;
+use meaning::faults;
 use std::alloc::Global;
 use texts::{Memory, Text};
 
@@ -19,7 +20,7 @@ pub fn dict(heap: &mut Heap, xs: &[Val], names: &[(Text, Val)]) -> Result<Val, H
     ensures { Says (dict_of xs.now names.now (store_of heap.old)) result (store_of heap.new) }
 {
     if xs.len() > 1 || is_twice(heap.alloc, names)? {
-        return Err(Halt::Code(25));
+        return Err(Halt::Code(faults::WRONG_ARGUMENTS));
     }
     let mut entries = IndexMap::new(heap.alloc);
     add_from(heap, &mut entries, xs)?;
@@ -35,7 +36,7 @@ fn add_from(heap: &mut Heap, entries: &mut IndexMap<Key, Entry>, xs: &[Val]) -> 
     match xs {
         [] => Ok(()),
         [Val::At(place)] => add_object(heap, entries, *place),
-        _ => Err(Halt::Code(5)),
+        _ => Err(Halt::Code(faults::WRONG_TYPE)),
     }
 }
 
@@ -118,7 +119,7 @@ fn add(heap: &mut Heap, entries: &mut IndexMap<Key, Entry>, k: Val, x: Val) -> R
 {
     let key = hash(heap, k)?;
     if !has_room(entries, &key) {
-        return Err(Halt::Code(13));
+        return Err(Halt::Code(faults::TOO_LARGE));
     }
     set_entry(entries, key, Entry { key: k, value: x })?;
     Ok(())
@@ -130,7 +131,7 @@ fn pair(heap: &Heap, x: Val) -> Result<(Val, Val), Halt>
 {
     match x {
         Val::At(place) => object_pair(heap, place),
-        _ => Err(Halt::Code(5)),
+        _ => Err(Halt::Code(faults::WRONG_TYPE)),
     }
 }
 
@@ -141,10 +142,10 @@ fn object_pair(heap: &Heap, place: usize) -> Result<(Val, Val), Halt>
     match heap.object(place)? {
         Some(Object::List(members, _)) => two_of(members.as_slice()),
         Some(Object::Tuple(members)) => two_of(members.as_slice()),
-        Some(Object::Text(_)) => Err(Halt::Code(5)),
-        Some(Object::Dict(_, _)) => Err(Halt::Code(5)),
-        Some(Object::Function(_, _)) => Err(Halt::Code(5)),
-        None => Err(Halt::Code(5)),
+        Some(Object::Text(_)) => Err(Halt::Code(faults::WRONG_TYPE)),
+        Some(Object::Dict(_, _)) => Err(Halt::Code(faults::WRONG_TYPE)),
+        Some(Object::Function(_, _)) => Err(Halt::Code(faults::WRONG_TYPE)),
+        None => Err(Halt::Code(faults::WRONG_TYPE)),
     }
 }
 
@@ -154,6 +155,6 @@ fn two_of(members: &[Val]) -> Result<(Val, Val), Halt>
 {
     match members {
         [k, x] => Ok((*k, *x)),
-        _ => Err(Halt::Code(5)),
+        _ => Err(Halt::Code(faults::WRONG_TYPE)),
     }
 }

@@ -8,6 +8,7 @@ ghost use Rattle.builtins.specs.Ranks.{is_better};
 
 use heap::{Halt, Heap, Object, Val};
 use indexing::items;
+use meaning::faults;
 use std::cmp::Ordering;
 use texts::Memory;
 
@@ -30,7 +31,7 @@ fn extreme(heap: &Heap, xs: &[Val], greatest: bool) -> Result<Val, Halt>
     ensures { Says (extreme (is_better greatest) xs.now (store_of heap.now)) result (store_of heap.now) }
 {
     match xs {
-        [] => Err(Halt::Code(25)),
+        [] => Err(Halt::Code(faults::WRONG_ARGUMENTS)),
         [x] => {
             let members = items(heap, *x)?;
             best_of(heap, members.as_slice(), greatest)
@@ -44,10 +45,10 @@ fn best_of(heap: &Heap, xs: &[Val], greatest: bool) -> Result<Val, Halt>
     ensures { Says (best_of (is_better greatest) xs.now (store_of heap.now)) result (store_of heap.now) }
 {
     match xs {
-        [] => Err(Halt::Code(25)),
+        [] => Err(Halt::Code(faults::WRONG_ARGUMENTS)),
         [x, others @ ..] => {
             if !are_alike(heap, xs)? {
-                return Err(Halt::Code(5));
+                return Err(Halt::Code(faults::WRONG_TYPE));
             }
             Ok(best(heap, *x, others, greatest)?)
         }

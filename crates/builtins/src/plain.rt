@@ -10,6 +10,7 @@ ghost use Rattle.builtins.specs.Parts.{type_text};
 
 use arithmetic::is_true;
 use heap::{Halt, Heap, Object, Val};
+use meaning::faults;
 use texts::Memory;
 
 /// `len(x)`: fault 5.
@@ -21,7 +22,7 @@ pub fn len(heap: &Heap, x: Val) -> Result<Val, Halt>
             let n = object_length(heap, place)?;
             Ok(Val::Int(n as i64))
         }
-        _ => Err(Halt::Code(5)),
+        _ => Err(Halt::Code(faults::WRONG_TYPE)),
     }
 }
 
@@ -35,8 +36,8 @@ fn object_length(heap: &Heap, place: usize) -> Result<usize, Halt>
         Some(Object::List(members, _)) => Ok(members.len()),
         Some(Object::Tuple(members)) => Ok(members.len()),
         Some(Object::Dict(entries, _)) => Ok(entries.len()),
-        Some(Object::Function(_, _)) => Err(Halt::Code(5)),
-        None => Err(Halt::Code(5)),
+        Some(Object::Function(_, _)) => Err(Halt::Code(faults::WRONG_TYPE)),
+        None => Err(Halt::Code(faults::WRONG_TYPE)),
     }
 }
 
@@ -72,7 +73,7 @@ fn object_type(heap: &Heap, place: usize) -> Result<&'static [u8], Halt>
         Some(Object::Tuple(_)) => Ok(b"tuple"),
         Some(Object::Dict(_, _)) => Ok(b"dict"),
         Some(Object::Function(_, _)) => Ok(b"function"),
-        None => Err(Halt::Code(5)),
+        None => Err(Halt::Code(faults::WRONG_TYPE)),
     }
 }
 

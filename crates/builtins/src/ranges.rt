@@ -6,6 +6,7 @@ ghost use Rattle.heap.specs.Sized.{SizedAs};
 ghost use Rattle.builtins.specs.Spans.{lies_before, IsNonzero};
 
 use heap::{Halt, Heap, LONGEST, Val};
+use meaning::faults;
 use std::alloc::Global;
 
 /// `range(to)`, `range(from, to)` or `range(from, to, step)`: fault 25, 5 or 13.
@@ -16,7 +17,7 @@ pub fn range(heap: &mut Heap, xs: &[Val]) -> Result<Val, Halt>
         [to] => range_by(heap, Val::Int(0), *to, Val::Int(1)),
         [from, to] => range_by(heap, *from, *to, Val::Int(1)),
         [from, to, step] => range_by(heap, *from, *to, *step),
-        _ => Err(Halt::Code(25)),
+        _ => Err(Halt::Code(faults::WRONG_ARGUMENTS)),
     }
 }
 
@@ -25,14 +26,14 @@ fn range_by(heap: &mut Heap, from: Val, to: Val, step: Val) -> Result<Val, Halt>
     ensures { Says (range_by from to step (store_of heap.old)) result (store_of heap.new) }
 {
     let Val::Int(step) = step else {
-        return Err(Halt::Code(5));
+        return Err(Halt::Code(faults::WRONG_TYPE));
     };
     if step == 0 {
-        return Err(Halt::Code(25));
+        return Err(Halt::Code(faults::WRONG_ARGUMENTS));
     }
     match (from, to) {
         (Val::Int(from), Val::Int(to)) => make_range(heap, from, to, step),
-        _ => Err(Halt::Code(5)),
+        _ => Err(Halt::Code(faults::WRONG_TYPE)),
     }
 }
 
@@ -55,7 +56,7 @@ fn numbers(alloc: Global, from: i64, to: i64, step: i64) -> Result<Vec<Val>, Hal
     let mut next = from;
     while lies_before(next, to, step) {
         if members.len() >= LONGEST {
-            return Err(Halt::Code(13));
+            return Err(Halt::Code(faults::TOO_LARGE));
         }
         members.push(Val::Int(next))?;
         match next.checked_add(step) {

@@ -8,6 +8,7 @@ ghost use Rattle.builtins.specs.Ranks.{int_of, bytes_of, with_bytes};
 use crate::orders::{are_alike, are_ints};
 use heap::{Bytes, Halt, Heap, Object, Val};
 use indexing::items;
+use meaning::faults;
 use std::alloc::Global;
 use texts::{Memory, Text};
 
@@ -19,11 +20,11 @@ pub fn sorted(heap: &mut Heap, xs: &[Val], names: &[(Text, Val)]) -> Result<Val,
         ([x], []) => sorted_list(heap, *x, false),
         ([x], [named]) => {
             if named.0.as_str() != "reverse" {
-                return Err(Halt::Code(25));
+                return Err(Halt::Code(faults::WRONG_ARGUMENTS));
             }
             sorted_by(heap, *x, named.1)
         }
-        _ => Err(Halt::Code(25)),
+        _ => Err(Halt::Code(faults::WRONG_ARGUMENTS)),
     }
 }
 
@@ -33,7 +34,7 @@ fn sorted_by(heap: &mut Heap, x: Val, reverse: Val) -> Result<Val, Halt>
 {
     match reverse {
         Val::Bool(reverse) => sorted_list(heap, x, reverse),
-        _ => Err(Halt::Code(5)),
+        _ => Err(Halt::Code(faults::WRONG_TYPE)),
     }
 }
 
@@ -43,7 +44,7 @@ fn sorted_list(heap: &mut Heap, x: Val, reverse: bool) -> Result<Val, Halt>
 {
     let members = items(heap, x)?;
     if !are_alike(heap, members.as_slice())? {
-        return Err(Halt::Code(5));
+        return Err(Halt::Code(faults::WRONG_TYPE));
     }
     let mut members = sort(heap, members)?;
     if reverse {

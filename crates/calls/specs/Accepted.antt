@@ -3,11 +3,12 @@ use Rattle.std.specs.Prelude.{List, [], ◌∷◌, if◌then◌else◌}
 use Rattle.meaning.specs.declared.val.Val.{Val}
 use Rattle.meaning.specs.Outcome.{Checked, good, bad, or_bad}
 use Rattle.meaning.specs.Functions.{Named, is_named}
+use Rattle.meaning.specs.declared.faults.TheConstants.{WRONG_ARGUMENTS}
 use Rattle.tree.specs.Tree.{Pa}
 use Rattle.language.specs.Names.{or_else}
 use Rattle.language.specs.Arguments.{value_named, next_default}
 
 -- from the plain arguments that are left, the named ones and the defaults that are left
 abbrev pub taken : Pa → List Val → Named → List Val → Checked Val
-taken p (x ∷ xs) ns ds = if is_named p.name ns then bad 25 else good x
-taken p [] ns ds = or_bad 25 (or_else (value_named p.name ns) (next_default p ds))
+taken p (x ∷ xs) ns ds = if is_named p.name ns then bad WRONG_ARGUMENTS else good x
+taken p [] ns ds = or_bad WRONG_ARGUMENTS (or_else (value_named p.name ns) (next_default p ds))

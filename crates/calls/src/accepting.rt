@@ -8,6 +8,7 @@ ghost use Rattle.calls.specs.View.{Blocks};
 ghost use Rattle.calls.specs.Accepted.{taken};
 
 use heap::{Halt, Val};
+use meaning::faults;
 use names::Slot;
 use std::alloc::Global;
 use texts::Text;
@@ -101,7 +102,7 @@ fn taken(
     let named = value_named(names, values, &param.name);
     match plain.first() {
         Some(x) => if named.is_some() {
-            Err(Halt::Code(25))
+            Err(Halt::Code(faults::WRONG_ARGUMENTS))
         } else {
             Ok(*x)
         },
@@ -109,7 +110,7 @@ fn taken(
             Some(x) => Ok(x),
             None => match next_default(param, defaults) {
                 Some(x) => Ok(x),
-                None => Err(Halt::Code(25)),
+                None => Err(Halt::Code(faults::WRONG_ARGUMENTS)),
             },
         },
     }
@@ -142,7 +143,7 @@ fn given(
     if left.is_empty() {
         Ok(block)
     } else {
-        Err(Halt::Code(25))
+        Err(Halt::Code(faults::WRONG_ARGUMENTS))
     }
 }
 
@@ -165,10 +166,10 @@ pub fn arguments(
     let (plain, values) = xs.split_at(xs.len().saturating_sub(names.len()));
     let params = def.params.as_slice();
     if is_twice(names, values) {
-        return Err(Halt::Code(25));
+        return Err(Halt::Code(faults::WRONG_ARGUMENTS));
     }
     if !are_parameters(names, values, params) {
-        return Err(Halt::Code(25));
+        return Err(Halt::Code(faults::WRONG_ARGUMENTS));
     }
     given(alloc, params, plain, names, values, defaults)
 }

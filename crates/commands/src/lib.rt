@@ -3,8 +3,6 @@
 
 mod command;
 mod reading;
-mod refusing;
 
 pub use command::{Command, Edit, Request};
-pub use reading::{command_of, data_of};
-pub use refusing::{module_label, refusal};
+pub use reading::{command_of, data_of, module_label, refusal};

@@ -1,6 +1,5 @@
 //! Comparing by `==`.
 ghost use Rattle.std.specs.Prelude.{◌≡◌, map, slice_get, IfOk};
-ghost use Rattle.meaning.specs.Builtins.{builtin_number};
 ghost use Rattle.meaning.specs.Comparing.{equal, inner_equal, pair, pair_objects, equal_members, equal_entries, equal_entry, equal_found, visit_pair, members, entries};
 ghost use Rattle.heap.specs.View.{object_in, Says};
 ghost use Rattle.comparing.specs.Seen.{pair_seen};
@@ -9,6 +8,7 @@ use heap::{
     Builtin, Entry, Halt, HeapObject, Key, Object, Val, found, object_at, spend, tick, val_at,
 };
 use indexmap::IndexMap;
+use meaning::faults;
 use texts::Memory;
 
 /// What is left to compare of two values.
@@ -19,38 +19,6 @@ pub enum Pair<'a> {
     Entries(&'a IndexMap<Key, Entry>, &'a IndexMap<Key, Entry>),
 }
 
-// The place of a built-in function among them.
-fn number(x: Builtin) -> u8
-    ensures { result ≡ builtin_number x }
-{
-    match x {
-        Builtin::Len => 0,
-        Builtin::Range => 1,
-        Builtin::Str => 2,
-        Builtin::Repr => 3,
-        Builtin::Type => 4,
-        Builtin::Sorted => 5,
-        Builtin::Reversed => 6,
-        Builtin::Enumerate => 7,
-        Builtin::Zip => 8,
-        Builtin::List => 9,
-        Builtin::Tuple => 10,
-        Builtin::Dict => 11,
-        Builtin::Bool => 12,
-        Builtin::Any => 13,
-        Builtin::All => 14,
-        Builtin::Min => 15,
-        Builtin::Max => 16,
-        Builtin::Fail => 17,
-        Builtin::Glob => 18,
-        Builtin::Filegroup => 19,
-        Builtin::Genrule => 20,
-        Builtin::Alias => 21,
-        Builtin::TestSuite => 22,
-        Builtin::PackageName => 23,
-    }
-}
-
 // What is left to compare of two values.
 fn make_pair<'a>(objects: &'a [HeapObject], a: Val, b: Val) -> Result<Pair<'a>, Memory>
     ensures { IfOk result (λ p. pair_seen p ≡ pair (map object_in objects.now) a b) }
@@ -59,7 +27,7 @@ fn make_pair<'a>(objects: &'a [HeapObject], a: Val, b: Val) -> Result<Pair<'a>, 
         (Val::Nothing, Val::Nothing) => Ok(Pair::Settled(true)),
         (Val::Bool(x), Val::Bool(y)) => Ok(Pair::Settled(x == y)),
         (Val::Int(x), Val::Int(y)) => Ok(Pair::Settled(x == y)),
-        (Val::Builtin(x), Val::Builtin(y)) => Ok(Pair::Settled(number(x) == number(y))),
+        (Val::Builtin(x), Val::Builtin(y)) => Ok(Pair::Settled(x.number() == y.number())),
         (Val::At(x), Val::At(y)) => pair_objects(objects, x, y),
         _ => Ok(Pair::Settled(false)),
     }
@@ -135,7 +103,7 @@ fn equal_lists(
     ensures { Says (visit_pair (inner_equal left (map object_in objects.now)) (members xs.now ys.now) steps.old) result steps.new }
 {
     if left == 0 {
-        return Err(Halt::Code(12));
+        return Err(Halt::Code(faults::TOO_DEEP));
     }
     tick(steps)?;
     equal_members(objects, steps, xs, ys, left - 1)
@@ -182,7 +150,7 @@ fn equal_dicts(
     ensures { Says (visit_pair (inner_equal left (map object_in objects.now)) (entries xs.now.entries ys.now.entries) steps.old) result steps.new }
 {
     if left == 0 {
-        return Err(Halt::Code(12));
+        return Err(Halt::Code(faults::TOO_DEEP));
     }
     tick(steps)?;
     equal_entries(objects, steps, xs, ys, left - 1)

@@ -5,6 +5,7 @@ ghost use Rattle.heap.specs.View.{object_in, Says, SaysItems};
 ghost use Rattle.comparing.specs.Seen.{key_seen};
 
 use heap::{Halt, HeapObject, Key, Object, Part, Val, object_at, tick};
+use meaning::faults;
 use std::alloc::Global;
 use texts::Memory;
 
@@ -50,7 +51,7 @@ pub fn key(
         AsKey::Part(part) => one_part(alloc, steps, part),
         AsKey::NoKey => {
             tick(steps)?;
-            Err(Halt::Code(5))
+            Err(Halt::Code(faults::WRONG_TYPE))
         }
         AsKey::Parts(members) => tuple_key(alloc, objects, steps, members, left),
     }
@@ -107,7 +108,7 @@ fn tuple_key(
     ensures { SaysItems (visit_key (inner_key left (map object_in objects.now)) (parts members.now) steps.old) result steps.new }
 {
     if left == 0 {
-        return Err(Halt::Code(12));
+        return Err(Halt::Code(faults::TOO_DEEP));
     }
     tick(steps)?;
     let mut all = Vec::new(alloc);

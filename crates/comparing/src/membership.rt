@@ -8,6 +8,7 @@ ghost use Rattle.heap.specs.View.{object_in, store_of, Says, Checks};
 use crate::equality::equal;
 use crate::walks::hash;
 use heap::{DEEPEST, Halt, Heap, HeapObject, Key, Object, Val, found, object_at, val_at};
+use meaning::faults;
 use memchr::memmem;
 
 // Whether a text is a part of another.
@@ -49,7 +50,7 @@ pub fn has(heap: &mut Heap, x: Val, a: Val) -> Result<bool, Halt>
 {
     match a {
         Val::At(place) => object_has(heap, place, x),
-        _ => Err(Halt::Code(5)),
+        _ => Err(Halt::Code(faults::WRONG_TYPE)),
     }
 }
 
@@ -78,8 +79,8 @@ fn object_has(heap: &mut Heap, a: usize, x: Val) -> Result<bool, Halt>
             )
         }
         Some(Object::Dict(_, _)) => hashed_has(heap, a, x),
-        Some(Object::Function(_, _)) => Err(Halt::Code(5)),
-        None => Err(Halt::Code(5)),
+        Some(Object::Function(_, _)) => Err(Halt::Code(faults::WRONG_TYPE)),
+        None => Err(Halt::Code(faults::WRONG_TYPE)),
     }
 }
 
@@ -98,7 +99,7 @@ fn has_key(heap: &Heap, a: usize, key: &Key) -> Result<bool, Halt>
 {
     match heap.object(a)? {
         Some(Object::Dict(entries, _)) => Ok(found(entries, key).is_some()),
-        _ => Err(Halt::Code(5)),
+        _ => Err(Halt::Code(faults::WRONG_TYPE)),
     }
 }
 
@@ -109,8 +110,8 @@ fn text_has(objects: &[HeapObject], whole: &[u8], x: Val) -> Result<bool, Halt>
     match x {
         Val::At(place) => match object_at(objects, place)? {
             Some(Object::Text(part)) => Ok(is_part(part.as_slice(), whole)),
-            _ => Err(Halt::Code(5)),
+            _ => Err(Halt::Code(faults::WRONG_TYPE)),
         },
-        _ => Err(Halt::Code(5)),
+        _ => Err(Halt::Code(faults::WRONG_TYPE)),
     }
 }

@@ -7,6 +7,7 @@ ghost use Rattle.comparing.specs.Seen.{SaysParting, sides_seen};
 
 use crate::equality::equal;
 use heap::{Halt, HeapObject, Object, Val, object_at, tick, val_at};
+use meaning::faults;
 use std::cmp::Ordering;
 use texts::Memory;
 
@@ -75,7 +76,7 @@ pub fn order(
         Sides::Listed(xs, ys) => order_lists(objects, steps, xs, ys, left),
         Sides::NoOrder => {
             tick(steps)?;
-            Err(Halt::Code(5))
+            Err(Halt::Code(faults::WRONG_TYPE))
         }
     }
 }
@@ -93,7 +94,7 @@ fn order_lists(
     ensures { Says (visit_sides (inner_order left (map object_in objects.now)) (listed xs.now ys.now) steps.old) result steps.new }
 {
     if left == 0 {
-        return Err(Halt::Code(12));
+        return Err(Halt::Code(faults::TOO_DEEP));
     }
     tick(steps)?;
     match part(objects, steps, xs, ys, left - 1)? {

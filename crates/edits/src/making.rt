@@ -1,5 +1,7 @@
 //! Edits, made of the files.
 ghost use Rattle.std.specs.Prelude.{◌≡◌, IfOk, map};
+ghost use Rattle.filetree.specs.Changes.{change_refusal, changed};
+ghost use Rattle.filetree.specs.Edits.{Edits};
 ghost use Rattle.filetree.specs.Shown.{change_seen, changes_seen};
 ghost use Rattle.commands.specs.Commands as commands;
 ghost use Rattle.commands.specs.Seen.{edit_seen, texts_seen};
@@ -14,11 +16,21 @@ use texts::Memory;
 // How many changes a batch may have.
 const MOST_CHANGES: usize = 256;
 
+// Puts a text or takes a file away, as the tree does.
+fn put_or_del(tree: &mut Tree, change: &Change<'_>) -> Result<(), TreeError>
+    ensures { Edits result (change_refusal (change_seen change.now) tree.old) tree.old (changed (change_seen change.now) tree.old) tree.new }
+{
+    match change {
+        Change::Put(path, text) => tree.put(path, text),
+        Change::Del(path) => tree.del(path),
+    }
+}
+
 // Makes one change, or leaves the files as they are.
 fn change_one(tree: &mut Tree, change: &Change<'_>) -> Result<(), EditError>
     ensures { specs.EditsFiles (commands.one (change_seen change.now)) tree.old tree.new result }
 {
-    match tree.change(change) {
+    match put_or_del(tree, change) {
         Ok(()) => Ok(()),
         Err(TreeError::Code2) => Err(EditError::Refused(2)),
         Err(TreeError::Code3) => Err(EditError::Refused(3)),

@@ -5,7 +5,7 @@ use Rattle.std.specs.declared.sync.Arc.{Arc}
 use Rattle.texts.specs.declared.text.Text.{Text}
 use Rattle.heap.specs.declared.halt.Halt.{Halt}
 use Rattle.meaning.specs.declared.val.Val.{Val}
-use Rattle.meaning.specs.declared.val.Builtin.{Builtin}
+use Rattle.meaning.specs.declared.builtin.Builtin.{Builtin}
 use Rattle.tree.specs.declared.expr.Expr.{Expr}
 use Rattle.tree.specs.declared.stmt.Def.{Def}
 use Rattle.pieces.specs.declared.aims.Aim.{Aim}
@@ -50,6 +50,7 @@ within (c.Tops file next) a p q r s t u = refl
 within (c.Defaults line def next done) a p q r s t u = refl
 within (c.Define line def xs) a p q r s t u = absurd (u line def xs refl)
 within (c.Add line aim x y) a p q r s t u = absurd (t line aim x y refl)
+within (c.Fault line code) a p q r s t u = refl
 
 -- where nothing is said of an end
 pub nothing_moves : {A : Type 0} (r : Result Control Halt) (x : A) → OnErr r (x ≡ x)

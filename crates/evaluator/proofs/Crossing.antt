@@ -14,7 +14,7 @@ use Rattle.indexmap.proofs.map.IndexMap.TheSendSync as IndexMapSends
 use Rattle.indexmap.specs.contracts.map.IndexMap
 use Rattle.texts.proofs.text.Text.TheSendSync as TextSends
 use Rattle.meaning.proofs.key.Key.TheSendSync as KeySends
-use Rattle.meaning.proofs.val.Builtin.TheSendSync as BuiltinSends
+use Rattle.meaning.proofs.builtin.Builtin.TheSendSync as BuiltinSends
 use Rattle.meaning.proofs.val.Entry.TheSendSync as EntrySends
 use Rattle.meaning.proofs.val.Val.TheSendSync as ValSends
 use Rattle.meaning.specs.contracts.key.Key
@@ -130,7 +130,7 @@ control_field_send = enum_send (shape Control.the_type) ((search running_crosses
     (search turns_cross depth 20) besides (search running_crosses depth 20) besides (search running_crosses depth 20) besides (search running_crosses depth 20) besides
     (search running_crosses depth 20) besides (search running_crosses depth 20) besides (search running_crosses depth 20) besides (search running_crosses depth 20) besides
     (search running_crosses depth 20) besides (search running_crosses depth 20) besides (search running_crosses depth 20) besides (search running_crosses depth 20) besides
-    tt)
+    (search running_crosses depth 20) besides tt)
 
 frame_send : IsSend Frame.the_row
 frame_send = search (frame_field_send, recorded_send)

@@ -1,12 +1,12 @@
 -- Calls that begin and end.
-use Rattle.std.proofs.Common.{◌≡◌, ◌+◌, ◌++◌, ◌∷◌, [], ℕ, zero, suc, List, Option, Some, None, Vec, Global, vec_len, drop, map, reverse, MatchOption, Bool, true, false, refl, sym, ap, ◌∙◌}
+use Rattle.std.proofs.Common.{◌≡◌, ◌+◌, ◌++◌, ◌∷◌, [], ℕ, zero, suc, List, Option, Some, None, Vec, Global, vec_len, drop, map, reverse, MatchOption, Bool, true, false, refl, sym, ap, ◌∙◌, Err}
 use Rattle.std.specs.Option.{option_to_list}
 use Rattle.std.specs.Prelude.{if◌then◌else◌, is_some}
 use Rattle.std.proofs.lemmas.List.{reverse-append, nil_from_length}
 use Rattle.meaning.specs.declared.val.Val.{Val}
 use Rattle.meaning.specs.Functions.{Named}
 use Rattle.meaning.specs.Comparing.{same_text}
-use Rattle.tree.specs.Tree.{Fn}
+use Rattle.tree.specs.Tree.{Fn, Suite}
 use lib.Pointwise.{bytes_decides}
 use Rattle.language.specs.Modules.{body_at}
 use Rattle.module_values.specs.Values.{Body}
@@ -16,19 +16,16 @@ use Rattle.names.specs.View.{Ran}
 use Rattle.heap.specs.declared.halt.Halt.{Halt}
 use Rattle.heap.specs.declared.halt.Halt.TheVariants.{Code, Memory}
 use Rattle.meaning.specs.Outcome.{good}
-use Rattle.std.proofs.Common.{Err}
 use Rattle.frames.specs.declared.frame.Control.{Control}
-use Rattle.frames.specs.Frames.{Goes}
+use Rattle.frames.specs.Frames.{Goes, Sig, a_value, an_exit, on_exit}
 use Rattle.evaluator.specs.declared.machine.Environment.{Environment}
 use Rattle.evaluator.specs.declared.machine.Machine.{Machine}
 use Rattle.evaluator.specs.declared.machine.Stop.{Stop}
 use Rattle.evaluator.specs.declared.machine.Stop.TheVariants as stops
 use Rattle.evaluator.specs.Machines.{Stops, Leads, Under, site_at}
-use Rattle.tree.specs.Tree.{Suite}
 use Rattle.language.specs.World.{World, Site, Block, Here, Ends, ended, failed, waits, Runs, then_runs, ◌>>=◌, pure, with_blocks, in_blocks}
 use Rattle.language.specs.Statements as s
 use Rattle.language.specs.Statements.{suite}
-use Rattle.frames.specs.Frames.{Sig, a_value, an_exit, on_exit}
 use Rattle.language.specs.Names.{names_at}
 use Rattle.language.specs.Environment.{Env, need_names, thaw_body, functions_of, function_named, reached_module}
 use Rattle.language.specs.Calls.{call, enter, given, function_block, body_does}

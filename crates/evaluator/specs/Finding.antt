@@ -1,5 +1,5 @@
 -- Functions of files that were found, and how their calls go on.
-use Rattle.std.specs.Prelude.{◌≡◌, ℕ, zero, suc, List, Option, Some, None, false, if◌then◌else◌}
+use Rattle.std.specs.Prelude.{◌≡◌, ℕ, zero, suc, List, Option, Some, None, false, if◌then◌else◌, Result, Ok, Err}
 use Rattle.std.specs.Arc.{arc_value}
 use Rattle.std.specs.declared.alloc.Global.{Global}
 use Rattle.std.specs.declared.sync.Arc.{Arc}
@@ -15,10 +15,10 @@ use Rattle.language.specs.Environment.{Env, path_of, functions_of, function_name
 use Rattle.language.specs.Arguments.{arguments}
 use Rattle.language.specs.Statements.{Exit, suite}
 use Rattle.language.specs.Calls.{call, is_running, inside, body_does}
-use Rattle.std.specs.Prelude.{Result, Ok, Err}
 use Rattle.heap.specs.declared.halt.Halt.{Halt}
 use Rattle.heap.specs.declared.halt.Halt.TheVariants.{Code, Memory}
 use Rattle.meaning.specs.Heap.{Obj, function}
+use Rattle.meaning.specs.declared.faults.TheConstants.{RECURSION, WRONG_TYPE}
 use Rattle.language.specs.Expressions.{Call, call_object}
 use Rattle.evaluator.specs.declared.entering.Called.{Called}
 use Rattle.evaluator.specs.declared.finding.Found.{Found}
@@ -38,7 +38,7 @@ body_runs env (suc n) = Some (suite env (call env n))
 abbrev pub calls_on : Env → ℕ → List ℕ → Fn → List Val → Named → Here → Runs Val
 calls_on env n label f xs ns here =
     (λ w. on_heap here (checked (arguments f xs ns (defaults_of label f.name w))) w) >>= λ parameters.
-    if is_running label f.name here.running then fault 14 here else body_does (body_runs env n) f parameters (inside env label f here) here
+    if is_running label f.name here.running then fault RECURSION here else body_does (body_runs env n) f parameters (inside env label f here) here
 
 -- the label of a file that is evaluated or reached, or none such
 abbrev pub IsLabel : Env → List ℕ → Option (List ℕ) → Type 0
@@ -53,5 +53,5 @@ IsFound env label name None = function_named name (functions_of env label) ≡ N
 -- an object that is a function, or that no call takes
 abbrev pub IsFunction : Option Obj → Result Called Halt → Type 0
 IsFunction object (Ok called) = object ≡ Some (function called.label called.name)
-IsFunction object (Err (Code c)) = (c ≡ 5) × ((call : Call) (xs : List Val) (ns : Named) (here : Here) → call_object call object xs ns here ≡ fault 5 here)
+IsFunction object (Err (Code c)) = (c ≡ WRONG_TYPE) × ((call : Call) (xs : List Val) (ns : Named) (here : Here) → call_object call object xs ns here ≡ fault WRONG_TYPE here)
 IsFunction object (Err Memory) = Unit {0}

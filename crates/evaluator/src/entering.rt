@@ -1,7 +1,7 @@
 //! How a call of a function of a file begins, and how it ends.
 ghost use Rattle.std.specs.Prelude.{◌≡◌, ◌≤◌, ◌<◌, ◌+◌, ◌++◌, ◌∷◌, [], ℕ, List, IfOk, OnErr, IsOkUnless};
 ghost use Rattle.heap.specs.declared.halt.Halt.TheVariants.{Memory};
-ghost use Rattle.names.specs.View.{block_of};
+ghost use Rattle.names.specs.View.{block_of, world_of};
 ghost use Rattle.language.specs.Calls.{call, inside, body_does};
 ghost use Rattle.language.specs.Expressions.{call_object};
 ghost use Rattle.meaning.specs.Heap.{at};
@@ -9,7 +9,6 @@ ghost use Rattle.heap.specs.View.{store_of};
 ghost use Rattle.tree.specs.Statements.{fn_of};
 ghost use Rattle.language.specs.Arguments.{plain_part, named_part};
 ghost use Rattle.language.specs.Environment.{Env, path_of};
-ghost use Rattle.names.specs.View.{world_of};
 ghost use Rattle.frames.specs.Frames.{Goes, on, valued, above, machine_does};
 ghost use Rattle.frames.specs.Weight.{frames_weight, control_weight};
 ghost use Rattle.frames.specs.declared.frame.Control.TheVariants as c;
@@ -25,6 +24,7 @@ use calls::{Open, arguments, defaults_of, function_block, is_running};
 use frames::{Caller, Control, Exit, Frame, Signal, given, push};
 use grammar::FileKind;
 use heap::{Bytes, Halt, Heap, Object, Val};
+use meaning::faults;
 use modules::need_names;
 use names::{Block, Slot, Standing};
 use std::alloc::Global;
@@ -49,7 +49,7 @@ fn function_at(heap: &Heap, place: usize) -> Result<Called, Halt>
             label: label.share()?,
             name: name.share()?,
         }),
-        _ => Err(Halt::Code(5)),
+        _ => Err(Halt::Code(faults::WRONG_TYPE)),
     }
 }
 
@@ -72,14 +72,14 @@ pub fn enter(
     };
     let label = match label_text(e, called.label.as_slice())? {
         Some(label) => label,
-        None => return Err(Halt::Code(5)),
+        None => return Err(Halt::Code(faults::WRONG_TYPE)),
     };
     if let Err(halt) = need_names(&mut m.state, e.given().loads.as_slice(), &label) {
         return Err(halt);
     }
     match find(e, &label, &called.name)? {
         Some(found) => call(m, label, found.path, &found.def, xs, names),
-        None => Err(Halt::Code(5)),
+        None => Err(Halt::Code(faults::WRONG_TYPE)),
     }
 }
 
@@ -103,10 +103,10 @@ fn call(
         Err(halt) => return Err(halt),
     };
     if is_running(m.running.as_slice(), &label, &def.name) {
-        return Err(Halt::Code(14));
+        return Err(Halt::Code(faults::RECURSION));
     }
     if m.left == 0 {
-        return Err(Halt::Code(12));
+        return Err(Halt::Code(faults::TOO_DEEP));
     }
     begin_body(m, label, path, def, parameters)
 }

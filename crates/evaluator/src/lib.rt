@@ -3,7 +3,6 @@
 
 mod acting;
 mod entering;
-mod file;
 mod finding;
 mod machine;
 mod outcome;

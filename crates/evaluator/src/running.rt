@@ -1,22 +1,170 @@
-//! Evaluates a file.
-ghost use Rattle.std.specs.Prelude.{◌≡◌, ◌++◌, zip, map, IfOk, OnOk};
+//! Evaluates a file: how it begins, goes on and waits, and what it leaves.
+ghost use Rattle.std.specs.Prelude.{◌≡◌, ◌++◌, zip, map, IfOk, OnOk, ℕ, List};
+ghost use Rattle.tree.specs.Statements.{file_of, load_of};
+ghost use Rattle.language.specs.World.{at_line};
+ghost use Rattle.language.specs.Files.{all_steps, start, loads, leaves, file_level};
+ghost use Rattle.names.specs.View.{world_of, here_of, Ran};
 ghost use Rattle.package_calls.specs.View.{answers_of};
-ghost use Rattle.evaluator.specs.Machines.{env_of};
-ghost use Rattle.evaluator.specs.Files.{Stands, answered, shared_texts};
-ghost use Rattle.evaluator.specs.Evaluated.{Evaluates};
+ghost use Rattle.evaluator.specs.Machines.{env_of, Stops};
+ghost use Rattle.evaluator.specs.Files.{Stands, answered, shared_texts, load_does, opens, Opened};
+ghost use Rattle.evaluator.specs.Evaluated.{Evaluates, IsLeft, Shows};
 
-use crate::file::{first_state, leave_file, level, open_file, stopped};
-use crate::machine::{Environment, Machine, Turned};
-use crate::outcome::{Outcome, Suspended};
+use crate::machine::{Environment, Machine, Stop, Turned};
+use crate::outcome::{Fault, Outcome, Suspended};
 use crate::turning::go;
+use calls::file_block;
 use frames::Control;
+use grammar::FileKind;
+use heap::{Halt, Heap};
+use made_targets::targets_made;
+use meaning::faults;
+use module_values::{Loaded, Module};
+use modules::{frozen_module, load_items};
+use names::{Block, FileNames, KeptDefaults, Made, Standing, State};
 use package_calls::Answer;
+use pieces::tick;
 use std::alloc::Global;
 use std::sync::Arc;
 use texts::{Memory, Text};
+use tree::{File, LoadStmt};
 
 // The calls of functions that may be open at once.
 const OPEN_CALLS: usize = 64;
+
+// The steps of an evaluation.
+const STEPS: u64 = 1000000;
+
+/// Where the statements of a file stand; each has its own line.
+pub fn level(e: &Environment) -> Result<Standing, Memory>
+    ensures { IfOk result (λ at. at ≡ record { label = e.now.label; path = e.now.path; kind = e.now.package.kind; line = 0 }) }
+{
+    Ok(Standing {
+        label: e.label.share()?,
+        path: e.path.share()?,
+        kind: e.package.kind,
+        line: 0,
+    })
+}
+
+/// A state in which no name is bound, and all steps are left.
+pub fn first_state(alloc: Global, e: &Environment) -> Result<State, Memory>
+    ensures { IfOk result (λ state. world_of state ≡ start all_steps (env_of e.now)) }
+{
+    let slots = match file_block(alloc, &e.file) {
+        Ok(slots) => slots,
+        Err(_) => return Err(Memory),
+    };
+    let block = Block::new(slots)?;
+    let label = e.label.share()?;
+    let mut files = Vec::new(alloc);
+    files.push(FileNames {
+        label,
+        block,
+        defaults: KeptDefaults::new(alloc),
+    })?;
+    Ok(State {
+        heap: Heap::new(alloc, STEPS),
+        blocks: Vec::new(alloc),
+        files,
+        targets: Made::new(alloc),
+    })
+}
+
+// Why a statement stops that stands in a line of the file.
+fn stop_in(at: &Standing, line: usize, halt: Halt) -> Stop
+    ensures { Stops at.now.path line halt result }
+{
+    match halt {
+        Halt::Code(code) => match at.path.share() {
+            Ok(path) => Stop::Fault(code, path, line),
+            Err(_) => Stop::Memory,
+        },
+        Halt::Memory => Stop::Memory,
+    }
+}
+
+// A load statement: a step, and what it binds.
+fn bind_load(state: &mut State, at: &Standing, body: &Module, load: &LoadStmt) -> Result<(), Halt>
+    ensures { (line : ℕ) (running : List (List ℕ × List ℕ)) → let here = here_of at.now line running in Ran (at_line load.now.line here).site (load_does body.now (load_of load.now) here (world_of state.old)) result (world_of state.new) }
+{
+    if let Err(halt) = tick(&mut state.heap) {
+        return Err(halt);
+    }
+    load_items(state, at, body, load.items.as_slice())
+}
+
+// The load statements of a file, in order. One without a module is fault 18.
+fn bind_loads(
+    state: &mut State,
+    at: &Standing,
+    statements: &[LoadStmt],
+    modules: &[Loaded],
+) -> Result<(), Stop>
+    ensures { (running : List (List ℕ × List ℕ)) → let here = here_of at.now at.now.line running in Opened (loads (map load_of statements.now) modules.now here (world_of state.old)) result (world_of state.new) }
+{
+    for i in 0..statements.len() {
+        let load = &statements[i];
+        let Some(loaded) = modules.get(i) else {
+            return Err(stop_in(at, load.line, Halt::Code(faults::NOT_EXPORTED)));
+        };
+        if let Err(halt) = bind_load(state, at, loaded.body(), load) {
+            return Err(stop_in(at, load.line, halt));
+        }
+    }
+    Ok(())
+}
+
+/// What stands before the other statements of a file: a first statement that is one string alone, and the loads.
+pub fn open_file(
+    state: &mut State,
+    at: &Standing,
+    file: &File,
+    modules: &[Loaded],
+) -> Result<(), Stop>
+    ensures { (running : List (List ℕ × List ℕ)) → let here = here_of at.now at.now.line running in Opened (opens (file_of file.now) modules.now here (world_of state.old)) result (world_of state.new) }
+{
+    if let Some(line) = file.leading {
+        if let Err(halt) = tick(&mut state.heap) {
+            return Err(stop_in(at, line, halt));
+        }
+    }
+    bind_loads(state, at, file.loads.as_slice(), modules)
+}
+
+/// An outcome that stops, or want of memory.
+pub fn stopped(stop: Stop) -> Result<Outcome, Memory>
+    ensures { Shows stop result }
+{
+    match stop {
+        Stop::Fault(code, path, line) => Ok(Outcome::Fault(Fault { code, path, line })),
+        Stop::Memory => Err(Memory),
+    }
+}
+
+// The module that a .bzl file leaves. A fault at its end has line 0.
+fn leave_module(state: &mut State, e: &Environment) -> Result<Outcome, Memory>
+    ensures { let env = env_of e.now in IsLeft (leaves FileKind.Bzl env (file_level env) (world_of state.old)) result }
+{
+    let at = level(e)?;
+    match frozen_module(state, &at, &e.file, e.loads.as_slice()) {
+        Ok(loaded) => Ok(Outcome::Module(loaded)),
+        Err(halt) => stopped(stop_in(&at, 0, halt)),
+    }
+}
+
+/// What a file leaves once its statements have ended: a .bzl file its module, and a BUILD file its targets.
+pub fn leave_file(state: State, e: &Environment) -> Result<Outcome, Memory>
+    ensures { let env = env_of e.now in IsLeft (leaves env.kind env (file_level env) (world_of state)) result }
+{
+    let mut state = state;
+    match e.package.kind {
+        FileKind::Bzl => leave_module(&mut state, e),
+        FileKind::Build => {
+            let targets = targets_made(state.heap.alloc, &state)?;
+            Ok(Outcome::Package(targets))
+        }
+    }
+}
 
 // The same texts, shared.
 fn share_all(alloc: Global, texts: &[Text]) -> Result<Vec<Text>, Memory>

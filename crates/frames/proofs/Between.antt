@@ -1,15 +1,8 @@
 -- An operator between two expressions.
-use Rattle.std.proofs.Common.{◌≡◌, refl, sym, ap, ◌∙◌, Global}
-use Rattle.std.specs.declared.sync.Arc.{Arc}
+use Rattle.std.proofs.Common.{◌≡◌, refl}
 use Rattle.meaning.specs.declared.val.Val.{Val}
-use Rattle.tree.specs.Tree as t
-use Rattle.tree.specs.Tree.{Ex, Cl}
 use Rattle.tree.specs.declared.expr.BinaryOp.{BinaryOp}
 use Rattle.tree.specs.declared.expr.BinaryOp.TheVariants as o
-use Rattle.tree.specs.declared.expr.Expr.{Expr, fold-roll-Expr}
-use Rattle.tree.specs.declared.expr.Clause.TheOpen.{Expr-F}
-use Rattle.tree.specs.declared.expr.Expr.TheVariants as x
-use Rattle.tree.specs.View.{tree_of, shared_tree, expr_step, clause_step}
 use Rattle.language.specs.World.{World, Here, Runs, then_runs}
 use Rattle.language.specs.Expressions.{between}
 use Rattle.frames.specs.Frames.{right}

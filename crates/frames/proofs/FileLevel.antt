@@ -1,9 +1,5 @@
 -- The statements of a file, one after another.
 use Rattle.std.proofs.Common.{◌≡◌, ℕ, List, ◌∷◌, ◌++◌, [], drop, map, refl, ap, sym, ◌∙◌}
-use Rattle.std.specs.declared.sync.Arc.{Arc}
-use Rattle.std.specs.declared.alloc.Global.{Global}
-use Rattle.std.specs.Arc.{arc_value}
-use Rattle.meaning.specs.declared.val.Val.{Val}
 use Rattle.tree.specs.Tree as t
 use Rattle.tree.specs.Tree.{Ex, Fn, Pa, Tp}
 use Rattle.tree.specs.declared.stmt.Stmt.{Stmt}
@@ -15,8 +11,8 @@ use Rattle.language.specs.Statements as s
 use Rattle.language.specs.Statements.{exec}
 use Rattle.language.specs.Calls.{call}
 use Rattle.frames.specs.declared.frame.Frame.{Frame}
-use Rattle.frames.specs.Frames.{Sig, a_value, an_exit, on_exit, exited, ex, above, stack_does, tops_do, tops_at, defaults_from, defined}
-use Rattle.frames.proofs.Bind.{through, under, then_assoc}
+use Rattle.frames.specs.Frames.{Sig, an_exit, on_exit, exited, above, stack_does, tops_do}
+use Rattle.frames.proofs.Bind.{through}
 
 module _ (env : Env) (n : ℕ) (here : Here) (frames : List Frame) (w : World) where
   -- the statements of a file from a place on, of which the first runs above a frame

@@ -1,13 +1,16 @@
 -- What stands behind an expression whose value is known at once.
-use Rattle.std.proofs.Common.{◌≡◌, ℕ, Err, ap, ◌∙◌}
+use Rattle.std.proofs.Common.{ℕ, Err, ap}
 use Rattle.heap.specs.declared.halt.Halt.{Halt}
 use Rattle.heap.specs.declared.halt.Halt.TheVariants.{Code, Memory}
 use Rattle.meaning.specs.declared.val.Val.{Val}
-use Rattle.language.specs.World.{Site, World, Ends, Runs, then_runs}
+use Rattle.language.specs.World.{Site, World, Here, Ends, Runs, then_runs}
+use Rattle.language.specs.Environment.{Env}
+use Rattle.language.specs.Statements.{Exit}
+use Rattle.quiet.specs.Done.{Done, Tested}
 use Rattle.frames.specs.declared.frame.Control.{Control}
 use Rattle.names.specs.View.{Ran}
 use Rattle.frames.specs.Frames.{Sig, Goes}
-use Rattle.frames.specs.Immediate.{AtOnce}
+use Rattle.frames.specs.Immediate.{AtOnce, Chosen}
 
 pub once_stops : (m : Ends Val) (k : Val → Runs Sig) (site : Site) (halt : Halt) (u : World) (after : Control → Ends Sig) → AtOnce site m (Err halt) u → Goes site (then_runs m k) (Err halt) after
 once_stops m k site (Code c) u after h = ap (λ o. then_runs o k) h
@@ -18,7 +21,21 @@ pub once_stops_below : {A : Type 0} (m : Ends Val) (k : Val → Runs A) (j : A �
 once_stops_below m k j site (Code c) u after h = ap (λ o. then_runs (then_runs o k) j) h
 once_stops_below m k j site Memory u after h = tt
 
+-- the same, with two pieces behind it
+pub once_stops_far : {A B : Type 0} (m : Ends Val) (k : Val → Runs A) (p : A → Runs B) (j : B → Runs Sig) (site : Site) (halt : Halt) (u : World) (after : Control → Ends Sig) → AtOnce site m (Err halt) u → Goes site (then_runs (then_runs (then_runs m k) p) j) (Err halt) after
+once_stops_far m k p j site (Code c) u after h = ap (λ o. then_runs (then_runs (then_runs o k) p) j) h
+once_stops_far m k p j site Memory u after h = tt
+
 -- a fault of an expression that is evaluated at once
 pub once_ran : (m : Ends Val) (site : Site) (halt : Halt) (u : World) → Ran site m (Err halt) u → AtOnce site m (Err halt) u
 once_ran m site (Code c) u h = h
 once_ran m site Memory u h = tt
+
+-- a condition that stops
+pub chosen_stops : (env : Env) (n : ℕ) (here : Here) (site : Site) (does : Runs Exit → Runs Exit → Runs Exit) (m k : Runs Exit) (halt : Halt) (w u : World) → Tested site does w (Err halt) u → Chosen env n here site (does m k w) (Err halt) u
+chosen_stops env n here site does m k (Code c) w u h = h m k
+chosen_stops env n here site does m k Memory w u h = tt
+
+pub chosen_done : (env : Env) (n : ℕ) (here : Here) (site : Site) (m : Ends Exit) (halt : Halt) (u : World) → Chosen env n here site m (Err halt) u → Done site m (Err halt) u
+chosen_done env n here site m (Code c) u h = h
+chosen_done env n here site m Memory u h = tt

@@ -10,3 +10,4 @@ pub mod Topmost
 pub mod FileLevel
 pub mod Immediate
 pub mod Between
+pub mod AtOnce

@@ -1,22 +1,14 @@
 -- The tree of each kind of clause, target and statement.
-use Rattle.std.proofs.Common.{◌≡◌, ℕ, sym, ap, ◌∙◌, map, Option, None, Some, Vec, Global}
+use Rattle.std.proofs.Common.{◌≡◌, sym, ap, ◌∙◌, map, Vec, Global}
 use Rattle.std.specs.declared.sync.Arc.{Arc}
 use Rattle.std.specs.Arc.{arc_value}
-use Rattle.texts.specs.declared.text.Text.{Text}
-use Rattle.std.specs.declared.sync.atomic.AtomicUsize.{AtomicUsize}
 use Rattle.tree.specs.Tree as t
 use Rattle.tree.specs.Tree.{Ex, Cl, St, Br}
-use Rattle.tree.specs.declared.expr.BinaryOp.{BinaryOp}
-use Rattle.tree.specs.declared.expr.UnaryOp.{UnaryOp}
-use Rattle.tree.specs.declared.stmt.Stmt.{fold-roll-Stmt}
-use Rattle.tree.specs.declared.stmt.Stmt.TheOpen.{Stmt-F}
-use Rattle.tree.specs.declared.stmt.Stmt.TheVariants as z
 use Rattle.tree.specs.declared.stmt.Branch.{Branch, out-Branch, fold_out-Branch}
-use Rattle.tree.specs.Statements.{stmt_of, stmts_of, branch_of, stmt_step, branch_step}
-use Rattle.tree.specs.declared.expr.Expr.{Expr, fold-roll-Expr}
-use Rattle.tree.specs.declared.expr.Clause.{Clause, fold-roll-Clause}
-use Rattle.tree.specs.declared.expr.Clause.TheOpen.{Expr-F, Clause-F}
-use Rattle.tree.specs.declared.expr.Expr.TheVariants as x
+use Rattle.tree.specs.Statements.{stmts_of, branch_of, stmt_step, branch_step}
+use Rattle.tree.specs.declared.expr.Expr.{Expr}
+use Rattle.tree.specs.declared.expr.Clause.{fold-roll-Clause}
+use Rattle.tree.specs.declared.expr.Clause.TheOpen.{Clause-F}
 use Rattle.tree.specs.declared.expr.Clause.TheVariants as y
 use Rattle.language.specs.Targets as ta
 use Rattle.language.specs.Targets.{to_each}
@@ -24,7 +16,7 @@ use Rattle.pieces.specs.View.{aim_of, aims_of, aim_step}
 use Rattle.pieces.specs.declared.aims.Aim.{Aim, fold-roll-Aim}
 use Rattle.pieces.specs.declared.aims.Aim.TheOpen.{Aim-F}
 use Rattle.pieces.specs.declared.aims.Aim.TheVariants.{Each, rolls-Each}
-use Rattle.tree.specs.View.{tree_of, trees_of, clause_trees, shared_tree, bound_tree, clause_of, expr_step, clause_step}
+use Rattle.tree.specs.View.{shared_tree, clause_of, expr_step, clause_step}
 
 pub clause-For : (e s : Arc Expr Global) → clause_of (y.For e s) ≡ t.for_in (shared_tree e) (shared_tree s)
 clause-For e s = ap clause_of (sym (y.rolls-For e s)) ∙ fold-roll-Clause Cl Ex clause_step expr_step (Clause-F.For e s)

@@ -8,7 +8,7 @@
 --
 -- The blocks of the function that runs are the state's; `Leave` keeps those of the caller, and `EndBlock` ends the block of
 -- a comprehension.
-use Rattle.std.specs.Prelude.{◌≡◌, ℕ, suc, ◌+◌, Bool, true, false, List, [], ◌∷◌, ◌++◌, length, drop, map, reverse, Result, Ok, Err}
+use Rattle.std.specs.Prelude.{◌≡◌, ℕ, ◌+◌, Bool, true, false, List, [], ◌∷◌, ◌++◌, length, drop, map, reverse, Result, Ok, Err}
 use Rattle.std.specs.declared.vec.Vec.{Vec}
 use Rattle.std.specs.declared.alloc.Global.{Global}
 use Rattle.std.specs.declared.sync.Arc.{Arc}
@@ -453,6 +453,7 @@ module _ (env : Env) (n : ℕ) (here : Here) where
   control_does (c.Tops file next) = exited (tops_do env n here (tops_at next file))
   control_does (c.Defaults line def next done) = exited (defines env n here (fn_of (arc_value def)) (params_at next def) done.items line)
   control_does (c.Define line def xs) = exited (defined env n here (fn_of (arc_value def)) xs.items line)
+  control_does (c.Fault line code) = fault code (at_line line here)
   control_does (c.Add line a x y) = exited (on_heap (at_line line here) (added x y) >>= λ z. store (aim_of a.value) z (at_line line here) >>= λ _. pure goes_on)
 
   -- a piece, with the frames below it
@@ -485,6 +486,7 @@ control_line base (c.Add line a x y) = line
 control_line base (c.Tops file next) = tops_line (tops_at next file)
 control_line base (c.Defaults line def next done) = line
 control_line base (c.Define line def xs) = line
+control_line base (c.Fault line code) = line
 
 -- what goes on within a function or a file, and calls nothing
 abbrev pub is_within : Control → Bool

@@ -43,6 +43,7 @@ frame_weight frame = 2
 
 abbrev pub control_weight : Control → ℕ
 control_weight (c.Signal sig) = 0
+control_weight (c.Fault line code) = 0
 control_weight (c.Items line s) = 8
 control_weight (c.Entries line pairs next) = 3
 control_weight (c.Aim line e) = aim_size (shared_tree e) + 1

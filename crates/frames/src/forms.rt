@@ -14,10 +14,12 @@ ghost use Rattle.frames.specs.declared.frame.Frame.{Frame};
 ghost use Rattle.frames.specs.Frames.{Goes, on, valued, gathered, item_does, items_from, entries_from, method_does, unary_does, binary_does, choice_does, index_does, slice_does, call_does, list_of_does, dict_of_does, shared_trees, above, machine_does};
 
 use crate::frame::{Comprehension, Control, Frame, Item, Purpose, Receiver, Signal};
+use crate::items::begin_arguments;
 use crate::making::{entries_of, items_of};
-use crate::once::value_above;
+use crate::once::{at_once, value_above};
 use crate::stack::{eval_above, push};
 use heap::{Halt, Val};
+use meaning::faults;
 use names::{Standing, State, is_native_name};
 use pieces::{make_text, tick};
 use std::alloc::Global;
@@ -153,9 +155,15 @@ pub fn begin_call(
     ensures goes { (env : Env) (n : ℕ) (running : List (List ℕ × List ℕ)) → let here = here_of at.now at.now.line running in Goes (on env n here line).site (above env n here (valued (call_does env n here (shared_tree f.now) (shared_trees es.now) (arc_value names.now).items line)) frames.old.items (world_of state.old)) result (λ control. machine_does env n here control frames.new.items (world_of state.new)) }
     ensures steps { IfOk result (λ _. state.new.heap.steps ≤ state.old.heap.steps) }
 {
-    let all = Arc::try_clone(es)?;
     let names = Arc::try_clone(names)?;
-    value_above(state, frames, at, Frame::Called(line, all, names), line, f)
+    match at_once(state, at, f) {
+        Ok(Some(g)) => begin_arguments(state, at, line, es, Purpose::Call(g, names)),
+        Ok(None) => {
+            let all = Arc::try_clone(es)?;
+            eval_above(frames, Frame::Called(line, all, names), line, f)
+        }
+        Err(halt) => Err(halt),
+    }
 }
 
 /// Begins a comprehension of a list.
@@ -224,8 +232,8 @@ fn begin_comprehension(
             let frame = Frame::First(line, Arc::try_clone(target)?, of);
             eval_above(frames, frame, line, sequence)
         }
-        Some(Clause::If(_)) => Err(Halt::Code(5)),
-        None => Err(Halt::Code(5)),
+        Some(Clause::If(_)) => Err(Halt::Code(faults::WRONG_TYPE)),
+        None => Err(Halt::Code(faults::WRONG_TYPE)),
     }
 }
 
@@ -254,14 +262,14 @@ pub fn begin_method(
     ensures goes { (env : Env) (n : ℕ) (running : List (List ℕ × List ℕ)) → let here = here_of at.now at.now.line running in Goes (on env n here line).site (above env n here (valued (method_does env n here (shared_tree x.now) name.now (shared_trees es.now) (arc_value names.now).items line)) frames.old.items (world_of state.old)) result (λ control. machine_does env n here control frames.new.items (world_of state.new)) }
     ensures steps { IfOk result (λ _. state.new.heap.steps ≤ state.old.heap.steps) }
 {
-    let all = Arc::try_clone(es)?;
     let names = Arc::try_clone(names)?;
     let name = name.share()?;
     if is_native(state, at, x) {
         tick(&mut state.heap)?;
         let purpose = Purpose::Method(Receiver::Native, name, names);
-        return items_of(state.heap.alloc, line, all, purpose);
+        return begin_arguments(state, at, line, es, purpose);
     }
+    let all = Arc::try_clone(es)?;
     value_above(
         state,
         frames,

@@ -223,4 +223,32 @@ pub enum Control {
     Defaults(usize, Arc<Def, Global>, usize, Vec<Val>),
     /// A function is bound, with the values of its defaults.
     Define(usize, Arc<Def, Global>, Vec<Val>),
+    /// A fault of a statement that was run ahead: its line and its code.
+    Fault(usize, u8),
+}
+
+/// What a statement has done that was run at once.
+#[derive(Drop)]
+pub enum Once {
+    /// It has ended, and the next one goes on.
+    Done,
+    /// A part of it is left.
+    Begun(Control),
+    /// It has stopped at a fault: the line, and the code.
+    Faulty(usize, u8),
+    /// Nothing was done.
+    Not,
+}
+
+/// How far the statements of a suite lead that are run at once.
+#[derive(Drop)]
+pub enum Ahead {
+    /// To their end.
+    Ended,
+    /// To the one at a place.
+    At(usize),
+    /// Into one of which a part is left. Behind it the one at the place is next.
+    Above(usize, Control),
+    /// To a fault: the line, and the code.
+    Faulty(usize, u8),
 }

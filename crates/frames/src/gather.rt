@@ -1,25 +1,30 @@
 //! How the clauses of a comprehension go on.
 ghost use Rattle.std.specs.Prelude.{◌≡◌, ◌<◌, ◌+◌, ◌≤◌, ℕ, List, IfOk};
 ghost use Rattle.std.specs.Arc.{arc_value};
-ghost use Rattle.language.specs.World.{Here};
+ghost use Rattle.tree.specs.View.{tree_of};
+ghost use Rattle.language.specs.World.{Here, then_runs};
+ghost use Rattle.language.specs.Targets.{to_name};
 ghost use Rattle.language.specs.Environment.{Env};
 ghost use Rattle.names.specs.View.{world_of, here_of};
-ghost use Rattle.frames.specs.Frames.{Goes, on, ex, gathered, item_does, above, machine_does};
+ghost use Rattle.frames.specs.Frames.{Goes, on, ex, gathered, item_does, an_aim, aims_at, frame_does, above, machine_does};
 ghost use Rattle.frames.specs.Weight.{Lighter, frames_weight, control_weight};
 ghost use Rattle.pieces.specs.View.{gathered_of};
 ghost use Rattle.frames.specs.declared.frame.Control.TheVariants as c;
+ghost use Rattle.frames.specs.declared.frame.Frame.TheVariants as f;
 
 use crate::frame::{Comprehension, Control, Frame, Gathering, Item, Signal};
 use crate::items::begin_above;
 use crate::making::next_gathering;
 use crate::stack::push;
 use crate::targets::begin_aim;
-use heap::Halt;
-use names::{Standing, State};
+use heap::{Halt, Val};
+use names::{Standing, State, bind};
 use pieces::{Gathered, tick, unlock};
 use std::alloc::Global;
 use std::sync::Arc;
-use tree::Clause;
+use std::sync::atomic::AtomicUsize;
+use texts::Text;
+use tree::{Clause, Expr};
 
 // Begins an item of a comprehension.
 fn begin_item(
@@ -95,6 +100,53 @@ pub fn next_gather(
     let line = now.line;
     let target = Arc::try_clone(&now.target)?;
     let next = next_gathering(turns);
-    push(frames, Frame::Aimed(next, value, got))?;
-    begin_aim(state, frames, at, line, &target)
+    aim_gathering(state, frames, at, line, &target, next, value, got)
+}
+
+// Aims at the target of a turn of a clause. A name is bound at once, and the clause behind it is next.
+fn aim_gathering(
+    state: &mut State,
+    frames: &mut Vec<Frame>,
+    at: &Standing,
+    line: usize,
+    target: &Expr,
+    turns: Box<Gathering>,
+    x: Val,
+    got: Box<Gathered>,
+) -> Result<Control, Halt>
+    requires { line ≡ turns.value.line }
+    ensures goes { (env : Env) (n : ℕ) (running : List (List ℕ × List ℕ)) → let here = here_of at.now at.now.line running in Goes (on env n here line).site (then_runs (aims_at env n here (tree_of target.now) line (world_of state.old)) (λ a. above env n here (frame_does env n here (f.Aimed turns x got) (an_aim a)) frames.old.items)) result (λ control. machine_does env n here control frames.new.items (world_of state.new)) }
+    ensures steps { IfOk result (λ _. state.new.heap.steps ≤ state.old.heap.steps) }
+{
+    match target {
+        Expr::Name(name, last) => gather_named(state, frames, at, name, last, turns, x, got),
+        _ => {
+            push(frames, Frame::Aimed(turns, x, got))?;
+            begin_aim(state, frames, at, line, target)
+        }
+    }
+}
+
+// Binds the name that a turn of a clause is for, and begins the clause behind it.
+fn gather_named(
+    state: &mut State,
+    frames: &mut Vec<Frame>,
+    at: &Standing,
+    name: &Text,
+    last: &AtomicUsize,
+    turns: Box<Gathering>,
+    x: Val,
+    got: Box<Gathered>,
+) -> Result<Control, Halt>
+    ensures goes { (env : Env) (n : ℕ) (running : List (List ℕ × List ℕ)) → let here = here_of at.now at.now.line running in Goes (on env n here turns.value.line).site (above env n here (frame_does env n here (f.Aimed turns x got) (an_aim (to_name name.now))) frames.old.items (world_of state.old)) result (λ control. machine_does env n here control frames.new.items (world_of state.new)) }
+    ensures steps { state.new.heap ≡ state.old.heap }
+{
+    if let Err(halt) = bind(state, at, name, last, x) {
+        return Err(halt);
+    }
+    let of = Arc::try_clone(&turns.of)?;
+    let line = turns.line;
+    let inner = turns.inner;
+    push(frames, Frame::Gather(turns))?;
+    Ok(Control::Clauses(line, of, inner, got))
 }

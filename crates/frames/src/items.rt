@@ -2,9 +2,8 @@
 ghost use Rattle.std.specs.Prelude.{◌≡◌, ◌<◌, ◌+◌, ◌≤◌, ℕ, List, [], length, IfOk};
 ghost use Rattle.std.specs.List.{list_any};
 ghost use Rattle.std.specs.Arc.{arc_value};
-ghost use Rattle.meaning.specs.Builtins.{same_builtin};
-ghost use Rattle.language.specs.World.{World, Here};
-ghost use Rattle.language.specs.Names.{package_functions};
+ghost use Rattle.meaning.specs.Builtins.{same_builtin, package_functions};
+ghost use Rattle.language.specs.World.{World, Here, then_runs};
 ghost use Rattle.language.specs.Environment.{Env};
 ghost use Rattle.language.specs.Expressions as e;
 ghost use Rattle.language.specs.Arguments.{plain_part, named_part};
@@ -14,7 +13,6 @@ ghost use Rattle.tree.specs.View.{tree_of};
 ghost use Rattle.frames.specs.Frames.{Goes, on, ex, valued, a_value, use_items, items_from, shared_trees, receiver_of, frame_does, calls_below, here_below, above, machine_does};
 ghost use Rattle.frames.specs.Weight.{Lighter, frames_weight, control_weight};
 ghost use Rattle.frames.specs.declared.frame.Control.TheVariants as c;
-ghost use Rattle.language.specs.World.{then_runs};
 
 use crate::begin::{begin, begin_parts};
 use crate::frame::{Control, Frame, Purpose, Receiver, Series, Signal};
@@ -22,6 +20,7 @@ use crate::making::items_of;
 use crate::once::one_item;
 use crate::stack::push;
 use heap::{Builtin, Halt, Val};
+use meaning::faults;
 use names::{Standing, State, package_function};
 use pieces::{make_list, make_tuple};
 use quiet::{are_quiet_at, values_at};
@@ -29,21 +28,6 @@ use std::alloc::Global;
 use std::sync::Arc;
 use texts::Text;
 use tree::Expr;
-
-// Whether a function is a package call.
-fn is_package(f: Builtin) -> bool
-    ensures { result ≡ list_any (same_builtin f) package_functions }
-{
-    match f {
-        Builtin::Glob => true,
-        Builtin::Filegroup => true,
-        Builtin::Genrule => true,
-        Builtin::Alias => true,
-        Builtin::TestSuite => true,
-        Builtin::PackageName => true,
-        _ => false,
-    }
-}
 
 // Calls a value: a function of a file, a built-in function or a package call; else fault 5.
 #[tactic(auto, unfolding(language::specs::Expressions::apply))]
@@ -53,14 +37,14 @@ fn apply(line: usize, g: Val, xs: Vec<Val>, names: Arc<Vec<Text>, Global>) -> Re
 {
     match g {
         Val::Builtin(f) => {
-            if is_package(f) {
+            if f.is_package_call() {
                 Ok(Control::Package(line, f, xs, names))
             } else {
                 Ok(Control::Builtin(line, f, xs, names))
             }
         }
         Val::At(place) => Ok(Control::Enter(line, place, xs, names)),
-        _ => Err(Halt::Code(5)),
+        _ => Err(Halt::Code(faults::WRONG_TYPE)),
     }
 }
 
@@ -79,7 +63,7 @@ fn apply_method(
     match r {
         Receiver::Native => match package_function(&name) {
             Some(f) => Ok(Control::Package(line, f, xs, names)),
-            None => Err(Halt::Code(5)),
+            None => Err(Halt::Code(faults::WRONG_TYPE)),
         },
         Receiver::Of(x) => Ok(Control::Method(line, x, name, xs, names)),
     }

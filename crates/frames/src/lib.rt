@@ -1,6 +1,7 @@
 //! The frames of a machine that evaluates a file, and one step of it.
 #![tactic(auto)]
 
+mod ahead;
 mod begin;
 mod deliver;
 mod forms;

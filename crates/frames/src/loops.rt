@@ -11,7 +11,8 @@ ghost use Rattle.frames.specs.Weight.{Lighter, frames_weight, control_weight};
 ghost use Rattle.frames.specs.declared.frame.Control.TheVariants as c;
 ghost use Rattle.frames.specs.declared.frame.Frame.TheVariants as f;
 
-use crate::frame::{Control, Exit, Frame, Signal, Turns};
+use crate::ahead::{ahead, lead};
+use crate::frame::{Ahead, Control, Exit, Frame, Signal, Turns};
 use crate::items::begin_above;
 use crate::making::next_turns;
 use crate::stack::push;
@@ -20,14 +21,13 @@ use crate::targets::begin_aim;
 use heap::{Halt, Val};
 use names::{Standing, State, bind};
 use pieces::{tick, unlock};
-use quiet::run;
 use std::alloc::Global;
 use std::sync::Arc;
 use std::sync::atomic::AtomicUsize;
 use texts::Text;
 use tree::{Branch, Expr, Stmt};
 
-/// Goes on with a suite.
+/// Goes on with a suite. Its statements are run at once, as far as they can be.
 pub fn next_stmt(
     state: &mut State,
     frames: &mut Vec<Frame>,
@@ -38,18 +38,18 @@ pub fn next_stmt(
     ensures goes { (env : Env) (n : ℕ) (running : List (List ℕ × List ℕ)) → let here = here_of at.now at.now.line running in Goes (on env n here (suite_line (suite_from next ss))).site (machine_does env n here (c.Suite ss next) frames.old.items (world_of state.old)) result (λ control. machine_does env n here control frames.new.items (world_of state.new)) }
     ensures lighter { IfOk result (λ control. Lighter state.old.heap.steps (frames_weight frames.old.items + 1) state.new.heap.steps (frames_weight frames.new.items + control_weight control)) }
 {
-    if next >= ss.len() {
-        return Ok(Control::Signal(Signal::Exit(Exit::GoesOn)));
-    }
-    let stmt = &ss[next];
-    match run(state, at, stmt) {
-        Ok(done) => {
-            if done {
-                return Ok(Control::Suite(ss, next + 1));
+    let ahead = match ahead(state, at, &ss, next) {
+        Ok(ahead) => ahead,
+        Err(_) => return Err(Halt::Memory),
+    };
+    match ahead {
+        Ahead::At(i) => {
+            if i > next {
+                return Ok(Control::Suite(ss, i));
             }
-            stmt_above(state, frames, at, ss, next)
+            stmt_above(state, frames, at, ss, i)
         }
-        Err(halt) => Err(halt),
+        ahead => lead(frames, ss, ahead),
     }
 }
 
@@ -145,7 +145,7 @@ fn aim_turn(
     }
 }
 
-// Binds the name that a turn is for, and begins the body.
+// Binds the name that a turn is for, and runs the body at once, as far as it can be.
 fn begin_named(
     state: &mut State,
     frames: &mut Vec<Frame>,
@@ -156,12 +156,17 @@ fn begin_named(
     x: Val,
 ) -> Result<Control, Halt>
     ensures goes { (env : Env) (n : ℕ) (running : List (List ℕ × List ℕ)) → let here = here_of at.now at.now.line running in Goes (on env n here turns.value.line).site (above env n here (frame_does env n here (f.Turn turns x) (an_aim (to_name name.now))) frames.old.items (world_of state.old)) result (λ control. machine_does env n here control frames.new.items (world_of state.new)) }
-    ensures steps { state.new.heap ≡ state.old.heap }
+    ensures steps { IfOk result (λ _. state.new.heap.steps ≤ state.old.heap.steps) }
 {
     if let Err(halt) = bind(state, at, name, last, x) {
         return Err(halt);
     }
     let body = Arc::try_clone(&turns.body)?;
-    push(frames, Frame::Turns(turns))?;
-    Ok(Control::Suite(body, 0))
+    match ahead(state, at, &body, 0) {
+        Ok(ahead) => {
+            push(frames, Frame::Turns(turns))?;
+            lead(frames, body, ahead)
+        }
+        Err(_) => Err(Halt::Memory),
+    }
 }

@@ -1,17 +1,95 @@
 //! A signal for the topmost frame.
-ghost use Rattle.std.specs.Prelude.{◌≡◌, ◌+◌, ◌++◌, [], ◌∷◌, ℕ, List, IfOk};
+ghost use Rattle.std.specs.Prelude.{◌≡◌, ◌+◌, ◌++◌, [], ◌∷◌, ℕ, List, true, false, IfOk, IsOkUnless};
 ghost use Rattle.language.specs.World.{Here};
 ghost use Rattle.language.specs.Environment.{Env};
 ghost use Rattle.names.specs.View.{world_of, here_of};
-ghost use Rattle.frames.specs.Frames.{Goes, on, frame_line, is_leave, machine_does};
-ghost use Rattle.frames.specs.Weight.{Lighter, frames_weight, control_weight};
+ghost use Rattle.heap.specs.declared.halt.Halt.TheVariants.{Memory};
+ghost use Rattle.frames.specs.Frames.{Goes, on, sig_of, frame_does, frame_line, is_leave, is_within, above, machine_does};
+ghost use Rattle.frames.specs.Weight.{Lighter, frames_weight, frame_weight, control_weight};
+ghost use Rattle.frames.specs.Ahead.{AsLight};
 ghost use Rattle.frames.specs.declared.frame.Control.TheVariants as c;
-ghost use Rattle.std.specs.Prelude.{false};
 
 use crate::frame::{Control, Frame, Signal};
 use crate::handing::deliver;
+use crate::places::control_line;
+use crate::stepping::step;
 use heap::Halt;
 use names::{Standing, State};
+
+// Whether one step goes on with a control.
+fn is_within(control: &Control) -> bool
+    ensures { result ≡ is_within control.now }
+{
+    match control {
+        Control::Signal(_) => false,
+        Control::First(_, _, _, _) => false,
+        Control::Enter(_, _, _, _) => false,
+        Control::Builtin(_, _, _, _) => false,
+        Control::Method(_, _, _, _, _) => false,
+        Control::Package(_, _, _, _) => false,
+        Control::Add(_, _, _, _) => false,
+        Control::Define(_, _, _) => false,
+        _ => true,
+    }
+}
+
+// Makes one step. A fault of it is what is next, with its line: behind it no step is left, and no frame matters.
+fn stepped(
+    state: &mut State,
+    frames: &mut Vec<Frame>,
+    at: &Standing,
+    control: Control,
+) -> Result<Control, Halt>
+    requires { is_within control ≡ true }
+    ensures goes { (env : Env) (n : ℕ) (running : List (List ℕ × List ℕ)) → let here = here_of at.now at.now.line running in IfOk result (λ next. machine_does env n here control frames.old.items (world_of state.old) ≡ machine_does env n here next frames.new.items (world_of state.new)) }
+    ensures err { IsOkUnless result Memory }
+    ensures lighter { IfOk result (λ next. AsLight state.old.heap.steps (frames_weight frames.old.items + control_weight control) state.new.heap.steps (frames_weight frames.new.items + control_weight next)) }
+{
+    let line = control_line(&control, at.line);
+    match step(state, frames, at, control) {
+        Ok(next) => Ok(next),
+        Err(Halt::Code(code)) => {
+            state.heap.steps = 0;
+            frames.clear();
+            Ok(Control::Fault(line, code))
+        }
+        Err(Halt::Memory) => Err(Halt::Memory),
+    }
+}
+
+// Goes on with what is next by one step, where a step does so.
+fn onward(
+    state: &mut State,
+    frames: &mut Vec<Frame>,
+    at: &Standing,
+    control: Control,
+) -> Result<Control, Halt>
+    ensures goes { (env : Env) (n : ℕ) (running : List (List ℕ × List ℕ)) → let here = here_of at.now at.now.line running in IfOk result (λ next. machine_does env n here control frames.old.items (world_of state.old) ≡ machine_does env n here next frames.new.items (world_of state.new)) }
+    ensures err { IsOkUnless result Memory }
+    ensures lighter { IfOk result (λ next. AsLight state.old.heap.steps (frames_weight frames.old.items + control_weight control) state.new.heap.steps (frames_weight frames.new.items + control_weight next)) }
+{
+    if is_within(&control) {
+        return stepped(state, frames, at, control);
+    }
+    Ok(control)
+}
+
+// Hands a frame a signal, and goes on at once.
+fn hand_on(
+    state: &mut State,
+    frames: &mut Vec<Frame>,
+    at: &Standing,
+    frame: Frame,
+    signal: Signal,
+) -> Result<Control, Halt>
+    ensures goes { (env : Env) (n : ℕ) (running : List (List ℕ × List ℕ)) → let here = here_of at.now at.now.line running in Goes (on env n here (frame_line at.now.line frame)).site (above env n here (frame_does env n here frame (sig_of signal)) frames.old.items (world_of state.old)) result (λ control. machine_does env n here control frames.new.items (world_of state.new)) }
+    ensures lighter { IfOk result (λ control. Lighter state.old.heap.steps (frames_weight frames.old.items + frame_weight frame) state.new.heap.steps (frames_weight frames.new.items + control_weight control)) }
+{
+    match deliver(state, frames, at, frame, signal) {
+        Ok(control) => onward(state, frames, at, control),
+        Err(halt) => Err(halt),
+    }
+}
 
 /// Hands a signal to the topmost frame, which was taken off the others and ends no call.
 pub fn hand_down(
@@ -25,5 +103,5 @@ pub fn hand_down(
     ensures goes { (env : Env) (n : ℕ) (running : List (List ℕ × List ℕ)) → let here = here_of at.now at.now.line running in Goes (on env n here (frame_line at.now.line frame)).site (machine_does env n here (c.Signal signal) (frames.old.items ++ frame ∷ []) (world_of state.old)) result (λ next. machine_does env n here next frames.new.items (world_of state.new)) }
     ensures lighter { IfOk result (λ next. Lighter state.old.heap.steps (frames_weight (frames.old.items ++ frame ∷ [])) state.new.heap.steps (frames_weight frames.new.items + control_weight next)) }
 {
-    deliver(state, frames, at, frame, signal)
+    hand_on(state, frames, at, frame, signal)
 }

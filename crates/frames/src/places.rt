@@ -107,5 +107,6 @@ pub fn control_line(control: &Control, base: usize) -> usize
         Control::Add(line, _, _, _) => *line,
         Control::Defaults(line, _, _, _) => *line,
         Control::Define(line, _, _) => *line,
+        Control::Fault(line, _) => *line,
     }
 }

@@ -159,6 +159,6 @@ pub fn reach_control(reached: &mut Reached, control: &Control) -> Result<(), Mem
         Control::Defaults(_, _, _, xs) => reached.add_all(xs.as_slice()),
         Control::Define(_, _, xs) => reached.add_all(xs.as_slice()),
         Control::Eval(_, _) | Control::Aim(_, _) | Control::Suite(_, _) => Ok(()),
-        Control::Branches(_, _, _) | Control::Tops(_, _) => Ok(()),
+        Control::Branches(_, _, _) | Control::Tops(_, _) | Control::Fault(_, _) => Ok(()),
     }
 }

@@ -45,6 +45,7 @@ pub fn step(
         Control::Defaults(line, def, next, done) => next_default(
             state, frames, at, line, def, next, done,
         ),
+        Control::Fault(_, code) => Err(Halt::Code(code)),
         control => Ok(control),
     }
 }

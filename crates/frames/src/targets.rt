@@ -13,6 +13,7 @@ use crate::frame::{Control, Frame, Signal};
 use crate::items::begin_above;
 use crate::stack::push;
 use heap::Halt;
+use meaning::faults;
 use names::{Standing, State, slot};
 use pieces::Aim;
 use std::alloc::Global;
@@ -58,7 +59,7 @@ pub fn begin_aim(
         }
         Expr::Tuple(es) => Ok(Control::Aims(line, Arc::try_clone(es)?, Vec::new(state.heap.alloc))),
         Expr::List(es) => Ok(Control::Aims(line, Arc::try_clone(es)?, Vec::new(state.heap.alloc))),
-        _ => Err(Halt::Code(5)),
+        _ => Err(Halt::Code(faults::WRONG_TYPE)),
     }
 }
 

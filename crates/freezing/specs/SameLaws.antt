@@ -6,47 +6,11 @@ use Rattle.std.specs.Cmp.{IsEquivalence, decided, signed_Decides, unsigned_Decid
 use Rattle.std.specs.Cmp.Lexicographic.{pointwise}
 use Rattle.std.proofs.lemmas.Bool.Decides.{nat_tests}
 use lib.Pointwise.{bytes_decides}
-use Rattle.meaning.specs.declared.val.Builtin.{Builtin}
-use Rattle.meaning.specs.declared.val.Builtin.TheVariants as b
-use Rattle.meaning.specs.Builtins.{builtin_number, same_builtin}
+use Rattle.meaning.specs.declared.builtin.Builtin.{Builtin}
+use Rattle.meaning.specs.Builtins.{builtin_number, builtin_at, same_builtin}
+use Rattle.meaning.proofs.Builtins.{numbered}
 use Rattle.meaning.specs.Freezing.{Fz, Fzs, Pairs, nothing, boolean, whole, built_in, text, list, tuple, dict, function, no_members, member, no_pairs, pair}
 use Rattle.freezing.specs.Same.{depth, depths, pair_depths, same_within, same_members, same_pairs, same}
-
--- the function of a number
-abbrev pub builtin_at : ℕ → Builtin
-builtin_at n =
-    if n == 0 then b.Len else (if n == 1 then b.Range else (if n == 2 then b.Str else (if n == 3 then b.Repr
-    else (if n == 4 then b.Type else (if n == 5 then b.Sorted else (if n == 6 then b.Reversed else (if n == 7 then b.Enumerate
-    else (if n == 8 then b.Zip else (if n == 9 then b.List else (if n == 10 then b.Tuple else (if n == 11 then b.Dict
-    else (if n == 12 then b.Bool else (if n == 13 then b.Any else (if n == 14 then b.All else (if n == 15 then b.Min
-    else (if n == 16 then b.Max else (if n == 17 then b.Fail else (if n == 18 then b.Glob else (if n == 19 then b.Filegroup
-    else (if n == 20 then b.Genrule else (if n == 21 then b.Alias else (if n == 22 then b.TestSuite else b.PackageName))))))))))))))))))))))
-
-pub numbered : (f : Builtin) → builtin_at (builtin_number f) ≡ f
-numbered b.Len = refl
-numbered b.Range = refl
-numbered b.Str = refl
-numbered b.Repr = refl
-numbered b.Type = refl
-numbered b.Sorted = refl
-numbered b.Reversed = refl
-numbered b.Enumerate = refl
-numbered b.Zip = refl
-numbered b.List = refl
-numbered b.Tuple = refl
-numbered b.Dict = refl
-numbered b.Bool = refl
-numbered b.Any = refl
-numbered b.All = refl
-numbered b.Min = refl
-numbered b.Max = refl
-numbered b.Fail = refl
-numbered b.Glob = refl
-numbered b.Filegroup = refl
-numbered b.Genrule = refl
-numbered b.Alias = refl
-numbered b.TestSuite = refl
-numbered b.PackageName = refl
 
 pub builtins_decide : (f g : Builtin) → Decides (same_builtin f g) (f ≡ g)
 builtins_decide f g = (

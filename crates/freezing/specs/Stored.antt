@@ -2,9 +2,9 @@
 use Rattle.std.specs.Prelude.{ℕ, ℤ, pos, negsuc, ◌==◌, true, false, List, [], ◌∷◌, if◌then◌else◌}
 use Rattle.std.proofs.Common.{◌≡◌, refl, ap, ◌∙◌}
 use Rattle.std.specs.Coded.{Coded, code_by, coded×, coded_ℕ, coded_ℤ, coded_list}
-use Rattle.meaning.specs.Builtins.{builtin_number}
 use Rattle.meaning.specs.Freezing.{Fz, Fzs, Pairs, nothing, boolean, whole, built_in, text, list, tuple, dict, function, no_members, member, no_pairs, pair}
-use Rattle.freezing.specs.SameLaws.{builtin_at, numbered}
+use Rattle.meaning.specs.Builtins.{builtin_number, builtin_at}
+use Rattle.meaning.proofs.Builtins.{numbered}
 
 -- ---- how the logic stores them: as the tokens of their parts, the parts before what they make
 

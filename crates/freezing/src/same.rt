@@ -1,12 +1,11 @@
 //! Whether two frozen values are one value.
 ghost use Rattle.std.specs.Prelude.{◌≡◌, ◌≤◌, map, IsTrue};
 ghost use Rattle.std.specs.Bool.{Decides};
-ghost use Rattle.meaning.specs.Builtins.{builtin_number, same_builtin};
 ghost use Rattle.freezing.specs.View.{frozen_of, entry_of, members_of, pairs_of};
 ghost use Rattle.freezing.specs.Same.{depth, same_within, same_members, same_pairs, same_entry};
 
 use crate::frozen::{Frozen, FrozenEntry};
-use heap::{Builtin, DEEPEST};
+use heap::DEEPEST;
 
 /// Whether two values are one value, exactly, of those at most 64 containers deep. It compares no deeper, and takes no
 /// steps.
@@ -27,7 +26,7 @@ fn same(a: &Frozen, b: &Frozen, left: u32) -> bool
         (Frozen::Nothing, Frozen::Nothing) => true,
         (Frozen::Bool(x), Frozen::Bool(y)) => *x == *y,
         (Frozen::Int(x), Frozen::Int(y)) => *x == *y,
-        (Frozen::Builtin(x), Frozen::Builtin(y)) => number(*x) == number(*y),
+        (Frozen::Builtin(x), Frozen::Builtin(y)) => x.number() == y.number(),
         (Frozen::Text(x), Frozen::Text(y)) => x == y,
         (Frozen::List(xs), Frozen::List(ys)) => {
             left != 0 && same_all(xs.as_slice(), ys.as_slice(), left - 1)
@@ -81,36 +80,4 @@ fn same_entry(x: &FrozenEntry, y: &FrozenEntry, left: u32) -> bool
     ensures { result ≡ same_entry (entry_of x.now) (entry_of y.now) left }
 {
     same(&x.key, &y.key, left) && same(&x.value, &y.value, left)
-}
-
-// The place of a built-in function among them.
-fn number(f: Builtin) -> u8
-    ensures { result ≡ builtin_number f }
-{
-    match f {
-        Builtin::Len => 0,
-        Builtin::Range => 1,
-        Builtin::Str => 2,
-        Builtin::Repr => 3,
-        Builtin::Type => 4,
-        Builtin::Sorted => 5,
-        Builtin::Reversed => 6,
-        Builtin::Enumerate => 7,
-        Builtin::Zip => 8,
-        Builtin::List => 9,
-        Builtin::Tuple => 10,
-        Builtin::Dict => 11,
-        Builtin::Bool => 12,
-        Builtin::Any => 13,
-        Builtin::All => 14,
-        Builtin::Min => 15,
-        Builtin::Max => 16,
-        Builtin::Fail => 17,
-        Builtin::Glob => 18,
-        Builtin::Filegroup => 19,
-        Builtin::Genrule => 20,
-        Builtin::Alias => 21,
-        Builtin::TestSuite => 22,
-        Builtin::PackageName => 23,
-    }
 }

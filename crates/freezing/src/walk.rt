@@ -7,6 +7,7 @@ ghost use Rattle.freezing.specs.View.{frozen_of, SaysFrozen, SaysMembers, SaysEn
 use crate::frozen::{Frozen, FrozenEntry};
 use heap::{Entry, Halt, HeapObject, Key, Object, Val, object_at, tick, val_at};
 use indexmap::IndexMap;
+use meaning::faults;
 use std::alloc::Global;
 
 /// The tree of a value: each value visited is a step, and so many containers more may be entered: fault 11 or 12, or 5.
@@ -72,7 +73,7 @@ fn freeze_object(
         ),
         None => {
             tick(steps)?;
-            Err(Halt::Code(5))
+            Err(Halt::Code(faults::WRONG_TYPE))
         }
     }
 }
@@ -90,7 +91,7 @@ fn freeze_list(
     ensures { SaysFrozen (visit_held (inner_freeze left (map object_in objects.now)) (listed members.now) steps.old) result steps.new }
 {
     if left == 0 {
-        return Err(Halt::Code(12));
+        return Err(Halt::Code(faults::TOO_DEEP));
     }
     tick(steps)?;
     let fs = freeze_members(alloc, objects, steps, members, left - 1)?;
@@ -110,7 +111,7 @@ fn freeze_tuple(
     ensures { SaysFrozen (visit_held (inner_freeze left (map object_in objects.now)) (tupled members.now) steps.old) result steps.new }
 {
     if left == 0 {
-        return Err(Halt::Code(12));
+        return Err(Halt::Code(faults::TOO_DEEP));
     }
     tick(steps)?;
     let fs = freeze_members(alloc, objects, steps, members, left - 1)?;
@@ -154,7 +155,7 @@ fn freeze_dict(
     ensures { SaysFrozen (visit_held (inner_freeze left (map object_in objects.now)) (mapped entries.now.entries) steps.old) result steps.new }
 {
     if left == 0 {
-        return Err(Halt::Code(12));
+        return Err(Halt::Code(faults::TOO_DEEP));
     }
     tick(steps)?;
     let es = freeze_entries(alloc, objects, steps, entries, left - 1)?;

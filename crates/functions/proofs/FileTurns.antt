@@ -14,7 +14,7 @@ use Rattle.keys.specs.Turns.{values}
 use Rattle.keys.specs.declared.key.Key.{Key}
 use Rattle.keys.specs.declared.value.Value.{Value}
 use Rattle.keys.specs.declared.value.Value.TheVariants as value
-use Rattle.functions.specs.declared.source.Source.{Source}
+use Rattle.functions.specs.declared.file_node.Source.{Source}
 use Rattle.functions.specs.Goes.{Table, Follows, IsMade}
 use Rattle.functions.specs.Replies.{IsReply}
 use Rattle.functions.specs.Modules.{lookups, after_lookups, by_lookups}

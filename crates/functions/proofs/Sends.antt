@@ -6,7 +6,7 @@ use Rattle.evaluator.proofs.Trees.{trees_cross}
 use Rattle.grammar.proofs.kind.FileKind.TheSendSync as KindSends
 use Rattle.keys.proofs.key.Key.TheSendSync as KeySends
 use Rattle.texts.proofs.text.Text.TheSendSync as TextSends
-use Rattle.functions.specs.contracts.source.Source
+use Rattle.functions.specs.contracts.file_node.Source
 use Rattle.functions.specs.contracts.reply.Parsed
 use Rattle.functions.specs.contracts.reply.Paused
 use Rattle.functions.specs.contracts.reply.Continuation

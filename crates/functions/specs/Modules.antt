@@ -1,13 +1,14 @@
 -- What the node of a .bzl file asks and ends with.
 use Rattle.std.specs.Prelude.{ℕ, List, [], ◌∷◌, take, drop, length, map, not, nat_lt, Bool, false, if◌then◌else◌, Option, Some, None}
 use Rattle.std.specs.List.{list_any}
+use Rattle.meaning.specs.declared.faults.TheConstants.{BAD_LABEL, BOUNDARY_CROSSED, NO_PACKAGE}
 use Rattle.evaluation.specs.Reply.{Reply, Ask}
 use Rattle.labels.specs.Labels.{Target, label_of, label_text, label_file, boundaries}
 use Rattle.grammar.specs.declared.kind.FileKind.TheVariants as k
 use Rattle.keys.specs.declared.key.Key.{Key}
 use Rattle.keys.specs.declared.key.Key.TheVariants as key
 use Rattle.keys.specs.declared.value.Value.{Value}
-use Rattle.functions.specs.declared.source.Source.{Source}
+use Rattle.functions.specs.declared.file_node.Source.{Source}
 use Rattle.walks.specs.Globs.{has_build}
 use Rattle.functions.specs.Once.{once}
 use Rattle.functions.specs.Sources.{faulty, by_file}
@@ -30,8 +31,8 @@ is_crossed (look ∷ looks) = list_any has_build looks
 
 abbrev pub after_lookups : Target → List Value → List Value → Reply Key Value
 after_lookups t looks answers =
-    if not (is_in_package looks) then faulty 1 t.package_name 0 else
-    if is_crossed looks then faulty 17 (label_file t) 0 else by_file (source_of t) answers
+    if not (is_in_package looks) then faulty NO_PACKAGE t.package_name 0 else
+    if is_crossed looks then faulty BOUNDARY_CROSSED (label_file t) 0 else by_file (source_of t) answers
 
 -- The look-ups, and then its file and what that asks. Fault 1 comes where its package is none, and 17 where its label
 -- crosses a boundary.
@@ -40,7 +41,7 @@ by_lookups t answers = if nat_lt (length answers) (length (lookups t)) then Ask 
 
 -- a key's text that is no label is fault 15
 abbrev pub of_label : List ℕ → Option Target → List Value → Reply Key Value
-of_label label None answers = faulty 15 label 0
+of_label label None answers = faulty BAD_LABEL label 0
 of_label label (Some t) answers = by_lookups t answers
 
 abbrev pub next : List ℕ → List Value → Reply Key Value

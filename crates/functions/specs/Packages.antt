@@ -1,5 +1,6 @@
 -- What the node of a package asks and ends with.
 use Rattle.std.specs.Prelude.{ℕ, List, [], ◌∷◌, Option, Some, None}
+use Rattle.meaning.specs.declared.faults.TheConstants.{NO_PACKAGE}
 use Rattle.evaluation.specs.Reply.{Reply, Ask}
 use Rattle.grammar.specs.declared.kind.FileKind.TheVariants as k
 use Rattle.keys.specs.declared.key.Key.{Key}
@@ -7,7 +8,7 @@ use Rattle.keys.specs.declared.key.Key.TheVariants as key
 use Rattle.keys.specs.declared.value.BuildName.{BuildName}
 use Rattle.keys.specs.declared.value.Value.{Value}
 use Rattle.keys.specs.declared.value.Value.TheVariants as value
-use Rattle.functions.specs.declared.source.Source.{Source}
+use Rattle.functions.specs.declared.file_node.Source.{Source}
 use Rattle.walks.specs.Lookups.{build_path}
 use Rattle.functions.specs.Sources.{faulty, by_file}
 
@@ -26,7 +27,7 @@ build_in (value.Fault f) = None
 build_in (value.Cycle labels) = None
 
 abbrev pub after_lookup : List ℕ → Option BuildName → List Value → Reply Key Value
-after_lookup name None answers = faulty 1 name 0
+after_lookup name None answers = faulty NO_PACKAGE name 0
 after_lookup name (Some build) answers = by_file (source_of name build) answers
 
 -- The look-up, and then its BUILD file and what that asks. Fault 1 comes where there is none.

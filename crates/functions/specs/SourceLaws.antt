@@ -5,6 +5,7 @@ use Rattle.std.specs.List.{AllByRecursion}
 use Rattle.std.specs.Cmp.{unsigned_Decides}
 use Rattle.std.specs.Cmp.Lexicographic.{pointwise}
 use Rattle.std.proofs.lemmas.Bool.{or_cases, false≢true}
+use Rattle.meaning.specs.declared.faults.TheConstants.{BAD_LABEL, BOUNDARY_CROSSED, NO_MODULE, NO_PACKAGE}
 use lib.Pointwise.{pointwise_decides}
 use Rattle.evaluation.specs.Reply.{Reply, Ask, Done}
 use Rattle.evaluation.specs.Value.{AllDiffer}
@@ -23,7 +24,7 @@ use Rattle.keys.specs.declared.value.Fault.{Fault}
 use Rattle.keys.specs.declared.value.Value.{Value}
 use Rattle.keys.specs.declared.value.Value.TheVariants as value
 use Rattle.keys.specs.Turns.{NoCycle}
-use Rattle.functions.specs.declared.source.Source.{Source}
+use Rattle.functions.specs.declared.file_node.Source.{Source}
 use Rattle.functions.specs.Once.{has_key, once_behind, once}
 use Rattle.functions.specs.Sources.{fault_at, load_key, each_or_fault, all_modules, glob_group, with_paths, value_or_group, goes_on, rounds, env_of, after_modules, after_loads, after_parse, text_in, after_text, by_file}
 use Rattle.functions.specs.Modules as modules
@@ -155,7 +156,7 @@ good_parse source (Err f) answers = good_fault f.code source.path f.line
 good_parse source (Ok file) answers = good_loads source file (each_or_fault (load_key source) file.loads) answers
 
 good_text : (source : Source) (text : Option (List ℕ)) (answers : List Value) → IsGood (after_text source text answers)
-good_text source None answers = good_fault 16 source.path 0
+good_text source None answers = good_fault NO_MODULE source.path 0
 good_text source (Some text) answers = good_parse source (parse_of source.kind text) answers
 
 good_file : (source : Source) (answers : List Value) → IsGood (by_file source answers)
@@ -164,12 +165,12 @@ good_file source (file ∷ answers) = good_text source (text_in file) answers
 
 good_looks : (t : Target) (looks answers : List Value) → IsGood (modules.after_lookups t looks answers)
 good_looks t looks answers =
-    good_if (not (modules.is_in_package looks)) (Done (value.Fault (fault_at 1 t.package_name 0))) (cond (modules.is_crossed looks) (Done (value.Fault (fault_at 17 (label_file t) 0))) (by_file (modules.source_of t) answers))
-    (good_fault 1 t.package_name 0)
-    (good_if (modules.is_crossed looks) (Done (value.Fault (fault_at 17 (label_file t) 0))) (by_file (modules.source_of t) answers) (good_fault 17 (label_file t) 0) (good_file (modules.source_of t) answers))
+    good_if (not (modules.is_in_package looks)) (Done (value.Fault (fault_at NO_PACKAGE t.package_name 0))) (cond (modules.is_crossed looks) (Done (value.Fault (fault_at BOUNDARY_CROSSED (label_file t) 0))) (by_file (modules.source_of t) answers))
+    (good_fault NO_PACKAGE t.package_name 0)
+    (good_if (modules.is_crossed looks) (Done (value.Fault (fault_at BOUNDARY_CROSSED (label_file t) 0))) (by_file (modules.source_of t) answers) (good_fault BOUNDARY_CROSSED (label_file t) 0) (good_file (modules.source_of t) answers))
 
 good_target : (label : List ℕ) (t : Option Target) (answers : List Value) → IsGood (modules.of_label label t answers)
-good_target label None answers = good_fault 15 label 0
+good_target label None answers = good_fault BAD_LABEL label 0
 good_target label (Some t) answers =
     let group = modules.lookups t in
     good_if (nat_lt (length answers) (length group)) (Ask group) (modules.after_lookups t (take (length group) answers) (drop (length group) answers))
@@ -179,7 +180,7 @@ pub good_module : (label : List ℕ) (answers : List Value) → IsGood (modules.
 good_module label answers = good_target label (label_of label []) answers
 
 good_build : (name : List ℕ) (build : Option BuildName) (answers : List Value) → IsGood (packages.after_lookup name build answers)
-good_build name None answers = good_fault 1 name 0
+good_build name None answers = good_fault NO_PACKAGE name 0
 good_build name (Some build) answers = good_file (packages.source_of name build) answers
 
 pub good_package : (name : List ℕ) (answers : List Value) → IsGood (packages.next name answers)

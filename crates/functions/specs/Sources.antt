@@ -1,6 +1,7 @@
 -- The node of a .bzl file or a BUILD file, from its text on: what it loads, and what its evaluation leaves.
 use Rattle.std.specs.Prelude.{ℕ, zero, suc, List, [], ◌∷◌, ◌++◌, drop, length, map, zip, nat_lt, if◌then◌else◌, Option, Some, None, Result, Ok, Err}
 use Rattle.std.specs.BTreeMap.{BTreeMap}
+use Rattle.meaning.specs.declared.faults.TheConstants.{BAD_LABEL, NO_MODULE}
 use Rattle.evaluation.specs.Reply.{Reply, Ask, Done}
 use Rattle.labels.specs.Labels.{Target, label_of, label_text, is_module}
 use Rattle.tree.specs.Tree.{Fi, Ld}
@@ -16,7 +17,7 @@ use Rattle.keys.specs.declared.key.Key.TheVariants as key
 use Rattle.keys.specs.declared.value.Fault.{Fault}
 use Rattle.keys.specs.declared.value.Value.{Value}
 use Rattle.keys.specs.declared.value.Value.TheVariants as value
-use Rattle.functions.specs.declared.source.Source.{Source}
+use Rattle.functions.specs.declared.file_node.Source.{Source}
 use Rattle.walks.specs.Globs.{paths_of}
 use Rattle.functions.specs.Once.{once, answer_at, answer_in}
 
@@ -42,23 +43,23 @@ each_or_fault f (x ∷ xs) = before (f x) (each_or_fault f xs)
 
 -- the label of a module, or fault 15 in the line of the load
 abbrev pub module_key : Option Target → List ℕ → ℕ → Result Key Fault
-module_key None path line = Err (fault_at 15 path line)
-module_key (Some t) path line = if is_module t then Ok (key.Module (label_text t)) else Err (fault_at 15 path line)
+module_key None path line = Err (fault_at BAD_LABEL path line)
+module_key (Some t) path line = if is_module t then Ok (key.Module (label_text t)) else Err (fault_at BAD_LABEL path line)
 
 abbrev pub load_key : Source → Ld → Result Key Fault
 load_key source l = module_key (label_of l.label source.package_name) source.path l.line
 
 -- the module that a load gives, or its fault, as it is; no other value comes of a load
 abbrev pub module_in : List ℕ → Option Value → Result Loaded Fault
-module_in path None = Err (fault_at 16 path 0)
-module_in path (Some (value.File text)) = Err (fault_at 16 path 0)
-module_in path (Some (value.Listing names)) = Err (fault_at 16 path 0)
-module_in path (Some (value.Lookup name)) = Err (fault_at 16 path 0)
-module_in path (Some (value.Paths paths)) = Err (fault_at 16 path 0)
+module_in path None = Err (fault_at NO_MODULE path 0)
+module_in path (Some (value.File text)) = Err (fault_at NO_MODULE path 0)
+module_in path (Some (value.Listing names)) = Err (fault_at NO_MODULE path 0)
+module_in path (Some (value.Lookup name)) = Err (fault_at NO_MODULE path 0)
+module_in path (Some (value.Paths paths)) = Err (fault_at NO_MODULE path 0)
 module_in path (Some (value.Module loaded)) = Ok loaded
-module_in path (Some (value.Package targets)) = Err (fault_at 16 path 0)
+module_in path (Some (value.Package targets)) = Err (fault_at NO_MODULE path 0)
 module_in path (Some (value.Fault f)) = Err f
-module_in path (Some (value.Cycle labels)) = Err (fault_at 16 path 0)
+module_in path (Some (value.Cycle labels)) = Err (fault_at NO_MODULE path 0)
 
 -- the modules of all loads, in their order, or the fault of the first faulty one
 abbrev pub all_modules : List ℕ → List Key → List Key → List Value → Result (List Loaded) Fault
@@ -151,7 +152,7 @@ text_in (value.Fault f) = None
 text_in (value.Cycle labels) = None
 
 abbrev pub after_text : Source → Option (List ℕ) → List Value → Reply Key Value
-after_text source None answers = faulty 16 source.path 0
+after_text source None answers = faulty NO_MODULE source.path 0
 after_text source (Some text) answers = after_parse source (parse_of source.kind text) answers
 
 -- The file; then all modules of its loads; then, at each call of `glob` that stops the evaluation, the globs of its

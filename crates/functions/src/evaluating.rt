@@ -10,9 +10,9 @@ ghost use Rattle.functions.specs.Heard.{IsHeard};
 ghost use Rattle.functions.specs.Goes.{led, env_in, IsWaiting, IsMade, IsOutcome, IsOf, IsWent, IsWithin, LeadsTo};
 ghost use Rattle.functions.specs.Sources as specs;
 
+use crate::file_node::Source;
 use crate::once::{answer_of, first_places, once};
 use crate::reply::{Continuation, Paused, Reply};
-use crate::source::Source;
 use evaluator::{Environment, Outcome, resume, run};
 use keys::{Fault, Key, Value};
 use module_values::Loaded;

@@ -1,11 +1,12 @@
-//! The node functions of .bzl files and of packages.
+//! The node functions of .bzl files and of packages: a file, what it loads, and what its node asks and ends with.
 ghost use Rattle.std.specs.Prelude.{◌≡◌, ◌++◌, IfOk, OnOk, Ok, Some, map, option_map};
 ghost use Rattle.keys.specs.declared.key.Key.TheVariants as key;
 ghost use Rattle.std.specs.Arc.{arc_value};
 ghost use Rattle.std.specs.List.{list_any};
 ghost use Rattle.walks.specs.Globs.{has_build as holds_build};
-ghost use Rattle.tree.specs.Statements.{file_of};
+ghost use Rattle.tree.specs.Statements.{file_of, load_of};
 ghost use Rattle.evaluation.specs.Reply.{Ask};
+ghost use Rattle.grammar.specs.Files.{parse_of};
 ghost use Rattle.keys.specs.Turns.{values};
 ghost use Rattle.functions.specs.Modules as modules;
 ghost use Rattle.functions.specs.Packages as packages;
@@ -13,18 +14,148 @@ ghost use Rattle.functions.specs.Sources as specs;
 ghost use Rattle.functions.specs.Goes.{IsMade, table_of};
 ghost use Rattle.functions.specs.declared.reply.Continuation.TheVariants as continuation;
 ghost use Rattle.functions.specs.Replies.{IsReply};
+ghost use Rattle.functions.specs.Gathered.{IsAll, IsParsed};
 
 use crate::evaluating::evaluated;
-use crate::once::once;
+use crate::once::{answer_of, first_places, once};
 use crate::reply::{Continuation, Parsed, Reply};
-use crate::source::{Source, all_modules, fault_at, load_keys, read_tree};
-use keys::{BuildName, Key, Value};
+use keys::{BuildName, Fault, Key, Value};
 use labels::{BadLabel, Label};
+use meaning::faults;
+use module_values::Loaded;
 use std::alloc::Global;
+use std::collections::BTreeMap;
 use std::sync::Arc;
-use syntax::{File, FileKind};
+use syntax::{File, FileKind, Refused, parse};
 use texts::{Memory, Text};
+use tree::LoadStmt;
 use walks::{build_path, has_build};
+
+/// A .bzl file or a BUILD file: its kind, its label (of a BUILD file the empty text), its path and its package.
+#[derive(Drop)]
+pub struct Source {
+    pub kind: FileKind,
+    pub label: Text,
+    pub path: Text,
+    pub package_name: Text,
+}
+
+/// A fault of a file.
+pub fn fault_at(code: u8, path: &Text, line: usize) -> Result<Fault, Memory>
+    ensures { IfOk result (λ f. f ≡ specs.fault_at code path.now line) }
+{
+    Ok(Fault {
+        code,
+        path: path.share()?,
+        line,
+    })
+}
+
+/// The tree of a file, or the fault of its text.
+pub fn read_tree(alloc: Global, source: &Source, text: &Text) -> Result<Result<File, Fault>, Memory>
+    ensures { IfOk result (IsParsed source.now.path (parse_of source.now.kind text.now)) }
+{
+    match parse(alloc, text.as_str().as_bytes(), source.kind) {
+        Ok(file) => Ok(Ok(file)),
+        Err(Refused::Syntax { code, line }) => Ok(Err(fault_at(code, &source.path, line)?)),
+        Err(Refused::Memory) => Err(Memory),
+    }
+}
+
+// The key of the module that a load names, or fault 15.
+fn load_key(alloc: Global, source: &Source, load: &LoadStmt) -> Result<Result<Key, Fault>, Memory>
+    ensures { IfOk result (λ r. r ≡ specs.load_key source.now (load_of load.now)) }
+{
+    match Label::read(alloc, load.label.as_str(), source.package_name.as_str()) {
+        Ok(label) => {
+            if label.is_module() {
+                Ok(Ok(Key::Module(label.text().share()?)))
+            } else {
+                Ok(Err(fault_at(faults::BAD_LABEL, &source.path, load.line)?))
+            }
+        }
+        Err(BadLabel::Code15) => Ok(Err(fault_at(faults::BAD_LABEL, &source.path, load.line)?)),
+        Err(BadLabel::Memory) => Err(Memory),
+    }
+}
+
+/// The keys of the modules that loads name, in order, or fault 15 of the first that names none.
+pub fn load_keys(
+    alloc: Global,
+    source: &Source,
+    loads: &[LoadStmt],
+) -> Result<Result<Vec<Key>, Fault>, Memory>
+    ensures { IfOk result (IsAll (specs.each_or_fault (specs.load_key source.now) (map load_of loads.now))) }
+{
+    let mut all = Vec::new(alloc);
+    for load in loads {
+        match load_key(alloc, source, load)? {
+            Ok(key) => all.push(key)?,
+            Err(fault) => return Ok(Err(fault)),
+        }
+    }
+    Ok(Ok(all))
+}
+
+// The same module with those that it reaches, shared.
+fn share_loaded(alloc: Global, loaded: &Loaded) -> Result<Loaded, Memory>
+    ensures { IfOk result (λ l. l ≡ loaded.now) }
+{
+    let mut reached = Vec::with_capacity(alloc, loaded.reached().len())?;
+    for module in loaded.reached() {
+        reached.push(module.share()?)?;
+    }
+    Ok(Loaded::new(loaded.body().share()?, reached))
+}
+
+// The module that a load gives, or its fault, as it is.
+fn module_in(
+    alloc: Global,
+    path: &Text,
+    answer: Option<&Value>,
+) -> Result<Result<Loaded, Fault>, Memory>
+    ensures { IfOk result (λ r. r ≡ specs.module_in path.now (option_map (λ v. v.now) answer.entry)) }
+{
+    match answer {
+        Some(Value::Module(loaded)) => Ok(Ok(share_loaded(alloc, loaded)?)),
+        Some(Value::Fault(fault)) => Ok(Err(fault.share()?)),
+        _ => Ok(Err(fault_at(faults::NO_MODULE, path, 0)?)),
+    }
+}
+
+// The modules of loads, in order, by the keys' places, or the fault of the first faulty one.
+fn modules_in(
+    alloc: Global,
+    path: &Text,
+    places: &BTreeMap<Key, usize>,
+    keys: &[Key],
+    answers: &[Arc<Value>],
+) -> Result<Result<Vec<Loaded>, Fault>, Memory>
+    ensures { IfOk result (IsAll (specs.modules_in path.now places.now keys.now (values answers.now))) }
+{
+    let mut all = Vec::new(alloc);
+    for key in keys {
+        match module_in(alloc, path, answer_of(key, places, answers))? {
+            Ok(loaded) => all.push(loaded)?,
+            Err(fault) => return Ok(Err(fault)),
+        }
+    }
+    Ok(Ok(all))
+}
+
+/// The modules of loads, in order, or the fault of the first faulty one.
+pub fn all_modules(
+    alloc: Global,
+    path: &Text,
+    group: &[Key],
+    keys: &[Key],
+    answers: &[Arc<Value>],
+) -> Result<Result<Vec<Loaded>, Fault>, Memory>
+    ensures { IfOk result (IsAll (specs.all_modules path.now group.now keys.now (values answers.now))) }
+{
+    let places = first_places(alloc, group)?;
+    modules_in(alloc, path, &places, keys, answers)
+}
 
 // Ends with a fault.
 fn faulty(code: u8, path: &Text, line: usize) -> Result<Reply, Memory>
@@ -109,7 +240,7 @@ fn by_file(alloc: Global, source: Source, answers: &[Arc<Value>]) -> Result<Repl
             Ok(Reply::Ask(vec![in alloc; file]?))
         }
         Some((file, answers)) => match text_in(file) {
-            None => Ok(Reply::Done(Value::Fault(fault_at(16, &source.path, 0)?))),
+            None => Ok(Reply::Done(Value::Fault(fault_at(faults::NO_MODULE, &source.path, 0)?))),
             Some(text) => after_text(alloc, source, text, answers),
         },
     }
@@ -190,10 +321,10 @@ fn after_lookups(
     ensures { IfOk result (IsMade (modules.after_lookups label.now (values looks.now)) (values answers.now)) }
 {
     if !is_in_package(looks) {
-        return faulty(1, label.package_name(), 0);
+        return faulty(faults::NO_PACKAGE, label.package_name(), 0);
     }
     if is_crossed(looks) {
-        return faulty(17, label.file(), 0);
+        return faulty(faults::BOUNDARY_CROSSED, label.file(), 0);
     }
     by_file(alloc, source_of(label)?, answers)
 }
@@ -216,7 +347,7 @@ pub fn of_module(alloc: Global, label: &Text, answers: &[Arc<Value>]) -> Result<
 {
     match Label::read(alloc, label.as_str(), "") {
         Ok(label) => by_lookups(alloc, &label, answers),
-        Err(BadLabel::Code15) => faulty(15, label, 0),
+        Err(BadLabel::Code15) => faulty(faults::BAD_LABEL, label, 0),
         Err(BadLabel::Memory) => Err(Memory),
     }
 }
@@ -254,7 +385,7 @@ pub fn of_package(alloc: Global, name: &Text, answers: &[Arc<Value>]) -> Result<
             Ok(Reply::Ask(vec![in alloc; look]?))
         }
         Some((look, answers)) => match build_in(look) {
-            None => Ok(Reply::Done(Value::Fault(fault_at(1, name, 0)?))),
+            None => Ok(Reply::Done(Value::Fault(fault_at(faults::NO_PACKAGE, name, 0)?))),
             Some(build) => by_file(alloc, build_source(alloc, name, build)?, answers),
         },
     }

@@ -31,7 +31,6 @@ mod file_node;
 mod loading;
 mod once;
 mod reply;
-mod source;
 
 pub use loading::{LoadRules, Loading};
 

@@ -1,5 +1,5 @@
 //! What a turn ends with, without a state.
-use crate::source::Source;
+use crate::file_node::Source;
 use evaluator::Suspended;
 use keys::{Key, Value};
 use std::alloc::Global;

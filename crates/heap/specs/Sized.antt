@@ -3,17 +3,18 @@ use Rattle.std.specs.Prelude.{◌≡◌, false, List, length, Option, Some, None
 use Rattle.std.specs.declared.vec.Vec.{Vec}
 use Rattle.std.specs.declared.alloc.Global.{Global}
 use Rattle.meaning.specs.Heap.{is_sized}
+use Rattle.meaning.specs.declared.faults.TheConstants.{TOO_LARGE, WRONG_TYPE}
 use Rattle.heap.specs.declared.halt.Halt.{Halt}
 use Rattle.heap.specs.declared.halt.Halt.TheVariants.{Code, Memory}
 
 -- the list, where it is not too long, and else fault 13
 abbrev pub SizedAs : {A : Type 0} → List A → Result (Vec A Global) Halt → Type 0
 SizedAs xs (Ok v) = v.items ≡ xs
-SizedAs xs (Err (Code c)) = (c ≡ 13) × (is_sized (length xs) ≡ false)
+SizedAs xs (Err (Code c)) = (c ≡ TOO_LARGE) × (is_sized (length xs) ≡ false)
 SizedAs xs (Err Memory) = Unit {0}
 
 -- the part, or fault 5 where there is none
 abbrev pub CutAs : {A : Type 0} → Option (List A) → Result (Vec A Global) Halt → Type 0
 CutAs part (Ok v) = part ≡ Some v.items
-CutAs part (Err (Code c)) = (c ≡ 5) × (part ≡ None)
+CutAs part (Err (Code c)) = (c ≡ WRONG_TYPE) × (part ≡ None)
 CutAs part (Err Memory) = Unit {0}

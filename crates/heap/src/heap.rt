@@ -11,7 +11,7 @@ use crate::halt::Halt;
 use crate::heap_object::HeapObject;
 use crate::object::{ENTRY, MEMBER, Object, shape_of, size_of};
 use indexmap::IndexMap;
-use meaning::{Bytes, Entry, Key, Val};
+use meaning::{Bytes, Entry, Key, Val, faults};
 use std::alloc::Global;
 use texts::Memory;
 
@@ -200,7 +200,7 @@ impl Heap {
         ensures { Says (makes_text bytes.items (store_of self.old)) result (store_of self.new) }
     {
         if bytes.len() > LONGEST {
-            return Err(Halt::Code(13));
+            return Err(Halt::Code(faults::TOO_LARGE));
         }
         let text = Bytes::new(self.alloc, bytes)?;
         let made = self.make(Object::Text(text))?;
@@ -212,7 +212,7 @@ impl Heap {
         ensures { Says (makes_list members.items (store_of self.old)) result (store_of self.new) }
     {
         if members.len() > LONGEST {
-            return Err(Halt::Code(13));
+            return Err(Halt::Code(faults::TOO_LARGE));
         }
         let made = self.make(Object::List(members, false))?;
         Ok(made)
@@ -223,7 +223,7 @@ impl Heap {
         ensures { Says (makes_tuple members.items (store_of self.old)) result (store_of self.new) }
     {
         if members.len() > LONGEST {
-            return Err(Halt::Code(13));
+            return Err(Halt::Code(faults::TOO_LARGE));
         }
         let made = self.make(Object::Tuple(members))?;
         Ok(made)
@@ -234,7 +234,7 @@ impl Heap {
         ensures { Says (makes_dict entries.entries (store_of self.old)) result (store_of self.new) }
     {
         if entries.len() > LONGEST {
-            return Err(Halt::Code(13));
+            return Err(Halt::Code(faults::TOO_LARGE));
         }
         let entries = Box::new(self.alloc, entries)?;
         let made = self.make(Object::Dict(entries, false))?;

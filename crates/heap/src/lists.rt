@@ -7,7 +7,7 @@ ghost use Rattle.heap.specs.Sized.{SizedAs, CutAs};
 
 use crate::halt::Halt;
 use crate::heap::LONGEST;
-use meaning::Val;
+use meaning::{Val, faults};
 use std::alloc::Global;
 use texts::Memory;
 
@@ -19,7 +19,7 @@ pub fn joined<T: Copy>(alloc: Global, a: &[T], b: &[T]) -> Result<Vec<T>, Halt>
     ensures { SizedAs (a.now ++ b.now) result }
 {
     if a.len() > LONGEST || b.len() > LONGEST - a.len() {
-        return Err(Halt::Code(13));
+        return Err(Halt::Code(faults::TOO_LARGE));
     }
     let mut all = Vec::with_capacity(alloc, a.len() + b.len())?;
     all.extend_from_slice(a)?;
@@ -46,7 +46,7 @@ fn times_sized<T: Copy>(alloc: Global, a: &[T], n: usize) -> Result<Vec<T>, Halt
         return Ok(Vec::new(alloc));
     }
     if is_too_long(n, a.len()) {
-        return Err(Halt::Code(13));
+        return Err(Halt::Code(faults::TOO_LARGE));
     }
     let all = times(alloc, a, n)?;
     Ok(all)
@@ -155,7 +155,7 @@ pub fn cut<T: Copy>(alloc: Global, a: &[T], from: Val, to: Val) -> Result<Vec<T>
     ensures { CutAs (cut a.now from to) result }
 {
     let (Some(from), Some(to)) = (bound_or(0, from, a.len()), bound_or(a.len(), to, a.len())) else {
-        return Err(Halt::Code(5));
+        return Err(Halt::Code(faults::WRONG_TYPE));
     };
     let part = between(a, from, to);
     Ok(Vec::from_slice(alloc, part)?)

@@ -3,13 +3,14 @@ ghost use Rattle.meaning.specs.Outcome.{tick, spend};
 ghost use Rattle.heap.specs.View.{Says};
 
 use crate::halt::Halt;
+use meaning::faults;
 
 /// Takes one step, or fault 11.
 pub fn tick(steps: &mut u64) -> Result<(), Halt>
     ensures { Says (tick steps.old) result steps.new }
 {
     if *steps == 0 {
-        return Err(Halt::Code(11));
+        return Err(Halt::Code(faults::STEPS_SPENT));
     }
     *steps -= 1;
     Ok(())
@@ -20,7 +21,7 @@ pub fn spend(steps: &mut u64, n: usize) -> Result<(), Halt>
     ensures { Says (spend n steps.old) result steps.new }
 {
     if *steps < n as u64 {
-        return Err(Halt::Code(11));
+        return Err(Halt::Code(faults::STEPS_SPENT));
     }
     *steps -= n as u64;
     Ok(())

@@ -6,6 +6,7 @@ ghost use Rattle.heap.specs.View.{store_of, Says};
 use crate::reading::as_int;
 use comparing::hash;
 use heap::{Entry, Halt, Heap, Key, Object, Val, has_room, place, set_entry};
+use meaning::faults;
 
 /// `a[i] = x`, tested in order: type (5), frozen (6), iterated (7), index (8), size (13).
 pub fn set_index(heap: &mut Heap, a: Val, i: Val, x: Val) -> Result<(), Halt>
@@ -16,7 +17,7 @@ pub fn set_index(heap: &mut Heap, a: Val, i: Val, x: Val) -> Result<(), Halt>
             set_object(heap, place, i, x)?;
             Ok(())
         }
-        _ => Err(Halt::Code(5)),
+        _ => Err(Halt::Code(faults::WRONG_TYPE)),
     }
 }
 
@@ -39,10 +40,10 @@ fn set_object(heap: &mut Heap, a: usize, i: Val, x: Val) -> Result<(), Halt>
             set_key(heap, a, key, Entry { key: i, value: x })?;
             Ok(())
         }
-        Some(Object::Text(_)) => Err(Halt::Code(5)),
-        Some(Object::Tuple(_)) => Err(Halt::Code(5)),
-        Some(Object::Function(_, _)) => Err(Halt::Code(5)),
-        None => Err(Halt::Code(5)),
+        Some(Object::Text(_)) => Err(Halt::Code(faults::WRONG_TYPE)),
+        Some(Object::Tuple(_)) => Err(Halt::Code(faults::WRONG_TYPE)),
+        Some(Object::Function(_, _)) => Err(Halt::Code(faults::WRONG_TYPE)),
+        None => Err(Halt::Code(faults::WRONG_TYPE)),
     }
 }
 
@@ -51,10 +52,10 @@ fn may_change(heap: &Heap, a: usize, frozen: bool) -> Result<(), Halt>
     ensures { Says (may_change a frozen (store_of heap.now)) result (store_of heap.now) }
 {
     if frozen {
-        return Err(Halt::Code(6));
+        return Err(Halt::Code(faults::FROZEN));
     }
     if heap.iterated.as_slice().contains(&a) {
-        return Err(Halt::Code(7));
+        return Err(Halt::Code(faults::ITERATED));
     }
     Ok(())
 }
@@ -64,10 +65,10 @@ fn set_member(heap: &mut Heap, a: usize, i: i64, x: Val) -> Result<(), Halt>
     ensures { Says (set_member a (at a (store_of heap.old)) i x (store_of heap.old)) result (store_of heap.new) }
 {
     let Some(Object::List(mut members, frozen)) = heap.take(a)? else {
-        return Err(Halt::Code(5));
+        return Err(Halt::Code(faults::WRONG_TYPE));
     };
     let Some(at) = place(i, members.len()) else {
-        return Err(Halt::Code(8));
+        return Err(Halt::Code(faults::ABSENT));
     };
     members[at] = x;
     heap.put(a, Object::List(members, frozen));
@@ -79,10 +80,10 @@ fn set_key(heap: &mut Heap, a: usize, key: Key, entry: Entry) -> Result<(), Halt
     ensures { Says (set_key a (at a (store_of heap.old)) key entry (store_of heap.old)) result (store_of heap.new) }
 {
     let Some(Object::Dict(mut entries, frozen)) = heap.take(a)? else {
-        return Err(Halt::Code(5));
+        return Err(Halt::Code(faults::WRONG_TYPE));
     };
     if !has_room(&entries, &key) {
-        return Err(Halt::Code(13));
+        return Err(Halt::Code(faults::TOO_LARGE));
     }
     set_entry(&mut entries, key, entry)?;
     heap.put(a, Object::Dict(entries, frozen));

@@ -6,6 +6,7 @@ ghost use Rattle.heap.specs.View.{store_of, Says, Checks, ChecksItems};
 
 use comparing::hash;
 use heap::{Halt, Heap, Key, Object, Val, cut, found, keys, member};
+use meaning::faults;
 
 /// An int, and not a bool, or fault 5.
 pub fn as_int(x: Val) -> Result<i64, Halt>
@@ -13,7 +14,7 @@ pub fn as_int(x: Val) -> Result<i64, Halt>
 {
     match x {
         Val::Int(n) => Ok(n),
-        _ => Err(Halt::Code(5)),
+        _ => Err(Halt::Code(faults::WRONG_TYPE)),
     }
 }
 
@@ -24,7 +25,7 @@ fn found_at<T: Copy>(xs: &[T], i: Val) -> Result<T, Halt>
     let n = as_int(i)?;
     match member(xs, n) {
         Some(x) => Ok(x),
-        None => Err(Halt::Code(8)),
+        None => Err(Halt::Code(faults::ABSENT)),
     }
 }
 
@@ -34,7 +35,7 @@ pub fn index(heap: &mut Heap, a: Val, i: Val) -> Result<Val, Halt>
 {
     match a {
         Val::At(place) => index_object(heap, place, i),
-        _ => Err(Halt::Code(5)),
+        _ => Err(Halt::Code(faults::WRONG_TYPE)),
     }
 }
 
@@ -50,8 +51,8 @@ fn index_object(heap: &mut Heap, a: usize, i: Val) -> Result<Val, Halt>
         Some(Object::List(members, _)) => found_at(members.as_slice(), i),
         Some(Object::Tuple(members)) => found_at(members.as_slice(), i),
         Some(Object::Dict(_, _)) => found_key(heap, a, i),
-        Some(Object::Function(_, _)) => Err(Halt::Code(5)),
-        None => Err(Halt::Code(5)),
+        Some(Object::Function(_, _)) => Err(Halt::Code(faults::WRONG_TYPE)),
+        None => Err(Halt::Code(faults::WRONG_TYPE)),
     }
 }
 
@@ -71,9 +72,9 @@ fn at_key(heap: &Heap, a: usize, key: &Key) -> Result<Val, Halt>
     match heap.object(a)? {
         Some(Object::Dict(entries, _)) => match found(entries, key) {
             Some(entry) => Ok(entry.value),
-            None => Err(Halt::Code(8)),
+            None => Err(Halt::Code(faults::ABSENT)),
         },
-        _ => Err(Halt::Code(5)),
+        _ => Err(Halt::Code(faults::WRONG_TYPE)),
     }
 }
 
@@ -92,7 +93,7 @@ pub fn slice(heap: &mut Heap, a: Val, i: Val, j: Val) -> Result<Val, Halt>
 {
     match a {
         Val::At(place) => slice_object(heap, place, i, j),
-        _ => Err(Halt::Code(5)),
+        _ => Err(Halt::Code(faults::WRONG_TYPE)),
     }
 }
 
@@ -113,7 +114,7 @@ fn slice_object(heap: &mut Heap, a: usize, i: Val, j: Val) -> Result<Val, Halt>
             let part = cut(heap.alloc, members.as_slice(), i, j)?;
             heap.make_tuple(part)
         }
-        _ => Err(Halt::Code(5)),
+        _ => Err(Halt::Code(faults::WRONG_TYPE)),
     }
 }
 
@@ -123,7 +124,7 @@ pub fn items(heap: &Heap, a: Val) -> Result<Vec<Val>, Halt>
 {
     match a {
         Val::At(place) => object_items(heap, place),
-        _ => Err(Halt::Code(5)),
+        _ => Err(Halt::Code(faults::WRONG_TYPE)),
     }
 }
 
@@ -135,8 +136,8 @@ fn object_items(heap: &Heap, a: usize) -> Result<Vec<Val>, Halt>
         Some(Object::List(members, _)) => Ok(Vec::from_slice(heap.alloc, members.as_slice())?),
         Some(Object::Tuple(members)) => Ok(Vec::from_slice(heap.alloc, members.as_slice())?),
         Some(Object::Dict(entries, _)) => Ok(keys(heap.alloc, entries)?),
-        Some(Object::Text(_)) => Err(Halt::Code(5)),
-        Some(Object::Function(_, _)) => Err(Halt::Code(5)),
-        None => Err(Halt::Code(5)),
+        Some(Object::Text(_)) => Err(Halt::Code(faults::WRONG_TYPE)),
+        Some(Object::Function(_, _)) => Err(Halt::Code(faults::WRONG_TYPE)),
+        None => Err(Halt::Code(faults::WRONG_TYPE)),
     }
 }

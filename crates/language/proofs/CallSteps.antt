@@ -5,8 +5,8 @@ use Rattle.std.specs.Ordering.{int_eq, is_lt, is_gt}
 use Rattle.std.specs.declared.cmp.Ordering.{Ordering}
 use Rattle.meaning.specs.declared.val.Val.{Val}
 use Rattle.meaning.specs.declared.val.Val.TheVariants as v
-use Rattle.meaning.specs.declared.val.Builtin.{Builtin}
-use Rattle.meaning.specs.declared.val.Builtin.TheVariants as b
+use Rattle.meaning.specs.declared.builtin.Builtin.{Builtin}
+use Rattle.meaning.specs.declared.builtin.Builtin.TheVariants as b
 use Rattle.meaning.specs.Outcome.{gives, faults, Does, and_then, ◌>>=◌, checked, fault}
 use Rattle.meaning.specs.Heap.{Obj, text, dict, Entries, Store, at, makes, makes_text, makes_list, makes_tuple, makes_dict, is_sized}
 use Rattle.meaning.specs.Printing.{print, repr, str_object, str}

@@ -4,16 +4,16 @@ use Rattle.std.specs.Prelude.{if◌then◌else◌, is_some, ◌||◌, flat_map}
 use Rattle.std.specs.List.{list_any}
 use Rattle.meaning.specs.declared.val.Val.{Val}
 use Rattle.meaning.specs.declared.val.Val.TheVariants as v
-use Rattle.meaning.specs.declared.val.Builtin.{Builtin}
-use Rattle.meaning.specs.declared.val.Builtin.TheVariants as b
-use Rattle.meaning.specs.Builtins.{same_builtin}
+use Rattle.meaning.specs.declared.builtin.Builtin.{Builtin}
+use Rattle.meaning.specs.declared.builtin.Builtin.TheVariants as b
+use Rattle.meaning.specs.Builtins.{same_builtin, package_functions}
 use Rattle.meaning.specs.Comparing.{same_text}
 use Rattle.meaning.specs.Outcome.{checked}
 use Rattle.meaning.specs.Heap.{Obj, text, list, tuple, dict, function, at}
 use Rattle.meaning.specs.Functions.{Named}
 use Rattle.language.specs.World.{World, Here, on_heap, or_fault}
 use Rattle.grammar.specs.declared.kind.FileKind.TheVariants as k
-use Rattle.language.specs.Names.{first_named, package_functions}
+use Rattle.language.specs.Names.{first_named}
 use Rattle.language.specs.Environment.{Env, Answers}
 use Rattle.language.specs.Globs.{Glob, questions, answer_to, unanswered, found_or_none, answered, read_call, glob}
 use Rattle.language.specs.Packages.{in_package, package_call}

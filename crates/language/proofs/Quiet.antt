@@ -7,7 +7,7 @@ use Rattle.tree.specs.declared.expr.BinaryOp.{BinaryOp}
 use Rattle.tree.specs.declared.expr.BinaryOp.TheVariants as o
 use Rattle.tree.specs.Tree.{Ld, It, Fn}
 use Rattle.meaning.specs.declared.val.Val.{Val}
-use Rattle.meaning.specs.declared.val.Builtin.{Builtin}
+use Rattle.meaning.specs.declared.builtin.Builtin.{Builtin}
 use Rattle.meaning.specs.Outcome as m
 use Rattle.meaning.specs.Outcome.{Out, gives, faults, Does, checked}
 use Rattle.meaning.specs.declared.val.Val.TheVariants as v

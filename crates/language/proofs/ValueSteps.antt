@@ -10,9 +10,9 @@ use Rattle.tree.specs.Tree as t
 use Rattle.tree.specs.Tree.{Ex, Exs, Bound, Clauses, Cl}
 use Rattle.meaning.specs.declared.val.Val.{Val}
 use Rattle.meaning.specs.declared.val.Val.TheVariants as v
-use Rattle.meaning.specs.declared.val.Builtin.{Builtin}
-use Rattle.meaning.specs.declared.val.Builtin.TheVariants as b
-use Rattle.meaning.specs.Builtins.{same_builtin}
+use Rattle.meaning.specs.declared.builtin.Builtin.{Builtin}
+use Rattle.meaning.specs.declared.builtin.Builtin.TheVariants as b
+use Rattle.meaning.specs.Builtins.{same_builtin, package_functions}
 use Rattle.meaning.specs.Outcome as m
 use Rattle.meaning.specs.Outcome.{checked}
 use Rattle.meaning.specs.Heap.{Entries, Obj, text, list, tuple, dict, function, at, makes_list, is_sized}
@@ -20,7 +20,7 @@ use Rattle.meaning.specs.Operators.{is_true}
 use Rattle.meaning.specs.Functions.{Named, the_items, builtin}
 use Rattle.meaning.specs.Methods.{makes_texts, method}
 use Rattle.language.specs.World.{World, Block, Here, Ends, Runs, then_runs, ended, on_heap, tick, pure, with_block, without_block, ◌>>=◌}
-use Rattle.language.specs.Names.{is_native_name, first_named, package_functions, new_block, clause_names}
+use Rattle.language.specs.Names.{is_native_name, first_named, new_block, clause_names}
 use Rattle.language.specs.Environment.{Env, Answers}
 use Rattle.language.specs.Globs.{Glob, read_call, questions, found, makes_paths, answered, unanswered, glob}
 use Rattle.language.specs.Packages.{in_package, if_build, package_call}

@@ -9,6 +9,7 @@ use Rattle.meaning.specs.declared.val.Val.{Val}
 use Rattle.meaning.specs.Outcome.{Checked, good, bad, then_checked, or_bad}
 use Rattle.meaning.specs.Comparing.{same_text}
 use Rattle.meaning.specs.Functions.{Named, is_named, is_twice}
+use Rattle.meaning.specs.declared.faults.TheConstants.{WRONG_ARGUMENTS}
 use Rattle.tree.specs.Tree.{Pa, Fn}
 use Rattle.language.specs.World.{Block}
 use Rattle.language.specs.Names.{or_else}
@@ -51,11 +52,11 @@ with_parameter p x rest = then_checked rest (λ block. good ((p.name, Some x) �
 -- the parameters with their values, from the plain arguments, the named ones and the defaults
 abbrev pub given : List Pa → List Val → Named → List Val → Checked Block
 given [] [] ns ds = good []
-given [] (x ∷ xs) ns ds = bad 25
-given (p ∷ ps) (x ∷ xs) ns ds = if is_named p.name ns then bad 25 else with_parameter p x (given ps xs ns (other_defaults p ds))
+given [] (x ∷ xs) ns ds = bad WRONG_ARGUMENTS
+given (p ∷ ps) (x ∷ xs) ns ds = if is_named p.name ns then bad WRONG_ARGUMENTS else with_parameter p x (given ps xs ns (other_defaults p ds))
 given (p ∷ ps) [] ns ds =
-    then_checked (or_bad 25 (or_else (value_named p.name ns) (next_default p ds))) (λ x.
+    then_checked (or_bad WRONG_ARGUMENTS (or_else (value_named p.name ns) (next_default p ds))) (λ x.
     with_parameter p x (given ps [] ns (other_defaults p ds)))
 
 unfoldable pub arguments : Fn → List Val → Named → List Val → Checked Block
-arguments f xs ns ds = if is_twice ns || not (are_parameters ns f.params) then bad 25 else given f.params xs ns ds
+arguments f xs ns ds = if is_twice ns || not (are_parameters ns f.params) then bad WRONG_ARGUMENTS else given f.params xs ns ds

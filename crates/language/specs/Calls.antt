@@ -8,6 +8,7 @@ use Rattle.meaning.specs.declared.val.Val.{Val}
 use Rattle.meaning.specs.declared.val.Val.TheVariants as v
 use Rattle.meaning.specs.Outcome.{checked}
 use Rattle.meaning.specs.Comparing.{same_text}
+use Rattle.meaning.specs.declared.faults.TheConstants.{RECURSION, TOO_DEEP, WRONG_TYPE}
 use Rattle.tree.specs.Tree.{Fn, Suite}
 use Rattle.language.specs.World.{Block, Here, Runs, ◌>>=◌, pure, fault, or_fault, on_heap, in_blocks}
 use Rattle.language.specs.Names.{suite_names, names_once, all_unbound}
@@ -36,16 +37,16 @@ inside env label f here = record { label = label; kind = k.Bzl; site = record { 
 
 -- the statements of a body, unless no more calls may be open
 abbrev pub body_does : Option (Suite → Here → Runs Exit) → Fn → Block → Here → Here → Runs Val
-body_does None f parameters within here = fault 12 here
+body_does None f parameters within here = fault TOO_DEEP here
 body_does (Some run) f parameters within here = in_blocks (function_block f parameters ∷ []) (run f.body within) >>= λ exit. pure (given exit)
 
 -- a call of a function of a file, known by the file's label and its own name
 abbrev pub enter : Env → Option (Suite → Here → Runs Exit) → Call
 enter env run label name xs ns here =
     need_names env label here >>= λ _.
-    or_fault 5 (function_named name (functions_of env label)) here >>= λ f.
+    or_fault WRONG_TYPE (function_named name (functions_of env label)) here >>= λ f.
     (λ w. on_heap here (checked (arguments f xs ns (defaults_of label name w))) w) >>= λ parameters.
-    if is_running label name here.running then fault 14 here else body_does run f parameters (inside env label f here) here
+    if is_running label name here.running then fault RECURSION here else body_does run f parameters (inside env label f here) here
 
 -- a call, where so many more may be open
 unfoldable pub call : Env → ℕ → Call

@@ -15,19 +15,20 @@ use Rattle.tree.specs.Tree as t
 use Rattle.tree.specs.Tree.{Ex, Exs, Bound, Clauses, Cl}
 use Rattle.meaning.specs.declared.val.Val.{Val}
 use Rattle.meaning.specs.declared.val.Val.TheVariants as v
-use Rattle.meaning.specs.declared.val.Builtin.{Builtin}
+use Rattle.meaning.specs.declared.builtin.Builtin.{Builtin}
 use Rattle.meaning.specs.declared.val.Operator.{Operator}
 use Rattle.meaning.specs.declared.val.Operator.TheVariants as p
 use Rattle.meaning.specs.Heap.{Entries, Obj, function, at, makes_text, makes_list, makes_tuple, makes_dict}
-use Rattle.meaning.specs.Builtins.{same_builtin}
+use Rattle.meaning.specs.Builtins.{same_builtin, package_functions}
 use Rattle.meaning.specs.Operators.{is_true, negate, plus}
 use Rattle.meaning.specs.Comparing.{found}
 use Rattle.meaning.specs.Indexing.{hash, index, slice}
 use Rattle.meaning.specs.Binary.{binary}
 use Rattle.meaning.specs.Functions.{Named, builtin}
 use Rattle.meaning.specs.Methods.{method}
+use Rattle.meaning.specs.declared.faults.TheConstants.{WRONG_ARGUMENTS, WRONG_TYPE}
 use Rattle.language.specs.World.{Here, Runs, ◌>>=◌, pure, fault, or_fault, on_heap, tick, by_truth, in_block}
-use Rattle.language.specs.Names.{read, is_native_name, first_named, package_functions, new_block, clause_names}
+use Rattle.language.specs.Names.{read, is_native_name, first_named, new_block, clause_names}
 use Rattle.language.specs.Environment.{Env}
 use Rattle.language.specs.Arguments.{plain_part, named_part}
 use Rattle.language.specs.Targets.{Aim, to_name, to_member, to_each, Aims, no_aims, aim_at, store}
@@ -76,7 +77,7 @@ between op first second here = both (operator_of op) first second here
 -- ---- entries of a dictionary expression: a key twice is fault 25
 
 abbrev pub fresh : Val → Val → Entries → Here → Runs Entries
-fresh k x es here = on_heap here (hash k) >>= λ parts. if is_some (found parts es) then fault 25 here else pure (es ++ (parts, record { key = k; value = x }) ∷ [])
+fresh k x es here = on_heap here (hash k) >>= λ parts. if is_some (found parts es) then fault WRONG_ARGUMENTS here else pure (es ++ (parts, record { key = k; value = x }) ∷ [])
 
 -- ---- calls
 
@@ -89,13 +90,13 @@ call_builtin env f xs ns here = if list_any (same_builtin f) package_functions t
 
 abbrev pub call_object : Call → Option Obj → List Val → Named → Here → Runs Val
 call_object call (Some (function label name)) xs ns here = call label name xs ns here
-call_object call object xs ns here = fault 5 here
+call_object call object xs ns here = fault WRONG_TYPE here
 
 -- what is no function is fault 5, once the arguments are evaluated
 unfoldable pub apply : Env → Call → Val → List Val → Named → Here → Runs Val
 apply env call (v.Builtin f) xs ns here = call_builtin env f xs ns here
 apply env call (v.At a) xs ns here = λ s. call_object call (at a s.store) xs ns here s
-apply env call x xs ns here = fault 5 here
+apply env call x xs ns here = fault WRONG_TYPE here
 
 -- what a method is called on
 pub data Receiver : Type 0 where
@@ -108,7 +109,7 @@ on_receiver e m here = λ s. (if is_native_name e here s then (tick here >>= λ 
 
 -- `native.f(..)` is the package call f; an unknown method is fault 5, once the arguments are evaluated
 unfoldable pub apply_method : Env → Receiver → List ℕ → List Val → Named → Here → Runs Val
-apply_method env native name xs ns here = or_fault 5 (first_named name package_functions) here >>= λ f. package_call env f xs ns here
+apply_method env native name xs ns here = or_fault WRONG_TYPE (first_named name package_functions) here >>= λ f. package_call env f xs ns here
 apply_method env (receiver x) name xs ns here = on_heap here (method x name xs ns)
 
 -- ---- expressions
@@ -158,7 +159,7 @@ module _ (env : Env) (call : Call) where
     aim (t.index a i) here = value a here >>= λ x. value i here >>= λ y. pure (to_member x y)
     aim (t.tuple es) here = aims es here >>= λ found. pure (to_each found)
     aim (t.list es) here = aims es here >>= λ found. pure (to_each found)
-    aim e here = fault 5 here
+    aim e here = fault WRONG_TYPE here
 
     pub aims : Exs → Here → Runs Aims
     aims t.no_exs here = pure no_aims
@@ -171,8 +172,8 @@ module _ (env : Env) (call : Call) where
         value e here >>= λ x.
         in_block (new_block (clause_names (t.clause (t.for_in target e) cs)))
         (over x (λ xs. gather (λ y g. tick here >>= λ _. aim target here >>= λ a. store a y here >>= λ _. clauses cs inner here g) xs nothing_yet) here)
-    comprehension (t.clause (t.only_if e) cs) inner here = fault 5 here
-    comprehension t.no_clauses inner here = fault 5 here
+    comprehension (t.clause (t.only_if e) cs) inner here = fault WRONG_TYPE here
+    comprehension t.no_clauses inner here = fault WRONG_TYPE here
 
     pub clauses : Clauses → (Gathered → Runs Gathered) → Here → Gathered → Runs Gathered
     clauses t.no_clauses inner here g = inner g

@@ -8,6 +8,7 @@ use Rattle.tree.specs.Tree.{Ld, It, Tp, Fn, Pa, Bound}
 use Rattle.meaning.specs.declared.val.Val.{Val}
 use Rattle.meaning.specs.Heap.{walks, makes, function}
 use Rattle.meaning.specs.Freezing.{Fz, freezes, freeze, freeze_members, thaw}
+use Rattle.meaning.specs.declared.faults.TheConstants.{NOT_BOUND, NOT_EXPORTED}
 use Rattle.language.specs.Sorting.{in_order}
 use Rattle.module_values.specs.Values.{Target, Frozen, Defaults, Body, Loaded}
 use Rattle.language.specs.Modules.{exported, all_bodies, each_once}
@@ -24,7 +25,7 @@ use Rattle.language.specs.Calls.{call}
 abbrev pub load_items : Body → List It → Here → Runs (Unit {0})
 load_items body [] here = pure tt
 load_items body (i ∷ is) here =
-    or_fault 18 (exported i.exported body) here >>= λ f.
+    or_fault NOT_EXPORTED (exported i.exported body) here >>= λ f.
     on_heap here (thaw f) >>= λ x.
     bind i.local x here >>= λ _.
     load_items body is here
@@ -32,7 +33,7 @@ load_items body (i ∷ is) here =
 -- a load statement is a step, and binds its items in order
 abbrev pub loads : List Ld → List Loaded → Here → Runs (Unit {0})
 loads [] ms here = pure tt
-loads (l ∷ ls) [] here = fault 18 (at_line l.line here)
+loads (l ∷ ls) [] here = fault NOT_EXPORTED (at_line l.line here)
 loads (l ∷ ls) (m ∷ ms) here =
     tick (at_line l.line here) >>= λ _.
     load_items m.body l.items (at_line l.line here) >>= λ _.
@@ -108,8 +109,8 @@ statements env here =
 abbrev pub frozen_names : List (List ℕ) → Here → Runs (List Frozen)
 frozen_names [] here = pure []
 frozen_names (x ∷ xs) here =
-    (λ w. or_fault 4 (file_slot x (names_at here.label w.files)) here w) >>= λ bound.
-    or_fault 4 bound here >>= λ y.
+    (λ w. or_fault NOT_BOUND (file_slot x (names_at here.label w.files)) here w) >>= λ bound.
+    or_fault NOT_BOUND bound here >>= λ y.
     on_heap here (freezes y) >>= λ f.
     frozen_names xs here >>= λ fs.
     pure (record { name = x; value = f } ∷ fs)

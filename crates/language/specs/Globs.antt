@@ -16,6 +16,7 @@ use Rattle.meaning.specs.Heap.{Obj, list, Store, at, makes_list, is_sized}
 use Rattle.meaning.specs.Comparing.{same_text}
 use Rattle.meaning.specs.Functions.{Named, is_named, is_twice}
 use Rattle.meaning.specs.Methods.{bytes_of, makes_texts}
+use Rattle.meaning.specs.declared.faults.TheConstants.{BAD_PATTERN, EMPTY_GLOB, TOO_LARGE, WRONG_ARGUMENTS, WRONG_TYPE}
 use Rattle.language.specs.Sorting.{in_order}
 use Rattle.language.specs.World.{Here, Runs, ◌>>=◌, on_heap, waits}
 use Rattle.language.specs.Names.{or_else, has_name}
@@ -56,12 +57,12 @@ all_texts (x ∷ xs) s = then_checked (bytes_of x s) (λ t. then_checked (all_te
 
 abbrev pub object_texts : Option Obj → Store → Checked (List (List ℕ))
 object_texts (Some (list members f)) s = all_texts members s
-object_texts object s = bad 5
+object_texts object s = bad WRONG_TYPE
 
 -- a list of strings; a tuple is none
 abbrev pub texts_in : Val → Store → Checked (List (List ℕ))
 texts_in (v.At a) s = object_texts (at a s) s
-texts_in x s = bad 5
+texts_in x s = bad WRONG_TYPE
 
 abbrev pub texts_or_none : Option Val → Store → Checked (List (List ℕ))
 texts_or_none None s = good []
@@ -70,16 +71,16 @@ texts_or_none (Some x) s = texts_in x s
 abbrev pub truth_or : Bool → Option Val → Checked Bool
 truth_or other None = good other
 truth_or other (Some (v.Bool b)) = good b
-truth_or other (Some x) = bad 5
+truth_or other (Some x) = bad WRONG_TYPE
 
 abbrev pub int_or : ℤ → Option Val → Checked ℤ
 int_or other None = good other
 int_or other (Some (v.Int n)) = good n
-int_or other (Some x) = bad 5
+int_or other (Some x) = bad WRONG_TYPE
 
 -- 1 leaves directories out, and 0 does not
 abbrev pub with_directories : ℤ → Checked Bool
-with_directories n = if int_eq n (pos 0) then good true else if int_eq n (pos 1) then good false else bad 25
+with_directories n = if int_eq n (pos 0) then good true else if int_eq n (pos 1) then good false else bad WRONG_ARGUMENTS
 
 pub record Glob : Type 0 where
   pub includes : List (List ℕ)
@@ -98,11 +99,11 @@ typed xs ns s =
     good (record { includes = includes; excludes = excludes; allow_empty = allow_empty; directories = directories }))))))
 
 abbrev pub with_patterns : Glob → Checked Glob
-with_patterns g = if list_all is_pattern g.includes && list_all is_pattern g.excludes then good g else bad 21
+with_patterns g = if list_all is_pattern g.includes && list_all is_pattern g.excludes then good g else bad BAD_PATTERN
 
 -- what the call asks for
 abbrev pub read_call : List Val → Named → Store → Checked Glob
-read_call xs ns s = if are_arguments xs ns then then_checked (typed xs ns s) with_patterns else bad 25
+read_call xs ns s = if are_arguments xs ns then then_checked (typed xs ns s) with_patterns else bad WRONG_ARGUMENTS
 
 -- ---- the answer
 
@@ -129,8 +130,8 @@ found answers g = in_order (λ path. path) (filter (λ path. not (some_matches (
 
 -- a new list that may be changed
 abbrev pub makes_paths : Bool → List (List ℕ) → Does Store Val
-makes_paths false [] = o.fault 22
-makes_paths allow_empty paths = if is_sized (length paths) then o.◌>>=◌ (makes_texts paths) makes_list else o.fault 13
+makes_paths false [] = o.fault EMPTY_GLOB
+makes_paths allow_empty paths = if is_sized (length paths) then o.◌>>=◌ (makes_texts paths) makes_list else o.fault TOO_LARGE
 
 abbrev pub answered : List (List ℕ) → Answers → Glob → Here → Runs Val
 answered [] answers g here = on_heap here (makes_paths g.allow_empty (found answers g))

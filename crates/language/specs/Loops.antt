@@ -6,6 +6,7 @@ use Rattle.meaning.specs.Outcome as o
 use Rattle.meaning.specs.Outcome.{Does}
 use Rattle.meaning.specs.Heap.{Entries, Store, is_sized}
 use Rattle.meaning.specs.Functions.{the_items, grows}
+use Rattle.meaning.specs.declared.faults.TheConstants.{TOO_LARGE}
 use Rattle.language.specs.World.{Here, Runs, ◌>>=◌, pure, fault, on_heap}
 
 -- A list or dictionary is iterated from the start of a `for` or a clause over it until that ends; meanwhile it can't be
@@ -38,7 +39,7 @@ nothing_yet = record { members = []; entries = [] }
 
 -- one more member; at the 65,537th fault 13
 abbrev pub one_more : Val → Gathered → Here → Runs Gathered
-one_more x g here = if is_sized (suc (length g.members)) then pure (record g { members = g.members ++ x ∷ [] }) else fault 13 here
+one_more x g here = if is_sized (suc (length g.members)) then pure (record g { members = g.members ++ x ∷ [] }) else fault TOO_LARGE here
 
 -- one more entry; at a key that is there the later value stays
 abbrev pub one_entry : Val → Val → Gathered → Here → Runs Gathered

@@ -6,10 +6,11 @@
 use Rattle.std.specs.Prelude.{ℕ, List, [], ◌∷◌, ◌++◌, Bool, true, false, Option, Some, None, if◌then◌else◌, is_some, codes}
 use Rattle.meaning.specs.declared.val.Val.{Val}
 use Rattle.meaning.specs.declared.val.Val.TheVariants as v
-use Rattle.meaning.specs.declared.val.Builtin.{Builtin}
-use Rattle.meaning.specs.declared.val.Builtin.TheVariants as b
-use Rattle.meaning.specs.Builtins.{builtin_name}
+use Rattle.meaning.specs.declared.builtin.Builtin.{Builtin}
+use Rattle.meaning.specs.declared.builtin.Builtin.TheVariants as b
+use Rattle.meaning.specs.Builtins.{builtin_name, plain_functions, package_functions}
 use Rattle.meaning.specs.Comparing.{same_text}
+use Rattle.meaning.specs.declared.faults.TheConstants.{BOUND_TWICE, NOT_BOUND, WRONG_TYPE}
 use Rattle.grammar.specs.declared.kind.FileKind.{FileKind}
 use Rattle.grammar.specs.declared.kind.FileKind.TheVariants as k
 use Rattle.tree.specs.Tree as t
@@ -136,14 +137,6 @@ abbrev pub first_named : List ℕ → List Builtin → Option Builtin
 first_named x [] = None
 first_named x (f ∷ fs) = if same_text x (builtin_name f) then Some f else first_named x fs
 
--- the functions that every file has
-abbrev pub plain_functions : List Builtin
-plain_functions = b.Len ∷ b.Range ∷ b.Str ∷ b.Repr ∷ b.Type ∷ b.Sorted ∷ b.Reversed ∷ b.Enumerate ∷ b.Zip ∷ b.List ∷ b.Tuple ∷ b.Dict ∷ b.Bool ∷ b.Any ∷ b.All ∷ b.Min ∷ b.Max ∷ b.Fail ∷ []
-
--- the package calls, which BUILD files have by their names and .bzl files as methods of `native`
-abbrev pub package_functions : List Builtin
-package_functions = b.Glob ∷ b.Filegroup ∷ b.Genrule ∷ b.Alias ∷ b.TestSuite ∷ b.PackageName ∷ []
-
 abbrev pub universal : FileKind → List ℕ → Option Builtin
 universal k.Build x = first_named x (plain_functions ++ package_functions)
 universal k.Bzl x = first_named x plain_functions
@@ -159,11 +152,11 @@ abbrev pub slot : List ℕ → Here → World → Option (Option Val)
 slot x here w = or_else (slot_among x w.blocks) (file_slot x (names_at here.label w.files))
 
 abbrev pub read_universal : List ℕ → Here → Runs Val
-read_universal x here = if is_native here.kind x then fault 5 here else (or_fault 4 (universal here.kind x) here >>= λ f. pure (v.Builtin f))
+read_universal x here = if is_native here.kind x then fault WRONG_TYPE here else (or_fault NOT_BOUND (universal here.kind x) here >>= λ f. pure (v.Builtin f))
 
 abbrev pub read_slot : Option (Option Val) → List ℕ → Here → Runs Val
 read_slot None x here = read_universal x here
-read_slot (Some value) x here = or_fault 4 value here
+read_slot (Some value) x here = or_fault NOT_BOUND value here
 
 -- the value of a name. One without a value when it is reached is fault 4, and `native` that is not before a dot is 5.
 unfoldable pub read : List ℕ → Here → Runs Val
@@ -176,7 +169,7 @@ is_native_name e here w = false
 
 abbrev pub bind_global : Option (Option Val) → List ℕ → Val → Here → Runs (Unit {0})
 bind_global (Some None) x value here = λ w. ended tt (record w { files = change_names here.label (λ f. record f { block = bind_in x value f.block }) w.files })
-bind_global other x value here = fault 26 here
+bind_global other x value here = fault BOUND_TWICE here
 
 -- Binds a name in the innermost block that has it, else as a global. A global that is bound is fault 26.
 unfoldable pub bind : List ℕ → Val → Here → Runs (Unit {0})

@@ -3,10 +3,11 @@ use Rattle.std.specs.Prelude.{List, []}
 use Rattle.grammar.specs.declared.kind.FileKind.{FileKind}
 use Rattle.grammar.specs.declared.kind.FileKind.TheVariants as k
 use Rattle.meaning.specs.declared.val.Val.{Val}
-use Rattle.meaning.specs.declared.val.Builtin.{Builtin}
-use Rattle.meaning.specs.declared.val.Builtin.TheVariants as b
+use Rattle.meaning.specs.declared.builtin.Builtin.{Builtin}
+use Rattle.meaning.specs.declared.builtin.Builtin.TheVariants as b
 use Rattle.meaning.specs.Heap.{makes_text}
 use Rattle.meaning.specs.Functions.{Named}
+use Rattle.meaning.specs.declared.faults.TheConstants.{NOT_ALLOWED, WRONG_ARGUMENTS}
 use Rattle.language.specs.World.{Here, Runs, fault, on_heap}
 use Rattle.language.specs.Environment.{Env}
 use Rattle.language.specs.Globs.{glob}
@@ -15,7 +16,7 @@ use Rattle.language.specs.Rules.{rule}
 -- the name of the package that is loaded
 abbrev pub package_name : Env → List Val → Named → Here → Runs Val
 package_name env [] [] here = on_heap here (makes_text env.package_name)
-package_name env xs ns here = fault 25 here
+package_name env xs ns here = fault WRONG_ARGUMENTS here
 
 abbrev pub in_package : Env → Builtin → List Val → Named → Here → Runs Val
 in_package env b.PackageName xs ns here = package_name env xs ns here
@@ -24,7 +25,7 @@ in_package env f xs ns here = rule f env.package_name xs ns here
 
 abbrev pub if_build : FileKind → Here → Runs Val → Runs Val
 if_build k.Build here m = m
-if_build k.Bzl here m = fault 23 here
+if_build k.Bzl here m = fault NOT_ALLOWED here
 
 -- While a .bzl file's own statements are evaluated each is fault 23, before its arguments are tested.
 unfoldable pub package_call : Env → Builtin → List Val → Named → Here → Runs Val

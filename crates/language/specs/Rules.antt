@@ -8,14 +8,15 @@ use Rattle.labels.specs.Paths.{is_path}
 use Rattle.labels.specs.Labels.{label_of, label_text}
 use Rattle.meaning.specs.declared.val.Val.{Val}
 use Rattle.meaning.specs.declared.val.Val.TheVariants as v
-use Rattle.meaning.specs.declared.val.Builtin.{Builtin}
-use Rattle.meaning.specs.declared.val.Builtin.TheVariants as b
+use Rattle.meaning.specs.declared.builtin.Builtin.{Builtin}
+use Rattle.meaning.specs.declared.builtin.Builtin.TheVariants as b
 use Rattle.meaning.specs.Builtins.{builtin_name}
 use Rattle.meaning.specs.Outcome.{Checked, good, bad, then_checked, or_bad, checked}
 use Rattle.meaning.specs.Heap.{Store}
 use Rattle.meaning.specs.Comparing.{same_text}
 use Rattle.meaning.specs.Functions.{Named, is_named, is_twice}
 use Rattle.meaning.specs.Methods.{bytes_of}
+use Rattle.meaning.specs.declared.faults.TheConstants.{BAD_LABEL, TARGET_TWICE, WRONG_ARGUMENTS}
 use Rattle.module_values.specs.Values.{Attribute, single, several, Target}
 use Rattle.language.specs.World.{Here, Runs, ◌>>=◌, fault, on_heap, ended}
 use Rattle.language.specs.Names.{has_name}
@@ -89,7 +90,7 @@ all_typed (a ∷ shapes) ns s = typed_if a (value_named a.0 ns) s (all_typed sha
 
 -- a label as its text, `//P:T`, read in the package
 abbrev pub label_in : List ℕ → List ℕ → Checked (List ℕ)
-label_in package_name text = then_checked (or_bad 15 (label_of text package_name)) (λ t. good (label_text t))
+label_in package_name text = then_checked (or_bad BAD_LABEL (label_of text package_name)) (λ t. good (label_text t))
 
 abbrev pub labels_in : List ℕ → List (List ℕ) → Checked (List (List ℕ))
 labels_in package_name [] = good []
@@ -98,7 +99,7 @@ labels_in package_name (t ∷ ts) = then_checked (label_in package_name t) (λ l
 abbrev pub as_shape : List ℕ → Shape → Attribute → Checked Attribute
 as_shape package_name one_label (single t) = then_checked (label_in package_name t) (λ l. good (single l))
 as_shape package_name labels (several ts) = then_checked (labels_in package_name ts) (λ ls. good (several ls))
-as_shape package_name paths (several ts) = if list_all is_path ts then good (several ts) else bad 15
+as_shape package_name paths (several ts) = if list_all is_path ts then good (several ts) else bad BAD_LABEL
 as_shape package_name shape a = good a
 
 abbrev pub all_shaped : List ℕ → List Given → Checked (List (List ℕ × Attribute))
@@ -108,27 +109,27 @@ all_shaped package_name (g ∷ gs) = then_checked (as_shape package_name g.shape
 -- ---- the target
 
 abbrev pub name_text : Option Val → Store → Checked (List ℕ)
-name_text None s = bad 25
+name_text None s = bad WRONG_ARGUMENTS
 name_text (Some x) s = bytes_of x s
 
 abbrev pub makes_target : List ℕ → List ℕ → List ℕ → List Given → Checked Target
 makes_target kind package_name name gs =
     if is_path name then then_checked (all_shaped package_name gs) (λ attributes. good (record { kind = kind; name = name; attributes = attributes }))
-    else bad 15
+    else bad BAD_LABEL
 
 -- the target that a call describes
 abbrev pub target_of : Builtin → List ℕ → List Val → Named → Store → Checked Target
 target_of f package_name xs ns s =
     if are_arguments xs ns (shapes_of f)
     then then_checked (name_text (value_named (codes "name") (not_none ns)) s) (λ name. then_checked (all_typed (shapes_of f) (not_none ns) s) (makes_target (builtin_name f) package_name name))
-    else bad 25
+    else bad WRONG_ARGUMENTS
 
 abbrev pub is_used : List ℕ → List Target → Bool
 is_used name [] = false
 is_used name (t ∷ ts) = if same_text name t.name then true else is_used name ts
 
 abbrev pub adds_target : Target → Here → Runs Val
-adds_target target here = λ w. (if is_used target.name w.targets then fault 20 here else (λ u. ended v.Nothing (record u { targets = u.targets ++ target ∷ [] }))) w
+adds_target target here = λ w. (if is_used target.name w.targets then fault TARGET_TWICE here else (λ u. ended v.Nothing (record u { targets = u.targets ++ target ∷ [] }))) w
 
 unfoldable pub rule : Builtin → List ℕ → List Val → Named → Here → Runs Val
 rule f package_name xs ns here = on_heap here (λ s. checked (target_of f package_name xs ns s) s) >>= λ target. adds_target target here

@@ -14,6 +14,7 @@ use Rattle.meaning.specs.Operators.{add}
 use Rattle.meaning.specs.Indexing.{index}
 use Rattle.meaning.specs.Binary.{binary}
 use Rattle.meaning.specs.Methods.{add_in_place}
+use Rattle.meaning.specs.declared.faults.TheConstants.{WRONG_TYPE}
 use Rattle.language.specs.World.{Here, at_line, Runs, ◌>>=◌, pure, fault, on_heap, tick, by_truth}
 use Rattle.language.specs.Names.{read}
 use Rattle.language.specs.Environment.{Env}
@@ -39,7 +40,7 @@ unless_over exit rest = pure exit
 abbrev pub present : Aim → Here → Runs Val
 present (to_name x) here = read x here
 present (to_member container i) here = on_heap here (index container i)
-present (to_each aims) here = fault 5 here
+present (to_each aims) here = fault WRONG_TYPE here
 
 -- `+`, in place where both are lists
 abbrev pub added : Val → Val → Does Store Val

@@ -7,6 +7,7 @@ use Rattle.meaning.specs.declared.val.Val.TheVariants as v
 use Rattle.meaning.specs.Outcome.{Does, Checked, good, bad, checked}
 use Rattle.meaning.specs.Heap.{Obj, list, tuple, Store, at}
 use Rattle.meaning.specs.Indexing.{set_index}
+use Rattle.meaning.specs.declared.faults.TheConstants.{WRONG_TYPE}
 use Rattle.language.specs.World.{Here, Runs, ◌>>=◌, pure, fault, on_heap}
 use Rattle.language.specs.Names.{bind}
 
@@ -28,16 +29,16 @@ how_many (aim_at aim more) = suc (how_many more)
 -- Unpacking wants a list or tuple of that length; anything else is fault 5.
 
 abbrev pub of_length : ℕ → List Val → Checked (List Val)
-of_length n members = if length members == n then good members else bad 5
+of_length n members = if length members == n then good members else bad WRONG_TYPE
 
 abbrev pub object_parts : ℕ → Option Obj → Checked (List Val)
 object_parts n (Some (list members f)) = of_length n members
 object_parts n (Some (tuple members)) = of_length n members
-object_parts n object = bad 5
+object_parts n object = bad WRONG_TYPE
 
 abbrev pub parts_of : ℕ → Val → Store → Checked (List Val)
 parts_of n (v.At a) s = object_parts n (at a s)
-parts_of n x s = bad 5
+parts_of n x s = bad WRONG_TYPE
 
 abbrev pub unpack : ℕ → Val → Does Store (List Val)
 unpack n x = λ s. checked (parts_of n x s) s
@@ -52,5 +53,5 @@ abbrev mutual
 
   pub store_each : Aims → List Val → Here → Runs (Unit {0})
   store_each no_aims xs here = pure tt
-  store_each (aim_at aim more) [] here = fault 5 here
+  store_each (aim_at aim more) [] here = fault WRONG_TYPE here
   store_each (aim_at aim more) (x ∷ xs) here = store aim x here >>= λ _. store_each more xs here

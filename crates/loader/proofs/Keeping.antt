@@ -1,11 +1,10 @@
 -- A session and the journal so far, over one more line.
-use Rattle.std.proofs.Common.{◌≡◌, ℕ, ◌+◌, ◌≤◌, List, [], ◌∷◌, ◌++◌, length, refl, sym, ◌∙◌, ap, subst, arith, length-append}
+use Rattle.std.proofs.Common.{◌≡◌, ℕ, ◌+◌, ◌≤◌, List, [], ◌∷◌, ◌++◌, length, refl, sym, ◌∙◌, ap, subst, arith, length-append, Some}
 use Rattle.std.specs.Prelude.{Ok, Option, None}
 use Rattle.std.proofs.lemmas.List.{append-nil}
 use Rattle.filetree.specs.Files.{Files}
 use Rattle.functions.specs.Next.{next}
 use Rattle.leaves.specs.Leaves.{read}
-use Rattle.std.proofs.Common.{Some}
 use Rattle.std.specs.Map.{lookup}
 use Rattle.std.specs.BTreeMap.{is_at}
 use Rattle.evaluation.specs.Graph.{Record}

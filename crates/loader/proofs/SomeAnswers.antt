@@ -1,6 +1,6 @@
 -- Each line has an answer from each state.
 use Rattle.std.proofs.Common.{refl, ℕ, List, [], ◌∷◌, Bool, true, false}
-use Rattle.std.specs.Prelude.{Option, Some, None, option_and_then}
+use Rattle.std.specs.Prelude.{Option, Some, None, option_and_then, codes}
 use Rattle.lines.specs.Lines.{is_too_long}
 use Rattle.filetree.specs.Files.{Files}
 use Rattle.walks.specs.Lookups.{build_of}
@@ -11,7 +11,6 @@ use Rattle.answers.specs.Answers.{packages_data}
 use Rattle.serde_json.specs.Data.{Data}
 use Rattle.commands.specs.Commands.{Command, change, ask, Request, find, load, module_of, under, data_of, command_of}
 use Rattle.commands.specs.Refusals.{request_refusal, refusal_without, module_label}
-use Rattle.std.specs.Prelude.{codes}
 use Rattle.loader.specs.State.{State, refusal_of}
 use Rattle.loader.specs.Laws.{SomeAnswer, SomeAnswerEach}
 use Rattle.loader.specs.Answers.{one_member, build_text, refused, edit_answer, package_shown, module_shown, ArePackagesShown, IsModuleShown, IsValueOf, IsUnlessRefused, IsAnswerTo, IsAnswerIf, IsAnswerOf, line_state}

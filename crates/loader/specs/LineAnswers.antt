@@ -7,8 +7,8 @@ use Rattle.serde_json.specs.Data.{Data}
 use Rattle.loader.specs.Answers.{IsAnswer, IsAnswerIf, Tells, answer_text, line_state, state_if}
 use Rattle.loader.specs.Effects.{Moves, effect_if, line_effect}
 use Rattle.loader.specs.Held.{Held, state_of}
-use Rattle.loader.specs.declared.replies.Step.{Step}
-use Rattle.loader.specs.declared.replies.Step.TheVariants.{Answered, Asks}
+use Rattle.loader.specs.declared.session.Step.{Step}
+use Rattle.loader.specs.declared.session.Step.TheVariants.{Answered, Asks}
 
 -- what is done for a command, or for none, before anything is evaluated
 abbrev pub Begins : Option Command → Held → Held → Step → Type 0

@@ -2,29 +2,22 @@
 #![tactic(auto)]
 
 mod laws;
-mod program;
 mod publishing;
 mod publishing_laws;
-mod replies;
-mod reply;
-mod runs;
 mod serving;
 mod session;
-mod shown;
 mod told;
 mod turns;
 mod workers;
-mod written;
 
 pub use commands::Request;
 pub use edits::{Edit, EditError};
 pub use filetree::Change;
 pub use laws::{input_determines_output, lines_determine_answers, lines_have_answers};
 pub use lines::{Failed, Input, Output};
-pub use program::{BUDGET, command};
 pub use publishing_laws::{published_load_is_found, published_texts_are_answers};
-pub use reply::Reply;
 pub use round::{Run, Stop};
-pub use runs::{Journal, Runs, Unkept};
-pub use serving::{ServeStop, serve, serve_here, serve_into, serve_with};
-pub use session::Session;
+pub use serving::{
+    BUDGET, Journal, Runs, ServeStop, Unkept, command, serve, serve_here, serve_into, serve_with,
+};
+pub use session::{Reply, Session};

@@ -1,5 +1,7 @@
-//! The present files with the graph of what was found out about them, and their edits.
-ghost use Rattle.std.specs.Prelude.{◌≡◌, ◌≤◌, ◌+◌, ◌++◌, ◌∷◌, [], Ok, IfOk, OnOk, OnErr, length, string_bytes};
+//! The session: the present files with the graph of what was found out about them, their edits, and the answers to lines.
+ghost use Rattle.std.specs.Prelude.{◌≡◌, ◌≤◌, ◌+◌, ◌++◌, ◌∷◌, [], Ok, IfOk, OnOk, OnErr, length, string_bytes, List, ℕ, option_and_then, option_map, codes as text_codes, false};
+ghost use Rattle.serde_json.specs.View.{view as json_view};
+ghost use Rattle.serde_json.specs.Written.{compact_text, has_float};
 ghost use Rattle.board.specs.Rule.{total};
 ghost use Rattle.evaluation.specs.Graph.{Marks};
 ghost use Rattle.node.specs.Graphs.{record_at, IsTouched};
@@ -7,30 +9,43 @@ ghost use Rattle.functions.specs.Next.{next};
 ghost use Rattle.leaves.specs.Leaves.{read};
 ghost use Rattle.open_nodes.specs.Counted.{turns_of};
 ghost use Rattle.round.specs.Call.{Calls};
+ghost use Rattle.lines.specs.Lines.{Keeps};
 ghost use Rattle.loader.specs.Answers as answers;
-ghost use Rattle.loader.specs.Effects.{AreHeld, Moves, StopsAfter, StopsRequest, evaluations, request_effect, told_roots};
+ghost use Rattle.loader.specs.Effects.{AreHeld, Moves, StopsAfter, StopsRequest, evaluations, request_effect, told_roots, edit_effect};
 ghost use Rattle.loader.specs.State as state;
 ghost use Rattle.loader.specs.Held.{state_of, files_of, paths_of, IsLawful};
+ghost use Rattle.loader.specs.LineAnswers.{Begins, AnswersLine};
 ghost use Rattle.commands.specs.Seen.{edit_seen, request_seen};
+ghost use Rattle.commands.specs.Commands as commands;
 
-use crate::reply::Reply;
 use crate::told::{later_roots, roots_of, told};
 use crate::turns::{joined, turns_left};
 use crate::workers::evaluate_with;
-use crate::written::refused;
-use commands::{Request, refusal};
+use commands::{Command, Request, command_of, data_of, refusal};
 use edits::{Accepted, Edit, EditError, edit_files, edited_paths, refusal_at_limit};
 use filetree::Tree;
 use functions::{LoadRules, Loading};
-use keys::Key;
+use keys::{BuildName, Key};
+use lines::Line;
 use node::Graph;
 use round::{Run, Stop, evaluate_here};
+use serde_json::{Value, json};
 use std::alloc::Global;
 use std::marker::Model;
 use std::sync::Wait;
 use std::thread::Threads;
+use texts::Memory;
 
 mod publishing;
+
+/// What is answered to a request.
+#[derive(Drop)]
+pub struct Reply {
+    /// The line that answers it, without its byte 10.
+    pub text: String,
+    /// What its evaluation read and ran, in the order in which it was settled. A refused request is not evaluated.
+    pub runs: Vec<Run>,
+}
 
 /// The present files, and the graph of what earlier requests found out about them. A contract sees the graph, and the
 /// history for which it is lawful: the version at which the session began, without files, and the edits accepted since
@@ -283,5 +298,195 @@ impl Session {
             budget,
         )?;
         Ok(done)
+    }
+}
+
+/// Compact JSON.
+pub fn written(alloc: Global, answer: &Value) -> Result<String, Memory>
+    ensures { IfOk result (λ text. has_float (json_view answer.now) ≡ false → string_bytes text ≡ compact_text (json_view answer.now)) }
+{
+    Ok(answer.to_string(alloc)?)
+}
+
+/// The answer to what is refused.
+pub fn refused_answer(alloc: Global, n: u64) -> Result<Value, Memory>
+    ensures { IfOk result (λ value. json_view value ≡ answers.refused n) }
+{
+    Ok(json!(in alloc; {"refused": n})?)
+}
+
+fn accepted_answer(alloc: Global, version: u32) -> Result<Value, Memory>
+    ensures { IfOk result (λ value. json_view value ≡ answers.accepted version) }
+{
+    Ok(json!(in alloc; {"ok": version})?)
+}
+
+/// The text of the answer to what is refused.
+pub fn refused(alloc: Global, n: u64) -> Result<String, Memory>
+    ensures { IfOk result (λ text. string_bytes text ≡ compact_text (answers.refused n)) }
+{
+    let answer = refused_answer(alloc, n)?;
+    written(alloc, &answer)
+}
+
+fn refused_at_answer(alloc: Global, at: usize, n: u64) -> Result<Value, Memory>
+    ensures { IfOk result (λ value. json_view value ≡ answers.refused_at at n) }
+{
+    Ok(json!(in alloc; {"edit": at, "refused": n})?)
+}
+
+/// The text of the answer to a batch of which a change is refused, by its place among them.
+pub fn refused_at(alloc: Global, at: usize, n: u64) -> Result<String, Memory>
+    ensures { IfOk result (λ text. string_bytes text ≡ compact_text (answers.refused_at at n)) }
+{
+    let answer = refused_at_answer(alloc, at, n)?;
+    written(alloc, &answer)
+}
+
+/// The answer to an edit that was made.
+pub fn accepted(alloc: Global, version: u32) -> Result<String, Memory>
+    ensures { IfOk result (λ text. string_bytes text ≡ compact_text (answers.accepted version)) }
+{
+    let answer = accepted_answer(alloc, version)?;
+    written(alloc, &answer)
+}
+
+// The answer that tells a package's build file.
+fn build_answer(alloc: Global, found: Option<BuildName>) -> Result<Value, Memory>
+    ensures { IfOk result (λ value. json_view value ≡ answers.one_member (text_codes "build") (answers.build_text found)) }
+{
+    match found {
+        Some(BuildName::BuildBazel) => Ok(json!(in alloc; {"build": "BUILD.bazel"})?),
+        Some(BuildName::Build) => Ok(json!(in alloc; {"build": "BUILD"})?),
+        None => Ok(json!(in alloc; {"build": null})?),
+    }
+}
+
+/// The text of the answer that tells a package's build file.
+pub fn build_text(alloc: Global, found: Option<BuildName>) -> Result<String, Memory>
+    ensures { IfOk result (λ text. string_bytes text ≡ compact_text (answers.one_member (text_codes "build") (answers.build_text found))) }
+{
+    let answer = build_answer(alloc, found)?;
+    written(alloc, &answer)
+}
+
+// What is done for a line before anything is evaluated: it is answered, or it asks something of the present files.
+pub(crate) enum Step<'a> {
+    Answered(String),
+    Asks(Request<'a>),
+}
+
+fn edit_answer(alloc: Global, session: &mut Session, edit: &Edit<'_>) -> Result<String, Memory>
+    ensures answer { IfOk result (λ text. answers.Tells (answers.IsAnswerTo (commands.change (edit_seen edit.now)) (state_of session.old)) (string_bytes text)
+        × (state_of session.new ≡ answers.state_by (commands.change (edit_seen edit.now)) (state_of session.old))) }
+    ensures moves { IfOk result (λ _. Moves (edit_effect (edit_seen edit.now) (state.refusal_of (edit_seen edit.now) (state_of session.old))) session.old session.new []) }
+    ensures lawful { IsLawful session.old → IsLawful session.new }
+{
+    match session.apply(edit) {
+        Ok(version) => accepted(alloc, version),
+        Err(EditError::Refused(n)) => refused(alloc, n),
+        Err(EditError::RefusedAt(at, n)) => refused_at(alloc, at, n),
+        Err(EditError::Memory) => Err(Memory),
+    }
+}
+
+// An answer that no evaluation led to.
+fn plain(alloc: Global, text: String) -> Reply
+    ensures { (string_bytes result.text ≡ string_bytes text) × (result.runs.items ≡ []) }
+{
+    Reply {
+        text,
+        runs: Vec::new(alloc),
+    }
+}
+
+// Makes the edit of a line, where it is one. `value` is the line's JSON, if it is any.
+fn begin<'a>(
+    alloc: Global,
+    session: &mut Session,
+    value: &'a Option<Value>,
+) -> Result<Step<'a>, Memory>
+    ensures begins { IfOk result (λ step. Begins (option_and_then commands.command_of (option_map json_view value.now)) session.old session.new step) }
+    ensures lawful { IsLawful session.old → IsLawful session.new }
+{
+    let Some(value) = value else {
+        return Ok(Step::Answered(refused(alloc, 1)?));
+    };
+    match command_of(alloc, value)? {
+        None => Ok(Step::Answered(refused(alloc, 1)?)),
+        Some(Command::Change(edit)) => Ok(Step::Answered(edit_answer(alloc, session, &edit)?)),
+        Some(Command::Ask(request)) => Ok(Step::Asks(request)),
+    }
+}
+
+// A text with byte 10 behind it.
+fn ended(text: String) -> Result<String, Memory>
+    ensures { IfOk result (λ t. string_bytes t ≡ string_bytes text ++ 10 ∷ []) }
+{
+    let mut text = text;
+    text.push('\n')?;
+    Ok(text)
+}
+
+// An answer with byte 10 behind it.
+fn ended_reply(reply: Reply) -> Result<Reply, Memory>
+    ensures { IfOk result (λ r. (string_bytes r.text ≡ string_bytes reply.text ++ 10 ∷ []) × (r.runs ≡ reply.runs)) }
+{
+    Ok(Reply {
+        text: ended(reply.text)?,
+        runs: reply.runs,
+    })
+}
+
+/// The answer to a line, with its byte 10, and what its evaluation ran, in at most `budget` turns. A stop leaves the files
+/// as they were, or with the line's edit made and its answer lost.
+pub fn answer(alloc: Global, session: &mut Session, line: &Line, budget: u64) -> Result<Reply, Stop>
+    ensures answer { IfOk result (λ answer. (whole : List ℕ) → Keeps line.now.bytes.items line.now.too_long whole
+        → AnswersLine whole session.old session.new (string_bytes answer.text) answer.runs.items) }
+    ensures turns { IfOk result (λ answer. turns_of answer.runs.items ≤ budget) }
+    ensures lawful { IsLawful session.old → IsLawful session.new }
+{
+    if line.too_long {
+        return Ok(plain(alloc, ended(refused(alloc, 6)?)?));
+    }
+    let value = data_of(alloc, line.bytes.as_slice())?;
+    let step = begin(alloc, session, &value)?;
+    match step {
+        Step::Answered(text) => Ok(plain(alloc, ended(text)?)),
+        Step::Asks(request) => {
+            let reply = session.request(&request, budget)?;
+            Ok(ended_reply(reply)?)
+        }
+    }
+}
+
+/// The same by worker threads, each with one of the hands, and the hands with it. After a stop they are given up.
+pub fn answer_with<H: LoadRules + Send + Drop, T: Threads + Wait + Sync>(
+    runtime: &T,
+    alloc: Global,
+    session: &mut Session,
+    line: &Line,
+    hands: Vec<H>,
+    budget: u64,
+) -> Result<(Vec<H>, Reply), Stop>
+    requires { (1 ≤ length hands.items) × (length hands.items ≤ 16) }
+    ensures hands { IfOk result (λ done. length done.0.items ≡ length hands.items) }
+    ensures counted { IfOk result (λ done. total H.turns done.0.items ≡ total H.turns hands.items + turns_of done.1.runs.items) }
+    ensures answer { IfOk result (λ done. (whole : List ℕ) → Keeps line.now.bytes.items line.now.too_long whole
+        → AnswersLine whole session.old session.new (string_bytes done.1.text) done.1.runs.items) }
+    ensures turns { IfOk result (λ done. turns_of done.1.runs.items ≤ budget) }
+    ensures lawful { IsLawful session.old → IsLawful session.new }
+{
+    if line.too_long {
+        return Ok((hands, plain(alloc, ended(refused(alloc, 6)?)?)));
+    }
+    let value = data_of(alloc, line.bytes.as_slice())?;
+    let step = begin(alloc, session, &value)?;
+    match step {
+        Step::Answered(text) => Ok((hands, plain(alloc, ended(text)?))),
+        Step::Asks(request) => {
+            let (hands, reply) = session.request_with(runtime, &request, hands, budget)?;
+            Ok((hands, ended_reply(reply)?))
+        }
     }
 }

@@ -1,4 +1,4 @@
-//! What requests ask for, and what is told of it.
+//! What requests ask for, and what is told of it: packages and modules as they are answered.
 ghost use Rattle.std.specs.Prelude.{◌≡◌, ◌∷◌, ◌++◌, [], ℕ, List, map, Option, Some, None, IfOk, OnOk, option_map, string_bytes};
 ghost use Rattle.filetree.specs.Files.{Files};
 ghost use Rattle.keys.specs.declared.value.BuildName.{BuildName};
@@ -18,9 +18,11 @@ ghost use Rattle.loader.specs.Effects as effects;
 ghost use Rattle.loader.specs.Effects.{AreHeld, request_roots, told_roots, module_roots, package_roots};
 ghost use Rattle.loader.specs.Told.{package_told, module_told};
 
-use crate::shown::{write_module_shown, write_package_shown};
-use crate::written::build_text;
-use answers::{Draft, begin_packages, end_packages};
+use crate::session::build_text;
+use answers::{
+    Draft, begin_packages, end_packages, write_cyclic_module, write_cyclic_package, write_exports,
+    write_faulty_module, write_faulty_package, write_package,
+};
 use commands::{Request, module_label};
 use keys::{BuildName, Key, Value};
 use node::Graph;
@@ -230,5 +232,44 @@ fn held_build(value: Option<&Arc<Value>>) -> Option<BuildName>
     match &**value? {
         Value::Lookup(found) => *found,
         _ => None,
+    }
+}
+
+/// Writes a package, or its fault, or the cycle to which its loads lead, by what its node holds.
+pub fn write_package_shown(
+    alloc: Global,
+    out: &mut Draft,
+    name: &Text,
+    value: &Value,
+) -> Result<(), Memory>
+    ensures { OnOk result (out.new ≡ out.old ++ tokens_of (answers.package_shown name.now value.now)) }
+{
+    match value {
+        Value::Package(targets) => write_package(alloc, out, name.as_str(), targets),
+        Value::Fault(found) => {
+            write_faulty_package(out, name.as_str(), found.code, &found.path, found.line)
+        }
+        Value::Cycle(labels) => write_cyclic_package(out, name.as_str(), labels.as_slice()),
+        Value::File(_) => out.null(),
+        Value::Listing(_) => out.null(),
+        Value::Lookup(_) => out.null(),
+        Value::Paths(_) => out.null(),
+        Value::Module(_) => out.null(),
+    }
+}
+
+/// Writes a module, or its fault, or the cycle to which its loads lead, by what its node holds.
+pub fn write_module_shown(alloc: Global, out: &mut Draft, value: &Value) -> Result<(), Memory>
+    ensures { OnOk result (out.new ≡ out.old ++ tokens_of (answers.module_shown value.now)) }
+{
+    match value {
+        Value::Module(loaded) => write_exports(alloc, out, loaded.body()),
+        Value::Fault(found) => write_faulty_module(out, found.code, &found.path, found.line),
+        Value::Cycle(labels) => write_cyclic_module(out, labels.as_slice()),
+        Value::File(_) => out.null(),
+        Value::Listing(_) => out.null(),
+        Value::Lookup(_) => out.null(),
+        Value::Paths(_) => out.null(),
+        Value::Package(_) => out.null(),
     }
 }

@@ -1,11 +1,10 @@
 //! The targets that an evaluation has made.
 ghost use Rattle.std.specs.Prelude.{◌≡◌, IfOk, map};
-ghost use Rattle.meaning.specs.Builtins.{builtin_name};
 ghost use Rattle.language.specs.Sorting.{in_order};
 ghost use Rattle.names.specs.View.{attribute_of, attributed_of, target_of, world_of};
 
 use crate::by_name::ByName;
-use heap::{Builtin, Bytes};
+use heap::Bytes;
 use module_values::{Attribute, Target, Targets, Texts};
 use names::State;
 use std::alloc::Global;
@@ -42,7 +41,7 @@ fn ordered(alloc: Global, targets: &[names::Target]) -> Result<BTreeSet<ByName>,
 fn make_target(alloc: Global, target: &names::Target) -> Result<Target, Memory>
     ensures { IfOk result (λ t. t ≡ target_of target.now) }
 {
-    let kind = Text::new(alloc, name_of(target.rule))?;
+    let kind = Text::new(alloc, target.rule.name())?;
     let name = target.name.share()?;
     let attributes = make_attributes(alloc, target.attributes.as_slice())?;
     Ok(Target::new(kind, name, attributes))
@@ -89,36 +88,4 @@ fn copy_of(alloc: Global, texts: &[Bytes]) -> Result<Vec<Bytes>, Memory>
         all.push(text.share()?)?;
     }
     Ok(all)
-}
-
-// The name of a function.
-fn name_of(f: Builtin) -> &'static str
-    ensures { result.now ≡ builtin_name f }
-{
-    match f {
-        Builtin::Len => "len",
-        Builtin::Range => "range",
-        Builtin::Str => "str",
-        Builtin::Repr => "repr",
-        Builtin::Type => "type",
-        Builtin::Sorted => "sorted",
-        Builtin::Reversed => "reversed",
-        Builtin::Enumerate => "enumerate",
-        Builtin::Zip => "zip",
-        Builtin::List => "list",
-        Builtin::Tuple => "tuple",
-        Builtin::Dict => "dict",
-        Builtin::Bool => "bool",
-        Builtin::Any => "any",
-        Builtin::All => "all",
-        Builtin::Min => "min",
-        Builtin::Max => "max",
-        Builtin::Fail => "fail",
-        Builtin::Glob => "glob",
-        Builtin::Filegroup => "filegroup",
-        Builtin::Genrule => "genrule",
-        Builtin::Alias => "alias",
-        Builtin::TestSuite => "test_suite",
-        Builtin::PackageName => "package_name",
-    }
 }

@@ -1,7 +1,7 @@
--- The functions that every file has.
-use Rattle.std.specs.Prelude.{ℕ, List, ◌==◌, Bool, codes}
-use Rattle.meaning.specs.declared.val.Builtin.{Builtin}
-use Rattle.meaning.specs.declared.val.Builtin.TheVariants as b
+-- The functions that files have without a binding: their numbers, their names, and which of them are package calls.
+use Rattle.std.specs.Prelude.{ℕ, List, [], ◌∷◌, ◌++◌, ◌==◌, Bool, Option, Some, None, slice_get, codes}
+use Rattle.meaning.specs.declared.builtin.Builtin.{Builtin}
+use Rattle.meaning.specs.declared.builtin.Builtin.TheVariants as b
 
 abbrev pub builtin_number : Builtin → ℕ
 builtin_number b.Len = 0
@@ -58,3 +58,19 @@ builtin_name b.PackageName = codes "package_name"
 -- built-in functions are equal by name
 abbrev pub same_builtin : Builtin → Builtin → Bool
 same_builtin a b = builtin_number a == builtin_number b
+
+-- the functions that every file has
+abbrev pub plain_functions : List Builtin
+plain_functions = b.Len ∷ b.Range ∷ b.Str ∷ b.Repr ∷ b.Type ∷ b.Sorted ∷ b.Reversed ∷ b.Enumerate ∷ b.Zip ∷ b.List ∷ b.Tuple ∷ b.Dict ∷ b.Bool ∷ b.Any ∷ b.All ∷ b.Min ∷ b.Max ∷ b.Fail ∷ []
+
+-- the package calls, which BUILD files have by their names and .bzl files as methods of `native`
+abbrev pub package_functions : List Builtin
+package_functions = b.Glob ∷ b.Filegroup ∷ b.Genrule ∷ b.Alias ∷ b.TestSuite ∷ b.PackageName ∷ []
+
+abbrev pub the_function : Option Builtin → Builtin
+the_function (Some f) = f
+the_function None = b.Len
+
+-- the function of a number: the lists stand in the order of the numbers
+abbrev pub builtin_at : ℕ → Builtin
+builtin_at n = the_function (slice_get (plain_functions ++ package_functions) n)

@@ -15,6 +15,7 @@ use Rattle.meaning.specs.Keys.{same_key}
 use Rattle.meaning.specs.Outcome.{Does, ◌>>=◌, ◌>>◌, pure, fault, tick, spend}
 use Rattle.meaning.specs.Heap.{Entries, Obj, text, list, tuple, dict, function, Store, walks}
 use Rattle.meaning.specs.Builtins.{same_builtin}
+use Rattle.meaning.specs.declared.faults.TheConstants.{TOO_DEEP, WRONG_TYPE}
 
 -- the value at a key, by the first entry that has it
 abbrev pub found : List Part → Entries → Option Entry
@@ -69,8 +70,8 @@ equal_entries equal (x ∷ xs) ys = equal_entry equal x.0 x.1.value ys >>= λ sa
 -- one visit of a pair, where containers may be entered only with a walk for their members
 abbrev pub visit_pair : Option (Val → Val → Does ℕ Bool) → Pair → Does ℕ Bool
 visit_pair inner (settled b) = tick >> pure b
-visit_pair None (members xs ys) = fault 12
-visit_pair None (entries xs ys) = fault 12
+visit_pair None (members xs ys) = fault TOO_DEEP
+visit_pair None (entries xs ys) = fault TOO_DEEP
 visit_pair (Some equal) (members xs ys) = tick >> equal_members equal xs ys
 visit_pair (Some equal) (entries xs ys) = tick >> equal_entries equal xs ys
 
@@ -119,8 +120,8 @@ order_parted order (unequal x y) = order x y
 
 abbrev pub visit_sides : Option ((Val → Val → Does ℕ Bool) × (Val → Val → Does ℕ Ordering)) → Sides → Does ℕ Ordering
 visit_sides inner (ordered o) = tick >> pure o
-visit_sides inner no_order = tick >> fault 5
-visit_sides None (listed xs ys) = fault 12
+visit_sides inner no_order = tick >> fault WRONG_TYPE
+visit_sides None (listed xs ys) = fault TOO_DEEP
 visit_sides (Some walks) (listed xs ys) = tick >> (parting walks.0 xs ys >>= order_parted walks.1)
 
 -- the order of two values is one walk: that of the first unequal members, then that of the lengths

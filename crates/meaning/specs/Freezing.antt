@@ -2,7 +2,7 @@
 use Rattle.std.specs.Prelude.{ℕ, zero, suc, ℤ, Bool, true, List, [], ◌∷◌, ◌++◌, Option, Some, None, slice_get}
 use Rattle.meaning.specs.declared.key.Part.{Part}
 use Rattle.meaning.specs.declared.key.Part.TheVariants as p
-use Rattle.meaning.specs.declared.val.Builtin.{Builtin}
+use Rattle.meaning.specs.declared.builtin.Builtin.{Builtin}
 use Rattle.meaning.specs.declared.val.Val.{Val}
 use Rattle.meaning.specs.declared.val.Val.TheVariants as v
 use Rattle.meaning.specs.declared.val.Entry.{Entry}
@@ -10,6 +10,7 @@ use Rattle.meaning.specs.Outcome.{Does, ◌>>=◌, ◌>>◌, pure, fault, tick}
 use Rattle.meaning.specs.Heap as h
 use Rattle.meaning.specs.Indexing.{with_key}
 use Rattle.meaning.specs.Heap.{Entries, Obj, Store, walks, makes}
+use Rattle.meaning.specs.declared.faults.TheConstants.{TOO_DEEP, WRONG_TYPE}
 
 mutual
   -- a function is its file's label and its name
@@ -73,10 +74,10 @@ at_once f = tick >> pure f
 
 abbrev pub visit_held : Option (Val → Does ℕ Fz) → Held → Does ℕ Fz
 visit_held inner (settled f) = at_once f
-visit_held inner absent = tick >> fault 5
-visit_held None (listed xs) = fault 12
-visit_held None (tupled xs) = fault 12
-visit_held None (mapped es) = fault 12
+visit_held inner absent = tick >> fault WRONG_TYPE
+visit_held None (listed xs) = fault TOO_DEEP
+visit_held None (tupled xs) = fault TOO_DEEP
+visit_held None (mapped es) = fault TOO_DEEP
 visit_held (Some freeze) (listed xs) = tick >> (freeze_members freeze xs >>= λ fs. pure (list fs))
 visit_held (Some freeze) (tupled xs) = tick >> (freeze_members freeze xs >>= λ fs. pure (tuple fs))
 visit_held (Some freeze) (mapped es) = tick >> (freeze_entries freeze es >>= λ ps. pure (dict ps))

@@ -7,8 +7,8 @@ use Rattle.std.specs.declared.cmp.Ordering.TheVariants.{Equal}
 use Rattle.std.specs.Cmp.Lexicographic.{slice_cmp}
 use Rattle.meaning.specs.declared.val.Val.{Val}
 use Rattle.meaning.specs.declared.val.Val.TheVariants as v
-use Rattle.meaning.specs.declared.val.Builtin.{Builtin}
-use Rattle.meaning.specs.declared.val.Builtin.TheVariants as b
+use Rattle.meaning.specs.declared.builtin.Builtin.{Builtin}
+use Rattle.meaning.specs.declared.builtin.Builtin.TheVariants as b
 use Rattle.meaning.specs.Outcome.{gives, faults, Does, and_then, ◌>>=◌, pure, fault, Checked, good, bad, checked}
 use Rattle.meaning.specs.Heap.{Entries, Obj, text, list, tuple, dict, function, Store, at, makes_text, makes_list, makes_tuple, makes_dict, is_sized, makes}
 use Rattle.meaning.specs.Numbers.{floor_div}
@@ -16,6 +16,7 @@ use Rattle.meaning.specs.Operators.{is_true}
 use Rattle.meaning.specs.Comparing.{same_text}
 use Rattle.meaning.specs.Indexing.{items, hash, with_key}
 use Rattle.meaning.specs.Printing.{str, repr}
+use Rattle.meaning.specs.declared.faults.TheConstants.{FAIL_CALLED, TOO_LARGE, WRONG_ARGUMENTS, WRONG_TYPE}
 
 -- the arguments by name, in the order of the call
 abbrev pub Named : Type 0
@@ -29,11 +30,11 @@ length_of (Some (text bytes)) = good (length bytes)
 length_of (Some (list members f)) = good (length members)
 length_of (Some (tuple members)) = good (length members)
 length_of (Some (dict entries f)) = good (length entries)
-length_of object = bad 5
+length_of object = bad WRONG_TYPE
 
 abbrev pub len : Val → Does Store Val
 len (v.At a) = λ s. and_then (checked (length_of (at a s)) s) (λ n. pure (v.Int (pos n)))
-len x = fault 5
+len x = fault WRONG_TYPE
 
 -- how many numbers a range has
 abbrev pub count_to : ℤ → ℕ
@@ -49,18 +50,18 @@ numbers zero from step = []
 numbers (suc n) from step = v.Int from ∷ numbers n (from +ℤ step) step
 
 abbrev pub range_list : (from to step : ℤ) → Does Store Val
-range_list from to step = if is_sized (range_count from to step) then makes_list (numbers (range_count from to step) from step) else fault 13
+range_list from to step = if is_sized (range_count from to step) then makes_list (numbers (range_count from to step) from step) else fault TOO_LARGE
 
 abbrev pub range_by : Val → Val → Val → Does Store Val
-range_by (v.Int from) (v.Int to) (v.Int step) = if int_eq step (pos 0) then fault 25 else range_list from to step
-range_by from to (v.Int step) = if int_eq step (pos 0) then fault 25 else fault 5
-range_by from to step = fault 5
+range_by (v.Int from) (v.Int to) (v.Int step) = if int_eq step (pos 0) then fault WRONG_ARGUMENTS else range_list from to step
+range_by from to (v.Int step) = if int_eq step (pos 0) then fault WRONG_ARGUMENTS else fault WRONG_TYPE
+range_by from to step = fault WRONG_TYPE
 
 abbrev pub range : List Val → Does Store Val
 range (to ∷ []) = range_by (v.Int (pos 0)) to (v.Int (pos 1))
 range (from ∷ to ∷ []) = range_by from to (v.Int (pos 1))
 range (from ∷ to ∷ step ∷ []) = range_by from to step
-range args = fault 25
+range args = fault WRONG_ARGUMENTS
 
 abbrev pub object_type : Option Obj → Checked (List ℕ)
 object_type (Some (text bytes)) = good (codes "string")
@@ -68,7 +69,7 @@ object_type (Some (list members f)) = good (codes "list")
 object_type (Some (tuple members)) = good (codes "tuple")
 object_type (Some (dict entries f)) = good (codes "dict")
 object_type (Some (function label name)) = good (codes "function")
-object_type None = bad 5
+object_type None = bad WRONG_TYPE
 
 abbrev pub type_of : Val → Store → Checked (List ℕ)
 type_of v.Nothing s = good (codes "NoneType")
@@ -118,17 +119,17 @@ abbrev pub turned : Bool → List Val → List Val
 turned r xs = if r then reverse xs else xs
 
 abbrev pub sorted_list : Val → Bool → Does Store Val
-sorted_list x r = the_items x >>= λ xs s. if are_alike s xs then makes_list (turned r (sort_from (plain_order s) [] xs)) s else faults 5
+sorted_list x r = the_items x >>= λ xs s. if are_alike s xs then makes_list (turned r (sort_from (plain_order s) [] xs)) s else faults WRONG_TYPE
 
 abbrev pub sorted_by : Val → Val → Does Store Val
 sorted_by x (v.Bool r) = sorted_list x r
-sorted_by x r = fault 5
+sorted_by x r = fault WRONG_TYPE
 
 -- `sorted(x, reverse = False)`
 abbrev pub sorted : List Val → Named → Does Store Val
 sorted (x ∷ []) [] = sorted_list x false
-sorted (x ∷ []) (n ∷ []) = if same_text n.0 (codes "reverse") then sorted_by x n.1 else fault 25
-sorted xs ns = fault 25
+sorted (x ∷ []) (n ∷ []) = if same_text n.0 (codes "reverse") then sorted_by x n.1 else fault WRONG_ARGUMENTS
+sorted xs ns = fault WRONG_ARGUMENTS
 
 -- pairs of a place and a member, as new tuples
 abbrev pub numbered : ℕ → List Val → Does Store (List Val)
@@ -168,11 +169,11 @@ best better order x [] = x
 best better order x (y ∷ ys) = best better order (if better (order y x) then y else x) ys
 
 abbrev pub best_of : (Ordering → Bool) → List Val → Does Store Val
-best_of better [] = fault 25
-best_of better (x ∷ xs) = λ s. if are_alike s (x ∷ xs) then gives (best better (plain_order s) x xs) s else faults 5
+best_of better [] = fault WRONG_ARGUMENTS
+best_of better (x ∷ xs) = λ s. if are_alike s (x ∷ xs) then gives (best better (plain_order s) x xs) s else faults WRONG_TYPE
 
 abbrev pub extreme : (Ordering → Bool) → List Val → Does Store Val
-extreme better [] = fault 25
+extreme better [] = fault WRONG_ARGUMENTS
 extreme better (x ∷ []) = the_items x >>= best_of better
 extreme better (x ∷ y ∷ ys) = best_of better (x ∷ y ∷ ys)
 
@@ -186,7 +187,7 @@ all_true s (x ∷ xs) = if is_true x s then all_true s xs else false
 
 -- sets a key of a dictionary that is being made
 abbrev pub grows : Val → Val → Entries → Does Store Entries
-grows k x es = hash k >>= λ parts. checked (let more = with_key parts (record { key = k; value = x }) es in if is_sized (length more) then good more else bad 13)
+grows k x es = hash k >>= λ parts. checked (let more = with_key parts (record { key = k; value = x }) es in if is_sized (length more) then good more else bad TOO_LARGE)
 
 abbrev pub add_all : List (Val × Val) → Entries → Does Store Entries
 add_all [] es = pure es
@@ -194,17 +195,17 @@ add_all (p ∷ ps) es = grows p.0 p.1 es >>= add_all ps
 
 abbrev pub two_of : List Val → Checked (Val × Val)
 two_of (k ∷ x ∷ []) = good (k, x)
-two_of xs = bad 5
+two_of xs = bad WRONG_TYPE
 
 -- a list or tuple of two
 abbrev pub object_pair : Option Obj → Checked (Val × Val)
 object_pair (Some (list members f)) = two_of members
 object_pair (Some (tuple members)) = two_of members
-object_pair object = bad 5
+object_pair object = bad WRONG_TYPE
 
 abbrev pub pair_of : Val → Store → Checked (Val × Val)
 pair_of (v.At a) s = object_pair (at a s)
-pair_of x s = bad 5
+pair_of x s = bad WRONG_TYPE
 
 abbrev pub add_each : List Val → Entries → Does Store Entries
 add_each [] es = pure es
@@ -217,7 +218,7 @@ entries_of object x = the_items x >>= λ xs. add_each xs []
 abbrev pub dict_from : List Val → Does Store Entries
 dict_from [] = pure []
 dict_from (v.At a ∷ []) = λ s. entries_of (at a s) (v.At a) s
-dict_from xs = fault 5
+dict_from xs = fault WRONG_TYPE
 
 abbrev pub is_named : List ℕ → Named → Bool
 is_named n [] = false
@@ -233,17 +234,17 @@ add_named [] es = pure es
 add_named (n ∷ ns) es = makes (text n.0) >>= λ k. grows k n.1 es >>= add_named ns
 
 abbrev pub dict_of : List Val → Named → Does Store Val
-dict_of xs ns = if nat_le (length xs) 1 && not (is_twice ns) then (dict_from xs >>= add_named ns >>= makes_dict) else fault 25
+dict_of xs ns = if nat_le (length xs) 1 && not (is_twice ns) then (dict_from xs >>= add_named ns >>= makes_dict) else fault WRONG_ARGUMENTS
 
 abbrev pub one : (Val → Does Store Val) → List Val → Does Store Val
 one f (x ∷ []) = f x
-one f xs = fault 25
+one f xs = fault WRONG_ARGUMENTS
 
 -- no argument, or one
 abbrev pub at_most_one : Does Store Val → (Val → Does Store Val) → List Val → Does Store Val
 at_most_one none f [] = none
 at_most_one none f (x ∷ []) = f x
-at_most_one none f xs = fault 25
+at_most_one none f xs = fault WRONG_ARGUMENTS
 
 abbrev pub truth_of : Bool → Does Store Val
 truth_of b = pure (v.Bool b)
@@ -265,12 +266,12 @@ plain b.Any xs = one (λ x. the_items x >>= λ ys s. truth_of (any_true s ys) s)
 plain b.All xs = one (λ x. the_items x >>= λ ys s. truth_of (all_true s ys) s) xs
 plain b.Min xs = extreme is_lt xs
 plain b.Max xs = extreme is_gt xs
-plain b.Fail xs = one (λ x. fault 24) xs
-plain f xs = fault 5
+plain b.Fail xs = one (λ x. fault FAIL_CALLED) xs
+plain f xs = fault WRONG_TYPE
 
 abbrev pub unnamed : Builtin → List Val → Named → Does Store Val
 unnamed f xs [] = plain f xs
-unnamed f xs (n ∷ ns) = fault 25
+unnamed f xs (n ∷ ns) = fault WRONG_ARGUMENTS
 
 -- a call of a built-in function that is no package call
 abbrev pub builtin : Builtin → List Val → Named → Does Store Val

@@ -6,6 +6,7 @@ use Rattle.meaning.specs.declared.val.Val.{Val}
 use Rattle.meaning.specs.declared.val.Val.TheVariants as v
 use Rattle.meaning.specs.Outcome.{Does, ◌>>=◌, ◌>>◌, pure, fault, tick}
 use Rattle.meaning.specs.Heap.{Obj, text, tuple}
+use Rattle.meaning.specs.declared.faults.TheConstants.{TOO_DEEP, WRONG_TYPE}
 
 -- what a value is as a key
 pub data AsKey : Type 0 where
@@ -36,8 +37,8 @@ part_key p = tick >> pure (p ∷ [])
 -- one visit, where the members of a tuple may be entered only with a walk for them
 abbrev pub visit_key : Option (Val → Does ℕ (List Part)) → AsKey → Does ℕ (List Part)
 visit_key inner (part p) = part_key p
-visit_key inner no_key = tick >> fault 5
-visit_key None (parts members) = fault 12
+visit_key inner no_key = tick >> fault WRONG_TYPE
+visit_key None (parts members) = fault TOO_DEEP
 visit_key (Some key) (parts members) = tick >> (along key members >>= λ ps. pure (p.Tuple (length members) ∷ ps))
 
 -- hashing a value, where so many containers more may be entered: each value visited is a step; what is no key is

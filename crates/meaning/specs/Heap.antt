@@ -5,6 +5,7 @@ use Rattle.meaning.specs.declared.val.Val.{Val}
 use Rattle.meaning.specs.declared.val.Val.TheVariants as v
 use Rattle.meaning.specs.declared.val.Entry.{Entry}
 use Rattle.meaning.specs.Outcome.{Out, gives, faults, Does, fault}
+use Rattle.meaning.specs.declared.faults.TheConstants.{TOO_LARGE}
 
 -- the entries of a dictionary in the order in which their keys were first set
 abbrev pub Entries : Type 0
@@ -45,7 +46,7 @@ abbrev pub is_sized : ℕ → Bool
 is_sized n = nat_le n 65536
 
 abbrev pub makes_sized : ℕ → Obj → Does Store Val
-makes_sized n object = if is_sized n then makes object else fault 13
+makes_sized n object = if is_sized n then makes object else fault TOO_LARGE
 
 abbrev pub makes_text : List ℕ → Does Store Val
 makes_text bytes = makes_sized (length bytes) (text bytes)

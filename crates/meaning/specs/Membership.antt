@@ -7,6 +7,7 @@ use Rattle.meaning.specs.Outcome.{Does, ◌>>=◌, pure, fault, Checked, good, b
 use Rattle.meaning.specs.Heap.{Obj, text, list, tuple, dict, Store, at, walks}
 use Rattle.meaning.specs.Comparing.{equal, found, same_text}
 use Rattle.meaning.specs.Indexing.{hash}
+use Rattle.meaning.specs.declared.faults.TheConstants.{WRONG_TYPE}
 
 -- a member that is equal, each being compared in order up to the first
 abbrev pub any_equal : (Val → Val → Does ℕ Bool) → Val → List Val → Does ℕ Bool
@@ -23,15 +24,15 @@ is_part part (c ∷ cs) = if begins part (c ∷ cs) then true else is_part part 
 
 abbrev pub part_of : List ℕ → Option Obj → Checked Bool
 part_of whole (Some (text part)) = good (is_part part whole)
-part_of whole object = bad 5
+part_of whole object = bad WRONG_TYPE
 
 abbrev pub text_has : List Obj → List ℕ → Val → Checked Bool
 text_has heap whole (v.At place) = part_of whole (slice_get heap place)
-text_has heap whole x = bad 5
+text_has heap whole x = bad WRONG_TYPE
 
 abbrev pub has_key : Option Obj → List Part → Does Store Bool
 has_key (Some (dict entries f)) k = pure (is_some (found k entries))
-has_key object k = fault 5
+has_key object k = fault WRONG_TYPE
 
 -- what can't be a key is fault 5
 unfoldable pub hashed_has : Option Obj → Val → Does Store Bool
@@ -42,9 +43,9 @@ object_has (Some (text whole)) x = λ s. checked (text_has s.heap whole x) s
 object_has (Some (list members f)) x = walks λ heap. any_equal (equal 64 heap) x members
 object_has (Some (tuple members)) x = walks λ heap. any_equal (equal 64 heap) x members
 object_has (Some (dict entries f)) x = hashed_has (Some (dict entries f)) x
-object_has object x = fault 5
+object_has object x = fault WRONG_TYPE
 
 -- `x in a`: a member of a list or tuple, a key of a dictionary, a part of a string
 abbrev pub has : Val → Val → Does Store Bool
 has x (v.At a) = λ s. object_has (at a s) x s
-has x a = fault 5
+has x a = fault WRONG_TYPE

@@ -9,11 +9,12 @@ use Rattle.meaning.specs.Comparing.{same_text, found}
 use Rattle.meaning.specs.Indexing.{hash, keys_of, value_of, may_change}
 use Rattle.meaning.specs.Membership.{begins}
 use Rattle.meaning.specs.Functions.{Named, the_items}
+use Rattle.meaning.specs.declared.faults.TheConstants.{TOO_LARGE, WRONG_ARGUMENTS, WRONG_TYPE}
 
 -- members at the end of a list, in place: frozen 6, iterated 7, size 13
 abbrev pub adds : ℕ → Option Obj → List Val → Does Store (Unit {0})
-adds a (Some (list members f)) more = may_change a f >> (if is_sized (length (members ++ more)) then puts a (list (members ++ more) f) else fault 13)
-adds a object more = fault 5
+adds a (Some (list members f)) more = may_change a f >> (if is_sized (length (members ++ more)) then puts a (list (members ++ more) f) else fault TOO_LARGE)
+adds a object more = fault WRONG_TYPE
 
 -- None, after a change
 abbrev pub nothing_after : Does Store (Unit {0}) → Does Store Val
@@ -22,15 +23,15 @@ nothing_after m = m >> pure v.Nothing
 abbrev pub list_method : ℕ → Obj → List ℕ → List Val → Does Store Val
 list_method a object name xs =
     if same_text name (codes "append") then append xs
-    else (if same_text name (codes "extend") then extend xs else fault 5)
+    else (if same_text name (codes "extend") then extend xs else fault WRONG_TYPE)
   where
     append : List Val → Does Store Val
     append (x ∷ []) = nothing_after (adds a (Some object) (x ∷ []))
-    append xs = fault 25
+    append xs = fault WRONG_ARGUMENTS
 
     extend : List Val → Does Store Val
     extend (x ∷ []) = the_items x >>= λ ys. nothing_after (adds a (Some object) ys)
-    extend xs = fault 25
+    extend xs = fault WRONG_ARGUMENTS
 
 -- pairs of a key and its value, as new tuples
 abbrev pub makes_items : Entries → Does Store (List Val)
@@ -43,27 +44,27 @@ get_or_else entries k other = hash k >>= λ parts. pure (unwrap_or (value_of (fo
 abbrev pub get_from : Entries → List Val → Does Store Val
 get_from entries (k ∷ []) = get_or_else entries k v.Nothing
 get_from entries (k ∷ other ∷ []) = get_or_else entries k other
-get_from entries xs = fault 25
+get_from entries xs = fault WRONG_ARGUMENTS
 
 abbrev pub no_arguments : Does Store Val → List Val → Does Store Val
 no_arguments m [] = m
-no_arguments m (x ∷ xs) = fault 25
+no_arguments m (x ∷ xs) = fault WRONG_ARGUMENTS
 
 abbrev pub dict_method : Entries → List ℕ → List Val → Does Store Val
 dict_method entries name xs =
     if same_text name (codes "get") then get_from entries xs
     else (if same_text name (codes "keys") then no_arguments (makes_list (keys_of entries)) xs
     else (if same_text name (codes "values") then no_arguments (makes_list (map (λ e. e.1.value) entries)) xs
-    else (if same_text name (codes "items") then no_arguments (makes_items entries >>= makes_list) xs else fault 5)))
+    else (if same_text name (codes "items") then no_arguments (makes_items entries >>= makes_list) xs else fault WRONG_TYPE)))
 
 -- the bytes of a string
 abbrev pub object_bytes : Option Obj → Checked (List ℕ)
 object_bytes (Some (text bytes)) = good bytes
-object_bytes object = bad 5
+object_bytes object = bad WRONG_TYPE
 
 abbrev pub bytes_of : Val → Store → Checked (List ℕ)
 bytes_of (v.At a) s = object_bytes (at a s)
-bytes_of x s = bad 5
+bytes_of x s = bad WRONG_TYPE
 
 abbrev pub the_bytes : Val → Does Store (List ℕ)
 the_bytes x s = checked (bytes_of x s) s
@@ -106,24 +107,24 @@ makes_texts (t ∷ ts) = makes_text t >>= λ x. makes_texts ts >>= λ xs. pure (
 
 abbrev pub one_text : (List ℕ → Does Store Val) → List Val → Does Store Val
 one_text f (x ∷ []) = the_bytes x >>= f
-one_text f xs = fault 25
+one_text f xs = fault WRONG_ARGUMENTS
 
 -- an empty separator is fault 25
 abbrev pub split : List ℕ → List ℕ → Does Store Val
-split whole [] = fault 25
-split whole (c ∷ cs) = if is_sized (length (split_by (c ∷ cs) whole)) then (makes_texts (split_by (c ∷ cs) whole) >>= makes_list) else fault 13
+split whole [] = fault WRONG_ARGUMENTS
+split whole (c ∷ cs) = if is_sized (length (split_by (c ∷ cs) whole)) then (makes_texts (split_by (c ∷ cs) whole) >>= makes_list) else fault TOO_LARGE
 
 abbrev pub replace_by : List ℕ → List ℕ → Val → Does Store Val
-replace_by whole [] new = fault 25
+replace_by whole [] new = fault WRONG_ARGUMENTS
 replace_by whole (c ∷ cs) new = the_bytes new >>= λ t. makes_text (with_between t (split_by (c ∷ cs) whole))
 
 abbrev pub replace : List ℕ → List Val → Does Store Val
 replace whole (old ∷ new ∷ []) = the_bytes old >>= λ o. replace_by whole o new
-replace whole xs = fault 25
+replace whole xs = fault WRONG_ARGUMENTS
 
 abbrev pub joins_items : List ℕ → List Val → Does Store Val
 joins_items sep (x ∷ []) = the_items x >>= all_bytes >>= λ ts. makes_text (with_between sep ts)
-joins_items sep xs = fault 25
+joins_items sep xs = fault WRONG_ARGUMENTS
 
 abbrev pub text_method : List ℕ → List ℕ → List Val → Does Store Val
 text_method bytes name xs =
@@ -132,13 +133,13 @@ text_method bytes name xs =
     else (if same_text name (codes "join") then joins_items bytes xs
     else (if same_text name (codes "split") then one_text (split bytes) xs
     else (if same_text name (codes "replace") then replace bytes xs
-    else (if same_text name (codes "strip") then no_arguments (makes_text (stripped bytes)) xs else fault 5)))))
+    else (if same_text name (codes "strip") then no_arguments (makes_text (stripped bytes)) xs else fault WRONG_TYPE)))))
 
 abbrev pub object_method : ℕ → Option Obj → List ℕ → List Val → Does Store Val
 object_method a (Some (text bytes)) name xs = text_method bytes name xs
 object_method a (Some (list members f)) name xs = list_method a (list members f) name xs
 object_method a (Some (dict entries f)) name xs = dict_method entries name xs
-object_method a object name xs = fault 5
+object_method a object name xs = fault WRONG_TYPE
 
 -- methods that an object has, whatever the arguments
 abbrev pub has_method : Option Obj → List ℕ → Bool
@@ -149,12 +150,12 @@ has_method object name = false
 
 abbrev pub called : ℕ → Option Obj → List ℕ → List Val → Named → Does Store Val
 called a object name xs [] = object_method a object name xs
-called a object name xs (n ∷ ns) = if has_method object name then fault 25 else fault 5
+called a object name xs (n ∷ ns) = if has_method object name then fault WRONG_ARGUMENTS else fault WRONG_TYPE
 
 -- a call of a method
 abbrev pub method : Val → List ℕ → List Val → Named → Does Store Val
 method (v.At a) name xs ns = λ s. called a (at a s) name xs ns s
-method x name xs ns = fault 5
+method x name xs ns = fault WRONG_TYPE
 
 -- `x += y` with two lists adds to x in place and gives it back
 abbrev pub add_in_place : ℕ → Option Obj → ℕ → Option Obj → Does Store Val → Does Store Val

@@ -4,16 +4,17 @@ use Rattle.std.specs.Ordering.{int_eq}
 use Rattle.meaning.specs.declared.val.Val.{Val}
 use Rattle.meaning.specs.declared.val.Val.TheVariants as v
 use Rattle.meaning.specs.Outcome.{Does, pure, fault, Checked, good, bad}
+use Rattle.meaning.specs.declared.faults.TheConstants.{OVERFLOW, ZERO_DIVISOR}
 
 abbrev pub fits : ℤ → Bool
 fits z = int_le (negsuc 9223372036854775807) z && int_le z (pos 9223372036854775807)
 
 -- a result outside of 64 bits is fault 9
 abbrev pub fitting : ℤ → Checked Val
-fitting z = if fits z then good (v.Int z) else bad 9
+fitting z = if fits z then good (v.Int z) else bad OVERFLOW
 
 abbrev pub whole : {S : Type 0} → ℤ → Does S Val
-whole z = if fits z then pure (v.Int z) else fault 9
+whole z = if fits z then pure (v.Int z) else fault OVERFLOW
 
 -- the greatest whole number that is not above x / n, for n over 0
 abbrev pub floor_over : ℤ → ℕ → ℤ
@@ -37,4 +38,4 @@ floor_rem x (negsuc n) = neg_ℤ (pos (left_over (neg_ℤ x) (suc n)))
 
 -- by 0 it is fault 10
 abbrev pub unless_zero : ℤ → ℤ → Checked Val
-unless_zero y z = if int_eq y (pos 0) then bad 10 else fitting z
+unless_zero y z = if int_eq y (pos 0) then bad ZERO_DIVISOR else fitting z

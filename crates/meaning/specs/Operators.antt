@@ -6,23 +6,24 @@ use Rattle.meaning.specs.declared.val.Val.TheVariants as v
 use Rattle.meaning.specs.Outcome.{Does, pure, fault, checked}
 use Rattle.meaning.specs.Heap.{Obj, text, list, tuple, dict, function, Store, at, makes_text, makes_list, makes_tuple}
 use Rattle.meaning.specs.Numbers.{whole, floor_div, floor_rem, unless_zero}
+use Rattle.meaning.specs.declared.faults.TheConstants.{WRONG_TYPE}
 
 -- two strings, two lists or two tuples, one after the other
 abbrev pub joins : Option Obj → Option Obj → Does Store Val
 joins (Some (text a)) (Some (text b)) = makes_text (a ++ b)
 joins (Some (list a f)) (Some (list b g)) = makes_list (a ++ b)
 joins (Some (tuple a)) (Some (tuple b)) = makes_tuple (a ++ b)
-joins a b = fault 5
+joins a b = fault WRONG_TYPE
 
 -- `+` adds two ints, or joins two strings, lists or tuples into a new one
 abbrev pub add : Val → Val → Does Store Val
 add (v.Int x) (v.Int y) = whole (x +ℤ y)
 add (v.At a) (v.At b) = λ s. joins (at a s) (at b s) s
-add a b = fault 5
+add a b = fault WRONG_TYPE
 
 abbrev pub subtract : Val → Val → Does Store Val
 subtract (v.Int x) (v.Int y) = whole (x -ℤ y)
-subtract a b = fault 5
+subtract a b = fault WRONG_TYPE
 
 abbrev pub times : {A : Type 0} → ℕ → List A → List A
 times zero xs = []
@@ -37,31 +38,31 @@ abbrev pub repeats : Option Obj → ℤ → Does Store Val
 repeats (Some (text a)) n = makes_text (repeated a n)
 repeats (Some (list a f)) n = makes_list (repeated a n)
 repeats (Some (tuple a)) n = makes_tuple (repeated a n)
-repeats a n = fault 5
+repeats a n = fault WRONG_TYPE
 
 -- `*` multiplies two ints, or repeats a string, list or tuple by an int on either side
 abbrev pub multiply : Val → Val → Does Store Val
 multiply (v.Int x) (v.Int y) = whole (x *ℤ y)
 multiply (v.At a) (v.Int n) = λ s. repeats (at a s) n s
 multiply (v.Int n) (v.At a) = λ s. repeats (at a s) n s
-multiply a b = fault 5
+multiply a b = fault WRONG_TYPE
 
 abbrev pub divide : Val → Val → Does Store Val
 divide (v.Int x) (v.Int y) = checked (unless_zero y (floor_div x y))
-divide a b = fault 5
+divide a b = fault WRONG_TYPE
 
 abbrev pub remainder : Val → Val → Does Store Val
 remainder (v.Int x) (v.Int y) = checked (unless_zero y (floor_rem x y))
-remainder a b = fault 5
+remainder a b = fault WRONG_TYPE
 
 -- `-x` and `+x` are of ints alone
 abbrev pub negate : Val → Does Store Val
 negate (v.Int x) = whole (neg_ℤ x)
-negate a = fault 5
+negate a = fault WRONG_TYPE
 
 abbrev pub plus : Val → Does Store Val
 plus (v.Int x) = pure (v.Int x)
-plus a = fault 5
+plus a = fault WRONG_TYPE
 
 abbrev pub is_nonempty : {A : Type 0} → List A → Bool
 is_nonempty xs = not (length xs == 0)

@@ -3,6 +3,7 @@
 -- A piece works on a state: the steps that are left, or these with the heap. It gives a value and the state after it,
 -- or stops with the code of a fault; then the state no longer matters.
 use Rattle.std.specs.Prelude.{ℕ, ◌-◌, ◌==◌, Option, Some, None, if◌then◌else◌, nat_lt}
+use Rattle.meaning.specs.declared.faults.TheConstants.{STEPS_SPENT}
 
 pub data Out (S A : Type 0) : Type 0 where
   gives : A → S → Out S A
@@ -35,11 +36,11 @@ or_fault code (Some a) = pure a
 
 -- one step; where none is left, fault 11
 abbrev pub tick : Does ℕ (Unit {0})
-tick steps = if steps == 0 then faults 11 else gives tt (steps - 1)
+tick steps = if steps == 0 then faults STEPS_SPENT else gives tt (steps - 1)
 
 -- so many steps
 abbrev pub spend : ℕ → Does ℕ (Unit {0})
-spend n steps = if nat_lt steps n then faults 11 else gives tt (steps - n)
+spend n steps = if nat_lt steps n then faults STEPS_SPENT else gives tt (steps - n)
 
 -- a result that needs no state: a value, or the code of a fault
 pub data Checked (A : Type 0) : Type 0 where

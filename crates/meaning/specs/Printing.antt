@@ -10,6 +10,7 @@ use Rattle.meaning.specs.declared.val.Val.TheVariants as v
 use Rattle.meaning.specs.Outcome.{Does, ◌>>=◌, ◌>>◌, pure, fault, tick}
 use Rattle.meaning.specs.Heap.{Entries, Obj, text, list, tuple, dict, function, Store, at, walks, makes_text}
 use Rattle.meaning.specs.Builtins.{builtin_name}
+use Rattle.meaning.specs.declared.faults.TheConstants.{TOO_DEEP, WRONG_TYPE}
 
 -- one byte of a string between quotes: `\`, `"`, newline, return and tab are escaped
 abbrev pub escaped : ℕ → List ℕ
@@ -87,10 +88,10 @@ container before inner after = tick >> enclosed before inner after
 
 abbrev pub visit_shown : Option (Val → Does ℕ (List ℕ)) → Shown → Does ℕ (List ℕ)
 visit_shown inner (written t) = plain t
-visit_shown inner absent = tick >> fault 5
-visit_shown None (listed xs) = fault 12
-visit_shown None (tupled xs) = fault 12
-visit_shown None (mapped es) = fault 12
+visit_shown inner absent = tick >> fault WRONG_TYPE
+visit_shown None (listed xs) = fault TOO_DEEP
+visit_shown None (tupled xs) = fault TOO_DEEP
+visit_shown None (mapped es) = fault TOO_DEEP
 visit_shown (Some print) (listed xs) = container (codes "[") (separated print xs) (codes "]")
 visit_shown (Some print) (tupled xs) = container (codes "(") (separated print xs) (tuple_end xs)
 visit_shown (Some print) (mapped es) = container (codes "{") (separated (pair_text print) es) (codes "}")

@@ -4,10 +4,13 @@
 //! language specification, and where this repository's profile takes less or decides more, the definition says so.
 #![tactic(auto)]
 
+mod builtin;
 mod bytes;
+pub mod faults;
 mod key;
 mod val;
 
+pub use builtin::{Builtin, PACKAGE, PLAIN};
 pub use bytes::Bytes;
 pub use key::{Key, Part};
-pub use val::{Builtin, Entry, Operator, Val};
+pub use val::{Entry, Operator, Val};

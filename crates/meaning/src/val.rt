@@ -1,33 +1,5 @@
 //! Values.
-
-/// A function that every file has.
-#[derive(Clone, Copy)]
-pub enum Builtin {
-    Len,
-    Range,
-    Str,
-    Repr,
-    Type,
-    Sorted,
-    Reversed,
-    Enumerate,
-    Zip,
-    List,
-    Tuple,
-    Dict,
-    Bool,
-    Any,
-    All,
-    Min,
-    Max,
-    Fail,
-    Glob,
-    Filegroup,
-    Genrule,
-    Alias,
-    TestSuite,
-    PackageName,
-}
+use crate::builtin::Builtin;
 
 /// A value. A string, a list, a tuple, a dictionary or a function of a file is named by its place in the heap.
 #[derive(Clone, Copy)]

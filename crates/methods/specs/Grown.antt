@@ -5,13 +5,14 @@ use Rattle.std.specs.declared.alloc.Global.{Global}
 use denote.Ref.{Bor}
 use Rattle.meaning.specs.Outcome.{Out, gives, faults, Checked, good, bad}
 use Rattle.meaning.specs.Heap.{is_sized}
+use Rattle.meaning.specs.declared.faults.TheConstants.{TOO_LARGE}
 use Rattle.heap.specs.declared.halt.Halt.{Halt}
 use Rattle.heap.specs.declared.halt.Halt.TheVariants.{Code, Memory}
 
 -- more bytes behind those that were there, where they are not too many, and else fault 13
 abbrev pub Grows : List ℕ → List ℕ → Result (Unit {0}) Halt → List ℕ → Type 0
 Grows old more (Ok u) new = new ≡ old ++ more
-Grows old more (Err (Code c)) new = (c ≡ 13) × (is_sized (length (old ++ more)) ≡ false)
+Grows old more (Err (Code c)) new = (c ≡ TOO_LARGE) × (is_sized (length (old ++ more)) ≡ false)
 Grows old more (Err Memory) new = Unit {0}
 
 -- the bytes of texts that are lent

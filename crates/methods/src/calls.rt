@@ -9,6 +9,7 @@ use crate::lists::list_method;
 use crate::names::is_name;
 use crate::strings::text_method;
 use heap::{Halt, Heap, Object, Val};
+use meaning::faults;
 use texts::{Memory, Text};
 
 /// `x.name(..)`, by its plain and its named arguments. No method takes a named one. Fault 5 for an unknown method, then
@@ -26,13 +27,13 @@ pub fn method(
         Val::At(place) => {
             if !named.is_empty() {
                 if has_method(heap, place, name)? {
-                    return Err(Halt::Code(25));
+                    return Err(Halt::Code(faults::WRONG_ARGUMENTS));
                 }
-                return Err(Halt::Code(5));
+                return Err(Halt::Code(faults::WRONG_TYPE));
             }
             object_method(heap, place, name, xs)
         }
-        _ => Err(Halt::Code(5)),
+        _ => Err(Halt::Code(faults::WRONG_TYPE)),
     }
 }
 
@@ -49,9 +50,9 @@ fn object_method(heap: &mut Heap, a: usize, name: &str, xs: &[Val]) -> Result<Va
         }
         Some(Object::List(_, _)) => list_method(heap, a, name, xs),
         Some(Object::Dict(_, _)) => dict_method(heap, a, name, xs),
-        Some(Object::Tuple(_)) => Err(Halt::Code(5)),
-        Some(Object::Function(_, _)) => Err(Halt::Code(5)),
-        None => Err(Halt::Code(5)),
+        Some(Object::Tuple(_)) => Err(Halt::Code(faults::WRONG_TYPE)),
+        Some(Object::Function(_, _)) => Err(Halt::Code(faults::WRONG_TYPE)),
+        None => Err(Halt::Code(faults::WRONG_TYPE)),
     }
 }
 

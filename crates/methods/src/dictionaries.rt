@@ -8,6 +8,7 @@ use crate::names::{is_name, no_arguments};
 use comparing::hash;
 use heap::{Entry, Halt, Heap, Key, Object, Val, found, keys};
 use indexmap::IndexMap;
+use meaning::faults;
 use std::alloc::Global;
 use texts::Memory;
 
@@ -30,7 +31,7 @@ pub fn dict_method(heap: &mut Heap, a: usize, name: &str, xs: &[Val]) -> Result<
         no_arguments(xs)?;
         return all_items(heap, a);
     }
-    Err(Halt::Code(5))
+    Err(Halt::Code(faults::WRONG_TYPE))
 }
 
 // `get(k)` or `get(k, other)`
@@ -42,11 +43,11 @@ fn get(heap: &mut Heap, a: usize, xs: &[Val]) -> Result<Val, Halt>
             let (k, other) = match xs {
                 [k] => (*k, Val::Nothing),
                 [k, other] => (*k, *other),
-                _ => return Err(Halt::Code(25)),
+                _ => return Err(Halt::Code(faults::WRONG_ARGUMENTS)),
             };
             get_or_else(heap, a, k, other)
         }
-        _ => Err(Halt::Code(5)),
+        _ => Err(Halt::Code(faults::WRONG_TYPE)),
     }
 }
 
@@ -68,7 +69,7 @@ fn all_keys(heap: &mut Heap, a: usize) -> Result<Val, Halt>
             let all = keys(heap.alloc, entries)?;
             heap.make_list(all)
         }
-        _ => Err(Halt::Code(5)),
+        _ => Err(Halt::Code(faults::WRONG_TYPE)),
     }
 }
 
@@ -81,7 +82,7 @@ fn all_values(heap: &mut Heap, a: usize) -> Result<Val, Halt>
             let all = values(heap.alloc, entries)?;
             heap.make_list(all)
         }
-        _ => Err(Halt::Code(5)),
+        _ => Err(Halt::Code(faults::WRONG_TYPE)),
     }
 }
 
@@ -95,7 +96,7 @@ fn all_items(heap: &mut Heap, a: usize) -> Result<Val, Halt>
             let all = tuples(heap, pairs.as_slice())?;
             heap.make_list(all)
         }
-        _ => Err(Halt::Code(5)),
+        _ => Err(Halt::Code(faults::WRONG_TYPE)),
     }
 }
 
@@ -148,6 +149,6 @@ fn found_or(heap: &Heap, a: usize, key: &Key, other: Val) -> Result<Val, Halt>
             Some(entry) => Ok(entry.value),
             None => Ok(other),
         },
-        _ => Err(Halt::Code(5)),
+        _ => Err(Halt::Code(faults::WRONG_TYPE)),
     }
 }

@@ -9,6 +9,7 @@ use crate::names::is_name;
 use arithmetic::add;
 use heap::{Halt, Heap, LONGEST, Object, Val};
 use indexing::items;
+use meaning::faults;
 
 /// A method of a list: fault 5, 6, 7, 13 or 25.
 pub fn list_method(heap: &mut Heap, a: usize, name: &str, xs: &[Val]) -> Result<Val, Halt>
@@ -20,7 +21,7 @@ pub fn list_method(heap: &mut Heap, a: usize, name: &str, xs: &[Val]) -> Result<
     if is_name(name, "extend") {
         return extend(heap, a, xs);
     }
-    Err(Halt::Code(5))
+    Err(Halt::Code(faults::WRONG_TYPE))
 }
 
 /// `x += y`, where the right side is evaluated: with two lists the members of y are added to x in place, which is fault
@@ -55,7 +56,7 @@ fn append(heap: &mut Heap, a: usize, xs: &[Val]) -> Result<Val, Halt>
     ensures { Says (append_to a (at a (store_of heap.old)) xs.now (store_of heap.old)) result (store_of heap.new) }
 {
     let [_] = xs else {
-        return Err(Halt::Code(25));
+        return Err(Halt::Code(faults::WRONG_ARGUMENTS));
     };
     adds(heap, a, xs)?;
     Ok(Val::Nothing)
@@ -66,7 +67,7 @@ fn extend(heap: &mut Heap, a: usize, xs: &[Val]) -> Result<Val, Halt>
     ensures { Says (extend_to a (at a (store_of heap.old)) xs.now (store_of heap.old)) result (store_of heap.new) }
 {
     let [x] = xs else {
-        return Err(Halt::Code(25));
+        return Err(Halt::Code(faults::WRONG_ARGUMENTS));
     };
     let more = items(heap, *x)?;
     adds(heap, a, more.as_slice())?;
@@ -84,7 +85,7 @@ fn adds(heap: &mut Heap, a: usize, more: &[Val]) -> Result<(), Halt>
             extend_members(heap, a, more)?;
             Ok(())
         }
-        _ => Err(Halt::Code(5)),
+        _ => Err(Halt::Code(faults::WRONG_TYPE)),
     }
 }
 
@@ -93,10 +94,10 @@ fn may_change(heap: &Heap, a: usize, frozen: bool) -> Result<(), Halt>
     ensures { Says (may_change a frozen (store_of heap.now)) result (store_of heap.now) }
 {
     if frozen {
-        return Err(Halt::Code(6));
+        return Err(Halt::Code(faults::FROZEN));
     }
     if heap.iterated.as_slice().contains(&a) {
-        return Err(Halt::Code(7));
+        return Err(Halt::Code(faults::ITERATED));
     }
     Ok(())
 }
@@ -106,10 +107,10 @@ fn extend_members(heap: &mut Heap, a: usize, more: &[Val]) -> Result<(), Halt>
     ensures { Says (extended a (at a (store_of heap.old)) more.now (store_of heap.old)) result (store_of heap.new) }
 {
     let Some(Object::List(mut members, frozen)) = heap.take(a)? else {
-        return Err(Halt::Code(5));
+        return Err(Halt::Code(faults::WRONG_TYPE));
     };
     if members.len() > LONGEST || more.len() > LONGEST - members.len() {
-        return Err(Halt::Code(13));
+        return Err(Halt::Code(faults::TOO_LARGE));
     }
     members.extend_from_slice(more)?;
     heap.put(a, Object::List(members, frozen));

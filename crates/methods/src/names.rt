@@ -5,6 +5,7 @@ ghost use Rattle.methods.specs.Cases.{without_arguments};
 ghost use Rattle.heap.specs.View.{Checks};
 
 use heap::{Halt, Val};
+use meaning::faults;
 
 /// Whether a name is another.
 pub fn is_name(name: &str, other: &str) -> bool
@@ -20,6 +21,6 @@ pub fn no_arguments(xs: &[Val]) -> Result<(), Halt>
     if xs.is_empty() {
         Ok(())
     } else {
-        Err(Halt::Code(25))
+        Err(Halt::Code(faults::WRONG_ARGUMENTS))
     }
 }

@@ -5,6 +5,7 @@ ghost use Rattle.heap.specs.Sized.{SizedAs};
 ghost use Rattle.methods.specs.Grown.{Grows, shown};
 
 use heap::{Halt, LONGEST};
+use meaning::faults;
 use memchr::memmem::Finder;
 use std::alloc::Global;
 use texts::Memory;
@@ -50,10 +51,10 @@ fn push_part(all: &mut Vec<u8>, separator: &[u8], part: &[u8]) -> Result<(), Hal
     ensures { Grows all.old.items (separator.now ++ part.now) result all.new.items }
 {
     if all.len() > LONGEST || separator.len() > LONGEST - all.len() {
-        return Err(Halt::Code(13));
+        return Err(Halt::Code(faults::TOO_LARGE));
     }
     if part.len() > LONGEST - all.len() - separator.len() {
-        return Err(Halt::Code(13));
+        return Err(Halt::Code(faults::TOO_LARGE));
     }
     all.extend_from_slice(separator)?;
     all.extend_from_slice(part)?;

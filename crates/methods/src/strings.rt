@@ -10,6 +10,7 @@ use crate::spaces::{begins, ends, stripped};
 use crate::splitting::{join_parts, split_parts};
 use heap::{Halt, Heap, LONGEST, Object, Val};
 use indexing::items;
+use meaning::faults;
 
 /// A method of a string: fault 5, 13 or 25.
 pub fn text_method(heap: &mut Heap, whole: &[u8], name: &str, xs: &[Val]) -> Result<Val, Halt>
@@ -36,7 +37,7 @@ pub fn text_method(heap: &mut Heap, whole: &[u8], name: &str, xs: &[Val]) -> Res
         no_arguments(xs)?;
         return make_copy(heap, stripped(whole));
     }
-    Err(Halt::Code(5))
+    Err(Halt::Code(faults::WRONG_TYPE))
 }
 
 // The text of a value, or fault 5.
@@ -46,9 +47,9 @@ fn text_at<'a>(heap: &'a Heap, x: Val) -> Result<&'a [u8], Halt>
     match x {
         Val::At(place) => match heap.object(place)? {
             Some(Object::Text(bytes)) => Ok(bytes.as_slice()),
-            _ => Err(Halt::Code(5)),
+            _ => Err(Halt::Code(faults::WRONG_TYPE)),
         },
-        _ => Err(Halt::Code(5)),
+        _ => Err(Halt::Code(faults::WRONG_TYPE)),
     }
 }
 
@@ -57,7 +58,7 @@ fn only_text<'a>(heap: &'a Heap, xs: &[Val]) -> Result<&'a [u8], Halt>
     ensures { SaysText (only_text xs.now (store_of heap.now)) result (store_of heap.now) }
 {
     let [x] = xs else {
-        return Err(Halt::Code(25));
+        return Err(Halt::Code(faults::WRONG_ARGUMENTS));
     };
     text_at(heap, *x)
 }
@@ -103,7 +104,7 @@ fn join(heap: &mut Heap, separator: &[u8], xs: &[Val]) -> Result<Val, Halt>
     ensures { Says (joins_items separator.now xs.now (store_of heap.old)) result (store_of heap.new) }
 {
     let [x] = xs else {
-        return Err(Halt::Code(25));
+        return Err(Halt::Code(faults::WRONG_ARGUMENTS));
     };
     let members = items(heap, *x)?;
     let texts = texts_at(heap, members.as_slice())?;
@@ -118,11 +119,11 @@ fn split(heap: &mut Heap, whole: &[u8], xs: &[Val]) -> Result<Val, Halt>
 {
     let separator = only_text(heap, xs)?;
     if separator.is_empty() {
-        return Err(Halt::Code(25));
+        return Err(Halt::Code(faults::WRONG_ARGUMENTS));
     }
     let parts = split_parts(heap.alloc, whole, separator)?;
     if parts.len() > LONGEST {
-        return Err(Halt::Code(13));
+        return Err(Halt::Code(faults::TOO_LARGE));
     }
     let all = make_copies(heap, parts.as_slice())?;
     heap.make_list(all)
@@ -133,11 +134,11 @@ fn replace(heap: &mut Heap, whole: &[u8], xs: &[Val]) -> Result<Val, Halt>
     ensures { Says (replace whole.now xs.now (store_of heap.old)) result (store_of heap.new) }
 {
     let [old, new] = xs else {
-        return Err(Halt::Code(25));
+        return Err(Halt::Code(faults::WRONG_ARGUMENTS));
     };
     let old = text_at(heap, *old)?;
     if old.is_empty() {
-        return Err(Halt::Code(25));
+        return Err(Halt::Code(faults::WRONG_ARGUMENTS));
     }
     let new = text_at(heap, *new)?;
     let parts = split_parts(heap.alloc, whole, old)?;

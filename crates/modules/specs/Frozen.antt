@@ -6,6 +6,7 @@ use Rattle.meaning.specs.declared.val.Val.{Val}
 use Rattle.meaning.specs.Outcome.{Out, Does, gives, faults, pure, or_fault, ◌>>=◌}
 use Rattle.meaning.specs.Heap.{Store, walks}
 use Rattle.meaning.specs.Freezing.{Fzs, freezes, freeze, freeze_members}
+use Rattle.meaning.specs.declared.faults.TheConstants.{NOT_BOUND}
 use Rattle.tree.specs.Tree.{Fn}
 use Rattle.heap.specs.declared.halt.Halt.{Halt}
 use Rattle.heap.specs.declared.halt.Halt.TheVariants.{Code, Memory}
@@ -28,7 +29,7 @@ bound_value (Some value) = value
 abbrev pub freeze_names : Block → List (List ℕ) → Does Store (List Frozen)
 freeze_names block [] = pure []
 freeze_names block (x ∷ xs) =
-    or_fault 4 (bound_value (slot_in x block)) >>= λ y.
+    or_fault NOT_BOUND (bound_value (slot_in x block)) >>= λ y.
     freezes y >>= λ f.
     freeze_names block xs >>= λ fs.
     pure (record { name = x; value = f } ∷ fs)

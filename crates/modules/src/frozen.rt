@@ -11,6 +11,7 @@ ghost use Rattle.modules.specs.Frozen.{freeze_values, freeze_names, freeze_defau
 use calls::{defaults_among, file_with};
 use freezing::FrozenValue;
 use heap::{Halt, Heap, Val};
+use meaning::faults;
 use module_values::{Binding, Defaults};
 use names::{Block, FileNames, Slot, slot_in};
 use std::sync::atomic::AtomicUsize;
@@ -58,7 +59,7 @@ fn freeze_names(heap: &mut Heap, block: &Block, names: &[Slot]) -> Result<Vec<Bi
     let mut all = Vec::new(heap.alloc);
     for slot in names.iter() {
         let Some(x) = bound_value(block, &slot.name, all.len()) else {
-            return Err(Halt::Code(4));
+            return Err(Halt::Code(faults::NOT_BOUND));
         };
         let value = match freeze_value(heap, x) {
             Ok(f) => f,

@@ -7,6 +7,7 @@ ghost use Rattle.names.specs.View.{world_of, here_of, Ran};
 use crate::reaching::exported;
 use crate::thawed::thaw_value;
 use heap::Halt;
+use meaning::faults;
 use module_values::Module;
 use names::{Standing, State, bind};
 use std::sync::atomic::AtomicUsize;
@@ -18,7 +19,7 @@ fn load_item(state: &mut State, at: &Standing, body: &Module, item: &LoadItem) -
     ensures steps { IfOk result (λ _. state.new.heap.steps ≡ state.old.heap.steps) }
 {
     let Some(f) = exported(body, &item.exported) else {
-        return Err(Halt::Code(18));
+        return Err(Halt::Code(faults::NOT_EXPORTED));
     };
     let x = match thaw_value(&mut state.heap, f) {
         Ok(x) => x,

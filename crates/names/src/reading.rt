@@ -12,6 +12,7 @@ use crate::blocks::{bind_among, bind_in, file_at, slot_among, slot_in};
 use crate::state::{FileNames, Scope, Standing, State};
 use crate::universal::{is_native, universal};
 use heap::{Halt, Val};
+use meaning::faults;
 use std::sync::atomic::AtomicUsize;
 use texts::Text;
 
@@ -52,11 +53,11 @@ fn read_universal(at: &Standing, x: &Text) -> Result<Val, Halt>
     ensures { (line : ℕ) (running : List (List ℕ × List ℕ)) (w : World) → let here = here_of at.now line running in Ran here.site (read_universal x.now here w) result w }
 {
     if is_native(at.kind, x) {
-        return Err(Halt::Code(5));
+        return Err(Halt::Code(faults::WRONG_TYPE));
     }
     match universal(at.kind, x) {
         Some(f) => Ok(Val::Builtin(f)),
-        None => Err(Halt::Code(4)),
+        None => Err(Halt::Code(faults::NOT_BOUND)),
     }
 }
 
@@ -66,7 +67,7 @@ pub fn read_in_scope(scope: &Scope<'_>, x: &Text, last: &AtomicUsize) -> Result<
 {
     match slot_in_scope(scope, x, last) {
         Some(Some(value)) => Ok(value),
-        Some(None) => Err(Halt::Code(4)),
+        Some(None) => Err(Halt::Code(faults::NOT_BOUND)),
         None => read_universal(scope.at, x),
     }
 }
@@ -121,7 +122,7 @@ fn bind_global(
     ensures { (line : ℕ) (running : List (List ℕ × List ℕ)) (u : World) → u.files ≡ map names_of files.old.items → let here = here_of at.now line running in Ran here.site (bind_global (file_slot x.now (names_at at.now.label u.files)) x.now value here u) result (record u { files = map names_of files.new.items }) }
 {
     let Some(i) = file_at(files.as_slice(), &at.label) else {
-        return Err(Halt::Code(26));
+        return Err(Halt::Code(faults::BOUND_TWICE));
     };
     let file = &mut files[i];
     match slot_in(&file.block, x, last) {
@@ -129,7 +130,7 @@ fn bind_global(
             bind_in(&mut file.block, x, last, value);
             Ok(())
         }
-        Some(Some(_)) => Err(Halt::Code(26)),
-        None => Err(Halt::Code(26)),
+        Some(Some(_)) => Err(Halt::Code(faults::BOUND_TWICE)),
+        None => Err(Halt::Code(faults::BOUND_TWICE)),
     }
 }

@@ -1,80 +1,18 @@
 //! Universal names.
 ghost use Rattle.std.specs.Prelude.{◌≡◌, ◌++◌};
-ghost use Rattle.meaning.specs.Builtins.{builtin_name};
-ghost use Rattle.language.specs.Names.{first_named, universal, is_native, plain_functions, package_functions};
+ghost use Rattle.meaning.specs.Builtins.{plain_functions, package_functions};
+ghost use Rattle.language.specs.Names.{first_named, universal, is_native};
 
 use grammar::FileKind;
-use heap::Builtin;
+use heap::{Builtin, PACKAGE, PLAIN};
 use texts::Text;
-
-const PLAIN: [Builtin; 18] = [
-    Builtin::Len,
-    Builtin::Range,
-    Builtin::Str,
-    Builtin::Repr,
-    Builtin::Type,
-    Builtin::Sorted,
-    Builtin::Reversed,
-    Builtin::Enumerate,
-    Builtin::Zip,
-    Builtin::List,
-    Builtin::Tuple,
-    Builtin::Dict,
-    Builtin::Bool,
-    Builtin::Any,
-    Builtin::All,
-    Builtin::Min,
-    Builtin::Max,
-    Builtin::Fail,
-];
-
-const PACKAGE: [Builtin; 6] = [
-    Builtin::Glob,
-    Builtin::Filegroup,
-    Builtin::Genrule,
-    Builtin::Alias,
-    Builtin::TestSuite,
-    Builtin::PackageName,
-];
-
-// The name of a function.
-fn name(f: Builtin) -> &'static [u8]
-    ensures { result.now ≡ builtin_name f }
-{
-    match f {
-        Builtin::Len => b"len",
-        Builtin::Range => b"range",
-        Builtin::Str => b"str",
-        Builtin::Repr => b"repr",
-        Builtin::Type => b"type",
-        Builtin::Sorted => b"sorted",
-        Builtin::Reversed => b"reversed",
-        Builtin::Enumerate => b"enumerate",
-        Builtin::Zip => b"zip",
-        Builtin::List => b"list",
-        Builtin::Tuple => b"tuple",
-        Builtin::Dict => b"dict",
-        Builtin::Bool => b"bool",
-        Builtin::Any => b"any",
-        Builtin::All => b"all",
-        Builtin::Min => b"min",
-        Builtin::Max => b"max",
-        Builtin::Fail => b"fail",
-        Builtin::Glob => b"glob",
-        Builtin::Filegroup => b"filegroup",
-        Builtin::Genrule => b"genrule",
-        Builtin::Alias => b"alias",
-        Builtin::TestSuite => b"test_suite",
-        Builtin::PackageName => b"package_name",
-    }
-}
 
 // The first of these functions that has a name.
 fn first_named(x: &Text, functions: &[Builtin]) -> Option<Builtin>
     ensures { result ≡ first_named x.now functions.now }
 {
     for f in functions.iter() {
-        if x.as_str().as_bytes() == name(*f) {
+        if x.as_str().as_bytes() == f.name().as_bytes() {
             return Some(*f);
         }
     }

@@ -8,7 +8,6 @@ mod edges;
 mod entry;
 mod graph;
 mod kept;
-mod leaves;
 mod marks;
 mod settling;
 

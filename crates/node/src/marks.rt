@@ -1,18 +1,57 @@
-//! Dirty marks, spread along reverse edges.
-ghost use Rattle.std.specs.Prelude.{◌≡◌, ◌+◌, ◌<◌, ◌≤◌, [], ◌∷◌, ◌++◌, List, Some, None, true, false, All, IfOk, OnOk, OnErr, length, vec_len};
+//! Dirty marks: the leaves that edits touch, and how marks spread from them along reverse edges.
+ghost use Rattle.std.specs.Prelude.{◌≡◌, ◌+◌, ◌<◌, ◌≤◌, [], ◌∷◌, ◌++◌, List, Some, None, true, false, All, IfOk, OnOk, OnErr, length, vec_len, map, reverse};
 ghost use Rattle.std.specs.Map.{keys_of};
+ghost use Rattle.labels.specs.Labels.{ancestors};
 ghost use Rattle.numbered.specs.Tables.{AreDistinct, Writes, key_at};
 ghost use Rattle.numbered.specs.Flats.{members_in};
 ghost use Rattle.keys.specs.declared.key.Key.{Key};
+ghost use Rattle.keys.specs.Touched.{leaves_of, touched_leaves};
+ghost use Rattle.keys.specs.declared.key.Key.TheVariants as kind;
 ghost use Rattle.node.specs.Kept.{Records, AreNumbers, kept_at, numbers_of, numbers_with, users_of, cleans, cost};
 ghost use Rattle.node.specs.Marks.{HasReached, HasReachedAll, HasReachedSome, HasSpread, HasPassed, IsDirty, Lists, Marked, SetsMarks};
 ghost use Rattle.node.specs.declared.kept.Kept.{Kept};
+ghost use Rattle.node.specs.Graphs.{paths_seen};
 
 use crate::kept::Records;
 use keys::Key;
 use numbered::Number;
 use std::alloc::Global;
-use texts::Memory;
+use texts::{Memory, Text};
+
+// The listings of the directories that the path lies below, but the root, the longest name first.
+fn listings_above(alloc: Global, path: &str) -> Result<Vec<Key>, Memory>
+    ensures { IfOk result (λ ks. reverse ks.items ≡ map kind.Listing (ancestors path.now)) }
+{
+    let mut listings = Vec::new(alloc);
+    let mut rest = path;
+    while let Some((directory, _)) = rest.rsplit_once('/') {
+        listings.push(Key::Listing(Text::new(alloc, directory)?))?;
+        rest = directory;
+    }
+    Ok(listings)
+}
+
+// The leaves that an edit of the path touches: its file, and the listing of each directory that it lies below.
+fn touched_by(alloc: Global, path: &str) -> Result<Vec<Key>, Memory>
+    ensures { IfOk result (λ ks. ks.items ≡ leaves_of path.now) }
+{
+    let mut leaves = listings_above(alloc, path)?;
+    leaves.push(Key::Listing(Text::new(alloc, "")?))?;
+    leaves.push(Key::File(Text::new(alloc, path)?))?;
+    leaves.reverse();
+    Ok(leaves)
+}
+
+/// The leaves that edits of these paths touch.
+pub fn touched(alloc: Global, paths: &[&str]) -> Result<Vec<Key>, Memory>
+    ensures { IfOk result (λ ks. ks.items ≡ touched_leaves (paths_seen paths.now)) }
+{
+    let mut all = Vec::new(alloc);
+    for path in paths {
+        all.append(&mut touched_by(alloc, path)?)?;
+    }
+    Ok(all)
+}
 
 // Sets or takes away the mark of the record with a number.
 fn set_at(records: &mut Records, number: Number, dirty: bool)

@@ -15,6 +15,7 @@ ghost use Rattle.package_calls.specs.View.{answers_of};
 use crate::kinds::Answer;
 use crate::ordering::in_order;
 use heap::{Bytes, Halt, Heap, LONGEST, Object, Val};
+use meaning::faults;
 use pattern::Pattern;
 use std::alloc::Global;
 use texts::{Memory, Text};
@@ -148,10 +149,10 @@ pub fn make_paths(heap: &mut Heap, allow_empty: bool, paths: &[Text]) -> Result<
     ensures { Says (makes_paths allow_empty paths.now (store_of heap.old)) result (store_of heap.new) }
 {
     if !allow_empty && paths.is_empty() {
-        return Err(Halt::Code(22));
+        return Err(Halt::Code(faults::EMPTY_GLOB));
     }
     if paths.len() > LONGEST {
-        return Err(Halt::Code(13));
+        return Err(Halt::Code(faults::TOO_LARGE));
     }
     let all = make_texts(heap, paths)?;
     heap.make_list(all)
@@ -176,7 +177,7 @@ pub fn make_text(heap: &mut Heap, text: &Text) -> Result<Val, Halt>
     ensures { Says (makes_text text.now (store_of heap.old)) result (store_of heap.new) }
 {
     if text.as_str().len() > LONGEST {
-        return Err(Halt::Code(13));
+        return Err(Halt::Code(faults::TOO_LARGE));
     }
     let bytes = Bytes::of_text(text.share()?);
     heap.make(Object::Text(bytes))

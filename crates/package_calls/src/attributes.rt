@@ -15,6 +15,7 @@ use crate::fields::{Field, field_name};
 use crate::spelling::{is_path, label_in};
 use crate::strings::{text_in, texts_in};
 use heap::{Bytes, Halt, Heap, Val};
+use meaning::faults;
 use names::{Attribute, Attributed};
 use std::alloc::Global;
 use texts::{Memory, Text};
@@ -131,7 +132,7 @@ fn several_shaped(
         }
         Field::Outs => {
             if !are_paths(texts) {
-                return Err(Halt::Code(15));
+                return Err(Halt::Code(faults::BAD_LABEL));
             }
             let texts = copy_of(alloc, texts)?;
             Ok(texts)

@@ -16,6 +16,7 @@ use crate::arguments::{is_named, is_twice, value_named};
 use crate::spelling::pattern_of;
 use crate::strings::texts_in;
 use heap::{Bytes, Halt, Heap, Val};
+use meaning::faults;
 use pattern::Pattern;
 use std::alloc::Global;
 use texts::{Memory, Text};
@@ -44,7 +45,7 @@ pub fn read_call(heap: &Heap, xs: &[Val], ns: &[(Text, Val)]) -> Result<Asked, H
     ensures { ChecksAs asked_of (globs.read_call xs.now ns.now (store_of heap.now)) result }
 {
     if !are_arguments(heap.alloc, xs, ns)? {
-        return Err(Halt::Code(25));
+        return Err(Halt::Code(faults::WRONG_ARGUMENTS));
     }
     let written = typed(heap, xs, ns)?;
     with_patterns(heap.alloc, &written)
@@ -170,7 +171,7 @@ fn truth_or(other: bool, x: Option<Val>) -> Result<bool, Halt>
     match x {
         None => Ok(other),
         Some(Val::Bool(b)) => Ok(b),
-        Some(_) => Err(Halt::Code(5)),
+        Some(_) => Err(Halt::Code(faults::WRONG_TYPE)),
     }
 }
 
@@ -181,7 +182,7 @@ fn int_or(other: i64, x: Option<Val>) -> Result<i64, Halt>
     match x {
         None => Ok(other),
         Some(Val::Int(n)) => Ok(n),
-        Some(_) => Err(Halt::Code(5)),
+        Some(_) => Err(Halt::Code(faults::WRONG_TYPE)),
     }
 }
 
@@ -195,7 +196,7 @@ fn with_directories(n: i64) -> Result<bool, Halt>
     if n == 1 {
         return Ok(false);
     }
-    Err(Halt::Code(25))
+    Err(Halt::Code(faults::WRONG_ARGUMENTS))
 }
 
 // The texts as patterns, or fault 21.

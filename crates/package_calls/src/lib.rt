@@ -4,7 +4,6 @@
 mod answering;
 mod arguments;
 mod attributes;
-mod calls;
 mod fields;
 mod globbing;
 mod kinds;
@@ -13,5 +12,5 @@ mod rules;
 mod spelling;
 mod strings;
 
-pub use calls::package_call;
 pub use kinds::{Answer, Called, Package};
+pub use rules::package_call;

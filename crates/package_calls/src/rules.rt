@@ -1,27 +1,124 @@
-//! The rules: filegroup, genrule, alias and test_suite.
-ghost use Rattle.std.specs.Prelude.{◌≡◌, IfOk, map, codes};
+//! The package calls: `package_name`, `glob`, and the rules filegroup, genrule, alias and test_suite.
+ghost use Rattle.std.specs.Prelude.{◌≡◌, IfOk, map, codes, ◌≤◌};
 ghost use Rattle.meaning.specs.Builtins.{builtin_name};
-ghost use Rattle.language.specs.World.{Here};
-ghost use Rattle.language.specs.Arguments.{value_named};
+ghost use Rattle.language.specs.World.{Here, World};
+ghost use Rattle.language.specs.Arguments.{value_named, plain_part, named_part};
 ghost use Rattle.meaning.specs.Outcome.{then_checked};
 ghost use Rattle.language.specs.Rules.{rule, target_of, all_typed, are_arguments, are_attributes, not_none, name_text, makes_target};
 ghost use Rattle.language.specs.Names.{has_name};
-ghost use Rattle.heap.specs.View.{store_of, Checks};
+ghost use Rattle.language.specs.Environment.{Env};
+ghost use Rattle.language.specs.Globs.{glob};
+ghost use Rattle.language.specs.Packages.{package_call};
+ghost use Rattle.heap.specs.View.{store_of, Checks, Says};
 ghost use Rattle.names.specs.View as view;
 ghost use Rattle.names.specs.View.{world_of, Ran};
 ghost use Rattle.package_calls.specs.Fields.{shapes, known_names};
 ghost use Rattle.package_calls.specs.Given.{given_of};
-ghost use Rattle.package_calls.specs.View.{ChecksAs};
+ghost use Rattle.package_calls.specs.View.{ChecksAs, IsOf, EndsAs, IfWaits, answers_of};
+ghost use Rattle.package_calls.specs.Within.{within, named_package};
 
-use crate::arguments::{is_named, is_twice, not_none, value_named};
+use crate::answering::{found, make_paths, make_text, unanswered};
+use crate::arguments::{is_named, is_twice, named_part, not_none, plain_part, value_named};
 use crate::attributes::{Given, all_shaped, all_typed};
 use crate::fields::{Field, field_name, fields_of};
+use crate::globbing::{questions, read_call};
+use crate::kinds::{Answer, Called, Package};
 use crate::spelling::is_path;
 use crate::strings::text_in;
+use grammar::FileKind;
 use heap::{Builtin, Bytes, Halt, Heap, Val};
+use meaning::faults;
 use names::{State, Target};
 use std::alloc::Global;
 use texts::{Memory, Text, beside};
+
+/// A package call. The last arguments have the names. It gives a value, or waits for the answers to questions: then nothing
+/// has changed, and the same call is made again once they are answered. Faults 23 in a .bzl file; 25, 5, 15 and 20 of a
+/// rule; 25, 5, 21, 13 and 22 of `glob`; 25 and 13 of `package_name`.
+pub fn package_call(
+    state: &mut State,
+    known: &Package,
+    f: Builtin,
+    xs: &[Val],
+    names: &[Text],
+) -> Result<Called, Halt>
+    ensures says { (env : Env) (here : Here) → IsOf known.now env → EndsAs here.site (package_call env f (plain_part xs.now names.now) (named_part xs.now names.now) here (world_of state.old)) result (world_of state.new) }
+    ensures waits { IfWaits result (state.new ≡ state.old) }
+    ensures steps { IfOk result (λ _. state.new.heap.steps ≤ state.old.heap.steps) }
+{
+    match known.kind {
+        FileKind::Bzl => Err(Halt::Code(faults::NOT_ALLOWED)),
+        FileKind::Build => {
+            let plain = plain_part(xs, names);
+            let named = named_part(state.heap.alloc, xs, names)?;
+            in_package(state, known, f, plain, named.as_slice())
+        }
+    }
+}
+
+// A call in a BUILD file.
+fn in_package(
+    state: &mut State,
+    known: &Package,
+    f: Builtin,
+    xs: &[Val],
+    ns: &[(Text, Val)],
+) -> Result<Called, Halt>
+    ensures says { (here : Here) → EndsAs here.site (within known.now.name (answers_of known.now.answers.items) f xs.now ns.now here (world_of state.old)) result (world_of state.new) }
+    ensures waits { IfWaits result (state.new ≡ state.old) }
+    ensures steps { IfOk result (λ _. state.new.heap.steps ≤ state.old.heap.steps) }
+{
+    match f {
+        Builtin::PackageName => match package_name(&mut state.heap, &known.name, xs, ns) {
+            Ok(name) => Ok(Called::Value(name)),
+            Err(halt) => Err(halt),
+        },
+        Builtin::Glob => glob(&mut state.heap, known.answers.as_slice(), xs, ns),
+        _ => match rule(state, f, &known.name, xs, ns) {
+            Ok(made) => Ok(Called::Value(made)),
+            Err(halt) => Err(halt),
+        },
+    }
+}
+
+// The name of the package, or fault 25 or 13.
+fn package_name(heap: &mut Heap, name: &Text, xs: &[Val], ns: &[(Text, Val)]) -> Result<Val, Halt>
+    ensures says { Says (named_package name.now xs.now ns.now (store_of heap.old)) result (store_of heap.new) }
+    ensures steps { IfOk result (λ _. heap.new.steps ≤ heap.old.steps) }
+{
+    if !xs.is_empty() || !ns.is_empty() {
+        return Err(Halt::Code(faults::WRONG_ARGUMENTS));
+    }
+    let made = make_text(heap, name)?;
+    Ok(made)
+}
+
+// A call of `glob`.
+fn glob(heap: &mut Heap, answers: &[Answer], xs: &[Val], ns: &[(Text, Val)]) -> Result<Called, Halt>
+    ensures says { (here : Here) (w : World) → w.store ≡ store_of heap.old → EndsAs here.site (glob (answers_of answers.now) xs.now ns.now here w) result (record w { store = store_of heap.new }) }
+    ensures waits { IfWaits result (heap.new ≡ heap.old) }
+    ensures steps { IfOk result (λ _. heap.new.steps ≤ heap.old.steps) }
+{
+    let asked = match read_call(heap, xs, ns) {
+        Ok(asked) => asked,
+        Err(halt) => return Err(halt),
+    };
+    let questions = questions(heap.alloc, asked.directories, asked.includes.as_slice())?;
+    let open = unanswered(heap.alloc, answers, questions.as_slice())?;
+    if !open.is_empty() {
+        return Ok(Called::Waits(open));
+    }
+    let paths = found(
+        heap.alloc,
+        answers,
+        questions.as_slice(),
+        asked.excludes.as_slice(),
+    )?;
+    match make_paths(heap, asked.allow_empty, paths.as_slice()) {
+        Ok(made) => Ok(Called::Value(made)),
+        Err(halt) => Err(halt),
+    }
+}
 
 /// A call of a rule: it makes a target and gives None. Faults 25, 5, 15 and 20, in this order.
 pub fn rule(
@@ -39,7 +136,7 @@ pub fn rule(
         Err(halt) => return Err(halt),
     };
     if !state.targets.add(target)? {
-        return Err(Halt::Code(20));
+        return Err(Halt::Code(faults::TARGET_TWICE));
     }
     Ok(Val::Nothing)
 }
@@ -57,7 +154,7 @@ fn target_of(
     let fields = fields_of(f);
     let given = not_none(heap.alloc, ns)?;
     if !are_arguments(heap.alloc, xs, ns, given.as_slice(), fields)? {
-        return Err(Halt::Code(25));
+        return Err(Halt::Code(faults::WRONG_ARGUMENTS));
     }
     described(heap, f, package_name, given.as_slice(), fields)
 }
@@ -130,7 +227,7 @@ fn name_in(heap: &Heap, given: &[(Text, Val)]) -> Result<Bytes, Halt>
 {
     match value_named("name", given) {
         Some(x) => text_in(heap, x),
-        None => Err(Halt::Code(25)),
+        None => Err(Halt::Code(faults::WRONG_ARGUMENTS)),
     }
 }
 
@@ -145,7 +242,7 @@ fn make_target(
     ensures { ChecksAs view.target_of (makes_target (builtin_name f) package_name.now name (map given_of given.now)) result }
 {
     if !is_path(name.as_slice()) {
-        return Err(Halt::Code(15));
+        return Err(Halt::Code(faults::BAD_LABEL));
     }
     let attributes = all_shaped(alloc, package_name, given)?;
     Ok(Target {

@@ -8,6 +8,7 @@ ghost use Rattle.heap.specs.View.{Checks};
 
 use heap::{Bytes, Halt};
 use labels::{BadLabel, label_text};
+use meaning::faults;
 use pattern::{BadPattern, Pattern};
 use std::alloc::Global;
 use texts::Text;
@@ -28,11 +29,11 @@ pub fn label_in(alloc: Global, package_name: &Text, bytes: &[u8]) -> Result<Byte
     ensures { Checks (label_in package_name.now bytes.now) result }
 {
     let Ok(text) = std::str::from_utf8(bytes) else {
-        return Err(Halt::Code(15));
+        return Err(Halt::Code(faults::BAD_LABEL));
     };
     match label_text(alloc, text, package_name.as_str()) {
         Ok(text) => Ok(Bytes::of_text(text)),
-        Err(BadLabel::Code15) => Err(Halt::Code(15)),
+        Err(BadLabel::Code15) => Err(Halt::Code(faults::BAD_LABEL)),
         Err(BadLabel::Memory) => Err(Halt::Memory),
     }
 }
@@ -42,11 +43,11 @@ pub fn pattern_of(alloc: Global, bytes: &[u8]) -> Result<Pattern, Halt>
     ensures { Checks (if is_pattern bytes.now then good bytes.now else bad 21) result }
 {
     let Ok(text) = std::str::from_utf8(bytes) else {
-        return Err(Halt::Code(21));
+        return Err(Halt::Code(faults::BAD_PATTERN));
     };
     match Pattern::read(alloc, text) {
         Ok(pattern) => Ok(pattern),
-        Err(BadPattern::Code21) => Err(Halt::Code(21)),
+        Err(BadPattern::Code21) => Err(Halt::Code(faults::BAD_PATTERN)),
         Err(BadPattern::Memory) => Err(Halt::Memory),
     }
 }

@@ -4,6 +4,7 @@ ghost use Rattle.language.specs.Globs.{all_texts, texts_in};
 ghost use Rattle.heap.specs.View.{store_of, Checks, ChecksItems};
 
 use heap::{Bytes, Halt, Heap, Object, Val};
+use meaning::faults;
 
 /// The bytes of a string, or fault 5.
 pub fn text_in(heap: &Heap, x: Val) -> Result<Bytes, Halt>
@@ -15,9 +16,9 @@ pub fn text_in(heap: &Heap, x: Val) -> Result<Bytes, Halt>
                 let bytes = bytes.share()?;
                 Ok(bytes)
             }
-            _ => Err(Halt::Code(5)),
+            _ => Err(Halt::Code(faults::WRONG_TYPE)),
         },
-        _ => Err(Halt::Code(5)),
+        _ => Err(Halt::Code(faults::WRONG_TYPE)),
     }
 }
 
@@ -28,9 +29,9 @@ pub fn texts_in(heap: &Heap, x: Val) -> Result<Vec<Bytes>, Halt>
     match x {
         Val::At(place) => match heap.object(place)? {
             Some(Object::List(members, _)) => all_texts(heap, members.as_slice()),
-            _ => Err(Halt::Code(5)),
+            _ => Err(Halt::Code(faults::WRONG_TYPE)),
         },
-        _ => Err(Halt::Code(5)),
+        _ => Err(Halt::Code(faults::WRONG_TYPE)),
     }
 }
 

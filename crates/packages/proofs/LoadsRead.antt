@@ -20,7 +20,7 @@ use Rattle.keys.specs.declared.key.Key.TheVariants as key
 use Rattle.keys.specs.declared.value.Fault.{Fault}
 use Rattle.keys.specs.declared.value.Value.{Value}
 use Rattle.keys.specs.declared.value.Value.TheVariants as value
-use Rattle.functions.specs.declared.source.Source.{Source}
+use Rattle.functions.specs.declared.file_node.Source.{Source}
 use Rattle.functions.specs.Next.{next}
 use Rattle.leaves.specs.Leaves.{read}
 use Rattle.functions.specs.Once.{has_key, once, answer_at}

@@ -2,6 +2,7 @@
 use Rattle.std.specs.Prelude.{◌≡◌, ℕ, List, [], ◌∷◌, map, Option, Some, None, Result, Ok, Err, if◌then◌else◌}
 use Rattle.std.specs.FinMap as map_of
 use Rattle.std.specs.List.{list_any}
+use Rattle.meaning.specs.declared.faults.TheConstants.{BAD_LABEL, BOUNDARY_CROSSED, NO_MODULE, NO_PACKAGE}
 use Rattle.tree.specs.Tree.{Fi, Ld}
 use Rattle.tokens.specs.Reading as tokens
 use Rattle.grammar.specs.declared.kind.FileKind.{FileKind}
@@ -30,8 +31,8 @@ pub record File : Type 0 where
 
 -- the module of a load statement; fault 15 in its line where its label is bad or no module's
 abbrev pub if_module : Option Target → List ℕ → ℕ → Result Target Fault
-if_module None path line = Err (fault_at 15 path line)
-if_module (Some t) path line = if is_module t then Ok t else Err (fault_at 15 path line)
+if_module None path line = Err (fault_at BAD_LABEL path line)
+if_module (Some t) path line = if is_module t then Ok t else Err (fault_at BAD_LABEL path line)
 
 abbrev pub loaded_by : (path package_name : List ℕ) → Ld → Result Target Fault
 loaded_by path package_name l = if_module (label_of l.label package_name) path l.line
@@ -47,7 +48,7 @@ parsed path package_name (Err f) = Err (fault_at f.code path f.line)
 
 -- fault 16 where the file is not there
 abbrev pub of_text : FileKind → (path package_name : List ℕ) → Option (List ℕ) → Result File Fault
-of_text kind path package_name None = Err (fault_at 16 path 0)
+of_text kind path package_name None = Err (fault_at NO_MODULE path 0)
 of_text kind path package_name (Some text) = parsed path package_name (parse_of kind text)
 
 abbrev pub loads_in : Result File Fault → List Target
@@ -59,12 +60,12 @@ module _ (files : Files) where
   abbrev pub module_file : Target → Result File Fault
   module_file t =
       if is_package files t.package_name
-      then (if list_any (is_package files) (boundaries t) then Err (fault_at 17 (label_file t) 0)
+      then (if list_any (is_package files) (boundaries t) then Err (fault_at BOUNDARY_CROSSED (label_file t) 0)
       else of_text k.Bzl (label_file t) t.package_name (map_of.get files (label_file t)))
-      else Err (fault_at 1 t.package_name 0)
+      else Err (fault_at NO_PACKAGE t.package_name 0)
 
   abbrev pub build_file : (name : List ℕ) → Option BuildName → Result File Fault
-  build_file name None = Err (fault_at 1 name 0)
+  build_file name None = Err (fault_at NO_PACKAGE name 0)
   build_file name (Some build) = of_text k.Build (build_path name build) name (map_of.get files (build_path name build))
 
   -- the file that is evaluated, or its first fault

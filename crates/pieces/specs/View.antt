@@ -5,6 +5,7 @@ use Rattle.meaning.specs.Heap.{Entries, Store}
 use Rattle.meaning.specs.Outcome.{Out, Does, gives, faults, fault, pure, ◌>>=◌}
 use Rattle.meaning.specs.Indexing.{hash}
 use Rattle.meaning.specs.Comparing.{found}
+use Rattle.meaning.specs.declared.faults.TheConstants.{WRONG_ARGUMENTS}
 use Rattle.heap.specs.declared.halt.Halt.{Halt}
 use Rattle.heap.specs.declared.halt.Halt.TheVariants.{Code, Memory}
 use Rattle.language.specs.World.{World, Site, Ends, ended, failed}
@@ -48,4 +49,4 @@ SaysInto out (Err Memory) b s = Unit {0}
 
 -- an entry of a dictionary expression, behind the others: fault 25 for a key that is there
 abbrev pub set_fresh : Val → Val → Entries → Does Store Entries
-set_fresh k x es = hash k >>= λ parts. if is_some (found parts es) then fault 25 else pure (es ++ (parts, record { key = k; value = x }) ∷ [])
+set_fresh k x es = hash k >>= λ parts. if is_some (found parts es) then fault WRONG_ARGUMENTS else pure (es ++ (parts, record { key = k; value = x }) ∷ [])

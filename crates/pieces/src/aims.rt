@@ -8,6 +8,7 @@ ghost use Rattle.pieces.specs.View.{aim_of, aims_of};
 
 use crate::objects::{index, set_index};
 use heap::{Halt, Heap, Object, Val};
+use meaning::faults;
 use names::{Standing, State, bind, read};
 use std::sync::atomic::AtomicUsize;
 use texts::Text;
@@ -31,7 +32,7 @@ pub fn present(state: &mut State, at: &Standing, aim: &Aim) -> Result<Val, Halt>
     match aim {
         Aim::Name(x, place) => read(state, at, x, &AtomicUsize::new(*place)),
         Aim::Member(container, i) => index(&mut state.heap, *container, *i),
-        Aim::Each(_) => Err(Halt::Code(5)),
+        Aim::Each(_) => Err(Halt::Code(faults::WRONG_TYPE)),
     }
 }
 
@@ -41,15 +42,15 @@ fn unpack(heap: &Heap, n: usize, x: Val) -> Result<Vec<Val>, Halt>
     ensures count { IfOk result (λ xs. length xs.items ≡ n) }
 {
     let Val::At(place) = x else {
-        return Err(Halt::Code(5));
+        return Err(Halt::Code(faults::WRONG_TYPE));
     };
     let members = match heap.object(place)? {
         Some(Object::List(members, _)) => members,
         Some(Object::Tuple(members)) => members,
-        _ => return Err(Halt::Code(5)),
+        _ => return Err(Halt::Code(faults::WRONG_TYPE)),
     };
     if members.len() != n {
-        return Err(Halt::Code(5));
+        return Err(Halt::Code(faults::WRONG_TYPE));
     }
     Ok(Vec::from_slice(heap.alloc, members.as_slice())?)
 }

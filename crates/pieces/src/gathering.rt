@@ -9,6 +9,7 @@ ghost use Rattle.pieces.specs.View.{gathered_of, RanInto, SaysInto, set_fresh};
 use crate::objects::hash;
 use heap::{Entry, Halt, Heap, Key, LONGEST, Val, found, has_room, set_entry};
 use indexmap::IndexMap;
+use meaning::faults;
 use std::alloc::Global;
 
 /// The members of a list, or the entries of a dictionary.
@@ -33,7 +34,7 @@ pub fn one_more(g: &mut Gathered, x: Val) -> Result<(), Halt>
     ensures { (here : Here) (u : World) → RanInto here.site (l.one_more x (gathered_of g.old) here u) result (gathered_of g.new) u }
 {
     if g.members.len() >= LONGEST {
-        return Err(Halt::Code(13));
+        return Err(Halt::Code(faults::TOO_LARGE));
     }
     g.members.push(x)?;
     Ok(())
@@ -47,7 +48,7 @@ pub fn one_entry(heap: &mut Heap, g: &mut Gathered, k: Val, x: Val) -> Result<()
 {
     let key = hash(heap, k)?;
     if !has_room(&g.entries, &key) {
-        return Err(Halt::Code(13));
+        return Err(Halt::Code(faults::TOO_LARGE));
     }
     set_entry(&mut g.entries, key, Entry { key: k, value: x })?;
     Ok(())
@@ -65,7 +66,7 @@ pub fn fresh(
 {
     let key = hash(heap, k)?;
     if found(entries, &key).is_some() {
-        return Err(Halt::Code(25));
+        return Err(Halt::Code(faults::WRONG_ARGUMENTS));
     }
     set_entry(entries, key, Entry { key: k, value: x })?;
     Ok(())

@@ -9,6 +9,7 @@ ghost use Rattle.heap.specs.View.{store_of, Says, SaysItems};
 
 use heap::{Entry, Halt, Heap, Key, LONGEST, Object, Val};
 use indexmap::IndexMap;
+use meaning::faults;
 use texts::Text;
 
 /// One step, or fault 11.
@@ -25,7 +26,7 @@ pub fn make_text(heap: &mut Heap, text: &Text) -> Result<Val, Halt>
     ensures steps { IfOk result (λ _. heap.new.steps ≤ heap.old.steps) }
 {
     if text.as_str().len() > LONGEST {
-        return Err(Halt::Code(13));
+        return Err(Halt::Code(faults::TOO_LARGE));
     }
     let bytes = heap::Bytes::of_text(text.share()?);
     heap.make(Object::Text(bytes))

@@ -7,6 +7,7 @@ ghost use Rattle.heap.specs.View.{store_of, Says};
 use crate::walk;
 use crate::written::Written;
 use heap::{DEEPEST, Halt, Heap, Object, Val};
+use meaning::faults;
 
 /// `repr(x)`, a new string: fault 11 or 12 as it goes, and 13 at its end.
 pub fn print(heap: &mut Heap, x: Val) -> Result<Val, Halt>
@@ -22,7 +23,7 @@ pub fn print(heap: &mut Heap, x: Val) -> Result<Val, Halt>
     )?;
     let Written { bytes, long } = out;
     if long {
-        return Err(Halt::Code(13));
+        return Err(Halt::Code(faults::TOO_LARGE));
     }
     let made = heap.make_text(bytes)?;
     Ok(made)

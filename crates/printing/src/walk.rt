@@ -1,6 +1,6 @@
 //! The walk that prints a value.
-ghost use Rattle.std.specs.Prelude.{◌≡◌, ◌++◌, map, slice_get, codes, OnOk};
 ghost use Rattle.meaning.specs.Builtins.{builtin_name};
+ghost use Rattle.std.specs.Prelude.{◌≡◌, ◌++◌, map, slice_get, codes, OnOk};
 ghost use Rattle.meaning.specs.Printing.{print, inner_print, visit_shown, shown_object, listed, tupled, mapped, separated, container, plain, int_text, entry_text, pair_text, tuple_end, quoted};
 ghost use Rattle.heap.specs.View.{object_in};
 ghost use Rattle.printing.specs.Kept.{kept, more, before, Tells};
@@ -10,6 +10,7 @@ use crate::written::Written;
 use heap::{Builtin, Entry, Halt, HeapObject, Key, Object, Val, object_at, tick, val_at};
 use indexmap::IndexMap;
 use itoa::Buffer;
+use meaning::faults;
 use texts::Memory;
 
 /// Writes the text of a value: each value entered is a step, and so many containers more may be entered: fault 11 or
@@ -61,7 +62,7 @@ fn print_builtin(steps: &mut u64, f: Builtin, out: &mut Written) -> Result<(), H
 {
     tick(steps)?;
     out.write(b"<built-in ")?;
-    out.write(name(f))?;
+    out.write(f.name().as_bytes())?;
     out.write(b">")?;
     Ok(())
 }
@@ -111,7 +112,7 @@ fn print_object(
         Some(Object::Function(_, name)) => print_function(steps, name.as_slice(), out)?,
         None => {
             tick(steps)?;
-            return Err(Halt::Code(5));
+            return Err(Halt::Code(faults::WRONG_TYPE));
         }
     }
     Ok(())
@@ -130,7 +131,7 @@ fn print_list(
     ensures { Tells (visit_shown (inner_print left (map object_in objects.now)) (listed members.now)) steps.old (kept out.old) result steps.new (kept out.new) }
 {
     if left == 0 {
-        return Err(Halt::Code(12));
+        return Err(Halt::Code(faults::TOO_DEEP));
     }
     print_enclosed(objects, steps, b"[", members, b"]", left - 1, out)?;
     Ok(())
@@ -149,7 +150,7 @@ fn print_tuple(
     ensures { Tells (visit_shown (inner_print left (map object_in objects.now)) (tupled members.now)) steps.old (kept out.old) result steps.new (kept out.new) }
 {
     if left == 0 {
-        return Err(Halt::Code(12));
+        return Err(Halt::Code(faults::TOO_DEEP));
     }
     print_enclosed(
         objects,
@@ -240,7 +241,7 @@ fn print_dict(
     ensures { Tells (visit_shown (inner_print left (map object_in objects.now)) (mapped entries.now.entries)) steps.old (kept out.old) result steps.new (kept out.new) }
 {
     if left == 0 {
-        return Err(Halt::Code(12));
+        return Err(Halt::Code(faults::TOO_DEEP));
     }
     print_braced(objects, steps, entries, left - 1, out)?;
     Ok(())
@@ -304,36 +305,4 @@ fn print_entry(
     out.write(b": ")?;
     print(objects, steps, entry.value, left, out)?;
     Ok(())
-}
-
-// The name of a built-in function.
-fn name(f: Builtin) -> &'static [u8]
-    ensures { result.now ≡ builtin_name f }
-{
-    match f {
-        Builtin::Len => b"len",
-        Builtin::Range => b"range",
-        Builtin::Str => b"str",
-        Builtin::Repr => b"repr",
-        Builtin::Type => b"type",
-        Builtin::Sorted => b"sorted",
-        Builtin::Reversed => b"reversed",
-        Builtin::Enumerate => b"enumerate",
-        Builtin::Zip => b"zip",
-        Builtin::List => b"list",
-        Builtin::Tuple => b"tuple",
-        Builtin::Dict => b"dict",
-        Builtin::Bool => b"bool",
-        Builtin::Any => b"any",
-        Builtin::All => b"all",
-        Builtin::Min => b"min",
-        Builtin::Max => b"max",
-        Builtin::Fail => b"fail",
-        Builtin::Glob => b"glob",
-        Builtin::Filegroup => b"filegroup",
-        Builtin::Genrule => b"genrule",
-        Builtin::Alias => b"alias",
-        Builtin::TestSuite => b"test_suite",
-        Builtin::PackageName => b"package_name",
-    }
 }

@@ -2,9 +2,9 @@
 use Rattle.std.proofs.Common.{◌≡◌, ℕ, List, [], ◌∷◌, Bool, true, false, cond, Option, None, Some, is_some, Result, refl, ap, sym, subst, ◌∙◌}
 use Rattle.std.specs.Prelude.{codes, not, ◌&&◌, if◌then◌else◌}
 use Rattle.std.specs.List.{list_any}
-use Rattle.meaning.specs.declared.val.Builtin.{Builtin}
+use Rattle.meaning.specs.declared.builtin.Builtin.{Builtin}
 use Rattle.meaning.specs.declared.val.Val.TheVariants as v
-use Rattle.meaning.specs.Builtins.{builtin_name, same_builtin}
+use Rattle.meaning.specs.Builtins.{builtin_name, same_builtin, plain_functions, package_functions}
 use lib.Pointwise.{bytes_decides}
 use Rattle.meaning.specs.Comparing.{same_text}
 use Rattle.grammar.specs.declared.kind.FileKind.{FileKind}
@@ -25,7 +25,7 @@ use Rattle.names.specs.declared.state.Scope.{Scope}
 use Rattle.names.specs.Scope.{is_free}
 use Rattle.names.specs.View.{Ran}
 use Rattle.quiet.proofs.Runs.{ticked}
-use Rattle.language.specs.Names.{first_named, plain_functions, package_functions, universal, is_native, is_native_name, slot, read, read_slot, read_universal, or_else}
+use Rattle.language.specs.Names.{first_named, universal, is_native, is_native_name, slot, read, read_slot, or_else}
 use Rattle.names.proofs.Found.{first_append, read_is}
 use Rattle.quiet.specs.Quiet.{is_plain, plain_of, is_word_native}
 

@@ -1,5 +1,5 @@
 -- How pieces of an evaluation go on one after another.
-use Rattle.std.proofs.Common.{◌≡◌, ◌≤◌, ◌++◌, ℕ, zero, suc, length, drop, arith, List, [], ◌∷◌, Bool, true, false, Result, Ok, Err, Vec, Global, refl, ap, sym, subst, ◌∙◌}
+use Rattle.std.proofs.Common.{◌≡◌, ◌≤◌, ◌++◌, ℕ, zero, suc, length, drop, arith, List, [], ◌∷◌, Bool, true, false, Some, Result, Ok, Err, refl, ap, sym, subst, ◌∙◌}
 use Rattle.std.specs.Prelude.{◌&&◌, if◌then◌else◌}
 use Rattle.heap.specs.declared.halt.Halt.{Halt}
 use Rattle.heap.specs.declared.halt.Halt.TheVariants.{Code, Memory}
@@ -18,7 +18,7 @@ use Rattle.language.specs.Environment.{Env}
 use Rattle.language.specs.Expressions.{Call, operator_of, between, value, values}
 use Rattle.language.specs.Statements.{Exit}
 use Rattle.names.specs.View.{Ran, RanItems}
-use Rattle.quiet.specs.Done.{Done}
+use Rattle.quiet.specs.Done.{Done, Tested}
 use Rattle.tree.specs.declared.expr.Expr.{Expr}
 use Rattle.tree.specs.View.{tree_of, trees_of}
 use Rattle.quiet.specs.Parts.{right}
@@ -177,3 +177,17 @@ module _ (env : Env) (call : Call) (here : Here) where
 pub done_ran : (m : Ends Exit) (site : Site) (halt : Halt) (u : World) → Ran site m (Err halt) u → Done site m (Err halt) u
 done_ran m site (Code c) u h = h
 done_ran m site Memory u h = tt
+
+-- a condition that is tested at once
+module _ (here : Here) (m : Runs Val) (w : World) where
+  pub tested_none : (halt : Halt) (s : Store) (u : World) → Says (walks (λ objects. o.tick) w.store) (Err halt) s → Tested here.site (λ k j. tick here >>= λ _. m >>= λ x. by_truth x k j) w (Err halt) u
+  unfolding tick
+  tested_none (Code c) s u h = λ k j. ap (λ q. then_runs (at_site here.site w q) (λ _. m >>= λ x. by_truth x k j)) h
+  tested_none Memory s u h = tt
+
+  pub tested_stops : (s : Store) (halt : Halt) (v u : World) → walks (λ objects. o.tick) w.store ≡ o.gives tt s → Ran here.site (m (record w { store = s })) (Err halt) v → Tested here.site (λ k j. tick here >>= λ _. m >>= λ x. by_truth x k j) w (Err halt) u
+  tested_stops s (Code c) v u ticks h = λ k j. ticked (m >>= λ x. by_truth x k j) here w s ticks ∙ ap (λ q. then_runs q (λ x. by_truth x k j)) h
+  tested_stops s Memory v u ticks h = tt
+
+  pub tested : (s : Store) (x : Val) (b : Bool) (u : World) → walks (λ objects. o.tick) w.store ≡ o.gives tt s → m (record w { store = s }) ≡ ended x u → b ≡ is_true x u.store → Tested here.site (λ k j. tick here >>= λ _. m >>= λ x. by_truth x k j) w (Ok (Some b)) u
+  tested s x b u ticks says e = λ k j. ticked (m >>= λ x. by_truth x k j) here w s ticks ∙ ap (λ q. then_runs q (λ x. by_truth x k j)) says ∙ ap (λ c. (if c then k else j) u) (sym e)

@@ -1,5 +1,5 @@
 -- How much there is to evaluate in an expression: more than in all its parts together.
-use Rattle.std.proofs.Common.{◌≡◌, ◌<◌, ◌≤◌, ◌+◌, ℕ, zero, suc, List, [], ◌∷◌, arith, ap, sym, ◌∙◌}
+use Rattle.std.proofs.Common.{◌+◌, ℕ}
 use Rattle.tree.specs.Tree as t
 use Rattle.tree.specs.Tree.{Ex, Exs, Bound}
 

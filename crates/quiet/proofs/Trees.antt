@@ -9,7 +9,9 @@ use Rattle.tree.specs.Tree.{Ex, Cl, St, Br}
 use Rattle.tree.specs.declared.stmt.Stmt.{fold-roll-Stmt}
 use Rattle.tree.specs.declared.stmt.Stmt.TheOpen.{Stmt-F}
 use Rattle.tree.specs.declared.stmt.Stmt.TheVariants as z
-use Rattle.tree.specs.Statements.{stmt_of, stmt_step, branch_step}
+use Rattle.tree.specs.declared.stmt.Stmt.{Stmt}
+use Rattle.tree.specs.declared.stmt.Branch.{Branch}
+use Rattle.tree.specs.Statements.{stmt_of, stmts_of, branch_trees, stmt_step, branch_step}
 use Rattle.tree.specs.declared.expr.Literal.{Literal}
 use Rattle.tree.specs.declared.expr.BinaryOp.{BinaryOp}
 use Rattle.tree.specs.declared.expr.UnaryOp.{UnaryOp}
@@ -75,3 +77,6 @@ stmt-Assign l e f = ap stmt_of (sym (z.rolls-Assign l e f)) ∙ fold-roll-Stmt S
 
 pub stmt-Augment : (l : ℕ) (e : Arc Expr Global) (op : BinaryOp) (f : Arc Expr Global) → stmt_of (z.Augment l e op f) ≡ t.augment l (shared_tree e) op (shared_tree f)
 stmt-Augment l e op f = ap stmt_of (sym (z.rolls-Augment l e op f)) ∙ fold-roll-Stmt St Br stmt_step branch_step (Stmt-F.Augment l e op f)
+
+pub stmt-If : (l : ℕ) (e : Arc Expr Global) (ss : Arc (Vec Stmt Global) Global) (bs : Arc (Vec Branch Global) Global) (others : Arc (Vec Stmt Global) Global) → stmt_of (z.If l e ss bs others) ≡ t.if_else (t.more_branches (t.branch l (shared_tree e) (stmts_of (arc_value ss).items)) (branch_trees (arc_value bs).items)) (stmts_of (arc_value others).items)
+stmt-If l e ss bs others = ap stmt_of (sym (z.rolls-If l e ss bs others)) ∙ fold-roll-Stmt St Br stmt_step branch_step (Stmt-F.If l e ss bs others)

@@ -1,12 +1,11 @@
 -- How far a statement leads that is run at once: it goes on, or stops at a fault; with another one nothing is done.
-use Rattle.std.specs.Prelude.{◌≡◌, ◌<◌, ◌≤◌, ℕ, Bool, true, false, Result, Ok, Err}
-use Rattle.meaning.specs.declared.val.Val.{Val}
+use Rattle.std.specs.Prelude.{◌≡◌, ◌<◌, ℕ, Bool, true, false, if◌then◌else◌, Option, None, Some, Result, Ok, Err}
 use Rattle.heap.specs.declared.halt.Halt.{Halt}
 use Rattle.heap.specs.declared.halt.Halt.TheVariants.{Code, Memory}
 use Rattle.tree.specs.declared.expr.BinaryOp.{BinaryOp}
 use Rattle.tree.specs.Tree as t
 use Rattle.tree.specs.Tree.{Ex, St, Branches}
-use Rattle.language.specs.World.{Site, World, Here, Ends, ended, failed, Runs, ◌>>=◌, pure, tick}
+use Rattle.language.specs.World.{Site, World, Here, Ends, ended, failed, Runs, ◌>>=◌, pure, tick, by_truth}
 use Rattle.language.specs.Environment.{Env}
 use Rattle.language.specs.Expressions.{Call, value}
 use Rattle.language.specs.Statements as s
@@ -50,3 +49,20 @@ assign_does target e env call here = tick here >>= λ _. s.assign env call targe
 
 abbrev pub augment_does : Ex → BinaryOp → Ex → Env → Call → Here → Runs Exit
 augment_does target op e env call here = tick here >>= λ _. s.augment env call target op e here
+
+-- one of two pieces by a condition, behind the step of its statement
+abbrev pub test_does : Ex → Env → Call → Here → Runs Exit → Runs Exit → Runs Exit
+test_does e env call here m n = tick here >>= λ _. value env call e here >>= λ x. by_truth x m n
+
+-- A condition that is tested at once: the piece that it chooses is next, or it stops at a fault; with another condition
+-- nothing is done.
+abbrev pub Tested : Site → (Runs Exit → Runs Exit → Runs Exit) → World → Result (Option Bool) Halt → World → Type 0
+Tested site does w (Ok (Some b)) u = (m n : Runs Exit) → does m n w ≡ (if b then m else n) u
+Tested site does w (Ok None) u = Unit {0}
+Tested site does w (Err (Code c)) u = (m n : Runs Exit) → does m n w ≡ failed c site
+Tested site does w (Err Memory) u = Unit {0}
+
+abbrev pub TestCosts : Result (Option Bool) Halt → State → State → Type 0
+TestCosts (Ok (Some b)) old new = new.heap.steps < old.heap.steps
+TestCosts (Ok None) old new = new ≡ old
+TestCosts (Err halt) old new = Unit {0}

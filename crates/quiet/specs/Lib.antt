@@ -3,3 +3,4 @@ pub mod Making
 pub mod Parts
 pub mod View
 pub mod Done
+pub mod Running

@@ -1,6 +1,6 @@
--- How many values an expression makes that are not in its source: those of operators, calls and slices. One of them may
--- take some megabytes, and what an expression that is evaluated at once leaves is given back behind it alone. So only
--- expressions that make few are evaluated so.
+-- How many values an expression makes that are not in its source: those of operators between operands, calls and
+-- slices. One of them may take some megabytes, and what an expression that is evaluated at once leaves is given back
+-- behind it alone. So only expressions that make few are evaluated so.
 use Rattle.std.specs.Prelude.{ℕ, ◌+◌, Bool, nat_le}
 use Rattle.tree.specs.Tree as t
 use Rattle.tree.specs.Tree.{Ex, Exs, Bound}

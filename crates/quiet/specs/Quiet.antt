@@ -1,11 +1,12 @@
 -- Which expressions can wait for nothing: none in them calls a function of a file or a package call, and none has a
--- block of its own. A name of a call is taken for a function that every file has only where no block and no file has it.
+-- block of its own. Dictionaries are left out. A name of a call is taken for a function that every file has only where no block and no file has it.
 use Rattle.std.specs.Prelude.{ℕ, List, Bool, true, false, ◌&&◌, not, Option, None, is_some, codes}
-use Rattle.meaning.specs.declared.val.Builtin.{Builtin}
+use Rattle.meaning.specs.declared.builtin.Builtin.{Builtin}
 use Rattle.meaning.specs.Comparing.{same_text}
 use Rattle.tree.specs.Tree as t
 use Rattle.tree.specs.Tree.{Ex, Exs, Bound}
-use Rattle.language.specs.Names.{first_named, plain_functions}
+use Rattle.meaning.specs.Builtins.{plain_functions}
+use Rattle.language.specs.Names.{first_named}
 
 -- the function that a name is in every file
 abbrev pub plain_of : Ex → Option Builtin

@@ -9,4 +9,4 @@ mod standing;
 mod statements;
 
 pub use standing::{are_quiet_at, is_quiet_at, value_at, values_at};
-pub use statements::run;
+pub use statements::{holds, run};

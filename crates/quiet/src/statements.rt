@@ -1,5 +1,5 @@
 //! Statements whose parts are quiet, run at once.
-ghost use Rattle.std.specs.Prelude.{◌≡◌, ◌≤◌, ℕ, List, IfOk};
+ghost use Rattle.std.specs.Prelude.{◌≡◌, ◌≤◌, ◌&&◌, ℕ, List, is_some, IfOk};
 ghost use Rattle.heap.specs.View.{store_of};
 ghost use Rattle.language.specs.World.{Here, World, at_line};
 ghost use Rattle.language.specs.Environment.{Env};
@@ -9,12 +9,14 @@ ghost use Rattle.tree.specs.Tree as t;
 ghost use Rattle.tree.specs.Statements.{stmt_of};
 ghost use Rattle.tree.specs.View.{tree_of};
 ghost use Rattle.names.specs.View.{world_of, here_of, Ran};
-ghost use Rattle.quiet.specs.Done.{Done, Costs, stmt_line, eval_does, assign_does, augment_does};
+ghost use Rattle.quiet.specs.View.{free_at};
+ghost use Rattle.quiet.specs.Running.{at_once, assigned_at_once, augmented_at_once, run_at_once};
+ghost use Rattle.quiet.specs.Done.{Done, Costs, Tested, TestCosts, test_does, stmt_line, eval_does, assign_does, augment_does};
 
 use crate::standing::{is_quiet_at, value_at};
 use heap::{Halt, Heap, Val};
 use names::{Standing, State, bind, read};
-use pieces::{add, both, set_index, tick};
+use pieces::{add, both, is_true, set_index, tick};
 use std::sync::atomic::AtomicUsize;
 use texts::Text;
 use tree::{BinaryOp, Expr, Stmt};
@@ -34,6 +36,7 @@ fn changed(heap: &mut Heap, op: BinaryOp, x: Val, y: Val) -> Result<Val, Halt>
 fn evaluate(state: &mut State, at: &Standing, e: &Expr) -> Result<bool, Halt>
     ensures says { (env : Env) (call : Call) (line : ℕ) (running : List (List ℕ × List ℕ)) → let here = here_of at.now line running in Done here.site (eval_does (tree_of e.now) env call here (world_of state.old)) result (world_of state.new) }
     ensures costs { Costs result state.old state.new }
+    ensures exact { IfOk result (λ done. done ≡ at_once (free_at at.now state.old) (tree_of e.now)) }
 {
     if !is_quiet_at(state, at, e) {
         return Ok(false);
@@ -57,6 +60,7 @@ fn assign_name(
 ) -> Result<bool, Halt>
     ensures says { (env : Env) (call : Call) (line : ℕ) (running : List (List ℕ × List ℕ)) → let here = here_of at.now line running in Done here.site (assign_does (t.name x.now) (tree_of e.now) env call here (world_of state.old)) result (world_of state.new) }
     ensures costs { Costs result state.old state.new }
+    ensures exact { IfOk result (λ done. done ≡ at_once (free_at at.now state.old) (tree_of e.now)) }
 {
     if !is_quiet_at(state, at, e) {
         return Ok(false);
@@ -84,6 +88,7 @@ fn assign_member(
 ) -> Result<bool, Halt>
     ensures says { (env : Env) (call : Call) (line : ℕ) (running : List (List ℕ × List ℕ)) → let here = here_of at.now line running in Done here.site (assign_does (t.index (tree_of a.now) (tree_of i.now)) (tree_of e.now) env call here (world_of state.old)) result (world_of state.new) }
     ensures costs { Costs result state.old state.new }
+    ensures exact { IfOk result (λ done. done ≡ (at_once (free_at at.now state.old) (tree_of e.now) && (at_once (free_at at.now state.old) (tree_of a.now) && at_once (free_at at.now state.old) (tree_of i.now)))) }
 {
     if !is_quiet_at(state, at, e) || !is_quiet_at(state, at, a) || !is_quiet_at(state, at, i) {
         return Ok(false);
@@ -120,6 +125,7 @@ fn augment_name(
 ) -> Result<bool, Halt>
     ensures says { (env : Env) (call : Call) (line : ℕ) (running : List (List ℕ × List ℕ)) → let here = here_of at.now line running in Done here.site (augment_does (t.name x.now) op (tree_of e.now) env call here (world_of state.old)) result (world_of state.new) }
     ensures costs { Costs result state.old state.new }
+    ensures exact { IfOk result (λ done. done ≡ at_once (free_at at.now state.old) (tree_of e.now)) }
 {
     if !is_quiet_at(state, at, e) {
         return Ok(false);
@@ -149,6 +155,7 @@ fn augment_name(
 fn assign(state: &mut State, at: &Standing, target: &Expr, e: &Expr) -> Result<bool, Halt>
     ensures says { (env : Env) (call : Call) (line : ℕ) (running : List (List ℕ × List ℕ)) → let here = here_of at.now line running in Done here.site (assign_does (tree_of target.now) (tree_of e.now) env call here (world_of state.old)) result (world_of state.new) }
     ensures costs { Costs result state.old state.new }
+    ensures exact { IfOk result (λ done. done ≡ assigned_at_once (free_at at.now state.old) (tree_of target.now) (tree_of e.now)) }
 {
     match target {
         Expr::Name(x, last) => assign_name(state, at, x, last, e),
@@ -167,6 +174,7 @@ fn augment(
 ) -> Result<bool, Halt>
     ensures says { (env : Env) (call : Call) (line : ℕ) (running : List (List ℕ × List ℕ)) → let here = here_of at.now line running in Done here.site (augment_does (tree_of target.now) op (tree_of e.now) env call here (world_of state.old)) result (world_of state.new) }
     ensures costs { Costs result state.old state.new }
+    ensures exact { IfOk result (λ done. done ≡ augmented_at_once (free_at at.now state.old) (tree_of target.now) (tree_of e.now)) }
 {
     match target {
         Expr::Name(x, last) => augment_name(state, at, x, last, op, e),
@@ -180,6 +188,7 @@ fn augment(
 pub fn run(state: &mut State, at: &Standing, stmt: &Stmt) -> Result<bool, Halt>
     ensures says { (env : Env) (call : Call) (running : List (List ℕ × List ℕ)) → let here = here_of at.now at.now.line running in Done (at_line (stmt_line (stmt_of stmt.now)) here).site (s.exec env call (stmt_of stmt.now) here (world_of state.old)) result (world_of state.new) }
     ensures costs { Costs result state.old state.new }
+    ensures exact { IfOk result (λ done. done ≡ run_at_once (free_at at.now state.old) (stmt_of stmt.now)) }
 {
     match stmt {
         Stmt::Eval(_, e) => evaluate(state, at, e),
@@ -187,4 +196,25 @@ pub fn run(state: &mut State, at: &Standing, stmt: &Stmt) -> Result<bool, Halt>
         Stmt::Augment(_, target, op, e) => augment(state, at, target, *op, e),
         _ => Ok(false),
     }
+}
+
+/// Whether a condition holds, behind the step of its statement, where it is evaluated at once. With another condition
+/// nothing is done. The faults are those of the condition.
+pub fn holds(state: &mut State, at: &Standing, e: &Expr) -> Result<Option<bool>, Halt>
+    ensures says { (env : Env) (call : Call) (line : ℕ) (running : List (List ℕ × List ℕ)) → let here = here_of at.now line running in Tested here.site (test_does (tree_of e.now) env call here) (world_of state.old) result (world_of state.new) }
+    ensures costs { TestCosts result state.old state.new }
+    ensures exact { IfOk result (λ tested. is_some tested ≡ at_once (free_at at.now state.old) (tree_of e.now)) }
+{
+    if !is_quiet_at(state, at, e) {
+        return Ok(None);
+    }
+    if let Err(halt) = tick(&mut state.heap) {
+        return Err(halt);
+    }
+    let x = match value_at(state, at, e) {
+        Ok(x) => x,
+        Err(halt) => return Err(halt),
+    };
+    let holds = is_true(&state.heap, x)?;
+    Ok(Some(holds))
 }

@@ -3,17 +3,14 @@
 
 mod close;
 mod closing;
-mod here;
 mod look;
 mod loops;
 mod members;
 mod rounds;
-mod settle;
 mod stop;
 mod turns;
 
-pub use here::{close_stall, evaluate_here, has_ready, next_key, turn};
 pub use members::share_all;
 pub use open_nodes::Run;
-pub use rounds::{NotTaken, Round};
+pub use rounds::{NotTaken, Round, close_stall, evaluate_here, has_ready, next_key, turn};
 pub use stop::Stop;

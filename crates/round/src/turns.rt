@@ -24,8 +24,8 @@ ghost use Rattle.round.specs.Frames.{KeepsFrameBut};
 ghost use Rattle.round.specs.Moves.{KeepsTrue, KeepsWanted, IsWholeNow};
 ghost use Rattle.round.specs.Turning.{IsOutWith, ComesBack, NextJob};
 
+use crate::look::end;
 use crate::members::{answers_to, share_all};
-use crate::settle::end;
 use indexmap::IndexMap;
 use keys::{Job, Key, Rules, Step, Turned, Value, Waiting};
 use node::Graph;

@@ -11,9 +11,8 @@ ghost use Rattle.loader.specs.Effects.{Moves, StopsAfter, StopsRequest, request_
 ghost use Rattle.loader.specs.Held.{state_of, files_of, IsLawful};
 ghost use Rattle.loader.specs.Publishing.{AreEntries, Publishes, Shows, names_to_publish};
 
-use super::Session;
+use super::{Reply, Session};
 use crate::publishing::packages_told;
-use crate::reply::Reply;
 use crate::told::package_keys;
 use commands::{Request, refusal};
 use round::Stop;

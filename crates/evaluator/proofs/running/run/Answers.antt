@@ -1,5 +1,4 @@
-use Rattle.std.proofs.Common.{List, [], refl, ap, ◌∙◌}
-use Rattle.std.proofs.Common.{Ok, Err}
+use Rattle.std.proofs.Common.{List, [], refl, ap, ◌∙◌, Ok, Err}
 use Rattle.tree.specs.Statements.{file_of}
 use Rattle.calls.specs.declared.functions.Open.{Open}
 use Rattle.calls.specs.View.{running_of}

@@ -1,4 +1,4 @@
-use Rattle.std.proofs.Common.{◌≡◌, ◌<◌, ◌+◌, ◌∷◌, List, Err, suc, length, drop, drop-cons, get_or, add-one, arith, ap, sym, refl, subst, ◌∙◌}
+use Rattle.std.proofs.Common.{◌≡◌, ◌<◌, ◌+◌, ◌∷◌, List, Err, suc, length, drop, drop-cons, get_or, add-one, arith, ap, sym, subst, ◌∙◌}
 use Rattle.std.specs.Arc.{arc_value}
 use Rattle.heap.specs.View.{store_of}
 use Rattle.meaning.specs.declared.val.Val.{Val}
@@ -17,8 +17,8 @@ use Rattle.pieces.specs.View.{gathered_of}
 use Rattle.frames.specs.declared.frame.Control.{Control}
 use Rattle.frames.specs.declared.frame.Gathering.{Gathering}
 use Rattle.frames.specs.declared.frame.Frame.TheVariants as f
-use Rattle.frames.specs.Frames.{Sig, an_aim, a_gathered, Goes, on, gathered, aims_at, clauses_do, gather_from, gather_turn, above, stack_does, machine_does}
-use Rattle.frames.proofs.Bind.{handed, tick_ends, tick_is}
+use Rattle.frames.specs.Frames.{Sig, an_aim, frame_does, a_gathered, Goes, on, gathered, aims_at, clauses_do, gather_from, gather_turn, above, stack_does, machine_does}
+use Rattle.frames.proofs.Bind.{tick_ends, tick_is}
 use Rattle.frames.proofs.Suites.{turn_any, turn_stops}
 use Rattle.frames.proofs.gather.next_gather.Goals as goal
 
@@ -76,7 +76,6 @@ returns-clause-goes c = λ env n running.
     ∙ ap (λ q. then_runs (then_runs (then_runs (then_runs (then_runs q (λ _. aims_at env n here target u.line >>= sb)) behind) unl) p) j) (tick_ends h w (store_of c.tick.new.heap) c.in_default.ensures.says)
     ∙ turn_any aim sb behind unl p j
     ∙ ap (λ (d : Gathering). then_runs aim (λ a. above env n here (gathered ((store a v (on env n here d.line) >>= λ _. clauses_do env n here (arc_value d.of) d.inner d.line got) >>= gather_from env n here d)) frames)) (sym (c.next_gathering-next.ensures ∙ ap (λ (d : Gathering). record d { next = d.next + 1 }) (sym c.deref-now.ensures)))
-    ∙ handed env n here (f.Aimed c.next_gathering-next.result v c.args.got) frames c.push.new.frames.items an_aim aim (c.in_ok-push.ensures.ok env n here) refl refl
-    ∙ ap (λ (d : Expr). above env n here (λ z. then_runs (aims_at env n here (tree_of d) u.line z) (λ a. pure (an_aim a))) c.push.new.frames.items ticked) (sym (c.deref.ensures ∙ c.in_ok-target.ensures)) in
-    let after = λ (control : Control). machine_does env n here control c.begin_aim.new.frames.items (world_of c.begin_aim.new.state) in
-    subst (λ (d : Gathering). Goes (on env n here d.line).site (above env n here (gathered (gather_from env n here d got)) frames w) c.begin_aim.result after) c.deref-now.ensures (subst (λ (q : Ends Sig). Goes h.site q c.begin_aim.result after) (sym before) (c.begin_aim.ensures.goes env n running))
+    ∙ ap (λ (d : Expr). then_runs (aims_at env n here (tree_of d) u.line ticked) (λ a. above env n here (frame_does env n here (f.Aimed c.next_gathering-next.result v c.args.got) (an_aim a)) frames)) (sym (c.deref.ensures ∙ c.in_ok-target.ensures)) in
+    let after = λ (control : Control). machine_does env n here control c.aim_gathering.new.frames.items (world_of c.aim_gathering.new.state) in
+    subst (λ (d : Gathering). Goes (on env n here d.line).site (above env n here (gathered (gather_from env n here d got)) frames w) c.aim_gathering.result after) c.deref-now.ensures (subst (λ (q : Ends Sig). Goes h.site q c.aim_gathering.result after) (sym before) (c.aim_gathering.ensures.goes env n running))

@@ -1,10 +1,16 @@
-use Rattle.language.specs.World.{pure}
+use Rattle.std.proofs.Common.{◌≡◌, Vec, Global, ap, sym, subst, ◌∙◌}
+use Rattle.tree.specs.declared.stmt.Stmt.{Stmt}
+use Rattle.tree.specs.Statements.{stmts_of}
+use Rattle.language.specs.World.{Ends, ended, then_runs, pure}
 use Rattle.language.specs.Names.{bind}
 use Rattle.language.specs.Statements as s
 use Rattle.names.specs.View.{world_of, here_of}
 use Rattle.frames.specs.declared.frame.Control.{Control}
-use Rattle.frames.specs.Frames.{an_exit, on, body, shared_suite, turns_behind, stack_does, machine_does}
+use Rattle.frames.specs.declared.frame.Turns.{Turns}
+use Rattle.frames.specs.Frames.{Sig, Goes, an_exit, on, body, shared_suite, turns_behind, stack_does, machine_does}
+use Rattle.frames.specs.Ahead.{exited_as}
 use Rattle.frames.proofs.Suites.{stops4}
+use Rattle.frames.proofs.AtOnce.{led, handed_exit}
 use Rattle.frames.proofs.loops.begin_named.Goals as goal
 
 pub returns-in-Err-clause-goes : goal.returns-in-Err-clause-goes
@@ -16,3 +22,28 @@ returns-in-Err-clause-goes c = λ env n running.
     let frames = c.args.frames.now.items in
     let after = λ (control : Control). machine_does env n here control frames (world_of c.bind.new.state) in
     stops4 (bind c.args.name.now c.args.x h w) (λ _. body env n here (shared_suite c.args.turns.value.body)) (turns_behind env n here c.args.turns.value) (λ (x : s.Exit). pure (an_exit x)) (stack_does env n here frames) h.site c.in-Err.halt (world_of c.bind.new.state) after (c.in-Err.ensures.says line running)
+
+pub returns-in_ok-push-in-Ok-clause-goes : goal.returns-in_ok-push-in-Ok-clause-goes
+returns-in_ok-push-in-Ok-clause-goes c = λ env n running.
+    let here = here_of c.args.at.now c.args.at.now.line running in
+    let u = c.args.turns.value in
+    let h = on env n here u.line in
+    let w = world_of c.args.state.now in
+    let bound = world_of c.bind.new.state in
+    let frames = c.args.frames.now.items in
+    let pushed = c.push.new.frames.items in
+    let j = stack_does env n here frames in
+    let p = λ (x : s.Exit). pure (an_exit x) in
+    let ss = c.in_ok-body.body in
+    let pushed_is = c.in_ok-push-in-Ok.ensures.ok env n here in
+    let bound_is : bind c.args.name.now c.args.x h w ≡ ended tt bound = c.in_default.ensures.says u.line running in
+    let rest = turns_behind env n here u in
+    let says = body env n here (shared_suite ss) bound in
+    let before =
+    ap (λ q. then_runs (then_runs (then_runs (then_runs q (λ _. body env n here (shared_suite u.body))) rest) p) j) bound_is
+    ∙ ap (λ (d : Turns). then_runs (then_runs (then_runs (body env n here (shared_suite d.body) bound) rest) p) j) (sym c.deref.ensures)
+    ∙ ap (λ (d : Vec Stmt Global). then_runs (then_runs (then_runs (body env n here (stmts_of d.items) bound) rest) p) j) (sym c.in_ok-body.ensures)
+    ∙ handed_exit env n here c.args.turns frames pushed says pushed_is in
+    let after = λ (control : Control). machine_does env n here control c.lead.new.frames.items (world_of c.ahead.new.state) in
+    let goes = led h.site (then_runs (exited_as says) (stack_does env n here pushed)) c.lead.result after (c.lead.ensures.goes env n here says (world_of c.ahead.new.state) (c.in-Ok.ensures.leads env n running)) c.lead.ensures.err in
+    subst (λ (q : Ends Sig). Goes h.site q c.lead.result after) (sym before) goes

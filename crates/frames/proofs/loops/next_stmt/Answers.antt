@@ -1,46 +1,39 @@
-use Rattle.std.proofs.Common.{◌≡◌, ℕ, ◌<◌, ◌+◌, ◌∷◌, List, Bool, Ok, Err, Vec, Global, true, suc, length, drop, drop-cons, get_or, add-one, vec_len, arith, ap, sym, subst, ◌∙◌}
-use Rattle.std.specs.Arc.{arc_value}
-use Rattle.tree.specs.declared.stmt.Stmt.{Stmt}
-use Rattle.tree.specs.Statements.{stmt_of, stmts_of}
-use Rattle.language.specs.Calls.{call}
-use Rattle.language.specs.Statements.{exec, goes_on}
-use Rattle.language.specs.World.{ended}
+use Rattle.std.proofs.Common.{◌≡◌, ◌+◌, ℕ, arith, ap, sym, subst}
+use Rattle.language.specs.World.{Ends, then_runs}
 use Rattle.names.specs.View.{world_of, here_of}
-use Rattle.quiet.specs.Done.{Done, stmt_line}
 use Rattle.frames.specs.declared.frame.Control.{Control}
 use Rattle.frames.specs.declared.frame.Control.TheVariants.{Suite}
-use Rattle.frames.specs.Frames.{Goes, on, machine_does, suite_line, suite_from}
-use Rattle.frames.proofs.Suites.{stmt_done, stmt_stops}
+use Rattle.frames.specs.declared.frame.Ahead.{Ahead}
+use Rattle.frames.specs.Frames.{Sig, Goes, on, body, machine_does, stack_does, suite_line, suite_from}
+use Rattle.frames.specs.Weight.{frames_weight, control_weight}
+use Rattle.frames.specs.Ahead.{LeadsTo, LeadCosts, exited_as}
+use Rattle.frames.proofs.AtOnce.{led, led_lighter}
 use Rattle.frames.proofs.loops.next_stmt.Goals as goal
 
-pub returns-then-done-clause-goes : goal.returns-then-done-clause-goes
-returns-then-done-clause-goes c = λ env n running.
+pub returns-then-i-next-clause-goes : goal.returns-then-i-next-clause-goes
+returns-then-i-next-clause-goes c = λ env n running.
     let here = here_of c.args.at.now c.args.at.now.line running in
-    let all = arc_value c.args.ss in
-    let k = c.args.next in
-    let st = c.index-stmt.result.now in
-    let w = world_of c.args.state.now in
-    let u = world_of c.run.new.state in
-    let lt : k < length all.items = omega (arith, all.ok.0, c.if-next-len.false, c.len.ensures ∙ ap (λ (v : Vec Stmt Global). vec_len v) c.deref.ensures) in
-    let stands : st ≡ get_or all.items k st = c.index-stmt.ensures ∙ ap (λ (v : Vec Stmt Global). get_or v.items k st) c.deref-2.ensures in
-    let first : drop k all.items ≡ st ∷ drop (k + 1) all.items = rw add-one (drop-cons all.items k st lt ∙ ap (λ (x : Stmt). x ∷ drop (suc k) all.items) (sym stands)) in
-    let does = exec env (call env n) (stmt_of st) here w in
-    let done : does ≡ ended goes_on u = subst (λ (b : Bool). Done (on env n here (stmt_line (stmt_of st))).site does (Ok b) u) c.if-done.true (c.in-Ok.ensures.says env (call env n) running) in
-    stmt_done env n here c.args.frames.now.items w all.items st k (k + 1) u first done
+    let says = body env n here (suite_from c.args.next c.args.ss) (world_of c.args.state.now) in
+    ap (λ q. then_runs (exited_as q) (stack_does env n here c.args.frames.now.items)) (subst (λ (a : Ahead). LeadsTo env n here c.args.ss says a (world_of c.ahead.new.state)) c.in-At.is (c.in-Ok.ensures.leads env n running))
 
-pub returns-in-Err-clause-goes : goal.returns-in-Err-clause-goes
-returns-in-Err-clause-goes c = λ env n running.
+pub returns-else-i-next-clause-goes : goal.returns-else-i-next-clause-goes
+returns-else-i-next-clause-goes c = λ env n running.
     let here = here_of c.args.at.now c.args.at.now.line running in
-    let all = arc_value c.args.ss in
-    let k = c.args.next in
-    let st = c.index-stmt.result.now in
-    let w = world_of c.args.state.now in
-    let u = world_of c.run.new.state in
+    let says = body env n here (suite_from c.args.next c.args.ss) (world_of c.args.state.now) in
     let frames = c.args.frames.now.items in
-    let lt : k < length all.items = omega (arith, all.ok.0, c.if-next-len.false, c.len.ensures ∙ ap (λ (v : Vec Stmt Global). vec_len v) c.deref.ensures) in
-    let stands : st ≡ get_or all.items k st = c.index-stmt.ensures ∙ ap (λ (v : Vec Stmt Global). get_or v.items k st) c.deref-2.ensures in
-    let first : drop k all.items ≡ st ∷ drop (k + 1) all.items = rw add-one (drop-cons all.items k st lt ∙ ap (λ (x : Stmt). x ∷ drop (suc k) all.items) (sym stands)) in
-    let line : stmt_line (stmt_of st) ≡ suite_line (suite_from k c.args.ss) = sym (ap (λ (l : List Stmt). suite_line (stmts_of l)) first) in
-    let after = λ (control : Control). machine_does env n here control frames u in
-    subst (λ (i : ℕ). Goes (on env n here i).site (machine_does env n here (Suite c.args.ss k) frames w) (Err c.in-Err.halt) after) line
-    (stmt_stops env n here frames w all.items st k (k + 1) (on env n here (stmt_line (stmt_of st))).site c.in-Err.halt u after first (c.in-Err.ensures.says env (call env n) running))
+    let after = λ (control : Control). machine_does env n here control c.stmt_above.new.frames.items (world_of c.stmt_above.new.state) in
+    let costs = subst (λ (a : Ahead). LeadCosts c.args.next c.args.ss a c.args.state.now c.ahead.new.state) c.in-At.is c.in-Ok.ensures.costs in
+    let same : c.in-At.i ≡ c.args.next = omega (arith, costs.0, c.if-i-next.false) in
+    let before = ap (λ q. then_runs (exited_as q) (stack_does env n here frames)) (subst (λ (a : Ahead). LeadsTo env n here c.args.ss says a (world_of c.ahead.new.state)) c.in-At.is (c.in-Ok.ensures.leads env n running)) in
+    let goes = subst (λ (q : Ends Sig). Goes (on env n here (suite_line (suite_from c.in-At.i c.args.ss))).site q c.stmt_above.result after) (sym before) (c.stmt_above.ensures.goes env n running) in
+    subst (λ (k : ℕ). Goes (on env n here (suite_line (suite_from k c.args.ss))).site (machine_does env n here (Suite c.args.ss c.args.next) frames (world_of c.args.state.now)) c.stmt_above.result after) same goes
+
+pub returns-in_default : goal.returns-in_default
+returns-in_default c = record {
+  goes = λ env n running.
+      let here = here_of c.args.at.now c.args.at.now.line running in
+      let says = body env n here (suite_from c.args.next c.args.ss) (world_of c.args.state.now) in
+      let after = λ (control : Control). machine_does env n here control c.lead.new.frames.items (world_of c.ahead.new.state) in
+      led (on env n here (suite_line (suite_from c.args.next c.args.ss))).site (then_runs (exited_as says) (stack_does env n here c.args.frames.now.items)) c.lead.result after (c.lead.ensures.goes env n here says (world_of c.ahead.new.state) (c.in-Ok.ensures.leads env n running)) c.lead.ensures.err;
+  lighter = led_lighter c.args.next c.args.ss c.in-Ok.ahead c.lead.result c.args.state.now c.ahead.new.state (frames_weight c.args.frames.now.items) (λ control. frames_weight c.lead.new.frames.items + control_weight control) c.in_default.not-At c.in-Ok.ensures.costs c.lead.ensures.weight;
+}

@@ -1,4 +1,4 @@
-use Rattle.std.proofs.Common.{◌≡◌, ◌<◌, ◌+◌, ◌∷◌, List, Err, suc, length, drop, drop-cons, get_or, add-one, arith, ap, sym, refl, subst, ◌∙◌}
+use Rattle.std.proofs.Common.{◌≡◌, ◌<◌, ◌+◌, ◌∷◌, List, Err, suc, length, drop, drop-cons, get_or, add-one, arith, ap, sym, subst, ◌∙◌}
 use Rattle.heap.specs.View.{store_of}
 use Rattle.meaning.specs.Outcome as o
 use Rattle.meaning.specs.Heap.{walks}

@@ -10,5 +10,5 @@ pub returns-clause-goes : goal.returns-clause-goes
 returns-clause-goes c = λ env n running.
     let here = here_of c.args.at.now c.args.at.now.line running in
     let w = world_of c.args.state.now in
-    let after = λ (control : Control). machine_does env n here control c.deliver.new.frames.items (world_of c.deliver.new.state) in
-    subst (λ (q : Ends Sig). Goes (on env n here (frame_line c.args.at.now.line c.args.frame)).site q c.deliver.result after) (sym (handed_down env n here c.args.frames.now.items c.args.frame (sig_of c.args.signal) w c.requires)) (c.deliver.ensures.goes env n running)
+    let after = λ (control : Control). machine_does env n here control c.hand_on.new.frames.items (world_of c.hand_on.new.state) in
+    subst (λ (q : Ends Sig). Goes (on env n here (frame_line c.args.at.now.line c.args.frame)).site q c.hand_on.result after) (sym (handed_down env n here c.args.frames.now.items c.args.frame (sig_of c.args.signal) w c.requires)) (c.hand_on.ensures.goes env n running)

@@ -1,12 +1,11 @@
 use Rattle.std.proofs.Common.{◌≡◌, Option, Ok, sym, refl, subst, ap}
 use Rattle.meaning.specs.declared.val.Val.{Val}
 use Rattle.tree.specs.View.{tree_of}
-use Rattle.language.specs.World.{Ends, ended, then_runs}
+use Rattle.language.specs.World.{Ends, ended, then_runs, on_heap}
 use Rattle.names.specs.declared.state.State.{State}
 use Rattle.names.specs.View.{world_of, here_of}
 use Rattle.frames.specs.declared.frame.Control.{Control}
 use Rattle.meaning.specs.Binary.{binary}
-use Rattle.language.specs.World.{on_heap}
 use Rattle.language.specs.Expressions.{operator_of}
 use Rattle.frames.specs.Immediate.{AtOnce, Costs}
 use Rattle.frames.specs.Frames.{Sig, Goes, on, ex, valued, above, machine_does}

@@ -1,8 +1,7 @@
-use Rattle.std.proofs.Common.{Global, ap, sym, refl, subst, ◌∙◌}
+use Rattle.std.proofs.Common.{Global, ap, sym, refl, subst, ◌∙◌, Option}
 use Rattle.meaning.specs.declared.val.Val.{Val}
 use Rattle.tree.specs.declared.expr.Expr.{Expr}
 use Rattle.tree.specs.View.{tree_of, shared_tree, bound_tree}
-use Rattle.std.proofs.Common.{Option}
 use Rattle.std.specs.declared.sync.Arc.{Arc}
 use Rattle.language.specs.World.{Ends, then_runs, pure}
 use Rattle.names.specs.View.{world_of, here_of}

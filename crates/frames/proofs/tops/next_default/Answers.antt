@@ -1,8 +1,7 @@
-use Rattle.std.proofs.Common.{◌≡◌, ℕ, ◌<◌, ◌+◌, ◌∷◌, ◌++◌, [], List, Vec, Global, suc, length, drop, map, drop-cons, get_or, add-one, vec_len, arith, ap, sym, refl, subst, ◌∙◌}
+use Rattle.std.proofs.Common.{◌≡◌, ◌<◌, ◌+◌, ◌∷◌, ◌++◌, [], List, suc, length, drop, map, drop-cons, get_or, add-one, vec_len, arith, ap, sym, refl, subst, ◌∙◌}
 use Rattle.std.specs.Arc.{arc_value}
 use Rattle.meaning.specs.declared.val.Val.{Val}
-use Rattle.tree.specs.Tree as t
-use Rattle.tree.specs.Tree.{Pa, Bound}
+use Rattle.tree.specs.Tree.{Bound}
 use Rattle.tree.specs.declared.expr.Expr.{Expr}
 use Rattle.tree.specs.declared.stmt.Param.{Param}
 use Rattle.tree.specs.declared.stmt.Def.{Def}

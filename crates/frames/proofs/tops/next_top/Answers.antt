@@ -1,4 +1,4 @@
-use Rattle.std.proofs.Common.{◌≡◌, ℕ, ◌<◌, ◌+◌, ◌∷◌, List, Vec, Global, suc, length, drop, map, drop-cons, get_or, add-one, vec_len, arith, ap, sym, subst, ◌∙◌}
+use Rattle.std.proofs.Common.{◌≡◌, ℕ, ◌<◌, ◌+◌, ◌∷◌, List, suc, length, drop, map, drop-cons, get_or, add-one, vec_len, arith, ap, sym, subst, ◌∙◌}
 use Rattle.std.specs.Arc.{arc_value}
 use Rattle.tree.specs.Tree as t
 use Rattle.tree.specs.Tree.{Tp}

@@ -1,5 +1,6 @@
 use Rattle.std.proofs.Common.{sym, ap, ◌∙◌}
-use Rattle.language.specs.Names.{first_named, plain_functions, package_functions, or_else}
+use Rattle.meaning.specs.Builtins.{plain_functions, package_functions}
+use Rattle.language.specs.Names.{first_named, or_else}
 use Rattle.names.proofs.Found.{first_append}
 use Rattle.names.proofs.universal.universal.Goals as goal
 

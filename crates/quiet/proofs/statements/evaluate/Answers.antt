@@ -1,16 +1,11 @@
-use Rattle.std.proofs.Common.{◌≡◌, Ok, Err, refl, ap, sym, ◌∙◌}
+use Rattle.std.proofs.Common.{Ok, Err, refl}
 use Rattle.heap.specs.View.{store_of}
-use Rattle.meaning.specs.declared.val.Val.{Val}
-use Rattle.meaning.specs.Indexing.{set_index}
-use Rattle.tree.specs.Tree as t
 use Rattle.tree.specs.View.{tree_of}
-use Rattle.language.specs.World.{World, Runs, then_runs, ◌>>=◌, pure, on_heap}
-use Rattle.language.specs.Names.{bind, read}
-use Rattle.language.specs.Targets.{Aim, to_name, to_member, store}
-use Rattle.language.specs.Expressions.{value, aim}
-use Rattle.language.specs.Statements.{Exit, goes_on, assign, augment, changed}
+use Rattle.language.specs.World.{◌>>=◌, pure}
+use Rattle.language.specs.Expressions.{value}
+use Rattle.language.specs.Statements.{goes_on}
 use Rattle.names.specs.View.{world_of, here_of}
-use Rattle.quiet.proofs.Runs.{stops, behind, heaped, stepped, no_step, done_ran}
+use Rattle.quiet.proofs.Runs.{stops, behind, stepped, no_step, done_ran}
 use Rattle.quiet.proofs.statements.evaluate.Goals as goal
 
 pub returns-in-Err-clause-says : goal.returns-in-Err-clause-says

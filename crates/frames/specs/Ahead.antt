@@ -1,0 +1,78 @@
+-- How far statements lead that are run at once.
+use Rattle.std.specs.Prelude.{◌≡◌, ◌+◌, ◌≤◌, ◌<◌, ℕ, length}
+use Rattle.std.specs.declared.vec.Vec.{Vec}
+use Rattle.std.specs.declared.alloc.Global.{Global}
+use Rattle.std.specs.declared.sync.Arc.{Arc}
+use Rattle.std.specs.Arc.{arc_value}
+use Rattle.tree.specs.declared.stmt.Stmt.{Stmt}
+use Rattle.heap.specs.declared.halt.Halt.{Halt}
+use Rattle.heap.specs.declared.halt.Halt.TheVariants.{Code, Memory}
+use Rattle.language.specs.World.{World, Here, Ends, ended, failed, then_runs, pure}
+use Rattle.language.specs.Environment.{Env}
+use Rattle.language.specs.Statements.{Exit, goes_on}
+use Rattle.names.specs.declared.state.State.{State}
+use Rattle.frames.specs.declared.frame.Once.{Once}
+use Rattle.frames.specs.declared.frame.Once.TheVariants as o
+use Rattle.frames.specs.declared.frame.Ahead.{Ahead}
+use Rattle.frames.specs.declared.frame.Ahead.TheVariants as a
+use Rattle.frames.specs.declared.frame.Frame.TheVariants as f
+use Rattle.frames.specs.Weight.{control_weight}
+use Rattle.frames.specs.Frames.{Sig, an_exit, on, body, suite_from, control_does, frame_does}
+
+-- a fault, with its line
+abbrev pub StopsAs : ℕ → Halt → Once → Type 0
+StopsAs line (Code c) once = once ≡ o.Faulty line c
+StopsAs line Memory once = ⊥
+
+-- how a suite ends, as a signal
+abbrev pub exited_as : Ends Exit → Ends Sig
+exited_as says = then_runs says (λ exit. pure (an_exit exit))
+
+-- What a statement, or a suite, has done that was run at once: it has ended and goes on; a control is left to do; it has
+-- stopped at a fault; or nothing was done.
+abbrev pub OnceDoes : Env → ℕ → Here → Ends Exit → Once → World → Type 0
+OnceDoes env n here says o.Done u = says ≡ ended goes_on u
+OnceDoes env n here says (o.Begun control) u = exited_as says ≡ control_does env n here control u
+OnceDoes env n here says (o.Faulty line code) u = says ≡ failed code (on env n here line).site
+OnceDoes env n here says o.Not u = Unit {0}
+
+-- A statement of which some was done costs a step. Behind a fault none is left.
+abbrev pub OnceCosts : Once → State → State → Type 0
+OnceCosts o.Done old new = new.heap.steps < old.heap.steps
+OnceCosts (o.Begun control) old new = new.heap.steps < old.heap.steps
+OnceCosts (o.Faulty line code) old new = new.heap.steps ≡ 0
+OnceCosts o.Not old new = new ≡ old
+
+-- A suite may be empty. It is always done or begun, or stops.
+abbrev pub SuiteCosts : Once → State → State → Type 0
+SuiteCosts o.Done old new = new.heap.steps ≤ old.heap.steps
+SuiteCosts (o.Begun control) old new = new.heap.steps ≤ old.heap.steps
+SuiteCosts (o.Faulty line code) old new = new.heap.steps ≡ 0
+SuiteCosts o.Not old new = ⊥
+
+-- How far the statements of a suite lead: to their end; to the one at a place; into one, behind which the one at a place is
+-- next; or to a fault.
+abbrev pub LeadsTo : Env → ℕ → Here → Arc (Vec Stmt Global) Global → Ends Exit → Ahead → World → Type 0
+LeadsTo env n here ss says a.Ended u = says ≡ ended goes_on u
+LeadsTo env n here ss says (a.At i) u = says ≡ body env n here (suite_from i ss) u
+LeadsTo env n here ss says (a.Above i control) u = exited_as says ≡ then_runs (control_does env n here control u) (frame_does env n here (f.Rest ss i))
+LeadsTo env n here ss says (a.Faulty line code) u = says ≡ failed code (on env n here line).site
+
+-- each statement that was run costs a step
+abbrev pub LeadCosts : ℕ → Arc (Vec Stmt Global) Global → Ahead → State → State → Type 0
+LeadCosts next ss a.Ended old new = new.heap.steps ≤ old.heap.steps
+LeadCosts next ss (a.At i) old new = (next ≤ i) × ((i < length (arc_value ss).items) × ((new.heap.steps ≤ old.heap.steps) × (next < i → new.heap.steps < old.heap.steps)))
+LeadCosts next ss (a.Above i control) old new = new.heap.steps < old.heap.steps
+LeadCosts next ss (a.Faulty line code) old new = new.heap.steps ≡ 0
+
+-- the weight of what is left of a suite, with the frame that waits for it
+abbrev pub left_weight : Ahead → ℕ
+left_weight a.Ended = 0
+left_weight (a.At i) = 1
+left_weight (a.Above i control) = 2 + control_weight control
+left_weight (a.Faulty line code) = 0
+
+-- no more steps are left; or as many, and no more is to be done before the next
+pub record AsLight (s w s' w' : ℕ) : Type 0 where
+  pub steps : s' ≤ s
+  pub weight : s' ≡ s → w' ≤ w

@@ -1,0 +1,140 @@
+//! Statements that are run at once, as far as they can be.
+ghost use Rattle.std.specs.Prelude.{◌≡◌, ◌+◌, ◌≤◌, ◌<◌, ℕ, List, IfOk, IsOkUnless};
+ghost use Rattle.tree.specs.Statements.{stmt_of};
+ghost use Rattle.language.specs.Calls.{call};
+ghost use Rattle.language.specs.Statements as s;
+ghost use Rattle.language.specs.Statements.{exec};
+ghost use Rattle.language.specs.Environment.{Env};
+ghost use Rattle.names.specs.View.{world_of, here_of};
+ghost use Rattle.heap.specs.declared.halt.Halt.TheVariants as h;
+ghost use Rattle.language.specs.World.{World, Here, Ends, then_runs};
+ghost use Rattle.frames.specs.Frames.{body, shared_suite, suite_from, stack_does, machine_does};
+ghost use Rattle.frames.specs.Weight.{frames_weight, control_weight};
+ghost use Rattle.frames.specs.Ahead.{OnceDoes, OnceCosts, SuiteCosts, StopsAs, LeadsTo, LeadCosts, exited_as, left_weight};
+
+use crate::frame::{Ahead, Control, Exit, Frame, Once, Signal};
+use crate::stack::push;
+use crate::statements::line_of;
+use heap::Halt;
+use names::{Standing, State};
+use quiet::{holds, run};
+use std::alloc::Global;
+use std::sync::Arc;
+use texts::Memory;
+use tree::Stmt;
+
+// A statement that stops. Behind a fault no step is taken any more.
+fn stopped(state: &mut State, line: usize, halt: Halt) -> Result<Once, Memory>
+    ensures stops { IfOk result (StopsAs line halt) }
+    ensures steps { state.new.heap.steps ≡ 0 }
+{
+    state.heap.steps = 0;
+    match halt {
+        Halt::Code(code) => Ok(Once::Faulty(line, code)),
+        Halt::Memory => Err(Memory),
+    }
+}
+
+// Runs the statements of a suite at once, to the first that is not run so, or behind which objects are given back first.
+fn suite_once(state: &mut State, at: &Standing, ss: &Arc<Vec<Stmt>, Global>) -> Result<Once, Memory>
+    ensures does { (env : Env) (n : ℕ) (running : List (List ℕ × List ℕ)) → let here = here_of at.now at.now.line running in IfOk result (λ once. OnceDoes env n here (body env n here (shared_suite ss.now) (world_of state.old)) once (world_of state.new)) }
+    ensures costs { IfOk result (λ once. SuiteCosts once state.old state.new) }
+{
+    for i in 0..ss.len() {
+        if state.heap.is_full() {
+            return Ok(Once::Begun(Control::Suite(Arc::try_clone(ss)?, i)));
+        }
+        let stmt = &ss[i];
+        match run(state, at, stmt) {
+            Ok(true) => {}
+            Ok(false) => return Ok(Once::Begun(Control::Suite(Arc::try_clone(ss)?, i))),
+            Err(halt) => return stopped(state, line_of(stmt), halt),
+        }
+    }
+    Ok(Once::Done)
+}
+
+// Runs an `if` at once, where its condition is tested so: the statements that it chooses, as far as they can be.
+fn if_once(state: &mut State, at: &Standing, stmt: &Stmt) -> Result<Once, Memory>
+    ensures does { (env : Env) (n : ℕ) (running : List (List ℕ × List ℕ)) → let here = here_of at.now at.now.line running in IfOk result (λ once. OnceDoes env n here (exec env (call env n) (stmt_of stmt.now) here (world_of state.old)) once (world_of state.new)) }
+    ensures costs { IfOk result (λ once. OnceCosts once state.old state.new) }
+{
+    match stmt {
+        Stmt::If(line, condition, body, branches, other) => match holds(state, at, condition) {
+            Ok(Some(holds)) => {
+                if holds {
+                    return suite_once(state, at, body);
+                }
+                if branches.is_empty() {
+                    return suite_once(state, at, other);
+                }
+                let branches = Arc::try_clone(branches)?;
+                Ok(Once::Begun(Control::Branches(branches, 0, Arc::try_clone(other)?)))
+            }
+            Ok(None) => Ok(Once::Not),
+            Err(halt) => stopped(state, *line, halt),
+        },
+        _ => Ok(Once::Not),
+    }
+}
+
+// Runs a statement at once, as far as it can be.
+fn once(state: &mut State, at: &Standing, stmt: &Stmt) -> Result<Once, Memory>
+    ensures does { (env : Env) (n : ℕ) (running : List (List ℕ × List ℕ)) → let here = here_of at.now at.now.line running in IfOk result (λ once. OnceDoes env n here (exec env (call env n) (stmt_of stmt.now) here (world_of state.old)) once (world_of state.new)) }
+    ensures costs { IfOk result (λ once. OnceCosts once state.old state.new) }
+{
+    match run(state, at, stmt) {
+        Ok(true) => Ok(Once::Done),
+        Ok(false) => if_once(state, at, stmt),
+        Err(halt) => stopped(state, line_of(stmt), halt),
+    }
+}
+
+/// Runs the statements of a suite from one on at once, as far as they can be, or until objects are to be given back.
+pub fn ahead(
+    state: &mut State,
+    at: &Standing,
+    ss: &Arc<Vec<Stmt>, Global>,
+    next: usize,
+) -> Result<Ahead, Memory>
+    ensures leads { (env : Env) (n : ℕ) (running : List (List ℕ × List ℕ)) → let here = here_of at.now at.now.line running in IfOk result (λ ahead. LeadsTo env n here ss.now (body env n here (suite_from next ss.now) (world_of state.old)) ahead (world_of state.new)) }
+    ensures costs { IfOk result (λ ahead. LeadCosts next ss.now ahead state.old state.new) }
+{
+    for i in next..ss.len() {
+        if i > next && state.heap.is_full() {
+            return Ok(Ahead::At(i));
+        }
+        let stmt = &ss[i];
+        match once(state, at, stmt) {
+            Ok(Once::Done) => {}
+            Ok(Once::Begun(control)) => return Ok(Ahead::Above(i + 1, control)),
+            Ok(Once::Faulty(line, code)) => return Ok(Ahead::Faulty(line, code)),
+            Ok(Once::Not) => return Ok(Ahead::At(i)),
+            Err(memory) => return Err(memory),
+        }
+    }
+    Ok(Ahead::Ended)
+}
+
+/// What is left of the statements of a suite, above the frames.
+pub fn lead(
+    frames: &mut Vec<Frame>,
+    ss: Arc<Vec<Stmt>, Global>,
+    ahead: Ahead,
+) -> Result<Control, Halt>
+    ensures goes { (env : Env) (n : ℕ) (here : Here) (says : Ends s.Exit) (u : World) → LeadsTo env n here ss says ahead u → IfOk result (λ control. then_runs (exited_as says) (stack_does env n here frames.old.items) ≡ machine_does env n here control frames.new.items u) }
+    ensures err { IsOkUnless result h.Memory }
+    ensures weight { IfOk result (λ control. frames_weight frames.new.items + control_weight control ≡ frames_weight frames.old.items + left_weight ahead) }
+{
+    match ahead {
+        Ahead::Ended => Ok(Control::Signal(Signal::Exit(Exit::GoesOn))),
+        Ahead::At(i) => Ok(Control::Suite(ss, i)),
+        Ahead::Above(i, control) => {
+            if let Err(halt) = push(frames, Frame::Rest(ss, i)) {
+                return Err(halt);
+            }
+            Ok(control)
+        }
+        Ahead::Faulty(line, code) => Ok(Control::Fault(line, code)),
+    }
+}

@@ -1,0 +1,19 @@
+use Rattle.std.proofs.Common.{◌∙◌, ap, sym}
+use Rattle.std.specs.Prelude.{Option, option_map, option_and_then, string_bytes}
+use Rattle.commands.specs.Commands as commands
+use Rattle.commands.specs.Seen.{command_seen}
+use Rattle.commands.specs.declared.command.Command.{Command}
+use Rattle.serde_json.specs.View.{view}
+use Rattle.serde_json.specs.declared.value.Value.{Value}
+use Rattle.loader.proofs.LineAnswers.{no_step}
+use Rattle.loader.proofs.session.begin.Goals as goal
+
+pub returns-in_default-clause-begins : goal.returns-in_default-clause-begins
+returns-in_default-clause-begins c =
+    no_step (option_and_then commands.command_of (option_map view c.args.value.now)) c.args.session.now (string_bytes c.in_ok-refused.field-0)
+    (ap (λ (v : Option Value). option_and_then commands.command_of (option_map view v)) c.in_default.is) c.in_ok-refused.ensures
+
+pub returns-in_ok-refused-in-None-clause-begins : goal.returns-in_ok-refused-in-None-clause-begins
+returns-in_ok-refused-in-None-clause-begins c =
+    no_step (option_and_then commands.command_of (option_map view c.args.value.now)) c.args.session.now (string_bytes c.in_ok-refused-in-None.field-0)
+    (ap (λ (v : Option Value). option_and_then commands.command_of (option_map view v)) c.in-Some.is ∙ (sym c.in_ok-command_of.ensures ∙ ap (λ (o : Option Command). option_map command_seen o) c.in-None.is)) c.in_ok-refused-in-None.ensures

@@ -1,0 +1,147 @@
+//! The functions that files have without a binding, in one table: what each is called, its number, and which of them are
+//! package calls.
+ghost use Rattle.std.specs.Prelude.{◌≡◌};
+ghost use Rattle.std.specs.List.{list_any};
+ghost use Rattle.meaning.specs.Builtins.{builtin_number, builtin_name, same_builtin, package_functions};
+
+/// A function that files have without a binding: of every file, or a package call.
+#[derive(Clone, Copy)]
+pub enum Builtin {
+    Len,
+    Range,
+    Str,
+    Repr,
+    Type,
+    Sorted,
+    Reversed,
+    Enumerate,
+    Zip,
+    List,
+    Tuple,
+    Dict,
+    Bool,
+    Any,
+    All,
+    Min,
+    Max,
+    Fail,
+    Glob,
+    Filegroup,
+    Genrule,
+    Alias,
+    TestSuite,
+    PackageName,
+}
+
+/// The functions that every file has.
+pub const PLAIN: [Builtin; 18] = [
+    Builtin::Len,
+    Builtin::Range,
+    Builtin::Str,
+    Builtin::Repr,
+    Builtin::Type,
+    Builtin::Sorted,
+    Builtin::Reversed,
+    Builtin::Enumerate,
+    Builtin::Zip,
+    Builtin::List,
+    Builtin::Tuple,
+    Builtin::Dict,
+    Builtin::Bool,
+    Builtin::Any,
+    Builtin::All,
+    Builtin::Min,
+    Builtin::Max,
+    Builtin::Fail,
+];
+
+/// The package calls: BUILD files have them by their names, .bzl files as methods of `native`.
+pub const PACKAGE: [Builtin; 6] = [
+    Builtin::Glob,
+    Builtin::Filegroup,
+    Builtin::Genrule,
+    Builtin::Alias,
+    Builtin::TestSuite,
+    Builtin::PackageName,
+];
+
+impl Builtin {
+    /// Its number. Two functions are equal where their numbers are.
+    pub fn number(self) -> u8
+        ensures { result ≡ builtin_number self }
+    {
+        match self {
+            Builtin::Len => 0,
+            Builtin::Range => 1,
+            Builtin::Str => 2,
+            Builtin::Repr => 3,
+            Builtin::Type => 4,
+            Builtin::Sorted => 5,
+            Builtin::Reversed => 6,
+            Builtin::Enumerate => 7,
+            Builtin::Zip => 8,
+            Builtin::List => 9,
+            Builtin::Tuple => 10,
+            Builtin::Dict => 11,
+            Builtin::Bool => 12,
+            Builtin::Any => 13,
+            Builtin::All => 14,
+            Builtin::Min => 15,
+            Builtin::Max => 16,
+            Builtin::Fail => 17,
+            Builtin::Glob => 18,
+            Builtin::Filegroup => 19,
+            Builtin::Genrule => 20,
+            Builtin::Alias => 21,
+            Builtin::TestSuite => 22,
+            Builtin::PackageName => 23,
+        }
+    }
+
+    /// Its name, as it stands in files.
+    pub fn name(self) -> &'static str
+        ensures { result.now ≡ builtin_name self }
+    {
+        match self {
+            Builtin::Len => "len",
+            Builtin::Range => "range",
+            Builtin::Str => "str",
+            Builtin::Repr => "repr",
+            Builtin::Type => "type",
+            Builtin::Sorted => "sorted",
+            Builtin::Reversed => "reversed",
+            Builtin::Enumerate => "enumerate",
+            Builtin::Zip => "zip",
+            Builtin::List => "list",
+            Builtin::Tuple => "tuple",
+            Builtin::Dict => "dict",
+            Builtin::Bool => "bool",
+            Builtin::Any => "any",
+            Builtin::All => "all",
+            Builtin::Min => "min",
+            Builtin::Max => "max",
+            Builtin::Fail => "fail",
+            Builtin::Glob => "glob",
+            Builtin::Filegroup => "filegroup",
+            Builtin::Genrule => "genrule",
+            Builtin::Alias => "alias",
+            Builtin::TestSuite => "test_suite",
+            Builtin::PackageName => "package_name",
+        }
+    }
+
+    /// Whether it is a package call.
+    pub fn is_package_call(self) -> bool
+        ensures { result ≡ list_any (same_builtin self) package_functions }
+    {
+        match self {
+            Builtin::Glob => true,
+            Builtin::Filegroup => true,
+            Builtin::Genrule => true,
+            Builtin::Alias => true,
+            Builtin::TestSuite => true,
+            Builtin::PackageName => true,
+            _ => false,
+        }
+    }
+}

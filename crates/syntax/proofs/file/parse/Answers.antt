@@ -1,5 +1,0 @@
-use Rattle.syntax.proofs.Parsed.{is_parsed}
-use Rattle.syntax.proofs.file.parse.Goals as goal
-
-pub returns : goal.returns
-returns c = is_parsed c.args.kind c.args.text.now c.parsed.result c.parsed.ensures
