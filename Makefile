@@ -4,7 +4,7 @@
 PROGRAM := crates/cli/out/cli
 EXAMPLE := examples/session.jsonl
 
-.PHONY: quick run build measures shelf-trials readers overlaps trials schedules test lint digests wrong-bodies answers limits allocations workers batches under hostile giving-back bench
+.PHONY: quick run build measures shelf-trials readers overlaps trials schedules test lint digests language wrong-bodies answers limits allocations workers batches under hostile giving-back bench
 
 # Shows each line of an example with its answer. It proves nothing: the kit interprets the program.
 quick:
@@ -36,9 +36,9 @@ readers: build
 	@bench/out/readers | diff examples/readers/stdout -
 
 # The gate: the house's rules of style, each crate's wrong bodies refused at its present text, everything proved from
-# nothing, the program run, and more answers of the built program compared. The first two come first, since they take a
-# second. A proof gets one job, since two cost a quarter more in sum.
-test: lint digests
+# nothing, the program run, and more answers of the built program compared. What takes a second comes first, with the
+# lines of the program compared with the topic files. A proof gets one job, since two cost a quarter more in sum.
+test: lint digests language
 	RT_JOBS=$$(nproc) rt ci
 	python3 tests/answers.py
 
@@ -49,6 +49,10 @@ lint:
 # Compares each crate with the digest at which its wrong bodies were refused.
 digests:
 	@python3 tests/wrong_bodies.py --digests
+
+# Compares the programs of tests/language with the lines of crates/cli that the program is run on.
+language:
+	@python3 tests/language.py --check
 
 # Tries the wrong bodies of the crates that have changed since they were refused, or with ALL=1 of all crates, over the
 # work that `rt check` kept. Writes wrong-bodies.txt.

@@ -3,8 +3,8 @@
 
 - README.md, CONTRIBUTING.md and docs/*.md: no sentence of over 25 words, no banned word, no dead link.
 - README.md: its session is the example that `make quick` runs.
-- Sources, definitions, proofs and scripts: no file of over 800 lines.
-- Sources: no function of over 60 lines.
+- Sources, definitions, proofs, scripts and programs of the language: no file of over 800 lines.
+- Sources: no function of over 60 lines. Fields that the layout puts on lines of their own do not count.
 - Programs beside the gate (`.rattle`, `.proof`): no sentence of over 25 words in a comment.
 - What is still to be put in order is counted, and may only become less: long clauses, double imports, fields that have
   no name. The numbers stand in `LEFT`. Who makes one smaller writes the new number there.
@@ -22,9 +22,9 @@ MOST_WORDS, MOST_LINES, MOST_FUNCTION = 25, 800, 60
 
 # What is still to be put in order, and how often it stands in the crates.
 LEFT = {
-    "clauses of over 100 columns": 924,
-    "modules that a file imports from twice": 38,
-    "variants with a number or flag that has no name": 67,
+    "lines of clauses of over 100 columns": 0,
+    "modules that a file imports from twice": 0,
+    "variants with a number or flag that has no name": 4,
 }
 
 # Words and phrases that say less than plain ones.
@@ -145,8 +145,9 @@ def check_functions(path, text):
             end += 1
             if lines[end].startswith(head[1] + "}"):
                 break
-        if end - at + 1 > MOST_FUNCTION:
-            yield f"{path}:{at + 1}: {head[2]} has {end - at + 1} lines"
+        fields = sum(1 for line in lines[at : end + 1] if re.fullmatch(r"\s*(\.\.|\w+(: \w+)?,)", line))
+        if end - at + 1 - fields > MOST_FUNCTION:
+            yield f"{path}:{at + 1}: {head[2]} has {end - at + 1 - fields} lines"
 
 
 def check_example():
@@ -158,7 +159,14 @@ def check_example():
 
 
 def long_clauses(path, text):
-    return [at for at in text.split("\n") if len(at) > 100 and re.match(r"\s*(ensures|requires)\b", at)]
+    """The lines of clauses that have over 100 columns. A clause goes on until its braces are closed."""
+    found, open_braces = [], 0
+    for line in text.split("\n"):
+        if open_braces or re.match(r"\s*(ensures|requires)\b", line):
+            open_braces += line.count("{") - line.count("}")
+            if len(line) > 100:
+                found.append(line)
+    return found
 
 
 def double_imports(path, text):
@@ -206,7 +214,7 @@ def main():
             text = file.read()
         faults += list(check_prose(path, text)) + list(check_links(path, text))
     for path in tracked():
-        if path.endswith((".rt", ".antt", ".py", ".proof", ".rattle", ".md")):
+        if path.endswith((".rt", ".antt", ".py", ".proof", ".rattle", ".md", ".star")):
             with open(path) as file:
                 text = file.read()
             faults += list(check_length(path, text))

@@ -81,7 +81,7 @@ def contracts_in(file):
     lines = read(file).split("\n")
     for it in reversed(functions("", "\n".join(lines))):
         first = next(at for at in range(it.first - 1, it.last) if FUNCTION.match(lines[at]))
-        body = next((at for at in range(first, it.last) if re.match(r" *\{", lines[at]) or lines[at].endswith("{")), it.last)
+        body = next((at for at in range(first, it.last) if re.match(r" *\{|.*(?<!record )\{$", lines[at])), it.last)
         around = item_around(lines, first)
         is_shown = lines[first].lstrip().startswith("pub ") or re.match(r"(pub )?trait |impl.* for ", around)
         lines[body if is_shown else it.first - 1 : it.last] = []
@@ -101,7 +101,8 @@ def imports_of(lines, shown):
 
 
 def digest(name, uses, logic):
-    """The digest of all texts on which it hangs whether the crate's wrong bodies are refused."""
+    """The digest of all texts on which it hangs whether the crate's wrong bodies are refused. How their lines are broken
+    counts for nothing."""
     made = hashlib.sha256(logic.encode())
     own = files_of(name, PARTS, ".rt") + files_of(name, PARTS, ".antt") + edits_of(name)
     texts = [(file, read(file)) for file in own]
@@ -109,7 +110,7 @@ def digest(name, uses, logic):
         texts += [(file, read(file)) for file in files_of(it, ["specs"], ".antt")]
         texts += [(file, contracts_in(file)) for file in files_of(it, ["src"], ".rt")]
     for file, text in texts:
-        for part in os.path.relpath(file, ROOT), text:
+        for part in os.path.relpath(file, ROOT), re.sub(r"\s*\n\s*", " ", text):
             made.update(f"{len(part.encode())} ".encode() + part.encode())
     return made.hexdigest()[:32]
 
@@ -155,10 +156,11 @@ def owner_of(lines, at):
 
 def end_of(lines, at, indent):
     """The last line of the function whose `fn` stands in a line: its closing brace, or the end of a mere declaration."""
-    is_body = lines[at].endswith("{")
-    while lines[at] not in (f"{indent}}}", f"{indent}{{}}") and (is_body or not lines[at].endswith((";", "{}"))):
+    is_body, is_open = lines[at].endswith("{"), lines[at].count("{") - lines[at].count("}")
+    while lines[at] not in (f"{indent}}}", f"{indent}{{}}") and (is_body or is_open or not lines[at].endswith((";", "{}"))):
         at += 1
         is_body = is_body or lines[at] == f"{indent}{{"
+        is_open += lines[at].count("{") - lines[at].count("}")
     return at
 
 

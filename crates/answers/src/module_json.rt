@@ -26,7 +26,8 @@ fn is_private(name: &Text) -> bool
 
 // The set of the names of bindings, without those that begin with `_`.
 fn public_names(alloc: Global, bindings: &[Binding]) -> Result<BTreeSet<Text>, Memory>
-    ensures { IfOk result (λ set. set.keys ≡ in_order (λ x. x) (answers.public_names bindings.now)) }
+    ensures { IfOk result
+        (λ set. set.keys ≡ in_order (λ x. x) (answers.public_names bindings.now)) }
 {
     let mut set = BTreeSet::new(alloc);
     let mut i = bindings.len();
@@ -70,7 +71,8 @@ pub fn write_faulty_module(
     path: &Text,
     line: usize,
 ) -> Result<(), Memory>
-    ensures { OnOk result (out.new ≡ out.old ++ tokens_of (answers.faulty_module (fault_data code path.now line))) }
+    ensures { OnOk result
+        (out.new ≡ out.old ++ tokens_of (answers.faulty_module (fault_data code path.now line))) }
 {
     out.begin_object()?;
     out.key("fault")?;
@@ -80,7 +82,8 @@ pub fn write_faulty_module(
 
 /// Writes a module whose loads lead to a way round: the labels of the modules on it.
 pub fn write_cyclic_module(out: &mut Draft, labels: &[Text]) -> Result<(), Memory>
-    ensures { OnOk result (out.new ≡ out.old ++ tokens_of (answers.faulty_module (cycle_data labels.now))) }
+    ensures { OnOk result
+        (out.new ≡ out.old ++ tokens_of (answers.faulty_module (cycle_data labels.now))) }
 {
     out.begin_object()?;
     out.key("fault")?;

@@ -45,7 +45,8 @@ fn place_of(rows: &[Row<'_>], name: &str) -> usize
 
 // Puts a row at its place among others. It replaces one of the same name.
 fn put_row<'a>(rows: &mut Vec<Row<'a>>, row: Row<'a>) -> Result<(), Memory>
-    ensures { OnOk result (onto rows.new.items no_members ≡ put (cow_str_bytes row.entry.name) (attribute_data row.entry.attribute.now) (onto rows.old.items no_members)) }
+    ensures { OnOk result (onto rows.new.items no_members ≡ put (cow_str_bytes row.entry.name)
+        (attribute_data row.entry.attribute.now) (onto rows.old.items no_members)) }
 {
     let at = place_of(rows.as_slice(), row.name.as_str());
     if at < rows.len() && row.name.as_str().cmp(rows[at].name.as_str()).is_eq() {
@@ -60,7 +61,8 @@ pub fn rows_of<'a>(
     alloc: Global,
     attributes: &'a [(Bytes, Attribute)],
 ) -> Result<Vec<Row<'a>>, Memory>
-    ensures { IfOk result (λ rows. onto rows.items no_members ≡ put_attributes attributes.now no_members) }
+    ensures { IfOk result (λ rows. onto rows.items no_members ≡ put_attributes attributes.now
+        no_members) }
 {
     let mut rows = Vec::with_capacity(alloc, attributes.len())?;
     for attribute in attributes {

@@ -30,7 +30,8 @@ fn write_attributes(
     out: &mut Draft,
     attributes: &[(Bytes, Attribute)],
 ) -> Result<(), Memory>
-    ensures { OnOk result (out.new ≡ out.old ++ tokens_of (answers.attributes_data attributes.now)) }
+    ensures { OnOk result
+        (out.new ≡ out.old ++ tokens_of (answers.attributes_data attributes.now)) }
 {
     let rows = rows_of(alloc, attributes)?;
     out.begin_object()?;
@@ -56,7 +57,8 @@ fn write_target(alloc: Global, out: &mut Draft, target: &Target) -> Result<(), M
 
 // Writes targets, in their order.
 fn write_targets(alloc: Global, out: &mut Draft, targets: &Targets) -> Result<(), Memory>
-    ensures { OnOk result (out.new ≡ out.old ++ tokens_of (answers.list (map answers.target_data targets.now))) }
+    ensures { OnOk result
+        (out.new ≡ out.old ++ tokens_of (answers.list (map answers.target_data targets.now))) }
 {
     out.begin_array()?;
     for target in targets.as_slice() {
@@ -72,7 +74,8 @@ pub fn write_package(
     name: &str,
     targets: &Targets,
 ) -> Result<(), Memory>
-    ensures { OnOk result (out.new ≡ out.old ++ tokens_of (answers.package_data name.now targets.now)) }
+    ensures { OnOk result
+        (out.new ≡ out.old ++ tokens_of (answers.package_data name.now targets.now)) }
 {
     out.begin_object()?;
     out.string_member("name", name)?;
@@ -89,7 +92,9 @@ pub fn write_faulty_package(
     path: &Text,
     line: usize,
 ) -> Result<(), Memory>
-    ensures { OnOk result (out.new ≡ out.old ++ tokens_of (answers.faulty_package name.now (fault_data code path.now line))) }
+    ensures { OnOk result
+        (out.new ≡ out.old ++ tokens_of
+        (answers.faulty_package name.now (fault_data code path.now line))) }
 {
     out.begin_object()?;
     out.key("fault")?;
@@ -100,7 +105,8 @@ pub fn write_faulty_package(
 
 /// Writes a package whose loads lead to a way round: the labels of the modules on it.
 pub fn write_cyclic_package(out: &mut Draft, name: &str, labels: &[Text]) -> Result<(), Memory>
-    ensures { OnOk result (out.new ≡ out.old ++ tokens_of (answers.faulty_package name.now (cycle_data labels.now))) }
+    ensures { OnOk result
+        (out.new ≡ out.old ++ tokens_of (answers.faulty_package name.now (cycle_data labels.now))) }
 {
     out.begin_object()?;
     out.key("fault")?;
@@ -111,7 +117,8 @@ pub fn write_cyclic_package(out: &mut Draft, name: &str, labels: &[Text]) -> Res
 
 /// Begins an answer that tells packages.
 pub fn begin_packages(out: &mut Draft) -> Result<(), Memory>
-    ensures { OnOk result (out.new ≡ out.old ++ begin_object ∷ key (codes "packages") ∷ begin_array ∷ []) }
+    ensures { OnOk result (out.new ≡ out.old ++ begin_object ∷ key (codes "packages") ∷ begin_array
+        ∷ []) }
 {
     out.begin_object()?;
     out.key("packages")?;

@@ -25,7 +25,8 @@ pub fn add(heap: &mut Heap, a: Val, b: Val) -> Result<Val, Halt>
 
 // Two strings, lists or tuples, one after the other.
 fn join(heap: &mut Heap, a: usize, b: usize) -> Result<Val, Halt>
-    ensures { Says (joins (at a (store_of heap.old)) (at b (store_of heap.old)) (store_of heap.old)) result (store_of heap.new) }
+    ensures { Says (joins (at a (store_of heap.old)) (at b (store_of heap.old)) (store_of heap.old))
+        result (store_of heap.new) }
 {
     match heap.object(a)? {
         Some(Object::Text(x)) => match heap.object(b)? {
@@ -83,7 +84,8 @@ pub fn multiply(heap: &mut Heap, a: Val, b: Val) -> Result<Val, Halt>
 
 // A string, list or tuple so many times over.
 fn repeat(heap: &mut Heap, a: usize, n: i64) -> Result<Val, Halt>
-    ensures { Says (repeats (at a (store_of heap.old)) n (store_of heap.old)) result (store_of heap.new) }
+    ensures { Says (repeats (at a (store_of heap.old)) n (store_of heap.old)) result
+        (store_of heap.new) }
 {
     match heap.object(a)? {
         Some(Object::Text(x)) => {

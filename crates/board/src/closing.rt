@@ -37,10 +37,15 @@ impl<R: Rules> Board<R> {
     /// no memory.
     pub fn close(self, host: Host<R>, mut hands: Vec<Hand<R>>) -> Left<R>
         requires host { IsHostAtRest self.table.shared.table_id host.seat }
-        requires hands { (host.seat.me.0.hands ≡ length hands.items) × All (λ h. IsHandAtRest self.table.shared.table_id h.seat) hands.items }
-        ensures all { (result.next ≡ 0) × (slots_len result.closed.slots ≡ self.capacity) × HasRest (slots_filled result.closed.slots) 0 (slots_len result.closed.slots) }
-        ensures left { IsLeft (λ turn. turn.asked) host.seat.me.0 (slots_items result.closed.slots) }
-        ensures answers { (wt : Outcome → ℕ) → total wt host.seat.me.0.answers + total (λ h. total wt h.seat.me.0.answers) hands.items ≡ total wt host.seat.me.0.collected + total (weight_in wt) (slots_items result.closed.slots) }
+        requires hands { (host.seat.me.0.hands ≡ length hands.items)
+            × All (λ h. IsHandAtRest self.table.shared.table_id h.seat) hands.items }
+        ensures all { (result.next ≡ 0) × (slots_len result.closed.slots ≡ self.capacity)
+            × HasRest (slots_filled result.closed.slots) 0 (slots_len result.closed.slots) }
+        ensures left { IsLeft (λ turn. turn.asked) host.seat.me.0
+            (slots_items result.closed.slots) }
+        ensures answers { (wt : Outcome → ℕ) → total wt host.seat.me.0.answers + total
+            (λ h. total wt h.seat.me.0.answers) hands.items ≡ total wt host.seat.me.0.collected
+            + total (weight_in wt) (slots_items result.closed.slots) }
         ensures shut { All (λ h. h.seat.me.0.shut ≡ true → host.seat.me.0.shut ≡ true) hands.items }
     {
         let Host { mut seat } = host;
@@ -61,10 +66,18 @@ impl<R: Rules> Board<R> {
 impl<R: Rules> Left<R> {
     /// Takes what is left at the next place that has something: a job, or its turn.
     pub fn next(&mut self) -> Option<(usize, Entry<Job<R>, Turned<R>>)>
-        requires { HasRest (slots_filled self.old.closed.slots) self.old.next (slots_len self.old.closed.slots) }
-        ensures same { (slots_items self.new.closed.slots ≡ slots_items self.old.closed.slots) × (slots_len self.new.closed.slots ≡ slots_len self.old.closed.slots) × (self.old.next ≤ self.new.next) }
-        ensures rest { HasRest (slots_filled self.new.closed.slots) self.new.next (slots_len self.new.closed.slots) }
-        ensures found { MatchOption result (AllNone (slots_items self.old.closed.slots) self.old.next (slots_len self.old.closed.slots)) (λ left. (self.new.next ≡ left.0 + 1) × (get_elem? (slots_items self.old.closed.slots) left.0 ≡ some (Some left.1)) × AllNone (slots_items self.old.closed.slots) self.old.next left.0) }
+        requires { HasRest (slots_filled self.old.closed.slots) self.old.next
+            (slots_len self.old.closed.slots) }
+        ensures same { (slots_items self.new.closed.slots ≡ slots_items self.old.closed.slots)
+            × (slots_len self.new.closed.slots ≡ slots_len self.old.closed.slots)
+            × (self.old.next ≤ self.new.next) }
+        ensures rest { HasRest (slots_filled self.new.closed.slots) self.new.next
+            (slots_len self.new.closed.slots) }
+        ensures found { MatchOption result
+            (AllNone (slots_items self.old.closed.slots) self.old.next
+            (slots_len self.old.closed.slots)) (λ left. (self.new.next ≡ left.0 + 1)
+            × (get_elem? (slots_items self.old.closed.slots) left.0 ≡ some (Some left.1))
+            × AllNone (slots_items self.old.closed.slots) self.old.next left.0) }
     {
         for place in self.next..self.closed.slot_count() {
             self.next = place + 1;
@@ -77,7 +90,8 @@ impl<R: Rules> Left<R> {
 
     /// Gives up what has not been taken from it yet, and returns how much that was.
     pub fn free(self) -> usize
-        requires { HasRest (slots_filled self.closed.slots) self.next (slots_len self.closed.slots) }
+        requires { HasRest (slots_filled self.closed.slots) self.next
+            (slots_len self.closed.slots) }
         ensures { result ≡ total count_in (drop self.next (slots_items self.closed.slots)) }
     {
         let Left { mut closed, next } = self;

@@ -39,9 +39,12 @@ impl<R: Rules> Board<R> {
     ) -> Result<(Board<R>, Host<R>, Vec<Hand<R>>), OpenError>
         ensures range { IsErrOf result open_error.Range → IsOutOfRange capacity hands }
         ensures memory { IsErrOf result open_error.Memory → IsInRange capacity hands }
-        ensures board { IfOk result (λ made. (made.0.capacity ≡ capacity) × IsInRange capacity hands) }
-        ensures host { IfOk result (λ made. IsNewHost made.0.table.shared.table_id capacity hands made.1.seat) }
-        ensures hands { IfOk result (λ made. (length made.2.items ≡ hands) × All (λ h. IsNewHand made.0.table.shared.table_id h.seat) made.2.items) }
+        ensures board { IfOk result (λ made. (made.0.capacity ≡ capacity)
+            × IsInRange capacity hands) }
+        ensures host { IfOk result (λ made. IsNewHost made.0.table.shared.table_id capacity hands
+            made.1.seat) }
+        ensures hands { IfOk result (λ made. (length made.2.items ≡ hands)
+            × All (λ h. IsNewHand made.0.table.shared.table_id h.seat) made.2.items) }
     {
         if capacity == 0 || capacity > 64 || hands == 0 || hands > 16 {
             return Err(OpenError::Range);

@@ -24,9 +24,15 @@ const ANSWERED: u64 = 3;
 impl<R: Rules> Board<R> {
     // Whether the place is empty, by one look. The host has its slot then. Neither a job nor a turn is moved for a look.
     pub(crate) fn finds_empty(&self, seat: &mut Seat<Slot<R>, SeatView<R>>, place: usize) -> bool
-        requires { (seat.old.table_id ≡ self.now.table.shared.table_id) × (seat.old.id ≡ 0) × IsAtRest seat.old.me × (place < self.now.capacity) }
+        requires { (seat.old.table_id ≡ self.now.table.shared.table_id) × (seat.old.id ≡ 0)
+            × IsAtRest seat.old.me × (place < self.now.capacity) }
         ensures same { IsSame seat.old seat.new }
-        ensures empty { result ≡ true → (get_elem? seat.old.me.0.out place ≡ some None) × (seat.new.me ≡ (uses (looked seat.old.me.0 place 0) place Empty, (place, None) ∷ [])) }
+        ensures empty { result ≡ true → (get_elem? seat.old.me.0.out place ≡ some None)
+            × (seat.new.me ≡ (
+              uses (looked seat.old.me.0 place 0) place Empty,
+              (place, None)
+                  ∷ [],
+            )) }
         ensures full { result ≡ false → IsFull seat.old.me place seat.new.me }
     {
         self.table.shared.load::<Fill>(seat, place) == EMPTY
@@ -34,7 +40,9 @@ impl<R: Rules> Board<R> {
 
     // Posts the job at the empty place whose slot the host has.
     pub(crate) fn fill(&self, seat: &mut Seat<Slot<R>, SeatView<R>>, place: usize, job: Job<R>)
-        requires { (seat.old.table_id ≡ self.now.table.shared.table_id) × (seat.old.id ≡ 0) × (place < self.now.capacity) × (seat.old.me.0.using ≡ Some (place, Empty)) × (seat.old.me.1 ≡ (place, None) ∷ []) }
+        requires { (seat.old.table_id ≡ self.now.table.shared.table_id) × (seat.old.id ≡ 0)
+            × (place < self.now.capacity) × (seat.old.me.0.using ≡ Some (place, Empty))
+            × (seat.old.me.1 ≡ (place, None) ∷ []) }
         ensures same { IsSame seat.old seat.new }
         ensures posted { seat.new.me ≡ (outs seat.old.me.0 place (Some job), []) }
     {
@@ -48,10 +56,18 @@ impl<R: Rules> Board<R> {
 
     // Claims the place, where it is ready. The hand has its slot then.
     pub(crate) fn claims(&self, seat: &mut Seat<Slot<R>, SeatView<R>>, place: usize) -> bool
-        requires { (seat.old.table_id ≡ self.now.table.shared.table_id) × (seat.old.me.0.is_host ≡ false) × (seat.old.me.0.live ≡ 1) × IsAtRest seat.old.me × (place < self.now.capacity) }
+        requires { (seat.old.table_id ≡ self.now.table.shared.table_id)
+            × (seat.old.me.0.is_host ≡ false) × (seat.old.me.0.live ≡ 1) × IsAtRest seat.old.me
+            × (place < self.now.capacity) }
         ensures same { IsSame seat.old seat.new }
-        ensures claimed { result ≡ true → (job : _) × (seat.new.me ≡ (uses (looked seat.old.me.0 place 1) place (Held job), (place, Some (entry.Job job)) ∷ [])) }
-        ensures none { result ≡ false → (n : _) × (n ≢ 1) × (seat.new.me ≡ (looked seat.old.me.0 place n, [])) }
+        ensures claimed { result ≡ true → (job : _)
+            ×
+            (seat.new.me ≡ (
+              uses (looked seat.old.me.0 place 1) place (Held job),
+              (place, Some (entry.Job job)) ∷ [],
+            )) }
+        ensures none { result ≡ false → (n : _) × (n ≢ 1)
+            × (seat.new.me ≡ (looked seat.old.me.0 place n, [])) }
     {
         self.table
             .shared
@@ -61,9 +77,12 @@ impl<R: Rules> Board<R> {
 
     // Takes the job out of the slot of the place, which the hand has claimed.
     pub(crate) fn take_out(&self, seat: &mut Seat<Slot<R>, SeatView<R>>, place: usize) -> Job<R>
-        requires { (seat.old.table_id ≡ self.now.table.shared.table_id) × (place < self.now.capacity) × ((job : _) × (seat.old.me.1 ≡ (place, Some (entry.Job job)) ∷ [])) }
+        requires { (seat.old.table_id ≡ self.now.table.shared.table_id)
+            × (place < self.now.capacity)
+            × ((job : _) × (seat.old.me.1 ≡ (place, Some (entry.Job job)) ∷ [])) }
         ensures same { IsSame seat.old seat.new }
-        ensures taken { (job : _) → seat.old.me.1 ≡ (place, Some (entry.Job job)) ∷ [] → (result ≡ job) × (seat.new.me ≡ (seat.old.me.0, (place, None) ∷ [])) }
+        ensures taken { (job : _) → seat.old.me.1 ≡ (place, Some (entry.Job job)) ∷ []
+            → (result ≡ job) × (seat.new.me ≡ (seat.old.me.0, (place, None) ∷ [])) }
     {
         match self.table.shared.exchange(seat, place, None) {
             Some(Entry::Job(job)) => job,
@@ -79,7 +98,10 @@ impl<R: Rules> Board<R> {
         place: usize,
         turn: Turned<R>,
     )
-        requires { (seat.old.table_id ≡ self.now.table.shared.table_id) × (seat.old.me.0.is_host ≡ false) × (seat.old.me.0.live ≡ 1) × (place < self.now.capacity) × (seat.old.me.0.using ≡ Some (place, Held turn.asked)) × (seat.old.me.1 ≡ (place, None) ∷ []) }
+        requires { (seat.old.table_id ≡ self.now.table.shared.table_id)
+            × (seat.old.me.0.is_host ≡ false) × (seat.old.me.0.live ≡ 1)
+            × (place < self.now.capacity) × (seat.old.me.0.using ≡ Some (place, Held turn.asked))
+            × (seat.old.me.1 ≡ (place, None) ∷ []) }
         ensures same { IsSame seat.old seat.new }
         ensures answered { seat.new.me ≡ (answers_with seat.old.me.0 (turn ∷ []), []) }
     {
@@ -93,19 +115,32 @@ impl<R: Rules> Board<R> {
 
     // Whether the place is answered, by one look. The host has its slot then.
     pub(crate) fn finds_turn(&self, seat: &mut Seat<Slot<R>, SeatView<R>>, place: usize) -> bool
-        requires { (seat.old.table_id ≡ self.now.table.shared.table_id) × (seat.old.id ≡ 0) × IsAtRest seat.old.me × (place < self.now.capacity) }
+        requires { (seat.old.table_id ≡ self.now.table.shared.table_id) × (seat.old.id ≡ 0)
+            × IsAtRest seat.old.me × (place < self.now.capacity) }
         ensures same { IsSame seat.old seat.new }
-        ensures found { result ≡ true → (turn : _) × (get_elem? seat.old.me.0.out place ≡ some (Some turn.asked)) × (seat.new.me ≡ (uses (looked seat.old.me.0 place 3) place (Answered turn), (place, Some (entry.Turn turn)) ∷ [])) }
-        ensures none { result ≡ false → (n : _) × (n ≢ 3) × (seat.new.me ≡ (looked seat.old.me.0 place n, [])) }
+        ensures found { result ≡ true → (turn : _)
+            × (get_elem? seat.old.me.0.out place ≡ some (Some turn.asked))
+            ×
+            (seat.new.me ≡ (
+              uses (looked seat.old.me.0 place 3) place (Answered turn),
+              (place, Some (entry.Turn turn)) ∷ [],
+            )) }
+        ensures none { result ≡ false → (n : _) × (n ≢ 3)
+            × (seat.new.me ≡ (looked seat.old.me.0 place n, [])) }
     {
         self.table.shared.load::<Find<Turned<R>>>(seat, place) == ANSWERED
     }
 
     // Takes the turn out of the slot of the place, which the host has. The place is empty then.
     pub(crate) fn clear(&self, seat: &mut Seat<Slot<R>, SeatView<R>>, place: usize) -> Turned<R>
-        requires { (seat.old.table_id ≡ self.now.table.shared.table_id) × (seat.old.id ≡ 0) × (place < self.now.capacity) × ((turn : _) × (seat.old.me.0.using ≡ Some (place, Answered turn)) × (seat.old.me.1 ≡ (place, Some (entry.Turn turn)) ∷ [])) }
+        requires { (seat.old.table_id ≡ self.now.table.shared.table_id) × (seat.old.id ≡ 0)
+            × (place < self.now.capacity)
+            × ((turn : _) × (seat.old.me.0.using ≡ Some (place, Answered turn))
+            × (seat.old.me.1 ≡ (place, Some (entry.Turn turn)) ∷ [])) }
         ensures same { IsSame seat.old seat.new }
-        ensures cleared { (turn : _) → seat.old.me.0.using ≡ Some (place, Answered turn) → seat.old.me.1 ≡ (place, Some (entry.Turn turn)) ∷ [] → (result ≡ turn) × (seat.new.me ≡ (collects (outs seat.old.me.0 place None) (turn ∷ []), [])) }
+        ensures cleared { (turn : _) → seat.old.me.0.using ≡ Some (place, Answered turn)
+            → seat.old.me.1 ≡ (place, Some (entry.Turn turn)) ∷ [] → (result ≡ turn)
+            × (seat.new.me ≡ (collects (outs seat.old.me.0 place None) (turn ∷ []), [])) }
     {
         let words = &self.table.shared;
         let found = words.exchange(seat, place, None);

@@ -31,7 +31,8 @@ pub fn dict(heap: &mut Heap, xs: &[Val], names: &[(Text, Val)]) -> Result<Val, H
 // Adds what the arguments without a name give to a dictionary that is empty.
 fn add_from(heap: &mut Heap, entries: &mut IndexMap<Key, Entry>, xs: &[Val]) -> Result<(), Halt>
     requires { entries.old.entries ≡ [] }
-    ensures { SaysEntries (dict_from xs.now (store_of heap.old)) result entries.new.entries (store_of heap.new) }
+    ensures { SaysEntries (dict_from xs.now (store_of heap.old)) result entries.new.entries
+        (store_of heap.new) }
 {
     match xs {
         [] => Ok(()),
@@ -43,7 +44,8 @@ fn add_from(heap: &mut Heap, entries: &mut IndexMap<Key, Entry>, xs: &[Val]) -> 
 // Adds what an object gives to a dictionary that is empty.
 fn add_object(heap: &mut Heap, entries: &mut IndexMap<Key, Entry>, place: usize) -> Result<(), Halt>
     requires { entries.old.entries ≡ [] }
-    ensures { SaysEntries (entries_of (at place (store_of heap.old)) (At place) (store_of heap.old)) result entries.new.entries (store_of heap.new) }
+    ensures { SaysEntries (entries_of (at place (store_of heap.old)) (At place) (store_of heap.old))
+        result entries.new.entries (store_of heap.new) }
 {
     if let Some(Object::Dict(others, _)) = heap.object(place)? {
         let pairs = pairs(heap.alloc, others)?;
@@ -74,7 +76,8 @@ fn add_all(
     entries: &mut IndexMap<Key, Entry>,
     pairs: &[(Val, Val)],
 ) -> Result<(), Halt>
-    ensures { SaysEntries (add_all pairs.now entries.old.entries (store_of heap.old)) result entries.new.entries (store_of heap.new) }
+    ensures { SaysEntries (add_all pairs.now entries.old.entries (store_of heap.old)) result
+        entries.new.entries (store_of heap.new) }
 {
     for pair in pairs.iter() {
         add(heap, entries, pair.0, pair.1)?;
@@ -88,7 +91,8 @@ fn add_each(
     entries: &mut IndexMap<Key, Entry>,
     members: &[Val],
 ) -> Result<(), Halt>
-    ensures { SaysEntries (add_each members.now entries.old.entries (store_of heap.old)) result entries.new.entries (store_of heap.new) }
+    ensures { SaysEntries (add_each members.now entries.old.entries (store_of heap.old)) result
+        entries.new.entries (store_of heap.new) }
 {
     for member in members.iter() {
         let pair = pair(heap, *member)?;
@@ -103,7 +107,8 @@ fn add_named(
     entries: &mut IndexMap<Key, Entry>,
     names: &[(Text, Val)],
 ) -> Result<(), Halt>
-    ensures { SaysEntries (add_named names.now entries.old.entries (store_of heap.old)) result entries.new.entries (store_of heap.new) }
+    ensures { SaysEntries (add_named names.now entries.old.entries (store_of heap.old)) result
+        entries.new.entries (store_of heap.new) }
 {
     for named in names.iter() {
         let text = Bytes::of_text(named.0.share()?);
@@ -115,7 +120,8 @@ fn add_named(
 
 // Sets a key of a dictionary that is being made: fault 5, 11, 12 or 13.
 fn add(heap: &mut Heap, entries: &mut IndexMap<Key, Entry>, k: Val, x: Val) -> Result<(), Halt>
-    ensures { SaysEntries (grows k x entries.old.entries (store_of heap.old)) result entries.new.entries (store_of heap.new) }
+    ensures { SaysEntries (grows k x entries.old.entries (store_of heap.old)) result
+        entries.new.entries (store_of heap.new) }
 {
     let key = hash(heap, k)?;
     if !has_room(entries, &key) {

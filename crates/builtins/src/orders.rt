@@ -28,7 +28,8 @@ pub fn max(heap: &Heap, xs: &[Val]) -> Result<Val, Halt>
 
 // The first of the least of the arguments or of the one's members, or of the greatest.
 fn extreme(heap: &Heap, xs: &[Val], greatest: bool) -> Result<Val, Halt>
-    ensures { Says (extreme (is_better greatest) xs.now (store_of heap.now)) result (store_of heap.now) }
+    ensures { Says (extreme (is_better greatest) xs.now (store_of heap.now)) result
+        (store_of heap.now) }
 {
     match xs {
         [] => Err(Halt::Code(faults::WRONG_ARGUMENTS)),
@@ -42,7 +43,8 @@ fn extreme(heap: &Heap, xs: &[Val], greatest: bool) -> Result<Val, Halt>
 
 // The first of the least, or of the greatest.
 fn best_of(heap: &Heap, xs: &[Val], greatest: bool) -> Result<Val, Halt>
-    ensures { Says (best_of (is_better greatest) xs.now (store_of heap.now)) result (store_of heap.now) }
+    ensures { Says (best_of (is_better greatest) xs.now (store_of heap.now)) result
+        (store_of heap.now) }
 {
     match xs {
         [] => Err(Halt::Code(faults::WRONG_ARGUMENTS)),
@@ -57,7 +59,8 @@ fn best_of(heap: &Heap, xs: &[Val], greatest: bool) -> Result<Val, Halt>
 
 // The first of the least or greatest of a value and others.
 fn best(heap: &Heap, x: Val, others: &[Val], greatest: bool) -> Result<Val, Memory>
-    ensures { IfOk result (λ y. y ≡ best (is_better greatest) (plain_order (store_of heap.now)) x others.now) }
+    ensures { IfOk result (λ y. y ≡ best (is_better greatest) (plain_order (store_of heap.now)) x
+        others.now) }
 {
     let mut found = x;
     for y in others.iter() {

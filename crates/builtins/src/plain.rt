@@ -79,7 +79,8 @@ fn object_type(heap: &Heap, place: usize) -> Result<&'static [u8], Halt>
 
 /// `bool(x)`
 pub fn truth(heap: &Heap, x: Val) -> Result<Val, Memory>
-    ensures { IfOk result (λ b. truth_of (is_true x (store_of heap.now)) (store_of heap.now) ≡ gives b (store_of heap.now)) }
+    ensures { IfOk result (λ b. truth_of (is_true x (store_of heap.now)) (store_of heap.now)
+        ≡ gives b (store_of heap.now)) }
 {
     Ok(Val::Bool(is_true(heap, x)?))
 }

@@ -56,7 +56,8 @@ fn sorted_list(heap: &mut Heap, x: Val, reverse: bool) -> Result<Val, Halt>
 // Ints or strings in order; equal ones keep their order.
 fn sort(heap: &Heap, members: Vec<Val>) -> Result<Vec<Val>, Memory>
     requires { are_alike (store_of heap.now) members.items ≡ true }
-    ensures { IfOk result (λ v. v.items ≡ sort_from (plain_order (store_of heap.now)) [] members.items) }
+    ensures { IfOk result (λ v. v.items ≡ sort_from (plain_order (store_of heap.now)) []
+        members.items) }
 {
     if are_ints(members.as_slice()) {
         let members = sort_ints(members)?;
@@ -70,7 +71,8 @@ fn sort(heap: &Heap, members: Vec<Val>) -> Result<Vec<Val>, Memory>
 // Ints in order.
 fn sort_ints(mut members: Vec<Val>) -> Result<Vec<Val>, Memory>
     requires { all_so is_int members.items ≡ true }
-    ensures { (s : Store) → IfOk result (λ v. v.items ≡ sort_from (plain_order s) [] members.items) }
+    ensures { (s : Store)
+        → IfOk result (λ v. v.items ≡ sort_from (plain_order s) [] members.items) }
 {
     members.sort_by_key(|x| int_of(*x))?;
     Ok(members)
@@ -89,7 +91,8 @@ fn int_of(x: Val) -> i64
 // Strings in order.
 fn sort_texts(heap: &Heap, members: &[Val]) -> Result<Vec<Val>, Memory>
     requires { all_so (λ x. is_some (as_text (store_of heap.now) x)) members.now ≡ true }
-    ensures { IfOk result (λ v. v.items ≡ sort_from (plain_order (store_of heap.now)) [] members.now) }
+    ensures { IfOk result (λ v. v.items ≡ sort_from (plain_order (store_of heap.now)) []
+        members.now) }
 {
     let mut pairs = with_bytes(heap, members)?;
     pairs.sort_by(|x, y| x.0.as_slice().cmp(y.0.as_slice()))?;

@@ -33,7 +33,8 @@ fn each_items(heap: &Heap, xs: &[Val]) -> Result<Vec<Vec<Val>>, Halt>
 
 // A tuple of the first members, one of the second and so on, up to the shortest.
 fn make_rows(heap: &mut Heap, lists: &[Vec<Val>]) -> Result<Vec<Val>, Halt>
-    ensures { SaysItems (makes_tuples (zipped (lists_of lists.now)) (store_of heap.old)) result (store_of heap.new) }
+    ensures { SaysItems (makes_tuples (zipped (lists_of lists.now)) (store_of heap.old)) result
+        (store_of heap.new) }
 {
     let mut tuples = Vec::new(heap.alloc);
     let Some(shown) = lists.first() else {

@@ -5,7 +5,7 @@ use Rattle.meaning.specs.declared.val.Val.{Val}
 use Rattle.meaning.specs.Outcome.{Checked, good}
 use Rattle.meaning.specs.Functions.{Named}
 use Rattle.tree.specs.Statements.{param_of}
-use Rattle.tree.specs.declared.stmt.Param.{Param}
+use Rattle.tree.specs.declared.def.Param.{Param}
 use Rattle.language.specs.World.{Block}
 use Rattle.language.specs.Arguments.{other_defaults, given}
 use Rattle.names.specs.View.{slot_of}

@@ -1,4 +1,4 @@
-pub mod Finds
+pub mod Filled
 pub mod Accepts
 pub mod Runs
 pub mod Given

@@ -7,7 +7,10 @@ use Rattle.heap.specs.declared.halt.Halt.{Halt}
 use Rattle.heap.specs.declared.halt.Halt.TheVariants.{Code, Memory}
 use Rattle.language.specs.World.{Block}
 use Rattle.names.specs.declared.state.Slot.{Slot}
-use Rattle.names.specs.View.{block_of}
+use Rattle.language.specs.Calls.{function_block}
+use Rattle.tree.specs.Tree.{Fn}
+use Rattle.names.specs.declared.state.Block as m
+use Rattle.names.specs.View.{block_of, held}
 use Rattle.calls.specs.declared.functions.Open.{Open}
 
 -- the call gives the block that the definition gives, or its fault; where memory is refused nothing is said
@@ -15,6 +18,18 @@ abbrev pub Blocks : Checked Block → Result (Vec Slot Global) Halt → Type 0
 Blocks out (Ok block) = out ≡ good (block_of block)
 Blocks out (Err (Code c)) = out ≡ bad c
 Blocks out (Err Memory) = Unit {0}
+
+-- a block of a call: these are the function's parameters with their values, and the names that its body binds besides
+pub record IsEntered (f : Fn) (out : Checked Block) (block : m.Block) : Type 0 where
+  pub parameters : Block
+  pub are : out ≡ good parameters
+  pub holds : held block ≡ function_block f parameters
+
+-- the call gives the block of a call with these parameters, or their fault; where memory is refused nothing is said
+abbrev pub Enters : Fn → Checked Block → Result m.Block Halt → Type 0
+Enters f out (Ok block) = IsEntered f out block
+Enters f out (Err (Code c)) = out ≡ bad c
+Enters f out (Err Memory) = Unit {0}
 
 abbrev pub open_of : Open → List ℕ × List ℕ
 open_of o = (o.label, o.name)

@@ -97,7 +97,8 @@ fn taken(
     values: &[Val],
     defaults: &[Val],
 ) -> Result<Val, Halt>
-    ensures { Checks (taken (param_of param.now) plain.now (zip names.now values.now) defaults.now) result }
+    ensures { Checks (taken (param_of param.now) plain.now (zip names.now values.now) defaults.now)
+        result }
 {
     let named = value_named(names, values, &param.name);
     match plain.first() {
@@ -125,7 +126,8 @@ fn given(
     values: &[Val],
     defaults: &[Val],
 ) -> Result<Vec<Slot>, Halt>
-    ensures { Blocks (given (map param_of params.now) plain.now (zip names.now values.now) defaults.now) result }
+    ensures { Blocks (given (map param_of params.now) plain.now (zip names.now values.now)
+        defaults.now) result }
 {
     let mut block = Vec::new(alloc);
     let mut left = plain;
@@ -161,7 +163,8 @@ pub fn arguments(
     names: &[Text],
     defaults: &[Val],
 ) -> Result<Vec<Slot>, Halt>
-    ensures { Blocks (arguments (fn_of def.now) (plain_part xs.now names.now) (named_part xs.now names.now) defaults.now) result }
+    ensures { Blocks (arguments (fn_of def.now) (plain_part xs.now names.now)
+        (named_part xs.now names.now) defaults.now) result }
 {
     let (plain, values) = xs.split_at(xs.len().saturating_sub(names.len()));
     let params = def.params.as_slice();

@@ -1,22 +1,39 @@
 //! Blocks of names.
-ghost use Rattle.std.specs.Prelude.{◌≡◌, ◌++◌, OnOk, map};
-ghost use Rattle.std.specs.Arc.{arc_value};
+ghost use Rattle.std.specs.Prelude.{◌≡◌, ◌++◌, OnOk, IfOk, map};
 ghost use Rattle.meaning.specs.Outcome.{good};
-ghost use Rattle.language.specs.Names.{new_block, clause_names, load_names, top_names};
-ghost use Rattle.language.specs.Calls.{function_block};
+ghost use Rattle.language.specs.Names.{new_block, all_unbound, clause_names, load_names, top_names};
+ghost use Rattle.language.specs.Arguments.{plain_part, named_part, arguments};
 ghost use Rattle.tree.specs.View.{clause_trees};
-ghost use Rattle.tree.specs.Statements.{fn_of, param_of, top_of, file_of};
-ghost use Rattle.names.specs.View.{block_of};
-ghost use Rattle.calls.specs.View.{Blocks};
-ghost use Rattle.calls.specs.Found.{seen, SameNames, names_of_params};
+ghost use Rattle.tree.specs.Statements.{fn_of, top_of, file_of};
+ghost use Rattle.names.specs.View.{block_of, slots_of};
+ghost use Rattle.calls.specs.View.{Blocks, Enters};
 
-use crate::finding::{Found, note, nothing_found};
-use crate::gathering::{find_clauses, find_loads, find_suite, find_tops};
-use heap::Halt;
-use names::Slot;
+use crate::accepting::arguments;
+use heap::{Halt, Val};
+use names::{Block, Slot};
 use std::alloc::Global;
-use texts::Memory;
-use tree::{Clause, Def, File, Param, Top};
+use texts::{Memory, Text};
+use tree::{Clause, Def, File, Top};
+
+// Puts names behind slots. None of them is bound.
+fn push_unbound(slots: &mut Vec<Slot>, names: &[Text]) -> Result<(), Memory>
+    ensures { OnOk result (block_of slots.new ≡ block_of slots.old ++ all_unbound names.now) }
+{
+    for name in names.iter() {
+        let name = name.share()?;
+        slots.push(Slot { name, value: None })?;
+    }
+    Ok(())
+}
+
+// Slots with these names, none of which is bound.
+fn unbound(alloc: Global, names: &[Text]) -> Result<Vec<Slot>, Memory>
+    ensures { IfOk result (λ slots. block_of slots ≡ all_unbound names.now) }
+{
+    let mut slots = Vec::new(alloc);
+    push_unbound(&mut slots, names)?;
+    Ok(slots)
+}
 
 /// The names of a comprehension, none of which is bound.
 ///
@@ -26,35 +43,39 @@ use tree::{Clause, Def, File, Param, Top};
 pub fn comprehension_block(alloc: Global, clauses: &[Clause]) -> Result<Vec<Slot>, Halt>
     ensures { Blocks (good (new_block (clause_names (clause_trees clauses.now)))) result }
 {
-    let mut found = nothing_found(alloc, Vec::new(alloc));
-    find_clauses(&mut found, clauses)?;
-    Ok(found.into_slots())
+    let names = bindings::clause_names(alloc, clauses)?;
+    Ok(unbound(alloc, names.as_slice())?)
 }
 
-// From here on the names of these parameters are found, which gives the block no slots.
-fn note_params(found: &mut Found, params: &[Param]) -> Result<(), Memory>
-    ensures names { OnOk result (SameNames (seen found.new) (names_of_params params.now ++ seen found.old)) }
-    ensures slots { found.new.slots ≡ found.old.slots }
-{
-    for param in params.iter() {
-        note(found, &param.name)?;
-    }
-    Ok(())
-}
-
-/// The names of a function: its parameters with their values, and those that its body binds.
+/// The block of a call of a function: its parameters with their values, and the other names that its body binds. The
+/// values are those of the call's arguments, of which the last have names, and those of the function's defaults.
 ///
 /// # Errors
 ///
-/// `Halt::Memory` where memory is refused.
-pub fn function_block(def: &Def, parameters: Vec<Slot>) -> Result<Vec<Slot>, Halt>
-    ensures { Blocks (good (function_block (fn_of def.now) (block_of parameters))) result }
+/// Fault 25 for an argument that is missing, is given twice, has an unknown name or is one too many; `Halt::Memory`
+/// where memory is refused.
+pub fn call_block(
+    alloc: Global,
+    def: &Def,
+    xs: &[Val],
+    names: &[Text],
+    defaults: &[Val],
+) -> Result<Block, Halt>
+    ensures { Enters (fn_of def.now)
+        (arguments (fn_of def.now) (plain_part xs.now names.now) (named_part xs.now names.now)
+        defaults.now) result }
 {
-    let alloc = *parameters.allocator();
-    let mut found = nothing_found(alloc, parameters);
-    note_params(&mut found, def.params.as_slice())?;
-    find_suite(&mut found, def.body.as_slice())?;
-    Ok(found.into_slots())
+    let mut slots = match arguments(alloc, def, xs, names, defaults) {
+        Ok(slots) => slots,
+        Err(halt) => return Err(halt),
+    };
+    let params = def.params.as_slice();
+    push_unbound(&mut slots, &def.names[params.len()..])?;
+    if def.once {
+        Ok(Block::of_few(slots))
+    } else {
+        Ok(Block::new(slots)?)
+    }
 }
 
 /// The names of a file: those that its loads bind and those that its statements bind, none of which is bound.
@@ -63,12 +84,11 @@ pub fn function_block(def: &Def, parameters: Vec<Slot>) -> Result<Vec<Slot>, Hal
 ///
 /// `Halt::Memory` where memory is refused.
 pub fn file_block(alloc: Global, file: &File) -> Result<Vec<Slot>, Halt>
-    ensures { let f = file_of file.now in Blocks (good (new_block (load_names f.loads ++ top_names f.tops))) result }
+    ensures { let f = file_of file.now in
+        Blocks (good (new_block (load_names f.loads ++ top_names f.tops))) result }
 {
-    let mut found = nothing_found(alloc, Vec::new(alloc));
-    find_loads(&mut found, file.loads.as_slice())?;
-    find_tops(&mut found, file.tops.as_slice())?;
-    Ok(found.into_slots())
+    let names = bindings::file_names(alloc, file)?;
+    Ok(unbound(alloc, names.as_slice())?)
 }
 
 /// The names that a file's own statements bind, in the order in which they are bound first.
@@ -79,7 +99,6 @@ pub fn file_block(alloc: Global, file: &File) -> Result<Vec<Slot>, Halt>
 pub fn own_block(alloc: Global, tops: &[Top]) -> Result<Vec<Slot>, Halt>
     ensures { Blocks (good (new_block (top_names (map top_of tops.now)))) result }
 {
-    let mut found = nothing_found(alloc, Vec::new(alloc));
-    find_tops(&mut found, tops)?;
-    Ok(found.into_slots())
+    let names = bindings::top_names(alloc, tops)?;
+    Ok(unbound(alloc, names.as_slice())?)
 }

@@ -39,7 +39,8 @@ pub fn is_running(running: &[Open], label: &Text, name: &Text) -> bool
 
 /// The file with a label, of those whose names are on the heap.
 pub fn file_with<'a>(files: &'a [FileNames], label: &Text) -> Option<&'a FileNames>
-    ensures { option_map (λ f. names_of f.now) result ≡ names_at label.now (map names_of files.now) }
+    ensures { option_map (λ f. names_of f.now) result ≡ names_at label.now
+        (map names_of files.now) }
 {
     for file in files.iter() {
         if *label == file.label {

@@ -3,10 +3,7 @@
 
 mod accepting;
 mod blocks;
-mod finding;
 mod functions;
-mod gathering;
 
-pub use accepting::arguments;
-pub use blocks::{comprehension_block, file_block, function_block, own_block};
+pub use blocks::{call_block, comprehension_block, file_block, own_block};
 pub use functions::{Open, defaults_among, defaults_of, file_with, is_running};

@@ -38,7 +38,8 @@ fn text_at<'a>(value: &'a Value, key: &str) -> Option<&'a str>
 
 // The texts of an array, where all its items are texts.
 fn texts_of<'a>(alloc: Global, items: &'a [Value]) -> Result<Option<Vec<&'a str>>, Memory>
-    ensures { IfOk result (λ found. option_map (λ texts. texts_seen texts.items) found ≡ commands.texts_of (items_view items.now)) }
+    ensures { IfOk result (λ found. option_map (λ texts. texts_seen texts.items) found
+        ≡ commands.texts_of (items_view items.now)) }
 {
     let mut all = Vec::new(alloc);
     for item in items {
@@ -51,7 +52,8 @@ fn texts_of<'a>(alloc: Global, items: &'a [Value]) -> Result<Option<Vec<&'a str>
 }
 
 fn texts_at<'a>(alloc: Global, value: &'a Value, key: &str) -> Result<Option<Vec<&'a str>>, Memory>
-    ensures { IfOk result (λ found. option_map (λ texts. texts_seen texts.items) found ≡ commands.texts_at key.now (view value.now)) }
+    ensures { IfOk result (λ found. option_map (λ texts. texts_seen texts.items) found
+        ≡ commands.texts_at key.now (view value.now)) }
 {
     match value.get(key).and_then(Value::as_array) {
         Some(items) => texts_of(alloc, items.as_slice()),
@@ -100,7 +102,8 @@ fn change_in(value: &Value) -> Option<Change<'_>>
 
 // The command that makes a change, where there is one.
 fn to_make(change: Option<Change<'_>>) -> Option<Command<'_>>
-    ensures { option_map command_seen result ≡ option_map commands.one_change (option_map change_seen change.entry) }
+    ensures { option_map command_seen result ≡ option_map commands.one_change
+        (option_map change_seen change.entry) }
 {
     match change? {
         Change::Put(path, text) => Some(Command::Change(Edit::Put(path, text))),
@@ -110,7 +113,8 @@ fn to_make(change: Option<Change<'_>>) -> Option<Command<'_>>
 
 // The changes of an array, where all its items are changes.
 fn changes_in(alloc: Global, items: &[Value]) -> Result<Option<Vec<Change<'_>>>, Memory>
-    ensures { IfOk result (λ found. option_map (λ changes. changes_seen changes.items) found ≡ commands.changes_in (items_view items.now)) }
+    ensures { IfOk result (λ found. option_map (λ changes. changes_seen changes.items) found
+        ≡ commands.changes_in (items_view items.now)) }
 {
     let mut all = Vec::new(alloc);
     for item in items {
@@ -123,7 +127,8 @@ fn changes_in(alloc: Global, items: &[Value]) -> Result<Option<Vec<Change<'_>>>,
 }
 
 fn edits_in(alloc: Global, value: &Value) -> Result<Option<Command<'_>>, Memory>
-    ensures { IfOk result (λ found. option_map command_seen found ≡ commands.edits_in (view value.now)) }
+    ensures { IfOk result (λ found. option_map command_seen found ≡ commands.edits_in
+        (view value.now)) }
 {
     let Some(items) = value.get("edits").and_then(Value::as_array) else {
         return Ok(None);
@@ -142,7 +147,8 @@ fn find_in(value: &Value) -> Option<Command<'_>>
 }
 
 fn load_in(alloc: Global, value: &Value) -> Result<Option<Command<'_>>, Memory>
-    ensures { IfOk result (λ found. option_map command_seen found ≡ commands.load_in (view value.now)) }
+    ensures { IfOk result (λ found. option_map command_seen found ≡ commands.load_in
+        (view value.now)) }
 {
     match texts_at(alloc, value, "names")? {
         Some(names) => Ok(Some(Command::Ask(Request::Load(names)))),
@@ -166,7 +172,8 @@ fn under_in(value: &Value) -> Option<Command<'_>>
 
 /// The command with exactly these members.
 pub fn command_of(alloc: Global, value: &Value) -> Result<Option<Command<'_>>, Memory>
-    ensures { IfOk result (λ found. option_map command_seen found ≡ commands.command_of (view value.now)) }
+    ensures { IfOk result (λ found. option_map command_seen found ≡ commands.command_of
+        (view value.now)) }
 {
     let Some(op) = text_at(value, "op") else {
         return Ok(None);

@@ -35,7 +35,8 @@ fn make_pair<'a>(objects: &'a [HeapObject], a: Val, b: Val) -> Result<Pair<'a>, 
 
 // What is left to compare of two objects.
 fn pair_objects<'a>(objects: &'a [HeapObject], a: usize, b: usize) -> Result<Pair<'a>, Memory>
-    ensures { IfOk result (λ p. pair_seen p ≡ pair_objects (slice_get (map object_in objects.now) a) (slice_get (map object_in objects.now) b)) }
+    ensures { IfOk result (λ p. pair_seen p ≡ pair_objects (slice_get (map object_in objects.now) a)
+        (slice_get (map object_in objects.now) b)) }
 {
     match (object_at(objects, a)?, object_at(objects, b)?) {
         (Some(Object::Text(x)), Some(Object::Text(y))) => Ok(Pair::Settled(x == y)),
@@ -100,7 +101,8 @@ fn equal_lists(
     ys: &[Val],
     left: u32,
 ) -> Result<bool, Halt>
-    ensures { Says (visit_pair (inner_equal left (map object_in objects.now)) (members xs.now ys.now) steps.old) result steps.new }
+    ensures { Says (visit_pair (inner_equal left (map object_in objects.now))
+        (members xs.now ys.now) steps.old) result steps.new }
 {
     if left == 0 {
         return Err(Halt::Code(faults::TOO_DEEP));
@@ -119,7 +121,8 @@ fn equal_members(
     ys: &[Val],
     left: u32,
 ) -> Result<bool, Halt>
-    ensures { Says (equal_members (equal left (map object_in objects.now)) xs.now ys.now steps.old) result steps.new }
+    ensures { Says (equal_members (equal left (map object_in objects.now)) xs.now ys.now steps.old)
+        result steps.new }
 {
     for i in 0..xs.len() {
         let Some(x) = val_at(xs, i) else {
@@ -147,7 +150,8 @@ fn equal_dicts(
     ys: &IndexMap<Key, Entry>,
     left: u32,
 ) -> Result<bool, Halt>
-    ensures { Says (visit_pair (inner_equal left (map object_in objects.now)) (entries xs.now.entries ys.now.entries) steps.old) result steps.new }
+    ensures { Says (visit_pair (inner_equal left (map object_in objects.now))
+        (entries xs.now.entries ys.now.entries) steps.old) result steps.new }
 {
     if left == 0 {
         return Err(Halt::Code(faults::TOO_DEEP));
@@ -166,7 +170,8 @@ fn equal_entries(
     ys: &IndexMap<Key, Entry>,
     left: u32,
 ) -> Result<bool, Halt>
-    ensures { Says (equal_entries (equal left (map object_in objects.now)) xs.now.entries ys.now.entries steps.old) result steps.new }
+    ensures { Says (equal_entries (equal left (map object_in objects.now)) xs.now.entries
+        ys.now.entries steps.old) result steps.new }
 {
     for i in 0..xs.len() {
         let Some((key, entry)) = xs.get_index(i) else {
@@ -191,7 +196,8 @@ fn equal_entry(
     ys: &IndexMap<Key, Entry>,
     left: u32,
 ) -> Result<bool, Halt>
-    ensures { Says (equal_entry (equal left (map object_in objects.now)) key.now x ys.now.entries steps.old) result steps.new }
+    ensures { Says (equal_entry (equal left (map object_in objects.now)) key.now x ys.now.entries
+        steps.old) result steps.new }
 {
     spend(steps, key.parts().len())?;
     equal_found(objects, steps, x, found(ys, key), left)
@@ -206,7 +212,8 @@ fn equal_found(
     found: Option<Entry>,
     left: u32,
 ) -> Result<bool, Halt>
-    ensures { Says (equal_found (equal left (map object_in objects.now)) x found steps.old) result steps.new }
+    ensures { Says (equal_found (equal left (map object_in objects.now)) x found steps.old) result
+        steps.new }
 {
     match found {
         Some(entry) => equal(objects, steps, x, entry.value, left),

@@ -105,7 +105,8 @@ fn tuple_key(
     members: &[Val],
     left: u32,
 ) -> Result<Vec<Part>, Halt>
-    ensures { SaysItems (visit_key (inner_key left (map object_in objects.now)) (parts members.now) steps.old) result steps.new }
+    ensures { SaysItems (visit_key (inner_key left (map object_in objects.now)) (parts members.now)
+        steps.old) result steps.new }
 {
     if left == 0 {
         return Err(Halt::Code(faults::TOO_DEEP));
@@ -127,7 +128,8 @@ fn along(
     members: &[Val],
     left: u32,
 ) -> Result<Vec<Part>, Halt>
-    ensures { SaysItems (along (key left (map object_in objects.now)) members.now steps.old) result steps.new }
+    ensures { SaysItems (along (key left (map object_in objects.now)) members.now steps.old) result
+        steps.new }
 {
     let mut all = Vec::new(alloc);
     for member in members.iter() {

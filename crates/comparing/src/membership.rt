@@ -28,7 +28,8 @@ fn any_equal(
     members: &[Val],
     left: u32,
 ) -> Result<bool, Halt>
-    ensures { Says (any_equal (equal left (map object_in objects.now)) x members.now steps.old) result steps.new }
+    ensures { Says (any_equal (equal left (map object_in objects.now)) x members.now steps.old)
+        result steps.new }
 {
     for i in 0..members.len() {
         let Some(y) = val_at(members, i) else {
@@ -56,7 +57,8 @@ pub fn has(heap: &mut Heap, x: Val, a: Val) -> Result<bool, Halt>
 
 // Whether a value is in an object.
 fn object_has(heap: &mut Heap, a: usize, x: Val) -> Result<bool, Halt>
-    ensures { Says (object_has (at a (store_of heap.old)) x (store_of heap.old)) result (store_of heap.new) }
+    ensures { Says (object_has (at a (store_of heap.old)) x (store_of heap.old)) result
+        (store_of heap.new) }
 {
     match object_at(heap.objects.as_slice(), a)? {
         Some(Object::Text(whole)) => text_has(heap.objects.as_slice(), whole.as_slice(), x),
@@ -87,7 +89,8 @@ fn object_has(heap: &mut Heap, a: usize, x: Val) -> Result<bool, Halt>
 // Whether a value is a key of a dictionary.
 #[tactic(auto, unfolding(meaning::specs::Membership::hashed_has))]
 fn hashed_has(heap: &mut Heap, a: usize, x: Val) -> Result<bool, Halt>
-    ensures { Says (hashed_has (at a (store_of heap.old)) x (store_of heap.old)) result (store_of heap.new) }
+    ensures { Says (hashed_has (at a (store_of heap.old)) x (store_of heap.old)) result
+        (store_of heap.new) }
 {
     let key = hash(heap, x)?;
     has_key(heap, a, &key)
@@ -95,7 +98,8 @@ fn hashed_has(heap: &mut Heap, a: usize, x: Val) -> Result<bool, Halt>
 
 // Whether a dictionary has a key.
 fn has_key(heap: &Heap, a: usize, key: &Key) -> Result<bool, Halt>
-    ensures { Says (has_key (at a (store_of heap.now)) key.now (store_of heap.now)) result (store_of heap.now) }
+    ensures { Says (has_key (at a (store_of heap.now)) key.now (store_of heap.now)) result
+        (store_of heap.now) }
 {
     match heap.object(a)? {
         Some(Object::Dict(entries, _)) => Ok(found(entries, key).is_some()),

@@ -39,7 +39,9 @@ fn make_sides<'a>(objects: &'a [HeapObject], a: Val, b: Val) -> Result<Sides<'a>
 
 // What is left to order of two objects.
 fn side_objects<'a>(objects: &'a [HeapObject], a: usize, b: usize) -> Result<Sides<'a>, Memory>
-    ensures { IfOk result (λ s. sides_seen s ≡ side_objects (slice_get (map object_in objects.now) a) (slice_get (map object_in objects.now) b)) }
+    ensures { IfOk result
+        (λ s. sides_seen s ≡ side_objects (slice_get (map object_in objects.now) a)
+        (slice_get (map object_in objects.now) b)) }
 {
     match (object_at(objects, a)?, object_at(objects, b)?) {
         (Some(Object::Text(x)), Some(Object::Text(y))) => {
@@ -91,7 +93,8 @@ fn order_lists(
     ys: &[Val],
     left: u32,
 ) -> Result<Ordering, Halt>
-    ensures { Says (visit_sides (inner_order left (map object_in objects.now)) (listed xs.now ys.now) steps.old) result steps.new }
+    ensures { Says (visit_sides (inner_order left (map object_in objects.now))
+        (listed xs.now ys.now) steps.old) result steps.new }
 {
     if left == 0 {
         return Err(Halt::Code(faults::TOO_DEEP));
@@ -112,7 +115,8 @@ fn part(
     ys: &[Val],
     left: u32,
 ) -> Result<Parting, Halt>
-    ensures { SaysParting (parting (equal left (map object_in objects.now)) xs.now ys.now steps.old) result steps.new }
+    ensures { SaysParting (parting (equal left (map object_in objects.now)) xs.now ys.now steps.old)
+        result steps.new }
 {
     for i in 0..xs.len() {
         let Some(x) = val_at(xs, i) else {

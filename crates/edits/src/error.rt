@@ -11,8 +11,8 @@ pub enum EditError {
     Refused(u64),
     /// The first change of a batch that is refused on the files after those before it, counted from 0, and
     /// the number of its refusal: 2, 3, 4 or 7.
-    #[error("change {0} refused: {1}")]
-    RefusedAt(usize, u64),
+    #[error("change {at} refused: {number}")]
+    RefusedAt { at: usize, number: u64 },
     /// A growth was refused.
     #[error("out of memory")]
     Memory,

@@ -18,7 +18,8 @@ const MOST_CHANGES: usize = 256;
 
 // Puts a text or takes a file away, as the tree does.
 fn put_or_del(tree: &mut Tree, change: &Change<'_>) -> Result<(), TreeError>
-    ensures { Edits result (change_refusal (change_seen change.now) tree.old) tree.old (changed (change_seen change.now) tree.old) tree.new }
+    ensures { Edits result (change_refusal (change_seen change.now) tree.old) tree.old
+        (changed (change_seen change.now) tree.old) tree.new }
 {
     match change {
         Change::Put(path, text) => tree.put(path, text),
@@ -42,14 +43,15 @@ fn change_one(tree: &mut Tree, change: &Change<'_>) -> Result<(), EditError>
 
 // Makes all changes of a batch, or leaves the files as they are.
 fn change_all(tree: &mut Tree, changes: &[Change<'_>]) -> Result<(), EditError>
-    ensures { specs.EditsFiles (commands.batch (changes_seen changes.now)) tree.old tree.new result }
+    ensures { specs.EditsFiles (commands.batch (changes_seen changes.now)) tree.old tree.new
+        result }
 {
     if changes.is_empty() || changes.len() > MOST_CHANGES {
         return Err(EditError::Refused(10));
     }
     match tree.apply_all(changes) {
         Ok(()) => Ok(()),
-        Err(BatchError::At(at, n)) => Err(EditError::RefusedAt(at, n)),
+        Err(BatchError::At(at, n)) => Err(EditError::RefusedAt { at, number: n }),
         Err(BatchError::Memory) => Err(EditError::Memory),
     }
 }
@@ -69,7 +71,9 @@ pub fn edit_files(tree: &mut Tree, edit: &Edit<'_>) -> Result<(), EditError>
 /// Why an edit of these files is refused where no version is left for it: its first refusal by the files, or else 8.
 /// `Memory` where a growth was refused.
 pub fn refusal_at_limit(tree: &Tree, edit: &Edit<'_>) -> EditError
-    ensures { specs.TellsRefusal (specs.or_version_refusal (specs.files_refusal (edit_seen edit.now) tree.now) specs.version_limit) result }
+    ensures { specs.TellsRefusal
+        (specs.or_version_refusal (specs.files_refusal (edit_seen edit.now) tree.now)
+        specs.version_limit) result }
 {
     let Ok(mut trial) = tree.copy() else {
         return EditError::Memory;
@@ -82,7 +86,8 @@ pub fn refusal_at_limit(tree: &Tree, edit: &Edit<'_>) -> EditError
 
 // The paths of changes, in their order.
 fn paths_in<'a>(alloc: Global, changes: &'a [Change<'_>]) -> Result<Vec<&'a str>, Memory>
-    ensures { IfOk result (λ paths. texts_seen paths.items ≡ map commands.path_of (changes_seen changes.now)) }
+    ensures { IfOk result (λ paths. texts_seen paths.items ≡ map commands.path_of
+        (changes_seen changes.now)) }
 {
     let mut paths = Vec::new(alloc);
     for change in changes {
@@ -93,7 +98,8 @@ fn paths_in<'a>(alloc: Global, changes: &'a [Change<'_>]) -> Result<Vec<&'a str>
 
 /// The paths of the files that an edit changes, in their order.
 pub fn edited_paths<'a>(alloc: Global, edit: &'a Edit<'_>) -> Result<Vec<&'a str>, Memory>
-    ensures { IfOk result (λ paths. texts_seen paths.items ≡ commands.paths_of (edit_seen edit.now)) }
+    ensures { IfOk result (λ paths. texts_seen paths.items ≡ commands.paths_of
+        (edit_seen edit.now)) }
 {
     let mut paths = Vec::new(alloc);
     match edit {

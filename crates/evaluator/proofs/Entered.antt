@@ -15,7 +15,6 @@ use Rattle.package_calls.specs.View.{EndsAs}
 use Rattle.names.specs.View.{Ran}
 use Rattle.heap.specs.declared.halt.Halt.{Halt}
 use Rattle.heap.specs.declared.halt.Halt.TheVariants.{Code, Memory}
-use Rattle.meaning.specs.Outcome.{good}
 use Rattle.frames.specs.declared.frame.Control.{Control}
 use Rattle.frames.specs.Frames.{Goes, Sig, a_value, an_exit, on_exit}
 use Rattle.evaluator.specs.declared.machine.Environment.{Environment}
@@ -107,9 +106,6 @@ same_body env n ss within stands w u blocks j k place world frames =
     ap (λ (h : Here). then_runs (then_runs (suite env (call env n) ss h w) (λ exit. pure (an_exit exit))) (λ sig z. then_runs (on_exit h (λ exit v. ended (a_value (given exit)) (with_blocks blocks v)) sig z) j)) place
     ∙ ap (λ (z : World). then_runs (then_runs (suite env (call env n) ss stands z) (λ exit. pure (an_exit exit))) (λ sig z. then_runs (on_exit stands (λ exit v. ended (a_value (given exit)) (with_blocks blocks v)) sig z) j)) world
     ∙ ap (λ i. then_runs (then_runs (suite env (call env n) ss stands u) (λ exit. pure (an_exit exit))) i) (sym frames)
-
-pub good_is : (a b : Block) → good a ≡ good b → a ≡ b
-good_is a b e = cc
 
 -- why a part stops, as a turn
 pub goes_stop : (e : Environment) (before : Env → Ends Sig) (path : List ℕ) (line : ℕ) (halt : Halt) (stop : Stop) (m : Machine) (after : Env → Control → Ends Sig) → Stops path line halt stop

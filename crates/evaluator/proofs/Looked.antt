@@ -6,7 +6,7 @@ use Rattle.std.specs.declared.sync.Arc.{Arc}
 use lib.Pointwise.{bytes_decides}
 use Rattle.meaning.specs.Comparing.{same_text}
 use Rattle.tree.specs.Tree.{Fn}
-use Rattle.tree.specs.declared.stmt.Def.{Def}
+use Rattle.tree.specs.declared.def.Def.{Def}
 use Rattle.tree.specs.Statements.{fn_of}
 use Rattle.module_values.specs.Named.{first_named}
 use Rattle.language.specs.Environment.{function_named}

@@ -7,7 +7,7 @@ use Rattle.heap.specs.View.{Says}
 use Rattle.meaning.specs.Outcome as o
 use Rattle.meaning.specs.Heap.{Store, walks}
 use Rattle.tree.specs.Statements.{load_of}
-use Rattle.tree.specs.declared.stmt.LoadStmt.{LoadStmt}
+use Rattle.tree.specs.declared.def.LoadStmt.{LoadStmt}
 use Rattle.module_values.specs.Values.{Loaded}
 use Rattle.names.specs.View.{Ran}
 use Rattle.language.specs.World.{World, Here, at_line, at_site, Ends, ended, failed, Runs, then_runs, tick}

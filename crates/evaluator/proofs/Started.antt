@@ -4,7 +4,7 @@ use Rattle.std.specs.Arc.{arc_value}
 use Rattle.std.specs.declared.alloc.Global.{Global}
 use Rattle.std.specs.declared.sync.Arc.{Arc}
 use Rattle.texts.specs.declared.memory.Memory as t
-use Rattle.tree.specs.declared.stmt.File.{File}
+use Rattle.tree.specs.declared.def.File.{File}
 use Rattle.tree.specs.Statements.{file_of}
 use Rattle.tree.specs.Tree.{Fi, Tp}
 use Rattle.module_values.specs.Values.{Loaded}

@@ -8,9 +8,9 @@ use Rattle.tree.specs.contracts.expr.Expr as Expr
 use Rattle.tree.specs.contracts.expr.Clause as Clause
 use Rattle.tree.specs.contracts.stmt.Stmt as Stmt
 use Rattle.tree.specs.contracts.stmt.Branch as Branch
-use Rattle.tree.specs.contracts.stmt.Def as Def
-use Rattle.tree.specs.contracts.stmt.Top as Top
-use Rattle.tree.specs.contracts.stmt.File as File
+use Rattle.tree.specs.contracts.def.Def as Def
+use Rattle.tree.specs.contracts.def.Top as Top
+use Rattle.tree.specs.contracts.def.File as File
 
 pub expr_send : IsSend Expr.the_row
 expr_send = search (crosses, expressions.crosses_both, sendable) depth 60 fits 20000

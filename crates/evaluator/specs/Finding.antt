@@ -8,7 +8,7 @@ use Rattle.meaning.specs.Outcome.{checked}
 use Rattle.meaning.specs.Functions.{Named}
 use Rattle.meaning.specs.Comparing.{same_text}
 use Rattle.tree.specs.Tree.{Fn, Suite}
-use Rattle.tree.specs.declared.stmt.Def.{Def}
+use Rattle.tree.specs.declared.def.Def.{Def}
 use Rattle.tree.specs.Statements.{fn_of}
 use Rattle.language.specs.World.{Here, Runs, ◌>>=◌, fault, on_heap}
 use Rattle.language.specs.Environment.{Env, path_of, functions_of, function_named, defaults_of, reached_module}

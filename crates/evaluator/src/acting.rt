@@ -28,8 +28,12 @@ pub fn built_in(
     xs: Vec<Val>,
     names: Arc<Vec<Text>, Global>,
 ) -> Result<Control, Halt>
-    ensures goes { (env : Env) (n : ℕ) (here : Here) (frames : List Frame) → Goes (on env n here line).site (machine_does env n here (c.Builtin line f xs names) frames (world_of state.old)) result (λ control. machine_does env n here control frames (world_of state.new)) }
-    ensures light { IfOk result (λ control. (state.new.heap.steps ≤ state.old.heap.steps) × (control_weight control ≡ 0)) }
+    ensures goes { (env : Env) (n : ℕ) (here : Here) (frames : List Frame)
+        → Goes (on env n here line).site (machine_does env n here (c.Builtin line f xs names) frames
+        (world_of state.old)) result (λ control. machine_does env n here control frames
+        (world_of state.new)) }
+    ensures light { IfOk result (λ control. (state.new.heap.steps ≤ state.old.heap.steps)
+        × (control_weight control ≡ 0)) }
 {
     let value = call_builtin(&mut state.heap, f, xs.as_slice(), names.as_slice())?;
     Ok(Control::Signal(Signal::Value(value)))
@@ -44,8 +48,12 @@ pub fn of_value(
     xs: Vec<Val>,
     names: Arc<Vec<Text>, Global>,
 ) -> Result<Control, Halt>
-    ensures goes { (env : Env) (n : ℕ) (here : Here) (frames : List Frame) → Goes (on env n here line).site (machine_does env n here (c.Method line x name xs names) frames (world_of state.old)) result (λ control. machine_does env n here control frames (world_of state.new)) }
-    ensures light { IfOk result (λ control. (state.new.heap.steps ≤ state.old.heap.steps) × (control_weight control ≡ 0)) }
+    ensures goes { (env : Env) (n : ℕ) (here : Here) (frames : List Frame)
+        → Goes (on env n here line).site
+        (machine_does env n here (c.Method line x name xs names) frames (world_of state.old)) result
+        (λ control. machine_does env n here control frames (world_of state.new)) }
+    ensures light { IfOk result (λ control. (state.new.heap.steps ≤ state.old.heap.steps)
+        × (control_weight control ≡ 0)) }
 {
     let value = call_method(&mut state.heap, x, &name, xs.as_slice(), names.as_slice())?;
     Ok(Control::Signal(Signal::Value(value)))
@@ -60,8 +68,12 @@ pub fn added(
     x: Val,
     y: Val,
 ) -> Result<Control, Halt>
-    ensures goes { (env : Env) (n : ℕ) (running : List (List ℕ × List ℕ)) (frames : List Frame) → let here = here_of at.now at.now.line running in Goes (on env n here line).site (machine_does env n here (c.Add line aim x y) frames (world_of state.old)) result (λ control. machine_does env n here control frames (world_of state.new)) }
-    ensures light { IfOk result (λ control. (state.new.heap.steps ≤ state.old.heap.steps) × (control_weight control ≡ 0)) }
+    ensures goes { (env : Env) (n : ℕ) (running : List (List ℕ × List ℕ)) (frames : List Frame)
+        → let here = here_of at.now at.now.line running in Goes (on env n here line).site
+        (machine_does env n here (c.Add line aim x y) frames (world_of state.old)) result
+        (λ control. machine_does env n here control frames (world_of state.new)) }
+    ensures light { IfOk result (λ control. (state.new.heap.steps ≤ state.old.heap.steps)
+        × (control_weight control ≡ 0)) }
 {
     let z = add(&mut state.heap, x, y)?;
     if let Err(halt) = store(state, at, &aim, z) {
@@ -79,8 +91,12 @@ pub fn begin_block(
     of: Arc<Comprehension, Global>,
     x: Val,
 ) -> Result<Control, Halt>
-    ensures goes { (env : Env) (n : ℕ) (here : Here) → Goes (on env n here line).site (machine_does env n here (c.First line target of x) frames.old.items (world_of state.old)) result (λ control. machine_does env n here control frames.new.items (world_of state.new)) }
-    ensures lighter { IfOk result (λ control. Lighter state.old.heap.steps (frames_weight frames.old.items + 6) state.new.heap.steps (frames_weight frames.new.items + control_weight control)) }
+    ensures goes { (env : Env) (n : ℕ) (here : Here) → Goes (on env n here line).site
+        (machine_does env n here (c.First line target of x) frames.old.items (world_of state.old))
+        result (λ control. machine_does env n here control frames.new.items (world_of state.new)) }
+    ensures lighter { IfOk result
+        (λ control. Lighter state.old.heap.steps (frames_weight frames.old.items + 6)
+        state.new.heap.steps (frames_weight frames.new.items + control_weight control)) }
 {
     let members = items(&state.heap, x)?;
     lock(&mut state.heap, x)?;
@@ -110,8 +126,12 @@ pub fn define(
     def: &Arc<Def, Global>,
     xs: Vec<Val>,
 ) -> Result<Control, Halt>
-    ensures goes { (env : Env) (n : ℕ) (running : List (List ℕ × List ℕ)) (frames : List Frame) → let here = here_of at.now at.now.line running in Goes (on env n here line).site (machine_does env n here (c.Define line def.now xs) frames (world_of state.old)) result (λ control. machine_does env n here control frames (world_of state.new)) }
-    ensures light { IfOk result (λ control. (state.new.heap.steps ≤ state.old.heap.steps) × (control_weight control ≡ 0)) }
+    ensures goes { (env : Env) (n : ℕ) (running : List (List ℕ × List ℕ)) (frames : List Frame)
+        → let here = here_of at.now at.now.line running in Goes (on env n here line).site
+        (machine_does env n here (c.Define line def.now xs) frames (world_of state.old)) result
+        (λ control. machine_does env n here control frames (world_of state.new)) }
+    ensures light { IfOk result (λ control. (state.new.heap.steps ≤ state.old.heap.steps)
+        × (control_weight control ≡ 0)) }
 {
     let name = &def.name;
     let label = Bytes::of_text(at.label.share()?);

@@ -1,8 +1,9 @@
 //! How a call of a function of a file begins, and how it ends.
 ghost use Rattle.std.specs.Prelude.{◌≡◌, ◌≤◌, ◌<◌, ◌+◌, ◌++◌, ◌∷◌, [], ℕ, List, IfOk, OnErr, IsOkUnless};
 ghost use Rattle.heap.specs.declared.halt.Halt.TheVariants.{Memory};
-ghost use Rattle.names.specs.View.{block_of, world_of};
-ghost use Rattle.language.specs.Calls.{call, inside, body_does};
+ghost use Rattle.names.specs.View.{held, world_of};
+ghost use Rattle.language.specs.World as world;
+ghost use Rattle.language.specs.Calls.{call, inside, function_block, body_does};
 ghost use Rattle.language.specs.Expressions.{call_object};
 ghost use Rattle.meaning.specs.Heap.{at};
 ghost use Rattle.heap.specs.View.{store_of};
@@ -20,13 +21,13 @@ ghost use Rattle.evaluator.specs.Finding.{calls_on, body_runs, IsFunction};
 use crate::finding::{find, label_text};
 use crate::machine::Machine;
 use crate::setting::Setting;
-use calls::{Open, arguments, defaults_of, function_block, is_running};
+use calls::{Open, call_block, defaults_of, is_running};
 use frames::{Caller, Control, Exit, Frame, Signal, given, push};
 use grammar::FileKind;
 use heap::{Bytes, Halt, Heap, Object, Val};
 use meaning::faults;
 use modules::need_names;
-use names::{Block, Slot, Standing};
+use names::{Block, Standing};
 use std::alloc::Global;
 use std::mem;
 use std::sync::Arc;
@@ -62,8 +63,15 @@ pub fn enter(
     xs: &[Val],
     names: &[Text],
 ) -> Result<Control, Halt>
-    ensures goes { Under e.now (λ env. let here = on env m.old.left (here_in m.old) line in Goes here.site (above env m.old.left (here_in m.old) (valued (λ w. call_object (call env m.old.left) (at place w.store) (plain_part xs.now names.now) (named_part xs.now names.now) here w)) m.old.frames.items (world_of m.old.state)) result (λ control. means env m.new control)) }
-    ensures light { IfOk result (λ control. (m.new.state.heap.steps ≤ m.old.state.heap.steps) × (frames_weight m.new.frames.items + control_weight control ≤ frames_weight m.old.frames.items + 5)) }
+    ensures goes { Under e.now (λ env. let here = on env m.old.left (here_in m.old) line in
+        Goes here.site
+        (above env m.old.left (here_in m.old)
+        (valued (λ w. call_object (call env m.old.left) (at place w.store)
+        (plain_part xs.now names.now) (named_part xs.now names.now) here w)) m.old.frames.items
+        (world_of m.old.state)) result (λ control. means env m.new control)) }
+    ensures light { IfOk result (λ control. (m.new.state.heap.steps ≤ m.old.state.heap.steps)
+        × (frames_weight m.new.frames.items + control_weight control
+        ≤ frames_weight m.old.frames.items + 5)) }
     ensures stands { OnErr result (m.new.at ≡ m.old.at) }
 {
     let called = match function_at(&m.state.heap, place) {
@@ -92,14 +100,21 @@ fn call(
     xs: &[Val],
     names: &[Text],
 ) -> Result<Control, Halt>
-    ensures goes { (env : Env) (line : ℕ) → path ≡ path_of env label → let here = here_in m.old in Goes (on env m.old.left here line).site (above env m.old.left here (valued (calls_on env m.old.left label (fn_of def.now) (plain_part xs.now names.now) (named_part xs.now names.now) (on env m.old.left here line))) m.old.frames.items (world_of m.old.state)) result (λ control. means env m.new control) }
-    ensures light { IfOk result (λ control. (m.new.state.heap.steps ≤ m.old.state.heap.steps) × (frames_weight m.new.frames.items + control_weight control ≤ frames_weight m.old.frames.items + 5)) }
+    ensures goes { (env : Env) (line : ℕ) → path ≡ path_of env label → let here = here_in m.old in
+        Goes (on env m.old.left here line).site
+        (above env m.old.left here
+        (valued (calls_on env m.old.left label (fn_of def.now) (plain_part xs.now names.now)
+        (named_part xs.now names.now) (on env m.old.left here line))) m.old.frames.items
+        (world_of m.old.state)) result (λ control. means env m.new control) }
+    ensures light { IfOk result (λ control. (m.new.state.heap.steps ≤ m.old.state.heap.steps)
+        × (frames_weight m.new.frames.items + control_weight control
+        ≤ frames_weight m.old.frames.items + 5)) }
     ensures stands { OnErr result (m.new.at ≡ m.old.at) }
 {
     let alloc = m.state.heap.alloc;
     let defaults = defaults_of(&m.state, &label, &def.name);
-    let parameters = match arguments(alloc, def, xs, names, defaults) {
-        Ok(parameters) => parameters,
+    let block = match call_block(alloc, def, xs, names, defaults) {
+        Ok(block) => block,
         Err(halt) => return Err(halt),
     };
     if is_running(m.running.as_slice(), &label, &def.name) {
@@ -108,7 +123,7 @@ fn call(
     if m.left == 0 {
         return Err(Halt::Code(faults::TOO_DEEP));
     }
-    begin_body(m, label, path, def, parameters)
+    begin_body(m, label, path, def, block)
 }
 
 // Begins the body of a function.
@@ -117,16 +132,21 @@ fn begin_body(
     label: Text,
     path: Text,
     def: &Def,
-    parameters: Vec<Slot>,
+    block: Block,
 ) -> Result<Control, Halt>
     requires { 0 < m.old.left }
-    ensures goes { IfOk result (λ control. (env : Env) (line : ℕ) → path ≡ path_of env label → let here = on env m.old.left (here_in m.old) line in let f = fn_of def.now in above env m.old.left (here_in m.old) (valued (body_does (body_runs env m.old.left) f (block_of parameters) (inside env label f here) here)) m.old.frames.items (world_of m.old.state) ≡ means env m.new control) }
+    ensures goes { IfOk result (λ control. (env : Env) (line : ℕ) (parameters : world.Block)
+        → held block ≡ function_block (fn_of def.now) parameters → path ≡ path_of env label
+        → let here = on env m.old.left (here_in m.old) line in let f = fn_of def.now in
+        above env m.old.left (here_in m.old)
+        (valued (body_does (body_runs env m.old.left) f parameters (inside env label f here) here))
+        m.old.frames.items (world_of m.old.state) ≡ means env m.new control) }
     ensures stands { OnErr result (m.new.at ≡ m.old.at) }
     ensures err { IsOkUnless result Memory }
-    ensures light { IfOk result (λ control. (m.new.state.heap ≡ m.old.state.heap) × (frames_weight m.new.frames.items + control_weight control ≡ frames_weight m.old.frames.items + 3)) }
+    ensures light { IfOk result (λ control. (m.new.state.heap ≡ m.old.state.heap)
+        × (frames_weight m.new.frames.items + control_weight control
+        ≡ frames_weight m.old.frames.items + 3)) }
 {
-    let slots = function_block(def, parameters)?;
-    let block = Block::new(slots)?;
     let mut blocks = Vec::new(m.state.heap.alloc);
     blocks.push(block)?;
     let open = Open {
@@ -151,7 +171,10 @@ fn begin_body(
         kind: FileKind::Bzl,
         line: def.line,
     };
-    Ok(Control::Suite(body, 0))
+    Ok(Control::Suite {
+        suite: body,
+        next: 0,
+    })
 }
 
 // The same place of code.
@@ -169,7 +192,9 @@ fn copy_of(at: &Standing) -> Result<Standing, Halt>
 
 /// Ends a call: the caller goes on where it stands, with its own blocks, where so many calls may be open.
 pub fn leave(m: &mut Machine, caller: Box<Caller>, exit: Exit) -> Control
-    ensures goes { (env : Env) → machine_does env m.old.left (here_in m.old) (c.Signal (g.Exit exit)) (m.old.frames.items ++ f.Leave caller ∷ []) (world_of m.old.state) ≡ means env m.new result }
+    ensures goes { (env : Env) → machine_does env m.old.left (here_in m.old)
+        (c.Signal (g.Exit exit)) (m.old.frames.items ++ f.Leave caller ∷ []) (world_of m.old.state)
+        ≡ means env m.new result }
     ensures steps { m.new.state.heap ≡ m.old.state.heap }
     ensures frames { m.new.frames ≡ m.old.frames }
     ensures light { control_weight result ≡ 0 }

@@ -27,7 +27,9 @@ pub struct Found {
 
 // The function of the file with a name.
 fn own_function<'a>(e: &'a Setting<'_>, name: &Bytes) -> Option<&'a Arc<Def, Global>>
-    ensures { IsDef name.now (function_named name.now (defs (map top_of (arc_value e.now.file).tops.items))) (option_map (λ d. d.now) result) }
+    ensures { IsDef name.now
+        (function_named name.now (defs (map top_of (arc_value e.now.file).tops.items)))
+        (option_map (λ d. d.now) result) }
 {
     match e.function(name) {
         Some(function) => Some(function.def()),
@@ -37,7 +39,8 @@ fn own_function<'a>(e: &'a Setting<'_>, name: &Bytes) -> Option<&'a Arc<Def, Glo
 
 // The function of a module with a name.
 fn function_in<'a>(m: &'a Module, name: &Bytes) -> Option<&'a Arc<Def, Global>>
-    ensures { IsDef name.now (function_named name.now m.now.functions) (option_map (λ d. d.now) result) }
+    ensures { IsDef name.now (function_named name.now m.now.functions)
+        (option_map (λ d. d.now) result) }
 {
     match m.function(name) {
         Some(function) => Some(function.def()),
@@ -59,7 +62,8 @@ fn module_among<'a>(modules: &'a [Module], label: &[u8]) -> Option<&'a Module>
 
 // The module with a label, of those that a load reaches.
 fn module_in<'a>(loaded: &'a Loaded, label: &[u8]) -> Option<&'a Module>
-    ensures { let m = loaded.now in option_map (λ m. m.now) result ≡ body_at label.now (m.body ∷ m.reached) }
+    ensures { let m = loaded.now in option_map (λ m. m.now) result ≡ body_at label.now
+        (m.body ∷ m.reached) }
 {
     if label == loaded.body().label().as_str().as_bytes() {
         return Some(loaded.body());

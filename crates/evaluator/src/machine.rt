@@ -48,6 +48,6 @@ pub enum Turned {
 /// Why an evaluation stops: at a fault with its code, file and line, or for want of memory.
 #[derive(Drop)]
 pub enum Stop {
-    Fault(u8, Text, usize),
+    Fault { code: u8, path: Text, line: usize },
     Memory,
 }

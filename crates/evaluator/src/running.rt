@@ -36,7 +36,14 @@ const STEPS: u64 = 1000000;
 
 /// Where the statements of a file stand; each has its own line.
 pub fn level(e: &Environment) -> Result<Standing, Memory>
-    ensures { IfOk result (λ at. at ≡ record { label = e.now.label; path = e.now.path; kind = e.now.package.kind; line = 0 }) }
+    ensures { IfOk result
+        (λ at. at ≡ record {
+          label = e.now.label;
+          path = e.now.path;
+          kind = e.now.package.kind;
+          line
+              = 0;
+        }) }
 {
     Ok(Standing {
         label: e.label.share()?,
@@ -76,7 +83,7 @@ fn stop_in(at: &Standing, line: usize, halt: Halt) -> Stop
 {
     match halt {
         Halt::Code(code) => match at.path.share() {
-            Ok(path) => Stop::Fault(code, path, line),
+            Ok(path) => Stop::Fault { code, path, line },
             Err(_) => Stop::Memory,
         },
         Halt::Memory => Stop::Memory,
@@ -85,7 +92,10 @@ fn stop_in(at: &Standing, line: usize, halt: Halt) -> Stop
 
 // A load statement: a step, and what it binds.
 fn bind_load(state: &mut State, at: &Standing, body: &Module, load: &LoadStmt) -> Result<(), Halt>
-    ensures { (line : ℕ) (running : List (List ℕ × List ℕ)) → let here = here_of at.now line running in Ran (at_line load.now.line here).site (load_does body.now (load_of load.now) here (world_of state.old)) result (world_of state.new) }
+    ensures { (line : ℕ) (running : List (List ℕ × List ℕ)) → let here = here_of at.now line running
+        in Ran (at_line load.now.line here).site
+        (load_does body.now (load_of load.now) here (world_of state.old)) result
+        (world_of state.new) }
 {
     if let Err(halt) = tick(&mut state.heap) {
         return Err(halt);
@@ -100,7 +110,9 @@ fn bind_loads(
     statements: &[LoadStmt],
     modules: &[Loaded],
 ) -> Result<(), Stop>
-    ensures { (running : List (List ℕ × List ℕ)) → let here = here_of at.now at.now.line running in Opened (loads (map load_of statements.now) modules.now here (world_of state.old)) result (world_of state.new) }
+    ensures { (running : List (List ℕ × List ℕ)) → let here = here_of at.now at.now.line running in
+        Opened (loads (map load_of statements.now) modules.now here (world_of state.old)) result
+        (world_of state.new) }
 {
     for i in 0..statements.len() {
         let load = &statements[i];
@@ -121,7 +133,9 @@ pub fn open_file(
     file: &File,
     modules: &[Loaded],
 ) -> Result<(), Stop>
-    ensures { (running : List (List ℕ × List ℕ)) → let here = here_of at.now at.now.line running in Opened (opens (file_of file.now) modules.now here (world_of state.old)) result (world_of state.new) }
+    ensures { (running : List (List ℕ × List ℕ)) → let here = here_of at.now at.now.line running in
+        Opened (opens (file_of file.now) modules.now here (world_of state.old)) result
+        (world_of state.new) }
 {
     if let Some(line) = file.leading {
         if let Err(halt) = tick(&mut state.heap) {
@@ -136,14 +150,15 @@ pub fn stopped(stop: Stop) -> Result<Outcome, Memory>
     ensures { Shows stop result }
 {
     match stop {
-        Stop::Fault(code, path, line) => Ok(Outcome::Fault(Fault { code, path, line })),
+        Stop::Fault { code, path, line } => Ok(Outcome::Fault(Fault { code, path, line })),
         Stop::Memory => Err(Memory),
     }
 }
 
 // The module that a .bzl file leaves. A fault at its end has line 0.
 fn leave_module(state: &mut State, e: &Environment) -> Result<Outcome, Memory>
-    ensures { let env = env_of e.now in IsLeft (leaves FileKind.Bzl env (file_level env) (world_of state.old)) result }
+    ensures { let env = env_of e.now in
+        IsLeft (leaves FileKind.Bzl env (file_level env) (world_of state.old)) result }
 {
     let at = level(e)?;
     match frozen_module(state, &at, &e.file, e.loads.as_slice()) {
@@ -154,7 +169,8 @@ fn leave_module(state: &mut State, e: &Environment) -> Result<Outcome, Memory>
 
 /// What a file leaves once its statements have ended: a .bzl file its module, and a BUILD file its targets.
 pub fn leave_file(state: State, e: &Environment) -> Result<Outcome, Memory>
-    ensures { let env = env_of e.now in IsLeft (leaves env.kind env (file_level env) (world_of state)) result }
+    ensures { let env = env_of e.now in
+        IsLeft (leaves env.kind env (file_level env) (world_of state)) result }
 {
     let mut state = state;
     match e.package.kind {
@@ -183,7 +199,8 @@ fn add_answers(
     patterns: &[Text],
     results: &[Arc<Vec<Text>, Global>],
 ) -> Result<(), Memory>
-    ensures { OnOk result (answers_of answers.new.items ≡ answers_of answers.old.items ++ zip patterns.now (map shared_texts results.now)) }
+    ensures { OnOk result (answers_of answers.new.items ≡ answers_of answers.old.items
+        ++ zip patterns.now (map shared_texts results.now)) }
 {
     for i in 0..patterns.len().min(results.len()) {
         let pattern = patterns[i].share()?;
@@ -242,7 +259,7 @@ pub fn run(alloc: Global, environment: Environment) -> Result<Outcome, Memory>
         running: Vec::new(alloc),
         left: OPEN_CALLS,
     };
-    go_on(environment, machine, Control::Tops(file, 0))
+    go_on(environment, machine, Control::Tops { file, next: 0 })
 }
 
 /// Goes on with an evaluation that waits, with an answer for each of its patterns, in order. The outcome is that of the
@@ -252,7 +269,8 @@ pub fn run(alloc: Global, environment: Environment) -> Result<Outcome, Memory>
 ///
 /// `Memory` where memory is refused. What waited is given up then, and `run` gives the same outcome again.
 pub fn resume(suspended: Suspended, results: Vec<Arc<Vec<Text>, Global>>) -> Result<Outcome, Memory>
-    ensures { Evaluates (answered (env_of suspended.environment) suspended.patterns (map shared_texts results.items)) result }
+    ensures { Evaluates (answered (env_of suspended.environment) suspended.patterns
+        (map shared_texts results.items)) result }
 {
     let Suspended {
         environment,

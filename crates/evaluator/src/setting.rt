@@ -64,7 +64,8 @@ impl<'a> Setting<'a> {
 
     /// The first function of the file with a name.
     pub fn function(&self, name: &Bytes) -> Option<&Function>
-        ensures { option_map (λ f. f.now) result ≡ first_named name.now (defs (map top_of (arc_value self.now.file).tops.items)) }
+        ensures { option_map (λ f. f.now) result ≡ first_named name.now
+            (defs (map top_of (arc_value self.now.file).tops.items)) }
     {
         self.functions.named(name)
     }

@@ -11,7 +11,9 @@ use crate::entering::{enter, leave};
 use crate::machine::{Environment, Machine, Stop, Turned};
 use crate::setting::Setting;
 use crate::tidying::tidy;
-use frames::{Caller, Control, Frame, Signal, control_line, frame_line, hand_down, step};
+use frames::{
+    Caller, Control, Frame, NOT_AWAITED, Signal, control_line, frame_line, hand_down, step,
+};
 use heap::{Builtin, Halt, Val};
 use names::{Slot, Standing};
 use package_calls::{Called, package_call};
@@ -25,7 +27,7 @@ fn stop(m: &Machine, line: usize, halt: Halt) -> Stop
 {
     match halt {
         Halt::Code(code) => match m.at.path.share() {
-            Ok(path) => Stop::Fault(code, path, line),
+            Ok(path) => Stop::Fault { code, path, line },
             Err(_) => Stop::Memory,
         },
         Halt::Memory => Stop::Memory,
@@ -39,14 +41,17 @@ fn end_call(
     signal: Signal,
     caller: Box<Caller>,
 ) -> Result<Turned, Stop>
-    ensures leads { Leads e.now (λ env. machine_does env m.old.left (here_in m.old) (c.Signal signal) (m.old.frames.items ++ f.Leave caller ∷ []) (world_of m.old.state)) result m.new }
-    ensures light { IfOk result (λ turned. (m.new.state.heap ≡ m.old.state.heap) × (m.new.frames ≡ m.old.frames) × IsLight turned) }
+    ensures leads { Leads e.now (λ env. machine_does env m.old.left (here_in m.old)
+        (c.Signal signal) (m.old.frames.items ++ f.Leave caller ∷ []) (world_of m.old.state)) result
+        m.new }
+    ensures light { IfOk result (λ turned. (m.new.state.heap ≡ m.old.state.heap)
+        × (m.new.frames ≡ m.old.frames) × IsLight turned) }
 {
     match signal {
         Signal::Exit(exit) => Ok(Turned::Goes(leave(m, caller, exit))),
-        Signal::Value(_) => Err(stop(m, m.at.line, Halt::Code(0))),
-        Signal::Aim(_) => Err(stop(m, m.at.line, Halt::Code(0))),
-        Signal::Gathered(_) => Err(stop(m, m.at.line, Halt::Code(0))),
+        Signal::Value(_) => Err(stop(m, m.at.line, Halt::Code(NOT_AWAITED))),
+        Signal::Aim(_) => Err(stop(m, m.at.line, Halt::Code(NOT_AWAITED))),
+        Signal::Gathered(_) => Err(stop(m, m.at.line, Halt::Code(NOT_AWAITED))),
     }
 }
 
@@ -81,7 +86,8 @@ fn call_package(
     names: Arc<Vec<Text>, Global>,
 ) -> Result<Turned, Stop>
     ensures leads { Leads e.now (λ env. means env m.old (c.Package line f xs names)) result m.new }
-    ensures falls { IfOk result (λ turned. TurnFalls m.old (c.Package line f xs names) m.new turned) }
+    ensures falls { IfOk result (λ turned. TurnFalls m.old (c.Package line f xs names) m.new
+        turned) }
 {
     match package_call(
         &mut m.state,
@@ -92,7 +98,13 @@ fn call_package(
     ) {
         Ok(Called::Value(value)) => Ok(Turned::Goes(Control::Signal(Signal::Value(value)))),
         Ok(Called::Waits(patterns)) => {
-            Ok(Turned::Waits(Control::Package(line, f, xs, names), patterns))
+            let call = Control::Package {
+                line,
+                function: f,
+                arguments: xs,
+                names,
+            };
+            Ok(Turned::Waits(call, patterns))
         }
         Err(halt) => Err(stop(m, line, halt)),
     }
@@ -100,23 +112,49 @@ fn call_package(
 
 // What is neither a signal nor a package call.
 fn act(m: &mut Machine, e: &Setting<'_>, control: Control) -> Result<Control, Halt>
-    ensures goes { Under e.now (λ env. Goes (on env m.old.left (here_in m.old) (control_line m.old.at.line control)).site (means env m.old control) result (λ next. means env m.new next)) }
+    ensures goes { Under e.now
+        (λ env. Goes (on env m.old.left (here_in m.old) (control_line m.old.at.line control)).site
+        (means env m.old control) result (λ next. means env m.new next)) }
     ensures falls { IsActing control → IfOk result (λ next. Falls m.old control m.new next) }
     ensures stands { OnErr result (m.new.at ≡ m.old.at) }
 {
     match control {
-        Control::First(line, target, of, x) => {
-            begin_block(&mut m.state, &mut m.frames, line, target, of, x)
-        }
-        Control::Enter(line, place, xs, names) => {
-            enter(m, e, line, place, xs.as_slice(), names.as_slice())
-        }
-        Control::Builtin(line, f, xs, names) => built_in(&mut m.state, line, f, xs, names),
-        Control::Method(line, x, name, xs, names) => {
-            of_value(&mut m.state, line, x, name, xs, names)
-        }
-        Control::Add(line, aim, x, y) => added(&mut m.state, &m.at, line, aim, x, y),
-        Control::Define(line, def, xs) => define(&mut m.state, &m.at, line, &def, xs),
+        Control::First {
+            line,
+            target,
+            of,
+            value: x,
+        } => { begin_block(&mut m.state, &mut m.frames, line, target, of, x) }
+        Control::Enter {
+            line,
+            place,
+            arguments: xs,
+            names,
+        } => { enter(m, e, line, place, xs.as_slice(), names.as_slice()) }
+        Control::Builtin {
+            line,
+            function: f,
+            arguments: xs,
+            names,
+        } => built_in(&mut m.state, line, f, xs, names),
+        Control::Method {
+            line,
+            receiver: x,
+            name,
+            arguments: xs,
+            names,
+        } => { of_value(&mut m.state, line, x, name, xs, names) }
+        Control::Add {
+            line,
+            aim,
+            old: x,
+            right: y,
+        } => added(&mut m.state, &m.at, line, aim, x, y),
+        Control::Define {
+            line,
+            def,
+            defaults: xs,
+        } => define(&mut m.state, &m.at, line, &def, xs),
         control => step(&mut m.state, &mut m.frames, &m.at, control),
     }
 }
@@ -128,7 +166,12 @@ fn turn(m: &mut Machine, e: &Setting<'_>, control: Control) -> Result<Turned, St
 {
     match control {
         Control::Signal(signal) => hand(m, e, signal),
-        Control::Package(line, f, xs, names) => call_package(m, e, line, f, xs, names),
+        Control::Package {
+            line,
+            function: f,
+            arguments: xs,
+            names,
+        } => call_package(m, e, line, f, xs, names),
         control => {
             let line = control_line(&control, m.at.line);
             match act(m, e, control) {

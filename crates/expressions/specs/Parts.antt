@@ -3,8 +3,8 @@ use Rattle.std.specs.Prelude.{◌≡◌, List, Option, Some, None, map}
 use Rattle.tokens.specs.Token.{Lex}
 use Rattle.tree.specs.declared.expr.BinaryOp.{BinaryOp}
 use Rattle.tree.specs.View.{tree_of}
-use Rattle.expressions.specs.declared.expression.EntriesSoFar.{EntriesSoFar}
-use Rattle.expressions.specs.declared.expression.ArgumentsSoFar.{ArgumentsSoFar}
+use Rattle.expressions.specs.declared.making.EntriesSoFar.{EntriesSoFar}
+use Rattle.expressions.specs.declared.making.ArgumentsSoFar.{ArgumentsSoFar}
 use Rattle.grammar.specs.Expressions.{Pairs, Arguments, Comparison}
 
 abbrev pub pairs_of : EntriesSoFar → Pairs

@@ -16,6 +16,10 @@ ghost use Rattle.expressions.specs.declared.front.Stop.TheVariants.{Memory};
 ghost use Rattle.std.specs.Arc.{arc_value};
 
 use crate::front::{Stop, Tokens, fit, operator_at, take_comparison};
+use crate::making::{
+    ArgumentsSoFar, EntriesSoFar, alone, dict, dict_by_clauses, method, one_entry, operation,
+    shared,
+};
 use crate::target::is_target;
 use grammar::{Kind, Rank};
 use std::alloc::Global;
@@ -23,20 +27,6 @@ use std::sync::Arc;
 use texts::{Text, beside};
 use tokens::{Symbol, Token, string_text};
 use tree::{BinaryOp, Clause, Expr, Literal, UnaryOp};
-
-/// The entries of a dictionary so far: keys, and as many values.
-#[derive(Drop)]
-pub(crate) struct EntriesSoFar {
-    keys: Vec<Expr>,
-    values: Vec<Expr>,
-}
-
-/// The arguments of a call so far, and the names of the last ones.
-#[derive(Drop)]
-pub(crate) struct ArgumentsSoFar {
-    values: Vec<Expr>,
-    names: Vec<Text>,
-}
 
 /// Reads expressions that hold others one level down.
 #[derive(Clone, Copy)]
@@ -59,7 +49,9 @@ impl<F: Fn(Global, &mut Tokens<'_, '_>, usize, Kind) -> Result<Expr, Stop>> Gram
     /// Reads an expression one level down, behind a symbol.
     fn behind(&self, t: &mut Tokens<'_, '_>, symbol: Symbol, kind: Kind) -> Result<Expr, Stop>
         requires { Nests self.now.depth (F.pre self.now.expr) (F.post self.now.expr) }
-        ensures { Reads tree_of (and_then (expect symbol (left t.old)) (λ _. spec.expr self.now.depth kind)) result (left t.new) }
+        ensures { Reads tree_of
+            (and_then (expect symbol (left t.old)) (λ _. spec.expr self.now.depth kind)) result
+            (left t.new) }
     {
         t.expect(symbol)?;
         self.expr(t, kind)
@@ -69,7 +61,8 @@ impl<F: Fn(Global, &mut Tokens<'_, '_>, usize, Kind) -> Result<Expr, Stop>> Gram
     #[tactic(auto, unfolding(grammar::specs::Expressions::items))]
     fn items(&self, t: &mut Tokens<'_, '_>, closer: Symbol, first: Expr) -> Result<Vec<Expr>, Stop>
         requires { Nests self.now.depth (F.pre self.now.expr) (F.post self.now.expr) }
-        ensures { Reads (λ v. map tree_of v.items) (spec.items (spec.expr self.now.depth) closer (tree_of first) (left t.old)) result (left t.new) }
+        ensures { Reads (λ v. map tree_of v.items) (spec.items (spec.expr self.now.depth) closer
+            (tree_of first) (left t.old)) result (left t.new) }
     {
         let mut found = Vec::new(self.alloc);
         found.push(first)?;
@@ -90,7 +83,8 @@ impl<F: Fn(Global, &mut Tokens<'_, '_>, usize, Kind) -> Result<Expr, Stop>> Gram
     #[tactic(auto, unfolding(grammar::specs::Expressions::target))]
     fn target(&self, t: &mut Tokens<'_, '_>) -> Result<Expr, Stop>
         requires { Nests self.now.depth (F.pre self.now.expr) (F.post self.now.expr) }
-        ensures { Reads tree_of (spec.target (spec.expr self.now.depth) (left t.old)) result (left t.new) }
+        ensures { Reads tree_of (spec.target (spec.expr self.now.depth) (left t.old)) result
+            (left t.new) }
     {
         let found = self.expr(t, Kind::Postfix)?;
         let is_fit = is_target(&found);
@@ -101,7 +95,8 @@ impl<F: Fn(Global, &mut Tokens<'_, '_>, usize, Kind) -> Result<Expr, Stop>> Gram
     #[tactic(auto, unfolding(grammar::specs::Expressions::more_targets))]
     fn more_targets(&self, t: &mut Tokens<'_, '_>, first: Expr) -> Result<Vec<Expr>, Stop>
         requires { Nests self.now.depth (F.pre self.now.expr) (F.post self.now.expr) }
-        ensures { Reads (λ v. map tree_of v.items) (spec.more_targets (spec.expr self.now.depth) (tree_of first) (left t.old)) result (left t.new) }
+        ensures { Reads (λ v. map tree_of v.items) (spec.more_targets (spec.expr self.now.depth)
+            (tree_of first) (left t.old)) result (left t.new) }
     {
         let mut found = Vec::new(self.alloc);
         found.push(first)?;
@@ -119,7 +114,8 @@ impl<F: Fn(Global, &mut Tokens<'_, '_>, usize, Kind) -> Result<Expr, Stop>> Gram
     #[tactic(auto, unfolding(grammar::specs::Expressions::targets))]
     fn targets(&self, t: &mut Tokens<'_, '_>) -> Result<Expr, Stop>
         requires { Nests self.now.depth (F.pre self.now.expr) (F.post self.now.expr) }
-        ensures { Reads tree_of (spec.targets (spec.expr self.now.depth) (left t.old)) result (left t.new) }
+        ensures { Reads tree_of (spec.targets (spec.expr self.now.depth) (left t.old)) result
+            (left t.new) }
     {
         let first = self.target(t)?;
         if !t.is_at(Symbol::Comma) {
@@ -133,7 +129,8 @@ impl<F: Fn(Global, &mut Tokens<'_, '_>, usize, Kind) -> Result<Expr, Stop>> Gram
     #[tactic(auto, unfolding(grammar::specs::Expressions::for_clause))]
     fn for_clause(&self, t: &mut Tokens<'_, '_>) -> Result<Clause, Stop>
         requires { Nests self.now.depth (F.pre self.now.expr) (F.post self.now.expr) }
-        ensures { Reads clause_of (spec.for_clause (spec.expr self.now.depth) (left t.old)) result (left t.new) }
+        ensures { Reads clause_of (spec.for_clause (spec.expr self.now.depth) (left t.old)) result
+            (left t.new) }
     {
         let target = self.targets(t)?;
         let (target, sequence) = beside(target, self.behind(t, Symbol::In, Kind::Or))?;
@@ -144,7 +141,8 @@ impl<F: Fn(Global, &mut Tokens<'_, '_>, usize, Kind) -> Result<Expr, Stop>> Gram
     #[tactic(auto, unfolding(grammar::specs::Expressions::clauses))]
     fn clauses(&self, t: &mut Tokens<'_, '_>) -> Result<Vec<Clause>, Stop>
         requires { Nests self.now.depth (F.pre self.now.expr) (F.post self.now.expr) }
-        ensures { Reads (λ v. map clause_of v.items) (spec.clauses (spec.expr self.now.depth) (left t.old)) result (left t.new) }
+        ensures { Reads (λ v. map clause_of v.items)
+            (spec.clauses (spec.expr self.now.depth) (left t.old)) result (left t.new) }
     {
         let mut found = Vec::new(self.alloc);
         for _turn in 0..t.len() {
@@ -168,7 +166,8 @@ impl<F: Fn(Global, &mut Tokens<'_, '_>, usize, Kind) -> Result<Expr, Stop>> Gram
     #[tactic(auto, unfolding(grammar::specs::Expressions::in_parens))]
     fn in_parens(&self, t: &mut Tokens<'_, '_>) -> Result<Expr, Stop>
         requires { Nests self.now.depth (F.pre self.now.expr) (F.post self.now.expr) }
-        ensures { Reads tree_of (spec.in_parens (spec.expr self.now.depth) (left t.old)) result (left t.new) }
+        ensures { Reads tree_of (spec.in_parens (spec.expr self.now.depth) (left t.old)) result
+            (left t.new) }
     {
         if t.eat(Symbol::RightParen) {
             return Ok(Expr::tuple(self.alloc, Vec::new(self.alloc))?);
@@ -185,7 +184,9 @@ impl<F: Fn(Global, &mut Tokens<'_, '_>, usize, Kind) -> Result<Expr, Stop>> Gram
     /// Reads the clauses of a list, and its closing bracket.
     fn list_of(&self, t: &mut Tokens<'_, '_>, first: Expr) -> Result<Expr, Stop>
         requires { Nests self.now.depth (F.pre self.now.expr) (F.post self.now.expr) }
-        ensures { Reads tree_of (and_then (spec.clauses (spec.expr self.now.depth) (left t.old)) (λ cs us. and_then (expect s.RightBracket us) (λ _. gives (tree.list_of (tree_of first) (clauses_of cs))))) result (left t.new) }
+        ensures { Reads tree_of (and_then (spec.clauses (spec.expr self.now.depth) (left t.old))
+            (λ cs us. and_then (expect s.RightBracket us)
+            (λ _. gives (tree.list_of (tree_of first) (clauses_of cs))))) result (left t.new) }
     {
         let (first, clauses) = beside(first, self.clauses(t))?;
         let whole = Expr::list_of(self.alloc, first, clauses)?;
@@ -196,7 +197,8 @@ impl<F: Fn(Global, &mut Tokens<'_, '_>, usize, Kind) -> Result<Expr, Stop>> Gram
     #[tactic(auto, unfolding(grammar::specs::Expressions::in_brackets))]
     fn in_brackets(&self, t: &mut Tokens<'_, '_>) -> Result<Expr, Stop>
         requires { Nests self.now.depth (F.pre self.now.expr) (F.post self.now.expr) }
-        ensures { Reads tree_of (spec.in_brackets (spec.expr self.now.depth) (left t.old)) result (left t.new) }
+        ensures { Reads tree_of (spec.in_brackets (spec.expr self.now.depth) (left t.old)) result
+            (left t.new) }
     {
         if t.eat(Symbol::RightBracket) {
             return Ok(Expr::list(self.alloc, Vec::new(self.alloc))?);
@@ -213,7 +215,15 @@ impl<F: Fn(Global, &mut Tokens<'_, '_>, usize, Kind) -> Result<Expr, Stop>> Gram
     /// Reads an entry of a dictionary behind its key, which is among the keys already.
     fn entry_value(&self, t: &mut Tokens<'_, '_>, entries: &mut EntriesSoFar) -> Result<(), Stop>
         requires { Nests self.now.depth (F.pre self.now.expr) (F.post self.now.expr) }
-        ensures { Reads (λ _. pairs_of entries.new) (and_then (expect s.Colon (left t.old)) (λ _ us. and_then (spec.expr self.now.depth k.Test us) (λ value. gives (record { keys = map tree_of entries.old.keys.items; values = map tree_of entries.old.values.items ++ value ∷ [] })))) result (left t.new) }
+        ensures { Reads (λ _. pairs_of entries.new)
+            (and_then (expect s.Colon (left t.old))
+            (λ _ us. and_then (spec.expr self.now.depth k.Test us)
+            (λ value. gives
+            (record {
+              keys = map tree_of entries.old.keys.items;
+              values = map tree_of
+                  entries.old.values.items ++ value ∷ [];
+            })))) result (left t.new) }
     {
         let value = self.behind(t, Symbol::Colon, Kind::Test)?;
         entries.values.push(value)?;
@@ -224,7 +234,9 @@ impl<F: Fn(Global, &mut Tokens<'_, '_>, usize, Kind) -> Result<Expr, Stop>> Gram
     #[tactic(auto, unfolding(grammar::specs::Expressions::entry))]
     fn entry(&self, t: &mut Tokens<'_, '_>, entries: &mut EntriesSoFar) -> Result<(), Stop>
         requires { Nests self.now.depth (F.pre self.now.expr) (F.post self.now.expr) }
-        ensures { Reads (λ _. pairs_of entries.new) (spec.entry (spec.expr self.now.depth) (pairs_of entries.old) (left t.old)) result (left t.new) }
+        ensures { Reads (λ _. pairs_of entries.new)
+            (spec.entry (spec.expr self.now.depth) (pairs_of entries.old) (left t.old)) result
+            (left t.new) }
     {
         let key = self.expr(t, Kind::Test)?;
         entries.keys.push(key)?;
@@ -235,7 +247,8 @@ impl<F: Fn(Global, &mut Tokens<'_, '_>, usize, Kind) -> Result<Expr, Stop>> Gram
     #[tactic(auto, unfolding(grammar::specs::Expressions::entries))]
     fn entries(&self, t: &mut Tokens<'_, '_>, first: EntriesSoFar) -> Result<EntriesSoFar, Stop>
         requires { Nests self.now.depth (F.pre self.now.expr) (F.post self.now.expr) }
-        ensures { Reads pairs_of (spec.entries (spec.expr self.now.depth) (pairs_of first) (left t.old)) result (left t.new) }
+        ensures { Reads pairs_of (spec.entries (spec.expr self.now.depth) (pairs_of first)
+            (left t.old)) result (left t.new) }
     {
         let mut found = first;
         for _turn in 0..t.len() {
@@ -253,7 +266,10 @@ impl<F: Fn(Global, &mut Tokens<'_, '_>, usize, Kind) -> Result<Expr, Stop>> Gram
     /// Reads the clauses of a dictionary, and its closing brace.
     fn dict_of(&self, t: &mut Tokens<'_, '_>, entry: (Expr, Expr)) -> Result<Expr, Stop>
         requires { Nests self.now.depth (F.pre self.now.expr) (F.post self.now.expr) }
-        ensures { Reads tree_of (and_then (spec.clauses (spec.expr self.now.depth) (left t.old)) (λ cs us. and_then (expect s.RightBrace us) (λ _. gives (tree.dict_of (tree_of entry.0) (tree_of entry.1) (clauses_of cs))))) result (left t.new) }
+        ensures { Reads tree_of (and_then (spec.clauses (spec.expr self.now.depth) (left t.old))
+            (λ cs us. and_then (expect s.RightBrace us)
+            (λ _. gives (tree.dict_of (tree_of entry.0) (tree_of entry.1) (clauses_of cs))))) result
+            (left t.new) }
     {
         let (entry, clauses) = beside(entry, self.clauses(t))?;
         let whole = dict_by_clauses(self.alloc, entry, clauses)?;
@@ -263,7 +279,10 @@ impl<F: Fn(Global, &mut Tokens<'_, '_>, usize, Kind) -> Result<Expr, Stop>> Gram
     /// Reads the rest of the entries of a dictionary, and its closing brace.
     fn dict_with(&self, t: &mut Tokens<'_, '_>, first: EntriesSoFar) -> Result<Expr, Stop>
         requires { Nests self.now.depth (F.pre self.now.expr) (F.post self.now.expr) }
-        ensures { Reads tree_of (and_then (spec.entries (spec.expr self.now.depth) (pairs_of first) (left t.old)) (λ ps us. and_then (expect s.RightBrace us) (λ _. gives (tree.dict (exs_of ps.keys) (exs_of ps.values))))) result (left t.new) }
+        ensures { Reads tree_of
+            (and_then (spec.entries (spec.expr self.now.depth) (pairs_of first) (left t.old))
+            (λ ps us. and_then (expect s.RightBrace us)
+            (λ _. gives (tree.dict (exs_of ps.keys) (exs_of ps.values))))) result (left t.new) }
     {
         let found = self.entries(t, first)?;
         let whole = dict(self.alloc, found)?;
@@ -274,7 +293,8 @@ impl<F: Fn(Global, &mut Tokens<'_, '_>, usize, Kind) -> Result<Expr, Stop>> Gram
     #[tactic(auto, unfolding(grammar::specs::Expressions::dict_after))]
     fn dict_after(&self, t: &mut Tokens<'_, '_>, entry: (Expr, Expr)) -> Result<Expr, Stop>
         requires { Nests self.now.depth (F.pre self.now.expr) (F.post self.now.expr) }
-        ensures { Reads tree_of (spec.dict_after (spec.expr self.now.depth) (tree_of entry.0) (tree_of entry.1) (left t.old)) result (left t.new) }
+        ensures { Reads tree_of (spec.dict_after (spec.expr self.now.depth) (tree_of entry.0)
+            (tree_of entry.1) (left t.old)) result (left t.new) }
     {
         if t.is_at(Symbol::For) {
             return self.dict_of(t, entry);
@@ -286,7 +306,11 @@ impl<F: Fn(Global, &mut Tokens<'_, '_>, usize, Kind) -> Result<Expr, Stop>> Gram
     /// Reads a dictionary behind its first key.
     fn dict_behind(&self, t: &mut Tokens<'_, '_>, key: Expr) -> Result<Expr, Stop>
         requires { Nests self.now.depth (F.pre self.now.expr) (F.post self.now.expr) }
-        ensures { Reads tree_of (and_then (expect s.Colon (left t.old)) (λ _ us. and_then (spec.expr self.now.depth k.Test us) (λ value. spec.dict_after (spec.expr self.now.depth) (tree_of key) value))) result (left t.new) }
+        ensures { Reads tree_of
+            (and_then (expect s.Colon (left t.old))
+            (λ _ us. and_then (spec.expr self.now.depth k.Test us)
+            (λ value. spec.dict_after (spec.expr self.now.depth) (tree_of key) value))) result
+            (left t.new) }
     {
         let entry = beside(key, self.behind(t, Symbol::Colon, Kind::Test))?;
         self.dict_after(t, entry)
@@ -296,7 +320,8 @@ impl<F: Fn(Global, &mut Tokens<'_, '_>, usize, Kind) -> Result<Expr, Stop>> Gram
     #[tactic(auto, unfolding(grammar::specs::Expressions::in_braces))]
     fn in_braces(&self, t: &mut Tokens<'_, '_>) -> Result<Expr, Stop>
         requires { Nests self.now.depth (F.pre self.now.expr) (F.post self.now.expr) }
-        ensures { Reads tree_of (spec.in_braces (spec.expr self.now.depth) (left t.old)) result (left t.new) }
+        ensures { Reads tree_of (spec.in_braces (spec.expr self.now.depth) (left t.old)) result
+            (left t.new) }
     {
         if t.eat(Symbol::RightBrace) {
             return Ok(Expr::dict(self.alloc, Vec::new(self.alloc), Vec::new(self.alloc))?);
@@ -308,7 +333,14 @@ impl<F: Fn(Global, &mut Tokens<'_, '_>, usize, Kind) -> Result<Expr, Stop>> Gram
     /// Reads the value of an argument, which becomes the last.
     fn argument_value(&self, t: &mut Tokens<'_, '_>, found: &mut ArgumentsSoFar) -> Result<(), Stop>
         requires { Nests self.now.depth (F.pre self.now.expr) (F.post self.now.expr) }
-        ensures { Reads (λ _. arguments_of found.new) (and_then (spec.expr self.now.depth k.Test (left t.old)) (λ value. gives (record { values = map tree_of found.old.values.items ++ value ∷ []; names = found.old.names.items }))) result (left t.new) }
+        ensures { Reads (λ _. arguments_of found.new)
+            (and_then (spec.expr self.now.depth k.Test (left t.old))
+            (λ value. gives
+            (record {
+              values = map tree_of found.old.values.items ++ value
+                  ∷ [];
+              names = found.old.names.items;
+            }))) result (left t.new) }
     {
         let value = self.expr(t, Kind::Test)?;
         found.values.push(value)?;
@@ -319,7 +351,9 @@ impl<F: Fn(Global, &mut Tokens<'_, '_>, usize, Kind) -> Result<Expr, Stop>> Gram
     #[tactic(auto, unfolding(grammar::specs::Expressions::argument))]
     fn argument(&self, t: &mut Tokens<'_, '_>, found: &mut ArgumentsSoFar) -> Result<(), Stop>
         requires { Nests self.now.depth (F.pre self.now.expr) (F.post self.now.expr) }
-        ensures { Reads (λ _. arguments_of found.new) (spec.argument (spec.expr self.now.depth) (arguments_of found.old) (left t.old)) result (left t.new) }
+        ensures { Reads (λ _. arguments_of found.new)
+            (spec.argument (spec.expr self.now.depth) (arguments_of found.old) (left t.old)) result
+            (left t.new) }
     {
         if t.is_name_before(Symbol::Equal) {
             let name = t.take_name(self.alloc)?;
@@ -337,7 +371,8 @@ impl<F: Fn(Global, &mut Tokens<'_, '_>, usize, Kind) -> Result<Expr, Stop>> Gram
     #[tactic(auto, unfolding(grammar::specs::Expressions::arguments_so_far))]
     fn arguments_so_far(&self, t: &mut Tokens<'_, '_>) -> Result<ArgumentsSoFar, Stop>
         requires { Nests self.now.depth (F.pre self.now.expr) (F.post self.now.expr) }
-        ensures { Reads arguments_of (spec.arguments_so_far (spec.expr self.now.depth) (left t.old)) result (left t.new) }
+        ensures { Reads arguments_of (spec.arguments_so_far (spec.expr self.now.depth) (left t.old))
+            result (left t.new) }
     {
         let mut found = ArgumentsSoFar {
             values: Vec::new(self.alloc),
@@ -359,7 +394,8 @@ impl<F: Fn(Global, &mut Tokens<'_, '_>, usize, Kind) -> Result<Expr, Stop>> Gram
     #[tactic(auto, unfolding(grammar::specs::Expressions::arguments))]
     fn arguments(&self, t: &mut Tokens<'_, '_>) -> Result<ArgumentsSoFar, Stop>
         requires { Nests self.now.depth (F.pre self.now.expr) (F.post self.now.expr) }
-        ensures { Reads arguments_of (spec.arguments (spec.expr self.now.depth) (left t.old)) result (left t.new) }
+        ensures { Reads arguments_of (spec.arguments (spec.expr self.now.depth) (left t.old)) result
+            (left t.new) }
     {
         let found = self.arguments_so_far(t)?;
         t.expect(Symbol::RightParen)?;
@@ -369,7 +405,9 @@ impl<F: Fn(Global, &mut Tokens<'_, '_>, usize, Kind) -> Result<Expr, Stop>> Gram
     /// Reads the arguments of a call with both brackets.
     fn arguments_behind(&self, t: &mut Tokens<'_, '_>) -> Result<ArgumentsSoFar, Stop>
         requires { Nests self.now.depth (F.pre self.now.expr) (F.post self.now.expr) }
-        ensures { Reads arguments_of (and_then (expect s.LeftParen (left t.old)) (λ _. spec.arguments (spec.expr self.now.depth))) result (left t.new) }
+        ensures { Reads arguments_of
+            (and_then (expect s.LeftParen (left t.old))
+            (λ _. spec.arguments (spec.expr self.now.depth))) result (left t.new) }
     {
         t.expect(Symbol::LeftParen)?;
         self.arguments(t)
@@ -379,7 +417,8 @@ impl<F: Fn(Global, &mut Tokens<'_, '_>, usize, Kind) -> Result<Expr, Stop>> Gram
     #[tactic(auto, unfolding(grammar::specs::Expressions::upper_bound))]
     fn upper_bound(&self, t: &mut Tokens<'_, '_>) -> Result<Option<Arc<Expr, Global>>, Stop>
         requires { Nests self.now.depth (F.pre self.now.expr) (F.post self.now.expr) }
-        ensures { Reads bound_tree (spec.upper_bound (spec.expr self.now.depth) (left t.old)) result (left t.new) }
+        ensures { Reads bound_tree (spec.upper_bound (spec.expr self.now.depth) (left t.old)) result
+            (left t.new) }
     {
         if t.is_at(Symbol::RightBracket) {
             return Ok(None);
@@ -398,7 +437,8 @@ impl<F: Fn(Global, &mut Tokens<'_, '_>, usize, Kind) -> Result<Expr, Stop>> Gram
         from: Option<Arc<Expr, Global>>,
     ) -> Result<Expr, Stop>
         requires { Nests self.now.depth (F.pre self.now.expr) (F.post self.now.expr) }
-        ensures { Reads tree_of (spec.slice_from (spec.expr self.now.depth) (tree_of value) (bound_tree from) (left t.old)) result (left t.new) }
+        ensures { Reads tree_of (spec.slice_from (spec.expr self.now.depth) (tree_of value)
+            (bound_tree from) (left t.old)) result (left t.new) }
     {
         let ((value, from), to) = beside((value, from), self.upper_bound(t))?;
         let whole = Expr::slice(self.alloc, value, from, to)?;
@@ -408,7 +448,8 @@ impl<F: Fn(Global, &mut Tokens<'_, '_>, usize, Kind) -> Result<Expr, Stop>> Gram
     /// Reads a slice behind its colon, from a lower bound.
     fn slice_at(&self, t: &mut Tokens<'_, '_>, value: Expr, at: Expr) -> Result<Expr, Stop>
         requires { Nests self.now.depth (F.pre self.now.expr) (F.post self.now.expr) }
-        ensures { Reads tree_of (spec.slice_from (spec.expr self.now.depth) (tree_of value) (tree.bound (tree_of at)) (left t.old)) result (left t.new) }
+        ensures { Reads tree_of (spec.slice_from (spec.expr self.now.depth) (tree_of value)
+            (tree.bound (tree_of at)) (left t.old)) result (left t.new) }
     {
         let (value, from) = beside(value, shared(self.alloc, at))?;
         self.slice_from(t, value, Some(from))
@@ -417,7 +458,10 @@ impl<F: Fn(Global, &mut Tokens<'_, '_>, usize, Kind) -> Result<Expr, Stop>> Gram
     /// Reads an index or a slice behind its first expression.
     fn subscript_at(&self, t: &mut Tokens<'_, '_>, value: Expr, at: Expr) -> Result<Expr, Stop>
         requires { Nests self.now.depth (F.pre self.now.expr) (F.post self.now.expr) }
-        ensures { Reads tree_of (if is_at s.Colon (left t.old) then spec.slice_from (spec.expr self.now.depth) (tree_of value) (tree.bound (tree_of at)) (tail (left t.old)) else and_then (expect s.RightBracket (left t.old)) (λ _. gives (tree.index (tree_of value) (tree_of at)))) result (left t.new) }
+        ensures { Reads tree_of (if is_at s.Colon (left t.old) then spec.slice_from
+            (spec.expr self.now.depth) (tree_of value) (tree.bound (tree_of at)) (tail (left t.old))
+            else and_then (expect s.RightBracket (left t.old))
+            (λ _. gives (tree.index (tree_of value) (tree_of at)))) result (left t.new) }
     {
         if t.eat(Symbol::Colon) {
             return self.slice_at(t, value, at);
@@ -430,7 +474,8 @@ impl<F: Fn(Global, &mut Tokens<'_, '_>, usize, Kind) -> Result<Expr, Stop>> Gram
     #[tactic(auto, unfolding(grammar::specs::Expressions::subscript))]
     fn subscript(&self, t: &mut Tokens<'_, '_>, value: Expr) -> Result<Expr, Stop>
         requires { Nests self.now.depth (F.pre self.now.expr) (F.post self.now.expr) }
-        ensures { Reads tree_of (spec.subscript (spec.expr self.now.depth) (tree_of value) (left t.old)) result (left t.new) }
+        ensures { Reads tree_of (spec.subscript (spec.expr self.now.depth) (tree_of value)
+            (left t.old)) result (left t.new) }
     {
         if t.eat(Symbol::Colon) {
             return self.slice_from(t, value, None);
@@ -442,7 +487,11 @@ impl<F: Fn(Global, &mut Tokens<'_, '_>, usize, Kind) -> Result<Expr, Stop>> Gram
     /// Reads a call of a method behind the method's name.
     fn method_behind(&self, t: &mut Tokens<'_, '_>, receiver: (Expr, Text)) -> Result<Expr, Stop>
         requires { Nests self.now.depth (F.pre self.now.expr) (F.post self.now.expr) }
-        ensures { Reads tree_of (and_then (expect s.LeftParen (left t.old)) (λ _ us. and_then (spec.arguments (spec.expr self.now.depth) us) (λ found. gives (tree.method (tree_of receiver.0) receiver.1 (exs_of found.values) found.names)))) result (left t.new) }
+        ensures { Reads tree_of
+            (and_then (expect s.LeftParen (left t.old))
+            (λ _ us. and_then (spec.arguments (spec.expr self.now.depth) us)
+            (λ found. gives (tree.method (tree_of receiver.0) receiver.1 (exs_of found.values)
+            found.names)))) result (left t.new) }
     {
         let (receiver, found) = beside(receiver, self.arguments_behind(t))?;
         method(self.alloc, receiver, found)
@@ -452,7 +501,8 @@ impl<F: Fn(Global, &mut Tokens<'_, '_>, usize, Kind) -> Result<Expr, Stop>> Gram
     #[tactic(auto, unfolding(grammar::specs::Expressions::method_call))]
     fn method_call(&self, t: &mut Tokens<'_, '_>, value: Expr) -> Result<Expr, Stop>
         requires { Nests self.now.depth (F.pre self.now.expr) (F.post self.now.expr) }
-        ensures { Reads tree_of (spec.method_call (spec.expr self.now.depth) (tree_of value) (left t.old)) result (left t.new) }
+        ensures { Reads tree_of (spec.method_call (spec.expr self.now.depth) (tree_of value)
+            (left t.old)) result (left t.new) }
     {
         let receiver = beside(value, t.take_name(self.alloc))?;
         self.method_behind(t, receiver)
@@ -462,7 +512,8 @@ impl<F: Fn(Global, &mut Tokens<'_, '_>, usize, Kind) -> Result<Expr, Stop>> Gram
     #[tactic(auto, unfolding(grammar::specs::Expressions::call))]
     fn call(&self, t: &mut Tokens<'_, '_>, value: Expr) -> Result<Expr, Stop>
         requires { Nests self.now.depth (F.pre self.now.expr) (F.post self.now.expr) }
-        ensures { Reads tree_of (spec.call (spec.expr self.now.depth) (tree_of value) (left t.old)) result (left t.new) }
+        ensures { Reads tree_of (spec.call (spec.expr self.now.depth) (tree_of value) (left t.old))
+            result (left t.new) }
     {
         let (value, found) = beside(value, self.arguments(t))?;
         let ArgumentsSoFar { values, names } = found;
@@ -473,7 +524,8 @@ impl<F: Fn(Global, &mut Tokens<'_, '_>, usize, Kind) -> Result<Expr, Stop>> Gram
     #[tactic(auto, unfolding(grammar::specs::Expressions::postfix_rest))]
     fn postfix_rest(&self, t: &mut Tokens<'_, '_>, first: Expr) -> Result<Expr, Stop>
         requires { Nests self.now.depth (F.pre self.now.expr) (F.post self.now.expr) }
-        ensures { Reads tree_of (spec.postfix_rest (spec.expr self.now.depth) (tree_of first) (left t.old)) result (left t.new) }
+        ensures { Reads tree_of (spec.postfix_rest (spec.expr self.now.depth) (tree_of first)
+            (left t.old)) result (left t.new) }
     {
         let mut whole = first;
         for _turn in 0..t.len() {
@@ -498,7 +550,8 @@ impl<F: Fn(Global, &mut Tokens<'_, '_>, usize, Kind) -> Result<Expr, Stop>> Gram
     #[tactic(auto, unfolding(grammar::specs::Expressions::symbol_atom))]
     fn symbol_atom(&self, t: &mut Tokens<'_, '_>, first: Symbol) -> Result<Expr, Stop>
         requires { Nests self.now.depth (F.pre self.now.expr) (F.post self.now.expr) }
-        ensures { Reads tree_of (spec.symbol_atom (spec.expr self.now.depth) first (left t.old)) result (left t.new) }
+        ensures { Reads tree_of (spec.symbol_atom (spec.expr self.now.depth) first (left t.old))
+            result (left t.new) }
     {
         match first {
             Symbol::NoneValue => Ok(Expr::literal(Literal::NoneValue)),
@@ -515,7 +568,8 @@ impl<F: Fn(Global, &mut Tokens<'_, '_>, usize, Kind) -> Result<Expr, Stop>> Gram
     #[tactic(auto, unfolding(grammar::specs::Expressions::atom))]
     fn atom(&self, t: &mut Tokens<'_, '_>) -> Result<Expr, Stop>
         requires { Nests self.now.depth (F.pre self.now.expr) (F.post self.now.expr) }
-        ensures { Reads tree_of (spec.atom (spec.expr self.now.depth) (left t.old)) result (left t.new) }
+        ensures { Reads tree_of (spec.atom (spec.expr self.now.depth) (left t.old)) result
+            (left t.new) }
     {
         match t.take() {
             Some(Token::Name(name)) => {
@@ -536,7 +590,8 @@ impl<F: Fn(Global, &mut Tokens<'_, '_>, usize, Kind) -> Result<Expr, Stop>> Gram
     #[tactic(auto, unfolding(grammar::specs::Expressions::postfix))]
     fn postfix(&self, t: &mut Tokens<'_, '_>) -> Result<Expr, Stop>
         requires { Nests self.now.depth (F.pre self.now.expr) (F.post self.now.expr) }
-        ensures { Reads tree_of (spec.postfix (spec.expr self.now.depth) (left t.old)) result (left t.new) }
+        ensures { Reads tree_of (spec.postfix (spec.expr self.now.depth) (left t.old)) result
+            (left t.new) }
     {
         let first = self.atom(t)?;
         self.postfix_rest(t, first)
@@ -546,7 +601,8 @@ impl<F: Fn(Global, &mut Tokens<'_, '_>, usize, Kind) -> Result<Expr, Stop>> Gram
     #[tactic(auto, unfolding(grammar::specs::Expressions::unary))]
     fn unary(&self, t: &mut Tokens<'_, '_>) -> Result<Expr, Stop>
         requires { Nests self.now.depth (F.pre self.now.expr) (F.post self.now.expr) }
-        ensures { Reads tree_of (spec.unary (spec.expr self.now.depth) (left t.old)) result (left t.new) }
+        ensures { Reads tree_of (spec.unary (spec.expr self.now.depth) (left t.old)) result
+            (left t.new) }
     {
         if t.eat(Symbol::Plus) {
             let operand = self.expr(t, Kind::Unary)?;
@@ -563,7 +619,8 @@ impl<F: Fn(Global, &mut Tokens<'_, '_>, usize, Kind) -> Result<Expr, Stop>> Gram
     #[tactic(auto, unfolding(grammar::specs::Expressions::term, grammar::specs::Expressions::chain))]
     fn term(&self, t: &mut Tokens<'_, '_>) -> Result<Expr, Stop>
         requires { Nests self.now.depth (F.pre self.now.expr) (F.post self.now.expr) }
-        ensures { Reads tree_of (spec.term (spec.expr self.now.depth) (left t.old)) result (left t.new) }
+        ensures { Reads tree_of (spec.term (spec.expr self.now.depth) (left t.old)) result
+            (left t.new) }
     {
         let mut whole = self.unary(t)?;
         for _turn in 0..t.len() {
@@ -581,7 +638,8 @@ impl<F: Fn(Global, &mut Tokens<'_, '_>, usize, Kind) -> Result<Expr, Stop>> Gram
     #[tactic(auto, unfolding(grammar::specs::Expressions::sum, grammar::specs::Expressions::chain))]
     fn sum(&self, t: &mut Tokens<'_, '_>) -> Result<Expr, Stop>
         requires { Nests self.now.depth (F.pre self.now.expr) (F.post self.now.expr) }
-        ensures { Reads tree_of (spec.sum (spec.expr self.now.depth) (left t.old)) result (left t.new) }
+        ensures { Reads tree_of (spec.sum (spec.expr self.now.depth) (left t.old)) result
+            (left t.new) }
     {
         let mut whole = self.term(t)?;
         for _turn in 0..t.len() {
@@ -599,7 +657,8 @@ impl<F: Fn(Global, &mut Tokens<'_, '_>, usize, Kind) -> Result<Expr, Stop>> Gram
     #[tactic(auto, unfolding(grammar::specs::Expressions::comparison))]
     fn comparison(&self, t: &mut Tokens<'_, '_>) -> Result<Expr, Stop>
         requires { Nests self.now.depth (F.pre self.now.expr) (F.post self.now.expr) }
-        ensures { Reads tree_of (spec.comparison (spec.sum (spec.expr self.now.depth)) (left t.old)) result (left t.new) }
+        ensures { Reads tree_of (spec.comparison (spec.sum (spec.expr self.now.depth)) (left t.old))
+            result (left t.new) }
     {
         let first = self.sum(t)?;
         let Some(op) = take_comparison(t) else {
@@ -613,7 +672,8 @@ impl<F: Fn(Global, &mut Tokens<'_, '_>, usize, Kind) -> Result<Expr, Stop>> Gram
     #[tactic(auto, unfolding(grammar::specs::Expressions::not_test))]
     fn not_test(&self, t: &mut Tokens<'_, '_>) -> Result<Expr, Stop>
         requires { Nests self.now.depth (F.pre self.now.expr) (F.post self.now.expr) }
-        ensures { Reads tree_of (spec.not_test (spec.expr self.now.depth) (left t.old)) result (left t.new) }
+        ensures { Reads tree_of (spec.not_test (spec.expr self.now.depth) (left t.old)) result
+            (left t.new) }
     {
         if t.eat(Symbol::Not) {
             let operand = self.expr(t, Kind::Not)?;
@@ -626,7 +686,8 @@ impl<F: Fn(Global, &mut Tokens<'_, '_>, usize, Kind) -> Result<Expr, Stop>> Gram
     #[tactic(auto, unfolding(grammar::specs::Expressions::and_test, grammar::specs::Expressions::chain))]
     fn and_test(&self, t: &mut Tokens<'_, '_>) -> Result<Expr, Stop>
         requires { Nests self.now.depth (F.pre self.now.expr) (F.post self.now.expr) }
-        ensures { Reads tree_of (spec.and_test (spec.expr self.now.depth) (left t.old)) result (left t.new) }
+        ensures { Reads tree_of (spec.and_test (spec.expr self.now.depth) (left t.old)) result
+            (left t.new) }
     {
         let mut whole = self.not_test(t)?;
         for _turn in 0..t.len() {
@@ -644,7 +705,8 @@ impl<F: Fn(Global, &mut Tokens<'_, '_>, usize, Kind) -> Result<Expr, Stop>> Gram
     #[tactic(auto, unfolding(grammar::specs::Expressions::or_test, grammar::specs::Expressions::chain))]
     fn or_test(&self, t: &mut Tokens<'_, '_>) -> Result<Expr, Stop>
         requires { Nests self.now.depth (F.pre self.now.expr) (F.post self.now.expr) }
-        ensures { Reads tree_of (spec.or_test (spec.expr self.now.depth) (left t.old)) result (left t.new) }
+        ensures { Reads tree_of (spec.or_test (spec.expr self.now.depth) (left t.old)) result
+            (left t.new) }
     {
         let mut whole = self.and_test(t)?;
         for _turn in 0..t.len() {
@@ -661,7 +723,11 @@ impl<F: Fn(Global, &mut Tokens<'_, '_>, usize, Kind) -> Result<Expr, Stop>> Gram
     /// Reads a choice behind its condition.
     fn choice(&self, t: &mut Tokens<'_, '_>, first: Expr, condition: Expr) -> Result<Expr, Stop>
         requires { Nests self.now.depth (F.pre self.now.expr) (F.post self.now.expr) }
-        ensures { Reads tree_of (and_then (expect s.Else (left t.old)) (λ _ us. and_then (spec.expr self.now.depth k.Test us) (λ other. gives (tree.choice (tree_of first) (tree_of condition) other)))) result (left t.new) }
+        ensures { Reads tree_of
+            (and_then (expect s.Else (left t.old))
+            (λ _ us. and_then (spec.expr self.now.depth k.Test us)
+            (λ other. gives (tree.choice (tree_of first) (tree_of condition) other)))) result
+            (left t.new) }
     {
         let both = (first, condition);
         let ((first, condition), other) = beside(both, self.behind(t, Symbol::Else, Kind::Test))?;
@@ -672,7 +738,8 @@ impl<F: Fn(Global, &mut Tokens<'_, '_>, usize, Kind) -> Result<Expr, Stop>> Gram
     #[tactic(auto, unfolding(grammar::specs::Expressions::conditional))]
     fn test(&self, t: &mut Tokens<'_, '_>) -> Result<Expr, Stop>
         requires { Nests self.now.depth (F.pre self.now.expr) (F.post self.now.expr) }
-        ensures { Reads tree_of (spec.conditional (spec.expr self.now.depth) (left t.old)) result (left t.new) }
+        ensures { Reads tree_of (spec.conditional (spec.expr self.now.depth) (left t.old)) result
+            (left t.new) }
     {
         let first = self.or_test(t)?;
         if !t.eat(Symbol::If) {
@@ -685,7 +752,8 @@ impl<F: Fn(Global, &mut Tokens<'_, '_>, usize, Kind) -> Result<Expr, Stop>> Gram
     /// Reads an expression of a kind.
     fn of_kind(&self, t: &mut Tokens<'_, '_>, kind: Kind) -> Result<Expr, Stop>
         requires { Nests self.now.depth (F.pre self.now.expr) (F.post self.now.expr) }
-        ensures { Reads tree_of (spec.of_kind kind (spec.expr self.now.depth) (left t.old)) result (left t.new) }
+        ensures { Reads tree_of (spec.of_kind kind (spec.expr self.now.depth) (left t.old)) result
+            (left t.new) }
     {
         match kind {
             Kind::Test => self.test(t),
@@ -699,80 +767,11 @@ impl<F: Fn(Global, &mut Tokens<'_, '_>, usize, Kind) -> Result<Expr, Stop>> Gram
 
 /// Reads what closes an expression.
 fn closed(t: &mut Tokens<'_, '_>, closer: Symbol, whole: Expr) -> Result<Expr, Stop>
-    ensures { Reads tree_of (and_then (expect closer (left t.old)) (λ _. gives (tree_of whole))) result (left t.new) }
+    ensures { Reads tree_of (and_then (expect closer (left t.old)) (λ _. gives (tree_of whole)))
+        result (left t.new) }
 {
     let (whole, ()) = beside(whole, t.expect(closer))?;
     Ok(whole)
-}
-
-/// A shared expression.
-fn shared(alloc: Global, value: Expr) -> Result<Arc<Expr, Global>, Stop>
-    ensures ok { IfOk result (λ a. arc_value a ≡ value) }
-    ensures err { IsOkUnless result Memory }
-{
-    Ok(Arc::new(alloc, value)?)
-}
-
-/// An operation on an operand and the one that was read behind its operator.
-fn operation(
-    alloc: Global,
-    op: BinaryOp,
-    left: Expr,
-    right: Result<Expr, Stop>,
-) -> Result<Expr, Stop>
-    ensures { (read : Option (Part Ex)) (new : List Lex) → Reads tree_of read right new → Reads tree_of (and_then read (λ e. gives (tree.binary op (tree_of left) e))) result new }
-{
-    let (left, right) = beside(left, right)?;
-    Ok(Expr::binary(alloc, op, left, right)?)
-}
-
-/// A list of one expression.
-fn alone(alloc: Global, item: Expr) -> Result<Vec<Expr>, Stop>
-    ensures ok { IfOk result (λ v. v.items ≡ item ∷ []) }
-    ensures err { IsOkUnless result Memory }
-{
-    let mut found = Vec::new(alloc);
-    found.push(item)?;
-    Ok(found)
-}
-
-/// The first entry of a dictionary.
-fn one_entry(alloc: Global, entry: (Expr, Expr)) -> Result<EntriesSoFar, Stop>
-    ensures ok { IfOk result (λ e. pairs_of e ≡ record { keys = tree_of entry.0 ∷ []; values = tree_of entry.1 ∷ [] }) }
-    ensures err { IsOkUnless result Memory }
-{
-    let (key, value) = entry;
-    let (value, keys) = beside(value, alone(alloc, key))?;
-    let (keys, values) = beside(keys, alone(alloc, value))?;
-    Ok(EntriesSoFar { keys, values })
-}
-
-/// A dictionary of its entries.
-fn dict(alloc: Global, entries: EntriesSoFar) -> Result<Expr, Stop>
-    ensures ok { IfOk result (λ e. tree_of e ≡ tree.dict (trees_of entries.keys.items) (trees_of entries.values.items)) }
-    ensures err { IsOkUnless result Memory }
-{
-    let EntriesSoFar { keys, values } = entries;
-    Ok(Expr::dict(alloc, keys, values)?)
-}
-
-/// A dictionary of the entries that clauses give.
-fn dict_by_clauses(alloc: Global, entry: (Expr, Expr), clauses: Vec<Clause>) -> Result<Expr, Stop>
-    ensures ok { IfOk result (λ e. tree_of e ≡ tree.dict_of (tree_of entry.0) (tree_of entry.1) (clause_trees clauses.items)) }
-    ensures err { IsOkUnless result Memory }
-{
-    let (key, value) = entry;
-    Ok(Expr::dict_of(alloc, key, value, clauses)?)
-}
-
-/// A call of a method with its arguments.
-fn method(alloc: Global, receiver: (Expr, Text), found: ArgumentsSoFar) -> Result<Expr, Stop>
-    ensures ok { IfOk result (λ e. tree_of e ≡ tree.method (tree_of receiver.0) receiver.1 (trees_of found.values.items) found.names.items) }
-    ensures err { IsOkUnless result Memory }
-{
-    let (value, name) = receiver;
-    let ArgumentsSoFar { values, names } = found;
-    Ok(Expr::method(alloc, value, name, values, names)?)
 }
 
 /// Reads an expression of a kind, with so many levels. Memory is answered only where a growth was refused.

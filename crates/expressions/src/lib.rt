@@ -3,6 +3,7 @@
 
 mod expression;
 mod front;
+mod making;
 mod target;
 
 pub use expression::{expr, targets};

@@ -1,5 +1,5 @@
 -- Edits keep it so that each file has a path.
-use Rattle.std.proofs.Common.{◌≡◌, ◌∙◌, ap, sym, refl, ℕ, suc, Bool, true, false, cond, not, ◌||◌, List, [], ◌∷◌, Option, Some, None}
+use Rattle.std.proofs.Common.{◌≡◌, ◌∙◌, ap, sym, refl, ℕ, suc, Bool, true, false, cond, not, ◌||◌, List, [], ◌∷◌, Option, Some, None, inl, inr}
 use Rattle.std.specs.Prelude.{is_some, nat_lt, length}
 use Rattle.std.specs.FinMap as map
 use Rattle.std.specs.List.{list_any, list_all}
@@ -7,7 +7,6 @@ use Rattle.std.specs.Ordering.{nat_cmp, eq_by_cmp}
 use Rattle.std.specs.Cmp.Lexicographic.{slice_cmp, nat_list_cmp_total}
 use Rattle.std.proofs.lemmas.Bool.{and_parts, and_from, or_cases, false≢true}
 use Rattle.std.proofs.lemmas.Map.Text.{is_eq-slice_cmp}
-use Rattle.std.proofs.Common.{inl, inr}
 use Rattle.labels.specs.Paths.{is_path}
 use Rattle.filetree.specs.Files.{Files, put_refusal, is_below_a_file, is_directory, text_limit}
 use Rattle.filetree.specs.Changes.{Change, put, del, change_refusal, changed, first_refused, refused_or, all_changed}

@@ -1,7 +1,6 @@
 -- The texts of a folder, by its own names and those of the folders in it.
-use Rattle.std.proofs.Common.{◌≡◌, ◌∙◌, ap, sym, refl, arith, ℕ, ◌<◌, Bool, true, false, cond, not, ◌&&◌, List, [], ◌∷◌, ◌++◌, length, Option, Some, None, map as each, String, Global, BTreeMap, nat_cmp}
+use Rattle.std.proofs.Common.{◌≡◌, ◌∙◌, ap, sym, refl, arith, ℕ, ◌<◌, Bool, true, false, cond, not, ◌&&◌, List, [], ◌∷◌, ◌++◌, length, Option, Some, None, map as each, String, Global, BTreeMap, nat_cmp, inl, inr}
 use Rattle.std.specs.Prelude.{option_map, option_and_then, string_bytes, flat_map, bytes_eq, nat_lt}
-use Rattle.std.proofs.Common.{inl, inr}
 use Rattle.std.specs.Option.{option_or}
 use Rattle.std.specs.declared.sync.Arc.{Arc}
 use Rattle.std.specs.BTreeMap.{get_by_text, is_at}

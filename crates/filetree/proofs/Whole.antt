@@ -1,5 +1,5 @@
 -- The map of all files, from the entries of the first folder.
-use Rattle.std.proofs.Common.{◌≡◌, ◌∙◌, ap, sym, refl, ℕ, Bool, true, false, cond, ◌||◌, List, [], ◌∷◌, ◌++◌, Option, Some, None, map as each}
+use Rattle.std.proofs.Common.{◌≡◌, ◌∙◌, ap, sym, refl, ℕ, Bool, true, false, cond, ◌||◌, List, [], ◌∷◌, ◌++◌, Option, Some, None, map as each, inl, inr}
 use Rattle.std.specs.Prelude.{is_some, bytes_eq}
 use Rattle.std.specs.FinMap as map
 use Rattle.std.specs.List.{list_any}
@@ -9,7 +9,6 @@ use Rattle.std.specs.Cmp.{eq_by_cmp_equiv}
 use Rattle.std.specs.Cmp.Lexicographic.{slice_cmp, nat_list_cmp_total}
 use Rattle.std.proofs.lemmas.Bool.{false≢true, or_cases}
 use Rattle.std.proofs.lemmas.Map.Text.{is_eq-slice_cmp}
-use Rattle.std.proofs.Common.{inl, inr}
 use Rattle.filetree.specs.Files.{is_ancestor, is_directory, is_below_a_file}
 use Rattle.filetree.specs.Folders.{Entries, text_at}
 use Rattle.filetree.proofs.FilesLemmas.{any_key}

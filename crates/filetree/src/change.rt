@@ -44,7 +44,8 @@ fn refused_at(at: usize, error: &TreeError) -> BatchError
 impl Tree {
     /// Makes a change, as `put` and `del` do.
     pub fn change(&mut self, change: &Change<'_>) -> Result<(), TreeError>
-        ensures { Edits result (specs.change_refusal (change_seen change.now) self.old) self.old (specs.changed (change_seen change.now) self.old) self.new }
+        ensures { Edits result (specs.change_refusal (change_seen change.now) self.old) self.old
+            (specs.changed (change_seen change.now) self.old) self.new }
     {
         match change {
             Change::Put(path, text) => self.put(path, text),
@@ -54,7 +55,8 @@ impl Tree {
 
     // Makes changes in their order, up to the first that is refused.
     fn change_each(&mut self, edits: &[Change<'_>]) -> Result<(), BatchError>
-        ensures { specs.MakesAll result (specs.changes_refusal (changes_seen edits.now) self.old) (specs.all_changed (changes_seen edits.now) self.old) self.new }
+        ensures { specs.MakesAll result (specs.changes_refusal (changes_seen edits.now) self.old)
+            (specs.all_changed (changes_seen edits.now) self.old) self.new }
     {
         for (at, edit) in edits.iter().enumerate() {
             if let Err(error) = self.change(edit) {
@@ -68,7 +70,8 @@ impl Tree {
     /// after those before it. Then, and where a growth was refused, nothing has changed. Folders are shared with the
     /// tree as it was, so it costs what the changed paths reach.
     pub fn apply_all(&mut self, edits: &[Change<'_>]) -> Result<(), BatchError>
-        ensures { specs.EditsAll result (specs.changes_refusal (changes_seen edits.now) self.old) self.old (specs.all_changed (changes_seen edits.now) self.old) self.new }
+        ensures { specs.EditsAll result (specs.changes_refusal (changes_seen edits.now) self.old)
+            self.old (specs.all_changed (changes_seen edits.now) self.old) self.new }
     {
         let mut changed = self.copy()?;
         changed.change_each(edits)?;

@@ -39,7 +39,8 @@ impl Model for Folder {
 
 // The first name of a path and the rest, if it has a slash.
 fn split_name(path: &str) -> Option<(&str, &str)>
-    ensures { MatchOption result (levels.has_no_slash path.now ≡ true) (λ x. levels.IsSplit path.now x.0.now x.1.now) }
+    ensures { MatchOption result (levels.has_no_slash path.now ≡ true)
+        (λ x. levels.IsSplit path.now x.0.now x.1.now) }
 {
     path.split_once('/')
 }
@@ -54,7 +55,8 @@ fn copy_of<V: Drop>(map: &BTreeMap<String, Arc<V>>) -> Result<BTreeMap<String, A
 
 // The names of a map.
 fn names_of<V: Drop>(alloc: Global, map: &BTreeMap<String, Arc<V>>) -> Result<Vec<Text>, Memory>
-    ensures { IfOk result (λ names. names.items ≡ sorted_names (each (λ e. e.0) (levels.named map.now))) }
+    ensures { IfOk result
+        (λ names. names.items ≡ sorted_names (each (λ e. e.0) (levels.named map.now))) }
 {
     let mut names = Vec::new(alloc);
     for name in map.keys() {
@@ -88,7 +90,8 @@ impl Folder {
     // The folder at a name; it is not empty.
     fn folder(&self, name: &str) -> Option<&Folder>
         requires { levels.has_no_slash name.now ≡ true }
-        ensures below { (rest : List ℕ) → option_and_then (λ f. levels.text_at f.now.entries rest) result ≡ levels.text_at self.now.entries (name.now ++ 47 ∷ rest) }
+        ensures below { (rest : List ℕ) → option_and_then (λ f. levels.text_at f.now.entries rest)
+            result ≡ levels.text_at self.now.entries (name.now ++ 47 ∷ rest) }
         ensures some { IfSome result (λ f. 0 < length f.now.entries) }
     {
         match self.folders.get(name) {
@@ -107,7 +110,8 @@ impl Folder {
     fn with_file(&self, alloc: Global, name: &str, text: &Arc<Text>) -> Result<Folder, Memory>
         requires { levels.has_no_slash name.now ≡ true }
         ensures { IfOk result (λ new. (path : List ℕ) → levels.text_at new.entries path
-            ≡ (if bytes_eq name.now path then Some text.now.value else levels.text_at self.now.entries path)) }
+            ≡ (if bytes_eq name.now path then Some text.now.value
+            else levels.text_at self.now.entries path)) }
     {
         let mut files = copy_of(&self.files)?;
         let folders = copy_of(&self.folders)?;
@@ -131,8 +135,10 @@ impl Folder {
     fn with_folder(&self, alloc: Global, name: &str, inner: Folder) -> Result<Folder, Memory>
         requires plain { levels.has_no_slash name.now ≡ true }
         requires some { 0 < length inner.entries }
-        ensures { IfOk result (λ new. (rest : List ℕ) (w : Option (List ℕ)) → levels.Changes name.now rest w self.now.entries inner.entries
-            → (path : List ℕ) → levels.text_at new.entries path ≡ (if bytes_eq (name.now ++ 47 ∷ rest) path then w else levels.text_at self.now.entries path)) }
+        ensures { IfOk result (λ new. (rest : List ℕ) (w : Option (List ℕ))
+            → levels.Changes name.now rest w self.now.entries inner.entries → (path : List ℕ)
+            → levels.text_at new.entries path ≡ (if bytes_eq (name.now ++ 47 ∷ rest) path then w
+            else levels.text_at self.now.entries path)) }
     {
         let files = copy_of(&self.files)?;
         let mut folders = copy_of(&self.folders)?;
@@ -143,8 +149,10 @@ impl Folder {
     // The folder without a folder at a name, which has a text at one path at most.
     fn without_folder(&self, name: &str) -> Result<Folder, Memory>
         requires { levels.has_no_slash name.now ≡ true }
-        ensures { IfOk result (λ new. (rest : List ℕ) → levels.Changes name.now rest None self.now.entries []
-            → (path : List ℕ) → levels.text_at new.entries path ≡ (if bytes_eq (name.now ++ 47 ∷ rest) path then None else levels.text_at self.now.entries path)) }
+        ensures { IfOk result (λ new. (rest : List ℕ) → levels.Changes name.now rest None
+            self.now.entries [] → (path : List ℕ) → levels.text_at new.entries path
+            ≡ (if bytes_eq (name.now ++ 47 ∷ rest) path then None
+            else levels.text_at self.now.entries path)) }
     {
         let files = copy_of(&self.files)?;
         let mut folders = copy_of(&self.folders)?;
@@ -161,7 +169,8 @@ impl Folder {
     }
 
     fn unless_empty(self) -> Option<Folder>
-        ensures same { (path : List ℕ) → option_and_then (λ f. levels.text_at f.entries path) result ≡ levels.text_at self.entries path }
+        ensures same { (path : List ℕ) → option_and_then (λ f. levels.text_at f.entries path) result
+            ≡ levels.text_at self.entries path }
         ensures some { IfSome result (λ f. 0 < length f.entries) }
     {
         if self.is_empty() { None } else { Some(self) }
@@ -170,7 +179,8 @@ impl Folder {
     /// The folder with a text at a path; its other parts are shared.
     pub(crate) fn put(&self, alloc: Global, path: &str, text: &Arc<Text>) -> Result<Folder, Memory>
         ensures { IfOk result (λ new. (other : List ℕ) → levels.text_at new.entries other
-            ≡ (if bytes_eq path.now other then Some text.now.value else levels.text_at self.now.entries other)) }
+            ≡ (if bytes_eq path.now other then Some text.now.value
+            else levels.text_at self.now.entries other)) }
     {
         let Some((name, rest)) = split_name(path) else {
             return self.with_file(alloc, path, text);
@@ -184,7 +194,8 @@ impl Folder {
 
     /// The folder without a text at a path, if anything is left; its other parts are shared.
     pub(crate) fn del(&self, alloc: Global, path: &str) -> Result<Option<Folder>, Memory>
-        ensures same { IfOk result (λ left. (other : List ℕ) → option_and_then (λ f. levels.text_at f.entries other) left
+        ensures same { IfOk result
+            (λ left. (other : List ℕ) → option_and_then (λ f. levels.text_at f.entries other) left
             ≡ (if bytes_eq path.now other then None else levels.text_at self.now.entries other)) }
         ensures some { IfOk result (λ left. IfSome left (λ f. 0 < length f.entries)) }
     {
@@ -216,8 +227,10 @@ impl Folder {
 
     /// Whether a file lies below the path.
     pub(crate) fn has_below(&self, path: &str) -> bool
-        ensures yes { result ≡ true → (rest : List ℕ) × (is_some (levels.text_at self.now.entries (path.now ++ 47 ∷ rest)) ≡ true) }
-        ensures no { result ≡ false → (rest : List ℕ) → levels.text_at self.now.entries (path.now ++ 47 ∷ rest) ≡ None }
+        ensures yes { result ≡ true → (rest : List ℕ)
+            × (is_some (levels.text_at self.now.entries (path.now ++ 47 ∷ rest)) ≡ true) }
+        ensures no { result ≡ false → (rest : List ℕ) → levels.text_at self.now.entries
+            (path.now ++ 47 ∷ rest) ≡ None }
     {
         match split_name(path) {
             None => self.folder(path).is_some(),
@@ -230,8 +243,11 @@ impl Folder {
 
     /// Whether a proper ancestor of the path is a file.
     pub(crate) fn has_above(&self, path: &str) -> bool
-        ensures yes { result ≡ true → (front : List ℕ) × (rest : List ℕ) × (path.now ≡ front ++ 47 ∷ rest) × (is_some (levels.text_at self.now.entries front) ≡ true) }
-        ensures no { result ≡ false → (front rest : List ℕ) → path.now ≡ front ++ 47 ∷ rest → levels.text_at self.now.entries front ≡ None }
+        ensures yes { result ≡ true → (front : List ℕ) × (rest : List ℕ)
+            × (path.now ≡ front ++ 47 ∷ rest) × (is_some (levels.text_at self.now.entries front)
+            ≡ true) }
+        ensures no { result ≡ false → (front rest : List ℕ) → path.now ≡ front ++ 47 ∷ rest
+            → levels.text_at self.now.entries front ≡ None }
     {
         match split_name(path) {
             None => false,
@@ -249,8 +265,10 @@ impl Folder {
 
     // The folder at a path; it is not empty.
     fn folder_at(&self, path: &str) -> Option<&Folder>
-        ensures found { MatchOption result ((rest : List ℕ) → levels.text_at self.now.entries (path.now ++ 47 ∷ rest) ≡ None)
-            (λ f. (rest : List ℕ) → levels.text_at f.now.entries rest ≡ levels.text_at self.now.entries (path.now ++ 47 ∷ rest)) }
+        ensures found { MatchOption result ((rest : List ℕ) → levels.text_at self.now.entries
+            (path.now ++ 47 ∷ rest) ≡ None)
+            (λ f. (rest : List ℕ) → levels.text_at f.now.entries rest
+            ≡ levels.text_at self.now.entries (path.now ++ 47 ∷ rest)) }
         ensures some { IfSome result (λ f. 0 < length f.now.entries) }
     {
         match split_name(path) {
@@ -265,7 +283,8 @@ impl Folder {
     // The names in the folder, which is not empty.
     fn names(&self, alloc: Global) -> Result<Listing, Memory>
         requires { 0 < length self.now.entries }
-        ensures { IfOk result (λ l. Some (names_seen l) ≡ names_in [] (each (λ e. e.0) self.now.entries)) }
+        ensures { IfOk result
+            (λ l. Some (names_seen l) ≡ names_in [] (each (λ e. e.0) self.now.entries)) }
     {
         Ok(Listing {
             files: names_of(alloc, &self.files)?,
@@ -275,7 +294,8 @@ impl Folder {
 
     /// The names in a directory, if it is there; the root's name is empty.
     pub(crate) fn listing(&self, alloc: Global, directory: &str) -> Result<Option<Listing>, Memory>
-        ensures { IfOk result (λ l. option_map names_seen l ≡ names_in directory.now (each (λ e. e.0) self.now.entries)) }
+        ensures { IfOk result (λ l. option_map names_seen l ≡ names_in directory.now
+            (each (λ e. e.0) self.now.entries)) }
     {
         if directory.is_empty() {
             if self.is_empty() {
@@ -293,7 +313,8 @@ impl Folder {
     #[cycle(put_shared)]
     fn put_here(&mut self, alloc: Global, path: &str, text: &Arc<Text>) -> Result<(), Memory>
         ensures ok { OnOk result ((other : List ℕ) → levels.text_at self.new.entries other
-            ≡ (if bytes_eq path.now other then Some text.now.value else levels.text_at self.old.entries other)) }
+            ≡ (if bytes_eq path.now other then Some text.now.value
+            else levels.text_at self.old.entries other)) }
         ensures err { OnErr result (self.new.entries ≡ self.old.entries) }
     {
         let Some((name, rest)) = split_name(path) else {
@@ -320,7 +341,8 @@ pub(crate) fn put_shared(
     text: &Arc<Text>,
 ) -> Result<(), Memory>
     ensures ok { OnOk result ((other : List ℕ) → levels.text_at shared.new.value.entries other
-        ≡ (if bytes_eq path.now other then Some text.now.value else levels.text_at shared.old.value.entries other)) }
+        ≡ (if bytes_eq path.now other then Some text.now.value
+        else levels.text_at shared.old.value.entries other)) }
     ensures err { OnErr result (shared.new.value.entries ≡ shared.old.value.entries) }
 {
     if let Some(folder) = Arc::get_mut(shared) {

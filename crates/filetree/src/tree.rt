@@ -49,7 +49,8 @@ fn put_below(
     text: &str,
 ) -> Result<(), Memory>
     ensures ok { OnOk result ((other : List ℕ) → levels.text_at (levels.entries_of root.new) other
-        ≡ (if bytes_eq path.now other then Some text.now else levels.text_at (levels.entries_of root.old) other)) }
+        ≡ (if bytes_eq path.now other then Some text.now else levels.text_at
+        (levels.entries_of root.old) other)) }
     ensures err { OnErr result (levels.entries_of root.new ≡ levels.entries_of root.old) }
 {
     let text = Arc::new(alloc, Text::new(alloc, text)?)?;
@@ -68,7 +69,8 @@ fn root_without(
     path: &str,
 ) -> Result<Option<Arc<Folder>>, Memory>
     ensures { IfOk result (λ new. (other : List ℕ) → levels.text_at (levels.entries_of new) other
-        ≡ (if bytes_eq path.now other then None else levels.text_at (levels.entries_of root.now) other)) }
+        ≡ (if bytes_eq path.now other then None else levels.text_at (levels.entries_of root.now)
+        other)) }
 {
     let Some(root) = root else {
         return Ok(None);

@@ -3,7 +3,7 @@ use Rattle.std.proofs.Common.{◌≡◌, ℕ, List, ◌∷◌, ◌++◌, [], dro
 use Rattle.tree.specs.Tree as t
 use Rattle.tree.specs.Tree.{Ex, Fn, Pa, Tp}
 use Rattle.tree.specs.declared.stmt.Stmt.{Stmt}
-use Rattle.tree.specs.declared.stmt.File.{File}
+use Rattle.tree.specs.declared.def.File.{File}
 use Rattle.tree.specs.Statements.{stmt_of, top_of}
 use Rattle.language.specs.World.{World, Here, Ends, ended, failed, waits, Runs, then_runs, pure}
 use Rattle.language.specs.Environment.{Env}

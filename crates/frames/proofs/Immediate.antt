@@ -10,7 +10,7 @@ use Rattle.quiet.specs.Done.{Done, Tested}
 use Rattle.frames.specs.declared.frame.Control.{Control}
 use Rattle.names.specs.View.{Ran}
 use Rattle.frames.specs.Frames.{Sig, Goes}
-use Rattle.frames.specs.Immediate.{AtOnce, Chosen}
+use Rattle.frames.specs.Immediate.{AtOnce}
 
 pub once_stops : (m : Ends Val) (k : Val → Runs Sig) (site : Site) (halt : Halt) (u : World) (after : Control → Ends Sig) → AtOnce site m (Err halt) u → Goes site (then_runs m k) (Err halt) after
 once_stops m k site (Code c) u after h = ap (λ o. then_runs o k) h
@@ -32,10 +32,3 @@ once_ran m site (Code c) u h = h
 once_ran m site Memory u h = tt
 
 -- a condition that stops
-pub chosen_stops : (env : Env) (n : ℕ) (here : Here) (site : Site) (does : Runs Exit → Runs Exit → Runs Exit) (m k : Runs Exit) (halt : Halt) (w u : World) → Tested site does w (Err halt) u → Chosen env n here site (does m k w) (Err halt) u
-chosen_stops env n here site does m k (Code c) w u h = h m k
-chosen_stops env n here site does m k Memory w u h = tt
-
-pub chosen_done : (env : Env) (n : ℕ) (here : Here) (site : Site) (m : Ends Exit) (halt : Halt) (u : World) → Chosen env n here site m (Err halt) u → Done site m (Err halt) u
-chosen_done env n here site m (Code c) u h = h
-chosen_done env n here site m Memory u h = tt

@@ -21,8 +21,8 @@ use Rattle.tree.specs.declared.expr.BinaryOp.TheVariants as o
 use Rattle.tree.specs.declared.expr.Expr.{Expr}
 use Rattle.tree.specs.declared.stmt.Stmt.{Stmt}
 use Rattle.tree.specs.declared.stmt.Branch.{Branch}
-use Rattle.tree.specs.declared.stmt.Def.{Def}
-use Rattle.tree.specs.declared.stmt.File.{File}
+use Rattle.tree.specs.declared.def.Def.{Def}
+use Rattle.tree.specs.declared.def.File.{File}
 use Rattle.tree.specs.View.{trees_of, shared_tree, bound_tree, clause_trees}
 use Rattle.tree.specs.Statements.{stmts_of, branch_trees, fn_of, top_of, param_of}
 use Rattle.meaning.specs.declared.val.Val.{Val}
@@ -51,6 +51,7 @@ use Rattle.language.specs.Files.{keep_defaults}
 use Rattle.names.specs.View.{held, here_of}
 use Rattle.pieces.specs.View.{before, aim_of, gathered_of}
 pub use Rattle.quiet.specs.Done.{first_line, stmt_line}
+use Rattle.frames.specs.declared.frame.TheConstants.{NOT_AWAITED}
 use Rattle.frames.specs.declared.frame.Exit.{Exit}
 use Rattle.frames.specs.declared.frame.Exit.TheVariants as x
 use Rattle.frames.specs.declared.frame.Signal.{Signal}
@@ -103,26 +104,26 @@ gathered m = m >>= λ got. pure (a_gathered got)
 
 abbrev pub on_value : Here → (Val → Runs Sig) → Sig → Runs Sig
 on_value here k (a_value v) = k v
-on_value here k (an_aim a) = fault 0 here
-on_value here k (an_exit exit) = fault 0 here
-on_value here k (a_gathered got) = fault 0 here
+on_value here k (an_aim a) = fault NOT_AWAITED here
+on_value here k (an_exit exit) = fault NOT_AWAITED here
+on_value here k (a_gathered got) = fault NOT_AWAITED here
 
 abbrev pub on_aim : Here → (ta.Aim → Runs Sig) → Sig → Runs Sig
-on_aim here k (a_value v) = fault 0 here
+on_aim here k (a_value v) = fault NOT_AWAITED here
 on_aim here k (an_aim a) = k a
-on_aim here k (an_exit exit) = fault 0 here
-on_aim here k (a_gathered got) = fault 0 here
+on_aim here k (an_exit exit) = fault NOT_AWAITED here
+on_aim here k (a_gathered got) = fault NOT_AWAITED here
 
 abbrev pub on_exit : Here → (s.Exit → Runs Sig) → Sig → Runs Sig
-on_exit here k (a_value v) = fault 0 here
-on_exit here k (an_aim a) = fault 0 here
+on_exit here k (a_value v) = fault NOT_AWAITED here
+on_exit here k (an_aim a) = fault NOT_AWAITED here
 on_exit here k (an_exit exit) = k exit
-on_exit here k (a_gathered got) = fault 0 here
+on_exit here k (a_gathered got) = fault NOT_AWAITED here
 
 abbrev pub on_gathered : Here → (l.Gathered → Runs Sig) → Sig → Runs Sig
-on_gathered here k (a_value v) = fault 0 here
-on_gathered here k (an_aim a) = fault 0 here
-on_gathered here k (an_exit exit) = fault 0 here
+on_gathered here k (a_value v) = fault NOT_AWAITED here
+on_gathered here k (an_aim a) = fault NOT_AWAITED here
+on_gathered here k (an_exit exit) = fault NOT_AWAITED here
 on_gathered here k (a_gathered got) = k got
 
 -- ---- operands

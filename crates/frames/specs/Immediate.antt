@@ -22,16 +22,3 @@ abbrev pub Costs : Result (Option Val) Halt → State → State → Type 0
 Costs (Ok (Some v)) old new = new.heap.steps < old.heap.steps
 Costs (Ok None) old new = new ≡ old
 Costs (Err halt) old new = Unit {0}
-
--- where an `if` goes on whose condition is tested at once
-abbrev pub Chosen : Env → ℕ → Here → Site → Ends Exit → Result (Option Control) Halt → World → Type 0
-Chosen env n here site says (Ok (Some control)) u = then_runs says (λ exit. pure (an_exit exit)) ≡ control_does env n here control u
-Chosen env n here site says (Ok None) u = Unit {0}
-Chosen env n here site says (Err (Code c)) u = says ≡ failed c site
-Chosen env n here site says (Err Memory) u = Unit {0}
-
--- a choice costs a step; where there is none nothing was done
-abbrev pub ChoiceCosts : Result (Option Control) Halt → State → State → Type 0
-ChoiceCosts (Ok (Some control)) old new = new.heap.steps < old.heap.steps
-ChoiceCosts (Ok None) old new = new ≡ old
-ChoiceCosts (Err halt) old new = Unit {0}

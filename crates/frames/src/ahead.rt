@@ -30,24 +30,34 @@ fn stopped(state: &mut State, line: usize, halt: Halt) -> Result<Once, Memory>
 {
     state.heap.steps = 0;
     match halt {
-        Halt::Code(code) => Ok(Once::Faulty(line, code)),
+        Halt::Code(code) => Ok(Once::Faulty { line, code }),
         Halt::Memory => Err(Memory),
     }
 }
 
 // Runs the statements of a suite at once, to the first that is not run so, or behind which objects are given back first.
 fn suite_once(state: &mut State, at: &Standing, ss: &Arc<Vec<Stmt>, Global>) -> Result<Once, Memory>
-    ensures does { (env : Env) (n : ℕ) (running : List (List ℕ × List ℕ)) → let here = here_of at.now at.now.line running in IfOk result (λ once. OnceDoes env n here (body env n here (shared_suite ss.now) (world_of state.old)) once (world_of state.new)) }
+    ensures does { (env : Env) (n : ℕ) (running : List (List ℕ × List ℕ))
+        → let here = here_of at.now at.now.line running in
+        IfOk result
+        (λ once. OnceDoes env n here (body env n here (shared_suite ss.now) (world_of state.old))
+        once (world_of state.new)) }
     ensures costs { IfOk result (λ once. SuiteCosts once state.old state.new) }
 {
     for i in 0..ss.len() {
         if state.heap.is_full() {
-            return Ok(Once::Begun(Control::Suite(Arc::try_clone(ss)?, i)));
+            return Ok(Once::Begun(Control::Suite {
+                suite: Arc::try_clone(ss)?,
+                next: i,
+            }));
         }
         let stmt = &ss[i];
         match run(state, at, stmt) {
             Ok(true) => {}
-            Ok(false) => return Ok(Once::Begun(Control::Suite(Arc::try_clone(ss)?, i))),
+            Ok(false) => return Ok(Once::Begun(Control::Suite {
+                suite: Arc::try_clone(ss)?,
+                next: i,
+            })),
             Err(halt) => return stopped(state, line_of(stmt), halt),
         }
     }
@@ -56,11 +66,21 @@ fn suite_once(state: &mut State, at: &Standing, ss: &Arc<Vec<Stmt>, Global>) -> 
 
 // Runs an `if` at once, where its condition is tested so: the statements that it chooses, as far as they can be.
 fn if_once(state: &mut State, at: &Standing, stmt: &Stmt) -> Result<Once, Memory>
-    ensures does { (env : Env) (n : ℕ) (running : List (List ℕ × List ℕ)) → let here = here_of at.now at.now.line running in IfOk result (λ once. OnceDoes env n here (exec env (call env n) (stmt_of stmt.now) here (world_of state.old)) once (world_of state.new)) }
+    ensures does { (env : Env) (n : ℕ) (running : List (List ℕ × List ℕ))
+        → let here = here_of at.now at.now.line running in
+        IfOk result
+        (λ once. OnceDoes env n here (exec env (call env n) (stmt_of stmt.now) here
+        (world_of state.old)) once (world_of state.new)) }
     ensures costs { IfOk result (λ once. OnceCosts once state.old state.new) }
 {
     match stmt {
-        Stmt::If(line, condition, body, branches, other) => match holds(state, at, condition) {
+        Stmt::If {
+            line,
+            condition,
+            body,
+            branches,
+            other,
+        } => match holds(state, at, condition) {
             Ok(Some(holds)) => {
                 if holds {
                     return suite_once(state, at, body);
@@ -69,7 +89,11 @@ fn if_once(state: &mut State, at: &Standing, stmt: &Stmt) -> Result<Once, Memory
                     return suite_once(state, at, other);
                 }
                 let branches = Arc::try_clone(branches)?;
-                Ok(Once::Begun(Control::Branches(branches, 0, Arc::try_clone(other)?)))
+                Ok(Once::Begun(Control::Branches {
+                    branches,
+                    next: 0,
+                    other: Arc::try_clone(other)?,
+                }))
             }
             Ok(None) => Ok(Once::Not),
             Err(halt) => stopped(state, *line, halt),
@@ -80,7 +104,11 @@ fn if_once(state: &mut State, at: &Standing, stmt: &Stmt) -> Result<Once, Memory
 
 // Runs a statement at once, as far as it can be.
 fn once(state: &mut State, at: &Standing, stmt: &Stmt) -> Result<Once, Memory>
-    ensures does { (env : Env) (n : ℕ) (running : List (List ℕ × List ℕ)) → let here = here_of at.now at.now.line running in IfOk result (λ once. OnceDoes env n here (exec env (call env n) (stmt_of stmt.now) here (world_of state.old)) once (world_of state.new)) }
+    ensures does { (env : Env) (n : ℕ) (running : List (List ℕ × List ℕ))
+        → let here = here_of at.now at.now.line running in
+        IfOk result
+        (λ once. OnceDoes env n here (exec env (call env n) (stmt_of stmt.now) here
+        (world_of state.old)) once (world_of state.new)) }
     ensures costs { IfOk result (λ once. OnceCosts once state.old state.new) }
 {
     match run(state, at, stmt) {
@@ -97,7 +125,12 @@ pub fn ahead(
     ss: &Arc<Vec<Stmt>, Global>,
     next: usize,
 ) -> Result<Ahead, Memory>
-    ensures leads { (env : Env) (n : ℕ) (running : List (List ℕ × List ℕ)) → let here = here_of at.now at.now.line running in IfOk result (λ ahead. LeadsTo env n here ss.now (body env n here (suite_from next ss.now) (world_of state.old)) ahead (world_of state.new)) }
+    ensures leads { (env : Env) (n : ℕ) (running : List (List ℕ × List ℕ))
+        → let here = here_of at.now at.now.line running in
+        IfOk result
+        (λ ahead. LeadsTo env n here ss.now
+        (body env n here (suite_from next ss.now) (world_of state.old)) ahead
+        (world_of state.new)) }
     ensures costs { IfOk result (λ ahead. LeadCosts next ss.now ahead state.old state.new) }
 {
     for i in next..ss.len() {
@@ -107,8 +140,11 @@ pub fn ahead(
         let stmt = &ss[i];
         match once(state, at, stmt) {
             Ok(Once::Done) => {}
-            Ok(Once::Begun(control)) => return Ok(Ahead::Above(i + 1, control)),
-            Ok(Once::Faulty(line, code)) => return Ok(Ahead::Faulty(line, code)),
+            Ok(Once::Begun(control)) => return Ok(Ahead::Above {
+                next: i + 1,
+                control,
+            }),
+            Ok(Once::Faulty { line, code }) => return Ok(Ahead::Faulty { line, code }),
             Ok(Once::Not) => return Ok(Ahead::At(i)),
             Err(memory) => return Err(memory),
         }
@@ -122,19 +158,24 @@ pub fn lead(
     ss: Arc<Vec<Stmt>, Global>,
     ahead: Ahead,
 ) -> Result<Control, Halt>
-    ensures goes { (env : Env) (n : ℕ) (here : Here) (says : Ends s.Exit) (u : World) → LeadsTo env n here ss says ahead u → IfOk result (λ control. then_runs (exited_as says) (stack_does env n here frames.old.items) ≡ machine_does env n here control frames.new.items u) }
+    ensures goes { (env : Env) (n : ℕ) (here : Here) (says : Ends s.Exit) (u : World)
+        → LeadsTo env n here ss says ahead u
+        → IfOk result
+        (λ control. then_runs (exited_as says) (stack_does env n here frames.old.items)
+        ≡ machine_does env n here control frames.new.items u) }
     ensures err { IsOkUnless result h.Memory }
-    ensures weight { IfOk result (λ control. frames_weight frames.new.items + control_weight control ≡ frames_weight frames.old.items + left_weight ahead) }
+    ensures weight { IfOk result (λ control. frames_weight frames.new.items + control_weight control
+        ≡ frames_weight frames.old.items + left_weight ahead) }
 {
     match ahead {
         Ahead::Ended => Ok(Control::Signal(Signal::Exit(Exit::GoesOn))),
-        Ahead::At(i) => Ok(Control::Suite(ss, i)),
-        Ahead::Above(i, control) => {
-            if let Err(halt) = push(frames, Frame::Rest(ss, i)) {
+        Ahead::At(i) => Ok(Control::Suite { suite: ss, next: i }),
+        Ahead::Above { next: i, control } => {
+            if let Err(halt) = push(frames, Frame::Rest { suite: ss, next: i }) {
                 return Err(halt);
             }
             Ok(control)
         }
-        Ahead::Faulty(line, code) => Ok(Control::Fault(line, code)),
+        Ahead::Faulty { line, code } => Ok(Control::Fault { line, code }),
     }
 }

@@ -36,7 +36,11 @@ pub fn begin(
     line: usize,
     e: &Expr,
 ) -> Result<Control, Halt>
-    ensures goes { (env : Env) (n : ℕ) (running : List (List ℕ × List ℕ)) → let here = here_of at.now at.now.line running in Goes (on env n here line).site (above env n here (valued (ex env n here (tree_of e.now) line)) frames.old.items (world_of state.old)) result (λ control. machine_does env n here control frames.new.items (world_of state.new)) }
+    ensures goes { (env : Env) (n : ℕ) (running : List (List ℕ × List ℕ))
+        → let here = here_of at.now at.now.line running in Goes (on env n here line).site
+        (above env n here (valued (ex env n here (tree_of e.now) line)) frames.old.items
+        (world_of state.old)) result (λ control. machine_does env n here control frames.new.items
+        (world_of state.new)) }
     ensures steps { IfOk result (λ _. state.new.heap.steps < state.old.heap.steps) }
 {
     match at_once(state, at, e) {
@@ -55,7 +59,11 @@ pub fn begin_parts(
     line: usize,
     e: &Expr,
 ) -> Result<Control, Halt>
-    ensures goes { (env : Env) (n : ℕ) (running : List (List ℕ × List ℕ)) → let here = here_of at.now at.now.line running in Goes (on env n here line).site (above env n here (valued (ex env n here (tree_of e.now) line)) frames.old.items (world_of state.old)) result (λ control. machine_does env n here control frames.new.items (world_of state.new)) }
+    ensures goes { (env : Env) (n : ℕ) (running : List (List ℕ × List ℕ))
+        → let here = here_of at.now at.now.line running in Goes (on env n here line).site
+        (above env n here (valued (ex env n here (tree_of e.now) line)) frames.old.items
+        (world_of state.old)) result (λ control. machine_does env n here control frames.new.items
+        (world_of state.new)) }
     ensures steps { IfOk result (λ _. state.new.heap.steps < state.old.heap.steps) }
 {
     tick(&mut state.heap)?;

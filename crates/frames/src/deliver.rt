@@ -8,7 +8,7 @@ ghost use Rattle.pieces.specs.View.{aim_of, gathered_of};
 ghost use Rattle.frames.specs.Frames.{Goes, on, an_aim, an_exit, a_gathered, exit_of, frame_does, frame_line, above, machine_does};
 ghost use Rattle.frames.specs.Weight.{Lighter, frames_weight, frame_weight, control_weight};
 
-use crate::frame::{Control, Exit, Frame, Signal};
+use crate::frame::{Control, Exit, Frame, NOT_AWAITED, Signal};
 use crate::handed::{aim_done, augment, begin_body, begin_clause, store_value};
 use heap::{Halt, Val};
 use names::{Standing, State};
@@ -22,8 +22,16 @@ pub fn deliver_exit(
     frame: Frame,
     exit: Exit,
 ) -> Result<Control, Halt>
-    ensures goes { (env : Env) (n : ℕ) (running : List (List ℕ × List ℕ)) → let here = here_of at.now at.now.line running in Goes (on env n here (frame_line at.now.line frame)).site (above env n here (frame_does env n here frame (an_exit (exit_of exit))) frames.now.items (world_of state.old)) result (λ control. machine_does env n here control frames.now.items (world_of state.new)) }
-    ensures lighter { IfOk result (λ control. Lighter state.old.heap.steps (frames_weight frames.now.items + frame_weight frame) state.new.heap.steps (frames_weight frames.now.items + control_weight control)) }
+    ensures goes { (env : Env) (n : ℕ) (running : List (List ℕ × List ℕ))
+        → let here = here_of at.now at.now.line running in
+        Goes (on env n here (frame_line at.now.line frame)).site
+        (above env n here (frame_does env n here frame (an_exit (exit_of exit))) frames.now.items
+        (world_of state.old)) result (λ control. machine_does env n here control frames.now.items
+        (world_of state.new)) }
+    ensures lighter { IfOk result
+        (λ control. Lighter state.old.heap.steps
+        (frames_weight frames.now.items + frame_weight frame) state.new.heap.steps
+        (frames_weight frames.now.items + control_weight control)) }
 {
     match frame {
         Frame::Turns(turns) => match exit {
@@ -38,8 +46,8 @@ pub fn deliver_exit(
                 Ok(Control::Signal(Signal::Exit(Exit::Returns(x))))
             }
         },
-        Frame::Rest(ss, next) => match exit {
-            Exit::GoesOn => Ok(Control::Suite(ss, next)),
+        Frame::Rest { suite: ss, next } => match exit {
+            Exit::GoesOn => Ok(Control::Suite { suite: ss, next }),
             Exit::Breaks => Ok(Control::Signal(Signal::Exit(Exit::Breaks))),
             Exit::Continues => Ok(Control::Signal(Signal::Exit(Exit::Continues))),
             Exit::Returns(x) => Ok(Control::Signal(Signal::Exit(Exit::Returns(x)))),
@@ -49,10 +57,10 @@ pub fn deliver_exit(
             state.blocks = caller.blocks;
             Ok(Control::Signal(Signal::Value(given(exit))))
         }
-        Frame::Tops(file, next) => Ok(Control::Tops(file, next)),
+        Frame::Tops { file, next } => Ok(Control::Tops { file, next }),
         frame => {
             drop(frame);
-            Err(Halt::Code(0))
+            Err(Halt::Code(NOT_AWAITED))
         }
     }
 }
@@ -77,8 +85,16 @@ pub fn deliver_gathered(
     frame: Frame,
     got: Box<Gathered>,
 ) -> Result<Control, Halt>
-    ensures goes { (env : Env) (n : ℕ) (running : List (List ℕ × List ℕ)) → let here = here_of at.now at.now.line running in Goes (on env n here (frame_line at.now.line frame)).site (above env n here (frame_does env n here frame (a_gathered (gathered_of got.value))) frames.now.items (world_of state.old)) result (λ control. machine_does env n here control frames.now.items (world_of state.new)) }
-    ensures lighter { IfOk result (λ control. Lighter state.old.heap.steps (frames_weight frames.now.items + frame_weight frame) state.new.heap.steps (frames_weight frames.now.items + control_weight control)) }
+    ensures goes { (env : Env) (n : ℕ) (running : List (List ℕ × List ℕ))
+        → let here = here_of at.now at.now.line running in
+        Goes (on env n here (frame_line at.now.line frame)).site
+        (above env n here (frame_does env n here frame (a_gathered (gathered_of got.value)))
+        frames.now.items (world_of state.old)) result
+        (λ control. machine_does env n here control frames.now.items (world_of state.new)) }
+    ensures lighter { IfOk result
+        (λ control. Lighter state.old.heap.steps
+        (frames_weight frames.now.items + frame_weight frame) state.new.heap.steps
+        (frames_weight frames.now.items + control_weight control)) }
 {
     match frame {
         Frame::Gather(turns) => Ok(Control::Gather(turns, got)),
@@ -99,7 +115,7 @@ pub fn deliver_gathered(
         frame => {
             drop(frame);
             drop(got);
-            Err(Halt::Code(0))
+            Err(Halt::Code(NOT_AWAITED))
         }
     }
 }
@@ -112,19 +128,31 @@ pub fn deliver_aim(
     frame: Frame,
     aim: Aim,
 ) -> Result<Control, Halt>
-    ensures goes { (env : Env) (n : ℕ) (running : List (List ℕ × List ℕ)) → let here = here_of at.now at.now.line running in Goes (on env n here (frame_line at.now.line frame)).site (above env n here (frame_does env n here frame (an_aim (aim_of aim))) frames.old.items (world_of state.old)) result (λ control. machine_does env n here control frames.new.items (world_of state.new)) }
-    ensures lighter { IfOk result (λ control. Lighter state.old.heap.steps (frames_weight frames.old.items + frame_weight frame) state.new.heap.steps (frames_weight frames.new.items + control_weight control)) }
+    ensures goes { (env : Env) (n : ℕ) (running : List (List ℕ × List ℕ))
+        → let here = here_of at.now at.now.line running in
+        Goes (on env n here (frame_line at.now.line frame)).site
+        (above env n here (frame_does env n here frame (an_aim (aim_of aim))) frames.old.items
+        (world_of state.old)) result (λ control. machine_does env n here control frames.new.items
+        (world_of state.new)) }
+    ensures lighter { IfOk result
+        (λ control. Lighter state.old.heap.steps
+        (frames_weight frames.old.items + frame_weight frame) state.new.heap.steps
+        (frames_weight frames.new.items + control_weight control)) }
 {
     match frame {
-        Frame::Aims(line, es, done) => aim_done(line, es, done, aim),
-        Frame::Store(line, x) => store_value(state, at, line, x, aim),
-        Frame::Augment(line, op, e) => augment(state, frames, at, line, op, e, aim),
+        Frame::Aims {
+            line,
+            targets: es,
+            done,
+        } => aim_done(line, es, done, aim),
+        Frame::Store { line, value: x } => store_value(state, at, line, x, aim),
+        Frame::Augment { line, op, right: e } => augment(state, frames, at, line, op, e, aim),
         Frame::Turn(turns, x) => begin_body(state, frames, at, turns, x, aim),
         Frame::Aimed(turns, x, got) => begin_clause(state, frames, at, turns, x, got, aim),
         frame => {
             drop(frame);
             drop(aim);
-            Err(Halt::Code(0))
+            Err(Halt::Code(NOT_AWAITED))
         }
     }
 }

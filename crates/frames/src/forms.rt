@@ -29,7 +29,11 @@ use tree::{BinaryOp, Clause, Expr, UnaryOp};
 
 /// The value of a string.
 pub fn text_value(state: &mut State, x: &Text) -> Result<Control, Halt>
-    ensures goes { (env : Env) (n line : ℕ) (here : Here) (frames : List Frame) → Goes (on env n here line).site (above env n here (valued (on_heap (on env n here line) (makes_text x.now))) frames (world_of state.old)) result (λ control. machine_does env n here control frames (world_of state.new)) }
+    ensures goes { (env : Env) (n line : ℕ) (here : Here) (frames : List Frame)
+        → Goes (on env n here line).site
+        (above env n here (valued (on_heap (on env n here line) (makes_text x.now))) frames
+        (world_of state.old)) result (λ control. machine_does env n here control frames
+        (world_of state.new)) }
     ensures steps { IfOk result (λ _. state.new.heap.steps ≤ state.old.heap.steps) }
 {
     Ok(Control::Signal(Signal::Value(make_text(&mut state.heap, x)?)))
@@ -42,7 +46,10 @@ pub fn begin_items(
     es: &Arc<Vec<Expr>, Global>,
     purpose: Purpose,
 ) -> Result<Control, Halt>
-    ensures ok { IfOk result (λ control. (env : Env) (n : ℕ) (here : Here) (frames : List Frame) (w : World) → above env n here (valued (items_from env n here purpose (shared_trees es.now) [] line)) frames w ≡ machine_does env n here control frames w) }
+    ensures ok { IfOk result (λ control. (env : Env) (n : ℕ) (here : Here) (frames : List Frame)
+        (w : World) → above env n here
+        (valued (items_from env n here purpose (shared_trees es.now) [] line)) frames w
+        ≡ machine_does env n here control frames w) }
     ensures err { IsOkUnless result Memory }
 {
     items_of(alloc, line, Arc::try_clone(es)?, purpose)
@@ -55,7 +62,10 @@ pub fn begin_dict(
     ks: &Arc<Vec<Expr>, Global>,
     vs: &Arc<Vec<Expr>, Global>,
 ) -> Result<Control, Halt>
-    ensures ok { IfOk result (λ control. (env : Env) (n : ℕ) (here : Here) (frames : List Frame) (w : World) → above env n here (valued (entries_from env n here (shared_trees ks.now) (shared_trees vs.now) [] line)) frames w ≡ machine_does env n here control frames w) }
+    ensures ok { IfOk result (λ control. (env : Env) (n : ℕ) (here : Here) (frames : List Frame)
+        (w : World) → above env n here
+        (valued (entries_from env n here (shared_trees ks.now) (shared_trees vs.now) [] line))
+        frames w ≡ machine_does env n here control frames w) }
     ensures err { IsOkUnless result Memory }
 {
     let keys = Arc::try_clone(ks)?;
@@ -70,9 +80,11 @@ pub fn begin_unary(
     op: UnaryOp,
     a: &Arc<Expr, Global>,
 ) -> Result<Control, Halt>
-    ensures goes { (env : Env) (n : ℕ) (here : Here) (w : World) → Goes (on env n here line).site (above env n here (valued (unary_does env n here op (shared_tree a.now) line)) frames.old.items w) result (λ control. machine_does env n here control frames.new.items w) }
+    ensures goes { (env : Env) (n : ℕ) (here : Here) (w : World) → Goes (on env n here line).site
+        (above env n here (valued (unary_does env n here op (shared_tree a.now) line))
+        frames.old.items w) result (λ control. machine_does env n here control frames.new.items w) }
 {
-    eval_above(frames, Frame::Unary(line, op), line, a)
+    eval_above(frames, Frame::Unary { line, op }, line, a)
 }
 
 /// Begins an operator between two expressions.
@@ -85,11 +97,16 @@ pub fn begin_binary(
     a: &Arc<Expr, Global>,
     b: &Arc<Expr, Global>,
 ) -> Result<Control, Halt>
-    ensures goes { (env : Env) (n : ℕ) (running : List (List ℕ × List ℕ)) → let here = here_of at.now at.now.line running in Goes (on env n here line).site (above env n here (valued (binary_does env n here op (shared_tree a.now) (shared_tree b.now) line)) frames.old.items (world_of state.old)) result (λ control. machine_does env n here control frames.new.items (world_of state.new)) }
+    ensures goes { (env : Env) (n : ℕ) (running : List (List ℕ × List ℕ))
+        → let here = here_of at.now at.now.line running in Goes (on env n here line).site
+        (above env n here
+        (valued (binary_does env n here op (shared_tree a.now) (shared_tree b.now) line))
+        frames.old.items (world_of state.old)) result
+        (λ control. machine_does env n here control frames.new.items (world_of state.new)) }
     ensures steps { IfOk result (λ _. state.new.heap.steps ≤ state.old.heap.steps) }
 {
     let right = Arc::try_clone(b)?;
-    value_above(state, frames, at, Frame::Right(line, op, right), line, a)
+    value_above(state, frames, at, Frame::Right { line, op, right }, line, a)
 }
 
 /// Begins a choice between two expressions.
@@ -101,11 +118,24 @@ pub fn begin_choice(
     condition: &Arc<Expr, Global>,
     b: &Arc<Expr, Global>,
 ) -> Result<Control, Halt>
-    ensures goes { (env : Env) (n : ℕ) (here : Here) (w : World) → Goes (on env n here line).site (above env n here (valued (choice_does env n here (shared_tree a.now) (shared_tree condition.now) (shared_tree b.now) line)) frames.old.items w) result (λ control. machine_does env n here control frames.new.items w) }
+    ensures goes { (env : Env) (n : ℕ) (here : Here) (w : World) → Goes (on env n here line).site
+        (above env n here
+        (valued (choice_does env n here (shared_tree a.now) (shared_tree condition.now)
+        (shared_tree b.now) line)) frames.old.items w) result
+        (λ control. machine_does env n here control frames.new.items w) }
 {
     let first = Arc::try_clone(a)?;
     let second = Arc::try_clone(b)?;
-    eval_above(frames, Frame::Choice(line, first, second), line, condition)
+    eval_above(
+        frames,
+        Frame::Choice {
+            line,
+            chosen: first,
+            other: second,
+        },
+        line,
+        condition,
+    )
 }
 
 /// Begins an index.
@@ -118,11 +148,16 @@ pub fn begin_index(
     a: &Arc<Expr, Global>,
     i: &Arc<Expr, Global>,
 ) -> Result<Control, Halt>
-    ensures goes { (env : Env) (n : ℕ) (running : List (List ℕ × List ℕ)) → let here = here_of at.now at.now.line running in Goes (on env n here line).site (above env n here (valued (index_does env n here (shared_tree a.now) (shared_tree i.now) line)) frames.old.items (world_of state.old)) result (λ control. machine_does env n here control frames.new.items (world_of state.new)) }
+    ensures goes { (env : Env) (n : ℕ) (running : List (List ℕ × List ℕ))
+        → let here = here_of at.now at.now.line running in Goes (on env n here line).site
+        (above env n here
+        (valued (index_does env n here (shared_tree a.now) (shared_tree i.now) line))
+        frames.old.items (world_of state.old)) result
+        (λ control. machine_does env n here control frames.new.items (world_of state.new)) }
     ensures steps { IfOk result (λ _. state.new.heap.steps ≤ state.old.heap.steps) }
 {
     let index = Arc::try_clone(i)?;
-    value_above(state, frames, at, Frame::Indexed(line, index), line, a)
+    value_above(state, frames, at, Frame::Indexed { line, index }, line, a)
 }
 
 /// Begins a slice.
@@ -134,11 +169,15 @@ pub fn begin_slice(
     i: &Option<Arc<Expr, Global>>,
     j: &Option<Arc<Expr, Global>>,
 ) -> Result<Control, Halt>
-    ensures goes { (env : Env) (n : ℕ) (here : Here) (w : World) → Goes (on env n here line).site (above env n here (valued (slice_does env n here (shared_tree a.now) (bound_tree i.now) (bound_tree j.now) line)) frames.old.items w) result (λ control. machine_does env n here control frames.new.items w) }
+    ensures goes { (env : Env) (n : ℕ) (here : Here) (w : World) → Goes (on env n here line).site
+        (above env n here
+        (valued (slice_does env n here (shared_tree a.now) (bound_tree i.now) (bound_tree j.now)
+        line)) frames.old.items w) result
+        (λ control. machine_does env n here control frames.new.items w) }
 {
     let from = share_bound(i)?;
     let to = share_bound(j)?;
-    eval_above(frames, Frame::Sliced(line, from, to), line, a)
+    eval_above(frames, Frame::Sliced { line, from, to }, line, a)
 }
 
 /// Begins a call.
@@ -152,7 +191,12 @@ pub fn begin_call(
     es: &Arc<Vec<Expr>, Global>,
     names: &Arc<Vec<Text>, Global>,
 ) -> Result<Control, Halt>
-    ensures goes { (env : Env) (n : ℕ) (running : List (List ℕ × List ℕ)) → let here = here_of at.now at.now.line running in Goes (on env n here line).site (above env n here (valued (call_does env n here (shared_tree f.now) (shared_trees es.now) (arc_value names.now).items line)) frames.old.items (world_of state.old)) result (λ control. machine_does env n here control frames.new.items (world_of state.new)) }
+    ensures goes { (env : Env) (n : ℕ) (running : List (List ℕ × List ℕ))
+        → let here = here_of at.now at.now.line running in Goes (on env n here line).site
+        (above env n here
+        (valued (call_does env n here (shared_tree f.now) (shared_trees es.now)
+        (arc_value names.now).items line)) frames.old.items (world_of state.old)) result
+        (λ control. machine_does env n here control frames.new.items (world_of state.new)) }
     ensures steps { IfOk result (λ _. state.new.heap.steps ≤ state.old.heap.steps) }
 {
     let names = Arc::try_clone(names)?;
@@ -160,7 +204,16 @@ pub fn begin_call(
         Ok(Some(g)) => begin_arguments(state, at, line, es, Purpose::Call(g, names)),
         Ok(None) => {
             let all = Arc::try_clone(es)?;
-            eval_above(frames, Frame::Called(line, all, names), line, f)
+            eval_above(
+                frames,
+                Frame::Called {
+                    line,
+                    arguments: all,
+                    names,
+                },
+                line,
+                f,
+            )
         }
         Err(halt) => Err(halt),
     }
@@ -174,7 +227,12 @@ pub fn begin_list_of(
     e: &Arc<Expr, Global>,
     clauses: &Arc<Vec<Clause>, Global>,
 ) -> Result<Control, Halt>
-    ensures goes { (env : Env) (n : ℕ) (here : Here) → Goes (on env n here line).site (above env n here (valued (list_of_does env n here (shared_tree e.now) (clause_trees (arc_value clauses.now).items) line)) frames.old.items (world_of state.old)) result (λ control. machine_does env n here control frames.new.items (world_of state.new)) }
+    ensures goes { (env : Env) (n : ℕ) (here : Here) → Goes (on env n here line).site
+        (above env n here
+        (valued
+        (list_of_does env n here (shared_tree e.now) (clause_trees (arc_value clauses.now).items)
+        line)) frames.old.items (world_of state.old)) result
+        (λ control. machine_does env n here control frames.new.items (world_of state.new)) }
     ensures steps { state.new ≡ state.old }
 {
     let item = Item::Member(Arc::try_clone(e)?);
@@ -191,7 +249,11 @@ pub fn begin_dict_of(
     e: &Arc<Expr, Global>,
     clauses: &Arc<Vec<Clause>, Global>,
 ) -> Result<Control, Halt>
-    ensures goes { (env : Env) (n : ℕ) (here : Here) → Goes (on env n here line).site (above env n here (valued (dict_of_does env n here (shared_tree k.now) (shared_tree e.now) (clause_trees (arc_value clauses.now).items) line)) frames.old.items (world_of state.old)) result (λ control. machine_does env n here control frames.new.items (world_of state.new)) }
+    ensures goes { (env : Env) (n : ℕ) (here : Here) → Goes (on env n here line).site
+        (above env n here
+        (valued (dict_of_does env n here (shared_tree k.now) (shared_tree e.now)
+        (clause_trees (arc_value clauses.now).items) line)) frames.old.items (world_of state.old))
+        result (λ control. machine_does env n here control frames.new.items (world_of state.new)) }
     ensures steps { state.new ≡ state.old }
 {
     let key = Arc::try_clone(k)?;
@@ -219,7 +281,12 @@ fn begin_comprehension(
     item: Item,
     clauses: &Arc<Vec<Clause>, Global>,
 ) -> Result<Control, Halt>
-    ensures goes { (env : Env) (n : ℕ) (here : Here) → Goes (on env n here line).site (above env n here (gathered (e.comprehension env (call env n) (clause_trees (arc_value clauses.now).items) (item_does env n here item line) (on env n here line))) frames.old.items (world_of state.old)) result (λ control. machine_does env n here control frames.new.items (world_of state.new)) }
+    ensures goes { (env : Env) (n : ℕ) (here : Here) → Goes (on env n here line).site
+        (above env n here
+        (gathered (e.comprehension env (call env n) (clause_trees (arc_value clauses.now).items)
+        (item_does env n here item line) (on env n here line))) frames.old.items
+        (world_of state.old)) result (λ control. machine_does env n here control frames.new.items
+        (world_of state.new)) }
     ensures steps { state.new ≡ state.old }
 {
     match clauses.as_slice().first() {
@@ -229,7 +296,11 @@ fn begin_comprehension(
                 clauses: Arc::try_clone(clauses)?,
             };
             let of = Arc::new(state.heap.alloc, of)?;
-            let frame = Frame::First(line, Arc::try_clone(target)?, of);
+            let frame = Frame::First {
+                line,
+                target: Arc::try_clone(target)?,
+                of,
+            };
             eval_above(frames, frame, line, sequence)
         }
         Some(Clause::If(_)) => Err(Halt::Code(faults::WRONG_TYPE)),
@@ -239,7 +310,8 @@ fn begin_comprehension(
 
 // Whether an expression is `native`, before a dot.
 fn is_native(state: &State, at: &Standing, e: &Expr) -> bool
-    ensures { (line : ℕ) (running : List (List ℕ × List ℕ)) → result ≡ is_native_name (tree_of e.now) (here_of at.now line running) (world_of state.now) }
+    ensures { (line : ℕ) (running : List (List ℕ × List ℕ)) → result ≡ is_native_name
+        (tree_of e.now) (here_of at.now line running) (world_of state.now) }
 {
     match e {
         Expr::Name(x, last) => is_native_name(state, at, x, last),
@@ -259,7 +331,12 @@ pub fn begin_method(
     es: &Arc<Vec<Expr>, Global>,
     names: &Arc<Vec<Text>, Global>,
 ) -> Result<Control, Halt>
-    ensures goes { (env : Env) (n : ℕ) (running : List (List ℕ × List ℕ)) → let here = here_of at.now at.now.line running in Goes (on env n here line).site (above env n here (valued (method_does env n here (shared_tree x.now) name.now (shared_trees es.now) (arc_value names.now).items line)) frames.old.items (world_of state.old)) result (λ control. machine_does env n here control frames.new.items (world_of state.new)) }
+    ensures goes { (env : Env) (n : ℕ) (running : List (List ℕ × List ℕ))
+        → let here = here_of at.now at.now.line running in Goes (on env n here line).site
+        (above env n here
+        (valued (method_does env n here (shared_tree x.now) name.now (shared_trees es.now)
+        (arc_value names.now).items line)) frames.old.items (world_of state.old)) result
+        (λ control. machine_does env n here control frames.new.items (world_of state.new)) }
     ensures steps { IfOk result (λ _. state.new.heap.steps ≤ state.old.heap.steps) }
 {
     let names = Arc::try_clone(names)?;
@@ -274,7 +351,12 @@ pub fn begin_method(
         state,
         frames,
         at,
-        Frame::On(line, name, all, names),
+        Frame::On {
+            line,
+            name,
+            arguments: all,
+            names,
+        },
         line,
         x,
     )

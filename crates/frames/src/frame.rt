@@ -9,6 +9,9 @@ use std::sync::Arc;
 use texts::Text;
 use tree::{BinaryOp, Branch, Clause, Def, Expr, File, Stmt, UnaryOp};
 
+/// No fault of a file: a frame is handed a signal that it does not wait for. No evaluation comes to that.
+pub const NOT_AWAITED: u8 = 0;
+
 /// How a statement ends.
 #[derive(Clone, Copy)]
 pub enum Exit {
@@ -110,121 +113,321 @@ pub struct Caller {
 #[derive(Drop)]
 pub enum Frame {
     /// For the value of an item.
-    Items(usize, Box<Series>),
+    Items {
+        line: usize,
+        series: Box<Series>,
+    },
     /// For a key, which is at the number.
-    Key(usize, Box<Pairs>, usize),
+    Key {
+        line: usize,
+        pairs: Box<Pairs>,
+        next: usize,
+    },
     /// For the value of a key; the entries behind it begin at the number.
-    Entry(usize, Box<Pairs>, usize, Val),
-    Unary(usize, UnaryOp),
+    Entry {
+        line: usize,
+        pairs: Box<Pairs>,
+        next: usize,
+        key: Val,
+    },
+    Unary {
+        line: usize,
+        op: UnaryOp,
+    },
     /// For the left value; the right operand is next.
-    Right(usize, BinaryOp, Arc<Expr, Global>),
+    Right {
+        line: usize,
+        op: BinaryOp,
+        right: Arc<Expr, Global>,
+    },
     /// For the right value.
-    Both(usize, BinaryOp, Val),
+    Both {
+        line: usize,
+        op: BinaryOp,
+        left: Val,
+    },
     /// For a condition.
-    Choice(usize, Arc<Expr, Global>, Arc<Expr, Global>),
+    Choice {
+        line: usize,
+        chosen: Arc<Expr, Global>,
+        other: Arc<Expr, Global>,
+    },
     /// For what is indexed; the index is next.
-    Indexed(usize, Arc<Expr, Global>),
+    Indexed {
+        line: usize,
+        index: Arc<Expr, Global>,
+    },
     /// For an index.
-    Index(usize, Val),
+    Index {
+        line: usize,
+        container: Val,
+    },
     /// For what is sliced; the bounds are next.
-    Sliced(usize, Option<Arc<Expr, Global>>, Option<Arc<Expr, Global>>),
+    Sliced {
+        line: usize,
+        from: Option<Arc<Expr, Global>>,
+        to: Option<Arc<Expr, Global>>,
+    },
     /// For the lower bound.
-    From(usize, Val, Option<Arc<Expr, Global>>),
+    From {
+        line: usize,
+        container: Val,
+        to: Option<Arc<Expr, Global>>,
+    },
     /// For the upper bound.
-    To(usize, Val, Val),
+    To {
+        line: usize,
+        container: Val,
+        from: Val,
+    },
     /// For a function; the arguments are next.
-    Called(usize, Arc<Vec<Expr>, Global>, Arc<Vec<Text>, Global>),
+    Called {
+        line: usize,
+        arguments: Arc<Vec<Expr>, Global>,
+        names: Arc<Vec<Text>, Global>,
+    },
     /// For a receiver; the arguments are next.
-    On(usize, Text, Arc<Vec<Expr>, Global>, Arc<Vec<Text>, Global>),
+    On {
+        line: usize,
+        name: Text,
+        arguments: Arc<Vec<Expr>, Global>,
+        names: Arc<Vec<Text>, Global>,
+    },
     /// For the container of a target; the index is next.
-    Container(usize, Arc<Expr, Global>),
+    Container {
+        line: usize,
+        index: Arc<Expr, Global>,
+    },
     /// For the index of a target.
-    Member(usize, Val),
+    Member {
+        line: usize,
+        container: Val,
+    },
     /// For one of several targets, after those done.
-    Aims(usize, Arc<Vec<Expr>, Global>, Vec<Aim>),
+    Aims {
+        line: usize,
+        targets: Arc<Vec<Expr>, Global>,
+        done: Vec<Aim>,
+    },
     /// For a value that is left.
     Discard,
     /// For the value of an assignment.
-    Assign(usize, Arc<Expr, Global>),
+    Assign {
+        line: usize,
+        target: Arc<Expr, Global>,
+    },
     /// For the target of an assignment.
-    Store(usize, Val),
+    Store {
+        line: usize,
+        value: Val,
+    },
     /// For the target of an augmented assignment.
-    Augment(usize, BinaryOp, Arc<Expr, Global>),
+    Augment {
+        line: usize,
+        op: BinaryOp,
+        right: Arc<Expr, Global>,
+    },
     /// For the right side of an augmented assignment.
-    Change(usize, BinaryOp, Box<Aim>, Val),
+    Change {
+        line: usize,
+        op: BinaryOp,
+        aim: Box<Aim>,
+        old: Val,
+    },
     Return,
     /// For the condition of a branch: its statements, the branches, which is next, and the other statements.
-    Branch(Arc<Vec<Stmt>, Global>, Arc<Vec<Branch>, Global>, usize, Arc<Vec<Stmt>, Global>),
+    Branch {
+        body: Arc<Vec<Stmt>, Global>,
+        branches: Arc<Vec<Branch>, Global>,
+        next: usize,
+        other: Arc<Vec<Stmt>, Global>,
+    },
     /// For what a loop goes over.
-    For(usize, Arc<Expr, Global>, Arc<Vec<Stmt>, Global>),
+    For {
+        line: usize,
+        target: Arc<Expr, Global>,
+        body: Arc<Vec<Stmt>, Global>,
+    },
     /// For the target of a turn, whose value is given.
     Turn(Box<Turns>, Val),
     /// For the end of a turn.
     Turns(Box<Turns>),
     /// For the end of a statement; the suite goes on at the number.
-    Rest(Arc<Vec<Stmt>, Global>, usize),
+    Rest {
+        suite: Arc<Vec<Stmt>, Global>,
+        next: usize,
+    },
     /// For the end of a call.
     Leave(Box<Caller>),
     /// For what a comprehension goes over first.
-    First(usize, Arc<Expr, Global>, Arc<Comprehension, Global>),
+    First {
+        line: usize,
+        target: Arc<Expr, Global>,
+        of: Arc<Comprehension, Global>,
+    },
     /// For what a further clause goes over; the clause behind it is at the number.
-    Each(usize, Arc<Expr, Global>, Arc<Comprehension, Global>, usize, Box<Gathered>),
+    Each {
+        line: usize,
+        target: Arc<Expr, Global>,
+        of: Arc<Comprehension, Global>,
+        inner: usize,
+        got: Box<Gathered>,
+    },
     /// For a condition; the clause behind it is at the number.
-    Only(usize, Arc<Comprehension, Global>, usize, Box<Gathered>),
+    Only {
+        line: usize,
+        of: Arc<Comprehension, Global>,
+        inner: usize,
+        got: Box<Gathered>,
+    },
     /// For the target of a turn of a clause, whose value is given.
     Aimed(Box<Gathering>, Val, Box<Gathered>),
     /// For what a turn of a clause gathers.
     Gather(Box<Gathering>),
     /// For a member.
-    OneMore(usize, Box<Gathered>),
+    OneMore {
+        line: usize,
+        got: Box<Gathered>,
+    },
     /// For a key; its value is next.
-    OneKey(usize, Arc<Expr, Global>, Box<Gathered>),
+    OneKey {
+        line: usize,
+        value: Arc<Expr, Global>,
+        got: Box<Gathered>,
+    },
     /// For the value of a key; the entries behind it begin at the number.
-    OneEntry(usize, Val, Box<Gathered>),
+    OneEntry {
+        line: usize,
+        key: Val,
+        got: Box<Gathered>,
+    },
     /// For the end of a block of a comprehension.
     EndBlock,
     MakeList(usize),
     MakeDict(usize),
     /// For the value of a default: the function, the parameter behind it, and the values done.
-    Default(usize, Arc<Def, Global>, usize, Vec<Val>),
+    Default {
+        line: usize,
+        def: Arc<Def, Global>,
+        next: usize,
+        done: Vec<Val>,
+    },
     /// For the end of a statement of the file; the others begin at the number.
-    Tops(Arc<File, Global>, usize),
+    Tops {
+        file: Arc<File, Global>,
+        next: usize,
+    },
 }
 
 /// What the machine does next.
 #[derive(Drop)]
 pub enum Control {
     Signal(Signal),
-    Eval(usize, Arc<Expr, Global>),
-    Items(usize, Box<Series>),
-    Entries(usize, Box<Pairs>, usize),
-    Aim(usize, Arc<Expr, Global>),
-    Aims(usize, Arc<Vec<Expr>, Global>, Vec<Aim>),
-    Suite(Arc<Vec<Stmt>, Global>, usize),
-    Branches(Arc<Vec<Branch>, Global>, usize, Arc<Vec<Stmt>, Global>),
+    Eval {
+        line: usize,
+        expr: Arc<Expr, Global>,
+    },
+    Items {
+        line: usize,
+        series: Box<Series>,
+    },
+    Entries {
+        line: usize,
+        pairs: Box<Pairs>,
+        next: usize,
+    },
+    Aim {
+        line: usize,
+        target: Arc<Expr, Global>,
+    },
+    Aims {
+        line: usize,
+        targets: Arc<Vec<Expr>, Global>,
+        done: Vec<Aim>,
+    },
+    Suite {
+        suite: Arc<Vec<Stmt>, Global>,
+        next: usize,
+    },
+    Branches {
+        branches: Arc<Vec<Branch>, Global>,
+        next: usize,
+        other: Arc<Vec<Stmt>, Global>,
+    },
     Turns(Box<Turns>),
-    Clauses(usize, Arc<Comprehension, Global>, usize, Box<Gathered>),
+    Clauses {
+        line: usize,
+        of: Arc<Comprehension, Global>,
+        inner: usize,
+        got: Box<Gathered>,
+    },
     Gather(Box<Gathering>, Box<Gathered>),
     /// A comprehension, whose first clause goes over a value.
-    First(usize, Arc<Expr, Global>, Arc<Comprehension, Global>, Val),
+    First {
+        line: usize,
+        target: Arc<Expr, Global>,
+        of: Arc<Comprehension, Global>,
+        value: Val,
+    },
     /// A call of a function of a file: the place of the function, the arguments, and the names of the last ones.
-    Enter(usize, usize, Vec<Val>, Arc<Vec<Text>, Global>),
+    Enter {
+        line: usize,
+        place: usize,
+        arguments: Vec<Val>,
+        names: Arc<Vec<Text>, Global>,
+    },
     /// A call of a built-in function.
-    Builtin(usize, Builtin, Vec<Val>, Arc<Vec<Text>, Global>),
+    Builtin {
+        line: usize,
+        function: Builtin,
+        arguments: Vec<Val>,
+        names: Arc<Vec<Text>, Global>,
+    },
     /// A call of a method.
-    Method(usize, Val, Text, Vec<Val>, Arc<Vec<Text>, Global>),
+    Method {
+        line: usize,
+        receiver: Val,
+        name: Text,
+        arguments: Vec<Val>,
+        names: Arc<Vec<Text>, Global>,
+    },
     /// A package call.
-    Package(usize, Builtin, Vec<Val>, Arc<Vec<Text>, Global>),
+    Package {
+        line: usize,
+        function: Builtin,
+        arguments: Vec<Val>,
+        names: Arc<Vec<Text>, Global>,
+    },
     /// `x += y`, where the target and both values are evaluated.
-    Add(usize, Box<Aim>, Val, Val),
+    Add {
+        line: usize,
+        aim: Box<Aim>,
+        old: Val,
+        right: Val,
+    },
     /// The statements of a file from the number on.
-    Tops(Arc<File, Global>, usize),
+    Tops {
+        file: Arc<File, Global>,
+        next: usize,
+    },
     /// The defaults of a function from a parameter on, and the values done.
-    Defaults(usize, Arc<Def, Global>, usize, Vec<Val>),
+    Defaults {
+        line: usize,
+        def: Arc<Def, Global>,
+        next: usize,
+        done: Vec<Val>,
+    },
     /// A function is bound, with the values of its defaults.
-    Define(usize, Arc<Def, Global>, Vec<Val>),
-    /// A fault of a statement that was run ahead: its line and its code.
-    Fault(usize, u8),
+    Define {
+        line: usize,
+        def: Arc<Def, Global>,
+        defaults: Vec<Val>,
+    },
+    /// A fault of a statement that was run ahead, or of a step that was made ahead.
+    Fault {
+        line: usize,
+        code: u8,
+    },
 }
 
 /// What a statement has done that was run at once.
@@ -235,7 +438,7 @@ pub enum Once {
     /// A part of it is left.
     Begun(Control),
     /// It has stopped at a fault: the line, and the code.
-    Faulty(usize, u8),
+    Faulty { line: usize, code: u8 },
     /// Nothing was done.
     Not,
 }
@@ -248,7 +451,7 @@ pub enum Ahead {
     /// To the one at a place.
     At(usize),
     /// Into one of which a part is left. Behind it the one at the place is next.
-    Above(usize, Control),
+    Above { next: usize, control: Control },
     /// To a fault: the line, and the code.
-    Faulty(usize, u8),
+    Faulty { line: usize, code: u8 },
 }

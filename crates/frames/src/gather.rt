@@ -35,13 +35,21 @@ fn begin_item(
     item: &Item,
     got: Box<Gathered>,
 ) -> Result<Control, Halt>
-    ensures goes { (env : Env) (n : ℕ) (running : List (List ℕ × List ℕ)) → let here = here_of at.now at.now.line running in Goes (on env n here line).site (above env n here (gathered (item_does env n here item.now line (gathered_of got.value))) frames.old.items (world_of state.old)) result (λ control. machine_does env n here control frames.new.items (world_of state.new)) }
+    ensures goes { (env : Env) (n : ℕ) (running : List (List ℕ × List ℕ))
+        → let here = here_of at.now at.now.line running in Goes (on env n here line).site
+        (above env n here (gathered (item_does env n here item.now line (gathered_of got.value)))
+        frames.old.items (world_of state.old)) result
+        (λ control. machine_does env n here control frames.new.items (world_of state.new)) }
     ensures steps { IfOk result (λ _. state.new.heap.steps < state.old.heap.steps) }
 {
     match item {
-        Item::Member(e) => begin_above(state, frames, at, Frame::OneMore(line, got), line, e),
+        Item::Member(e) => begin_above(state, frames, at, Frame::OneMore { line, got }, line, e),
         Item::Entry(k, e) => {
-            let frame = Frame::OneKey(line, Arc::try_clone(e)?, got);
+            let frame = Frame::OneKey {
+                line,
+                value: Arc::try_clone(e)?,
+                got,
+            };
             begin_above(state, frames, at, frame, line, k)
         }
     }
@@ -57,7 +65,11 @@ pub fn next_clause(
     inner: usize,
     got: Box<Gathered>,
 ) -> Result<Control, Halt>
-    ensures goes { (env : Env) (n : ℕ) (running : List (List ℕ × List ℕ)) → let here = here_of at.now at.now.line running in Goes (on env n here line).site (machine_does env n here (c.Clauses line of inner got) frames.old.items (world_of state.old)) result (λ control. machine_does env n here control frames.new.items (world_of state.new)) }
+    ensures goes { (env : Env) (n : ℕ) (running : List (List ℕ × List ℕ))
+        → let here = here_of at.now at.now.line running in Goes (on env n here line).site
+        (machine_does env n here (c.Clauses line of inner got) frames.old.items
+        (world_of state.old)) result (λ control. machine_does env n here control frames.new.items
+        (world_of state.new)) }
     ensures steps { IfOk result (λ _. state.new.heap.steps < state.old.heap.steps) }
 {
     if inner >= of.clauses.len() {
@@ -67,11 +79,22 @@ pub fn next_clause(
     match &of.clauses[inner] {
         Clause::For(target, e) => {
             let target = Arc::try_clone(target)?;
-            let frame = Frame::Each(line, target, again, inner + 1, got);
+            let frame = Frame::Each {
+                line,
+                target,
+                of: again,
+                inner: inner + 1,
+                got,
+            };
             begin_above(state, frames, at, frame, line, e)
         }
         Clause::If(e) => {
-            let frame = Frame::Only(line, again, inner + 1, got);
+            let frame = Frame::Only {
+                line,
+                of: again,
+                inner: inner + 1,
+                got,
+            };
             begin_above(state, frames, at, frame, line, e)
         }
     }
@@ -85,8 +108,14 @@ pub fn next_gather(
     turns: Box<Gathering>,
     got: Box<Gathered>,
 ) -> Result<Control, Halt>
-    ensures goes { (env : Env) (n : ℕ) (running : List (List ℕ × List ℕ)) → let here = here_of at.now at.now.line running in Goes (on env n here turns.value.line).site (machine_does env n here (c.Gather turns got) frames.old.items (world_of state.old)) result (λ control. machine_does env n here control frames.new.items (world_of state.new)) }
-    ensures lighter { IfOk result (λ control. Lighter state.old.heap.steps (frames_weight frames.old.items + 1) state.new.heap.steps (frames_weight frames.new.items + control_weight control)) }
+    ensures goes { (env : Env) (n : ℕ) (running : List (List ℕ × List ℕ))
+        → let here = here_of at.now at.now.line running in
+        Goes (on env n here turns.value.line).site
+        (machine_does env n here (c.Gather turns got) frames.old.items (world_of state.old)) result
+        (λ control. machine_does env n here control frames.new.items (world_of state.new)) }
+    ensures lighter { IfOk result
+        (λ control. Lighter state.old.heap.steps (frames_weight frames.old.items + 1)
+        state.new.heap.steps (frames_weight frames.new.items + control_weight control)) }
 {
     let now = &*turns;
     if now.next >= now.items.len() {
@@ -115,7 +144,12 @@ fn aim_gathering(
     got: Box<Gathered>,
 ) -> Result<Control, Halt>
     requires { line ≡ turns.value.line }
-    ensures goes { (env : Env) (n : ℕ) (running : List (List ℕ × List ℕ)) → let here = here_of at.now at.now.line running in Goes (on env n here line).site (then_runs (aims_at env n here (tree_of target.now) line (world_of state.old)) (λ a. above env n here (frame_does env n here (f.Aimed turns x got) (an_aim a)) frames.old.items)) result (λ control. machine_does env n here control frames.new.items (world_of state.new)) }
+    ensures goes { (env : Env) (n : ℕ) (running : List (List ℕ × List ℕ))
+        → let here = here_of at.now at.now.line running in Goes (on env n here line).site
+        (then_runs (aims_at env n here (tree_of target.now) line (world_of state.old))
+        (λ a. above env n here (frame_does env n here (f.Aimed turns x got) (an_aim a))
+        frames.old.items)) result (λ control. machine_does env n here control frames.new.items
+        (world_of state.new)) }
     ensures steps { IfOk result (λ _. state.new.heap.steps ≤ state.old.heap.steps) }
 {
     match target {
@@ -138,7 +172,12 @@ fn gather_named(
     x: Val,
     got: Box<Gathered>,
 ) -> Result<Control, Halt>
-    ensures goes { (env : Env) (n : ℕ) (running : List (List ℕ × List ℕ)) → let here = here_of at.now at.now.line running in Goes (on env n here turns.value.line).site (above env n here (frame_does env n here (f.Aimed turns x got) (an_aim (to_name name.now))) frames.old.items (world_of state.old)) result (λ control. machine_does env n here control frames.new.items (world_of state.new)) }
+    ensures goes { (env : Env) (n : ℕ) (running : List (List ℕ × List ℕ))
+        → let here = here_of at.now at.now.line running in
+        Goes (on env n here turns.value.line).site
+        (above env n here (frame_does env n here (f.Aimed turns x got) (an_aim (to_name name.now)))
+        frames.old.items (world_of state.old)) result
+        (λ control. machine_does env n here control frames.new.items (world_of state.new)) }
     ensures steps { state.new.heap ≡ state.old.heap }
 {
     if let Err(halt) = bind(state, at, name, last, x) {
@@ -148,5 +187,10 @@ fn gather_named(
     let line = turns.line;
     let inner = turns.inner;
     push(frames, Frame::Gather(turns))?;
-    Ok(Control::Clauses(line, of, inner, got))
+    Ok(Control::Clauses {
+        line,
+        of,
+        inner,
+        got,
+    })
 }

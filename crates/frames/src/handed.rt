@@ -29,26 +29,41 @@ pub fn entry_done(
     k: Val,
     x: Val,
 ) -> Result<Control, Halt>
-    ensures goes { (env : Env) (n : ℕ) (here : Here) (frames : List Frame) → Goes (on env n here line).site (above env n here (frame_does env n here (f.Entry line pairs next k) (a_value x)) frames (world_of state.old)) result (λ control. machine_does env n here control frames (world_of state.new)) }
-    ensures light { IfOk result (λ control. (state.new.heap.steps ≤ state.old.heap.steps) × (control_weight control ≡ 3)) }
+    ensures goes { (env : Env) (n : ℕ) (here : Here) (frames : List Frame)
+        → Goes (on env n here line).site
+        (above env n here (frame_does env n here (f.Entry line pairs next k) (a_value x)) frames
+        (world_of state.old)) result (λ control. machine_does env n here control frames
+        (world_of state.new)) }
+    ensures light { IfOk result (λ control. (state.new.heap.steps ≤ state.old.heap.steps)
+        × (control_weight control ≡ 3)) }
 {
     let mut pairs = pairs;
     fresh(&mut state.heap, &mut pairs.done, k, x)?;
-    Ok(Control::Entries(line, pairs, next))
+    Ok(Control::Entries { line, pairs, next })
 }
 
 /// An index.
 pub fn index_done(state: &mut State, line: usize, v: Val, x: Val) -> Result<Control, Halt>
-    ensures goes { (env : Env) (n : ℕ) (here : Here) (frames : List Frame) → Goes (on env n here line).site (above env n here (frame_does env n here (f.Index line v) (a_value x)) frames (world_of state.old)) result (λ control. machine_does env n here control frames (world_of state.new)) }
-    ensures light { IfOk result (λ control. (state.new.heap.steps ≤ state.old.heap.steps) × (control_weight control ≡ 0)) }
+    ensures goes { (env : Env) (n : ℕ) (here : Here) (frames : List Frame)
+        → Goes (on env n here line).site
+        (above env n here (frame_does env n here (f.Index line v) (a_value x)) frames
+        (world_of state.old)) result (λ control. machine_does env n here control frames
+        (world_of state.new)) }
+    ensures light { IfOk result (λ control. (state.new.heap.steps ≤ state.old.heap.steps)
+        × (control_weight control ≡ 0)) }
 {
     Ok(Control::Signal(Signal::Value(index(&mut state.heap, v, x)?)))
 }
 
 /// The upper bound of a slice.
 pub fn slice_done(state: &mut State, line: usize, v: Val, y: Val, x: Val) -> Result<Control, Halt>
-    ensures goes { (env : Env) (n : ℕ) (here : Here) (frames : List Frame) → Goes (on env n here line).site (above env n here (frame_does env n here (f.To line v y) (a_value x)) frames (world_of state.old)) result (λ control. machine_does env n here control frames (world_of state.new)) }
-    ensures light { IfOk result (λ control. (state.new.heap.steps ≤ state.old.heap.steps) × (control_weight control ≡ 0)) }
+    ensures goes { (env : Env) (n : ℕ) (here : Here) (frames : List Frame)
+        → Goes (on env n here line).site
+        (above env n here (frame_does env n here (f.To line v y) (a_value x)) frames
+        (world_of state.old)) result (λ control. machine_does env n here control frames
+        (world_of state.new)) }
+    ensures light { IfOk result (λ control. (state.new.heap.steps ≤ state.old.heap.steps)
+        × (control_weight control ≡ 0)) }
 {
     Ok(Control::Signal(Signal::Value(slice(&mut state.heap, v, y, x)?)))
 }
@@ -62,14 +77,22 @@ pub fn branch_known(
     other: Arc<Vec<Stmt>, Global>,
     x: Val,
 ) -> Result<Control, Halt>
-    ensures goes { (env : Env) (n : ℕ) (here : Here) (line : ℕ) (frames : List Frame) → Goes (on env n here line).site (above env n here (frame_does env n here (f.Branch ss bs next other) (a_value x)) frames (world_of state.now)) result (λ control. machine_does env n here control frames (world_of state.now)) }
+    ensures goes { (env : Env) (n : ℕ) (here : Here) (line : ℕ) (frames : List Frame)
+        → Goes (on env n here line).site
+        (above env n here (frame_does env n here (f.Branch ss bs next other) (a_value x)) frames
+        (world_of state.now)) result (λ control. machine_does env n here control frames
+        (world_of state.now)) }
     ensures light { IfOk result (λ control. control_weight control ≤ 2) }
 {
     let holds = is_true(&state.heap, x)?;
     if holds {
-        Ok(Control::Suite(ss, 0))
+        Ok(Control::Suite { suite: ss, next: 0 })
     } else {
-        Ok(Control::Branches(bs, next, other))
+        Ok(Control::Branches {
+            branches: bs,
+            next,
+            other,
+        })
     }
 }
 
@@ -82,12 +105,21 @@ pub fn clause_known(
     got: Box<Gathered>,
     x: Val,
 ) -> Result<Control, Halt>
-    ensures goes { (env : Env) (n : ℕ) (here : Here) (frames : List Frame) → Goes (on env n here line).site (above env n here (frame_does env n here (f.Only line of inner got) (a_value x)) frames (world_of state.now)) result (λ control. machine_does env n here control frames (world_of state.now)) }
+    ensures goes { (env : Env) (n : ℕ) (here : Here) (frames : List Frame)
+        → Goes (on env n here line).site
+        (above env n here (frame_does env n here (f.Only line of inner got) (a_value x)) frames
+        (world_of state.now)) result (λ control. machine_does env n here control frames
+        (world_of state.now)) }
     ensures light { IfOk result (λ control. control_weight control ≤ 1) }
 {
     let holds = is_true(&state.heap, x)?;
     if holds {
-        Ok(Control::Clauses(line, of, inner, got))
+        Ok(Control::Clauses {
+            line,
+            of,
+            inner,
+            got,
+        })
     } else {
         Ok(Control::Signal(Signal::Gathered(got)))
     }
@@ -95,7 +127,10 @@ pub fn clause_known(
 
 /// A member of a comprehension.
 pub fn member_gathered(line: usize, got: Box<Gathered>, x: Val) -> Result<Control, Halt>
-    ensures goes { (env : Env) (n : ℕ) (here : Here) (frames : List Frame) (w : World) → Goes (on env n here line).site (above env n here (frame_does env n here (f.OneMore line got) (a_value x)) frames w) result (λ control. machine_does env n here control frames w) }
+    ensures goes { (env : Env) (n : ℕ) (here : Here) (frames : List Frame) (w : World)
+        → Goes (on env n here line).site
+        (above env n here (frame_does env n here (f.OneMore line got) (a_value x)) frames w) result
+        (λ control. machine_does env n here control frames w) }
     ensures light { IfOk result (λ control. control_weight control ≡ 0) }
 {
     let mut got = got;
@@ -113,8 +148,13 @@ pub fn entry_gathered(
     got: Box<Gathered>,
     x: Val,
 ) -> Result<Control, Halt>
-    ensures goes { (env : Env) (n : ℕ) (here : Here) (frames : List Frame) → Goes (on env n here line).site (above env n here (frame_does env n here (f.OneEntry line k got) (a_value x)) frames (world_of state.old)) result (λ control. machine_does env n here control frames (world_of state.new)) }
-    ensures light { IfOk result (λ control. (state.new.heap.steps ≤ state.old.heap.steps) × (control_weight control ≡ 0)) }
+    ensures goes { (env : Env) (n : ℕ) (here : Here) (frames : List Frame)
+        → Goes (on env n here line).site
+        (above env n here (frame_does env n here (f.OneEntry line k got) (a_value x)) frames
+        (world_of state.old)) result (λ control. machine_does env n here control frames
+        (world_of state.new)) }
+    ensures light { IfOk result (λ control. (state.new.heap.steps ≤ state.old.heap.steps)
+        × (control_weight control ≡ 0)) }
 {
     let mut got = got;
     one_entry(&mut state.heap, &mut got, k, x)?;
@@ -129,13 +169,21 @@ pub fn default_done(
     done: Vec<Val>,
     x: Val,
 ) -> Result<Control, Halt>
-    ensures ok { IfOk result (λ control. (env : Env) (n : ℕ) (here : Here) (frames : List Frame) (w : World) → above env n here (frame_does env n here (f.Default line def next done) (a_value x)) frames w ≡ machine_does env n here control frames w) }
+    ensures ok { IfOk result (λ control. (env : Env) (n : ℕ) (here : Here) (frames : List Frame)
+        (w : World) → above env n here (frame_does env n here (f.Default line def next done)
+        (a_value x)) frames w ≡ machine_does env n here control frames w) }
     ensures err { IsOkUnless result Memory }
-    ensures light { IfOk result (λ control. control_weight control ≡ length (params_at next def) + 7) }
+    ensures light { IfOk result (λ control. control_weight control ≡ length (params_at next def)
+        + 7) }
 {
     let mut done = done;
     done.push(x)?;
-    Ok(Control::Defaults(line, def, next, done))
+    Ok(Control::Defaults {
+        line,
+        def,
+        next,
+        done,
+    })
 }
 
 /// Adds what one of several targets aims at.
@@ -145,13 +193,21 @@ pub(crate) fn aim_done(
     done: Vec<Aim>,
     aim: Aim,
 ) -> Result<Control, Halt>
-    ensures ok { IfOk result (λ control. (env : Env) (n : ℕ) (here : Here) (frames : List Frame) (w : World) → above env n here (frame_does env n here (f.Aims line es done) (an_aim (aim_of aim))) frames w ≡ machine_does env n here control frames w) }
+    ensures ok { IfOk result (λ control. (env : Env) (n : ℕ) (here : Here) (frames : List Frame)
+        (w : World) → above env n here
+        (frame_does env n here (f.Aims line es done) (an_aim (aim_of aim))) frames w
+        ≡ machine_does env n here control frames w) }
     ensures err { IsOkUnless result Memory }
-    ensures light { IfOk result (λ control. control_weight control + 1 ≡ frame_weight (f.Aims line es done)) }
+    ensures light { IfOk result (λ control. control_weight control + 1 ≡ frame_weight
+        (f.Aims line es done)) }
 {
     let mut done = done;
     done.push(aim)?;
-    Ok(Control::Aims(line, es, done))
+    Ok(Control::Aims {
+        line,
+        targets: es,
+        done,
+    })
 }
 
 /// Stores a value in a target.
@@ -162,8 +218,13 @@ pub(crate) fn store_value(
     x: Val,
     aim: Aim,
 ) -> Result<Control, Halt>
-    ensures goes { (env : Env) (n : ℕ) (running : List (List ℕ × List ℕ)) (frames : List Frame) → let here = here_of at.now at.now.line running in Goes (on env n here line).site (above env n here (frame_does env n here (f.Store line x) (an_aim (aim_of aim))) frames (world_of state.old)) result (λ control. machine_does env n here control frames (world_of state.new)) }
-    ensures light { IfOk result (λ control. (state.new.heap.steps ≤ state.old.heap.steps) × (control_weight control ≡ 0)) }
+    ensures goes { (env : Env) (n : ℕ) (running : List (List ℕ × List ℕ)) (frames : List Frame)
+        → let here = here_of at.now at.now.line running in Goes (on env n here line).site
+        (above env n here (frame_does env n here (f.Store line x) (an_aim (aim_of aim))) frames
+        (world_of state.old)) result (λ control. machine_does env n here control frames
+        (world_of state.new)) }
+    ensures light { IfOk result (λ control. (state.new.heap.steps ≤ state.old.heap.steps)
+        × (control_weight control ≡ 0)) }
 {
     if let Err(halt) = store(state, at, &aim, x) {
         return Err(halt);
@@ -181,15 +242,33 @@ pub(crate) fn augment(
     e: Arc<Expr, Global>,
     aim: Aim,
 ) -> Result<Control, Halt>
-    ensures goes { (env : Env) (n : ℕ) (running : List (List ℕ × List ℕ)) → let here = here_of at.now at.now.line running in Goes (on env n here line).site (above env n here (frame_does env n here (f.Augment line op e) (an_aim (aim_of aim))) frames.old.items (world_of state.old)) result (λ control. machine_does env n here control frames.new.items (world_of state.new)) }
-    ensures lighter { IfOk result (λ control. Lighter state.old.heap.steps (frames_weight frames.old.items + 2) state.new.heap.steps (frames_weight frames.new.items + control_weight control)) }
+    ensures goes { (env : Env) (n : ℕ) (running : List (List ℕ × List ℕ))
+        → let here = here_of at.now at.now.line running in Goes (on env n here line).site
+        (above env n here (frame_does env n here (f.Augment line op e) (an_aim (aim_of aim)))
+        frames.old.items (world_of state.old)) result
+        (λ control. machine_does env n here control frames.new.items (world_of state.new)) }
+    ensures lighter { IfOk result
+        (λ control. Lighter state.old.heap.steps (frames_weight frames.old.items + 2)
+        state.new.heap.steps (frames_weight frames.new.items + control_weight control)) }
 {
     let x = match present(state, at, &aim) {
         Ok(x) => x,
         Err(halt) => return Err(halt),
     };
     let aim = Box::new(state.heap.alloc, aim)?;
-    begin_above(state, frames, at, Frame::Change(line, op, aim, x), line, &e)
+    begin_above(
+        state,
+        frames,
+        at,
+        Frame::Change {
+            line,
+            op,
+            aim,
+            old: x,
+        },
+        line,
+        &e,
+    )
 }
 
 /// Stores the value of a turn in its target, and begins the body.
@@ -201,15 +280,25 @@ pub(crate) fn begin_body(
     x: Val,
     aim: Aim,
 ) -> Result<Control, Halt>
-    ensures goes { (env : Env) (n : ℕ) (running : List (List ℕ × List ℕ)) → let here = here_of at.now at.now.line running in Goes (on env n here turns.value.line).site (above env n here (frame_does env n here (f.Turn turns x) (an_aim (aim_of aim))) frames.old.items (world_of state.old)) result (λ control. machine_does env n here control frames.new.items (world_of state.new)) }
-    ensures lighter { IfOk result (λ control. Lighter state.old.heap.steps (frames_weight frames.old.items + 8) state.new.heap.steps (frames_weight frames.new.items + control_weight control)) }
+    ensures goes { (env : Env) (n : ℕ) (running : List (List ℕ × List ℕ))
+        → let here = here_of at.now at.now.line running in
+        Goes (on env n here turns.value.line).site
+        (above env n here (frame_does env n here (f.Turn turns x) (an_aim (aim_of aim)))
+        frames.old.items (world_of state.old)) result
+        (λ control. machine_does env n here control frames.new.items (world_of state.new)) }
+    ensures lighter { IfOk result
+        (λ control. Lighter state.old.heap.steps (frames_weight frames.old.items + 8)
+        state.new.heap.steps (frames_weight frames.new.items + control_weight control)) }
 {
     if let Err(halt) = store(state, at, &aim, x) {
         return Err(halt);
     }
     let body = Arc::try_clone(&turns.body)?;
     push(frames, Frame::Turns(turns))?;
-    Ok(Control::Suite(body, 0))
+    Ok(Control::Suite {
+        suite: body,
+        next: 0,
+    })
 }
 
 /// Stores the value of a turn of a clause in its target, and begins the clause behind it.
@@ -222,8 +311,15 @@ pub(crate) fn begin_clause(
     got: Box<Gathered>,
     aim: Aim,
 ) -> Result<Control, Halt>
-    ensures goes { (env : Env) (n : ℕ) (running : List (List ℕ × List ℕ)) → let here = here_of at.now at.now.line running in Goes (on env n here turns.value.line).site (above env n here (frame_does env n here (f.Aimed turns x got) (an_aim (aim_of aim))) frames.old.items (world_of state.old)) result (λ control. machine_does env n here control frames.new.items (world_of state.new)) }
-    ensures lighter { IfOk result (λ control. Lighter state.old.heap.steps (frames_weight frames.old.items + 8) state.new.heap.steps (frames_weight frames.new.items + control_weight control)) }
+    ensures goes { (env : Env) (n : ℕ) (running : List (List ℕ × List ℕ))
+        → let here = here_of at.now at.now.line running in
+        Goes (on env n here turns.value.line).site
+        (above env n here (frame_does env n here (f.Aimed turns x got) (an_aim (aim_of aim)))
+        frames.old.items (world_of state.old)) result
+        (λ control. machine_does env n here control frames.new.items (world_of state.new)) }
+    ensures lighter { IfOk result
+        (λ control. Lighter state.old.heap.steps (frames_weight frames.old.items + 8)
+        state.new.heap.steps (frames_weight frames.new.items + control_weight control)) }
 {
     if let Err(halt) = store(state, at, &aim, x) {
         return Err(halt);
@@ -232,5 +328,10 @@ pub(crate) fn begin_clause(
     let line = turns.line;
     let inner = turns.inner;
     push(frames, Frame::Gather(turns))?;
-    Ok(Control::Clauses(line, of, inner, got))
+    Ok(Control::Clauses {
+        line,
+        of,
+        inner,
+        got,
+    })
 }

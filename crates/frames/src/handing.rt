@@ -11,7 +11,7 @@ ghost use Rattle.frames.specs.declared.frame.Frame.{Frame};
 ghost use Rattle.frames.specs.Weight.{Lighter, frames_weight, frame_weight, control_weight, aim_size};
 
 use crate::deliver::{deliver_aim, deliver_exit, deliver_gathered};
-use crate::frame::{Control, Exit, Frame, Purpose, Receiver, Signal};
+use crate::frame::{Control, Exit, Frame, NOT_AWAITED, Purpose, Receiver, Signal};
 use crate::handed::{
     branch_known, clause_known, default_done, entry_done, entry_gathered, index_done,
     member_gathered, slice_done,
@@ -40,8 +40,13 @@ fn assign_name(
     last: &AtomicUsize,
     x: Val,
 ) -> Result<Control, Halt>
-    ensures goes { (env : Env) (n : ℕ) (running : List (List ℕ × List ℕ)) (frames : List Frame) → let here = here_of at.now at.now.line running in Goes (on env n here line).site (above env n here (assigned env n here (t.name name.now) x line) frames (world_of state.old)) result (λ control. machine_does env n here control frames (world_of state.new)) }
-    ensures light { IfOk result (λ control. (state.new.heap ≡ state.old.heap) × (control_weight control ≡ 0)) }
+    ensures goes { (env : Env) (n : ℕ) (running : List (List ℕ × List ℕ)) (frames : List Frame)
+        → let here = here_of at.now at.now.line running in Goes (on env n here line).site
+        (above env n here (assigned env n here (t.name name.now) x line) frames
+        (world_of state.old)) result (λ control. machine_does env n here control frames
+        (world_of state.new)) }
+    ensures light { IfOk result (λ control. (state.new.heap ≡ state.old.heap)
+        × (control_weight control ≡ 0)) }
 {
     if let Err(halt) = bind(state, at, name, last, x) {
         return Err(halt);
@@ -58,13 +63,20 @@ fn assign(
     target: &Arc<Expr, Global>,
     x: Val,
 ) -> Result<Control, Halt>
-    ensures goes { (env : Env) (n : ℕ) (running : List (List ℕ × List ℕ)) → let here = here_of at.now at.now.line running in Goes (on env n here line).site (above env n here (assigned env n here (shared_tree target.now) x line) frames.old.items (world_of state.old)) result (λ control. machine_does env n here control frames.new.items (world_of state.new)) }
-    ensures lighter { IfOk result (λ control. Lighter state.old.heap.steps (frames_weight frames.old.items + (aim_size (shared_tree target.now) + 4)) state.new.heap.steps (frames_weight frames.new.items + control_weight control)) }
+    ensures goes { (env : Env) (n : ℕ) (running : List (List ℕ × List ℕ))
+        → let here = here_of at.now at.now.line running in Goes (on env n here line).site
+        (above env n here (assigned env n here (shared_tree target.now) x line) frames.old.items
+        (world_of state.old)) result (λ control. machine_does env n here control frames.new.items
+        (world_of state.new)) }
+    ensures lighter { IfOk result
+        (λ control. Lighter state.old.heap.steps
+        (frames_weight frames.old.items + (aim_size (shared_tree target.now) + 4))
+        state.new.heap.steps (frames_weight frames.new.items + control_weight control)) }
 {
     match &**target {
         Expr::Name(name, last) => assign_name(state, at, line, name, last, x),
         _ => {
-            push(frames, Frame::Store(line, x))?;
+            push(frames, Frame::Store { line, value: x })?;
             begin_aim(state, frames, at, line, target)
         }
     }
@@ -81,11 +93,22 @@ fn change(
     x: Val,
     y: Val,
 ) -> Result<Control, Halt>
-    ensures goes { (env : Env) (n : ℕ) (running : List (List ℕ × List ℕ)) → let here = here_of at.now at.now.line running in Goes (on env n here line).site (above env n here (changes env n here op (aim_of aim.value) x y line) frames.now.items (world_of state.old)) result (λ control. machine_does env n here control frames.now.items (world_of state.new)) }
-    ensures lighter { IfOk result (λ control. Lighter state.old.heap.steps (frames_weight frames.now.items + 6) state.new.heap.steps (frames_weight frames.now.items + control_weight control)) }
+    ensures goes { (env : Env) (n : ℕ) (running : List (List ℕ × List ℕ))
+        → let here = here_of at.now at.now.line running in Goes (on env n here line).site
+        (above env n here (changes env n here op (aim_of aim.value) x y line) frames.now.items
+        (world_of state.old)) result (λ control. machine_does env n here control frames.now.items
+        (world_of state.new)) }
+    ensures lighter { IfOk result
+        (λ control. Lighter state.old.heap.steps (frames_weight frames.now.items + 6)
+        state.new.heap.steps (frames_weight frames.now.items + control_weight control)) }
 {
     match op {
-        BinaryOp::Add => Ok(Control::Add(line, aim, x, y)),
+        BinaryOp::Add => Ok(Control::Add {
+            line,
+            aim,
+            old: x,
+            right: y,
+        }),
         op => {
             let z = both(&mut state.heap, op, x, y)?;
             if let Err(halt) = store(state, at, &aim, z) {
@@ -104,63 +127,153 @@ pub fn deliver_value(
     frame: Frame,
     x: Val,
 ) -> Result<Control, Halt>
-    ensures goes { (env : Env) (n : ℕ) (running : List (List ℕ × List ℕ)) → let here = here_of at.now at.now.line running in Goes (on env n here (frame_line at.now.line frame)).site (above env n here (frame_does env n here frame (a_value x)) frames.old.items (world_of state.old)) result (λ control. machine_does env n here control frames.new.items (world_of state.new)) }
-    ensures lighter { IfOk result (λ control. Lighter state.old.heap.steps (frames_weight frames.old.items + frame_weight frame) state.new.heap.steps (frames_weight frames.new.items + control_weight control)) }
+    ensures goes { (env : Env) (n : ℕ) (running : List (List ℕ × List ℕ))
+        → let here = here_of at.now at.now.line running in
+        Goes (on env n here (frame_line at.now.line frame)).site
+        (above env n here (frame_does env n here frame (a_value x)) frames.old.items
+        (world_of state.old)) result (λ control. machine_does env n here control frames.new.items
+        (world_of state.new)) }
+    ensures lighter { IfOk result
+        (λ control. Lighter state.old.heap.steps
+        (frames_weight frames.old.items + frame_weight frame) state.new.heap.steps
+        (frames_weight frames.new.items + control_weight control)) }
 {
     match frame {
-        Frame::Items(line, series) => item_done(line, series, x),
-        Frame::Key(line, pairs, next) => entry_value(state, frames, at, line, pairs, next, x),
-        Frame::Entry(line, pairs, next, k) => entry_done(state, line, pairs, next, k, x),
-        Frame::Unary(_, op) => unary_done(state, op, x),
-        Frame::Right(line, op, b) => right_operand(state, frames, at, line, op, x, &b),
-        Frame::Both(_, op, v) => both_done(state, op, v, x),
-        Frame::Choice(line, a, b) => choose(state, frames, at, line, x, &a, &b),
-        Frame::Indexed(line, i) => begin_above(state, frames, at, Frame::Index(line, x), line, &i),
-        Frame::Index(line, v) => index_done(state, line, v, x),
-        Frame::Sliced(line, i, j) => slice_from(state, frames, at, line, x, &i, j),
-        Frame::From(line, v, j) => slice_to(state, frames, at, line, v, x, &j),
-        Frame::To(line, v, y) => slice_done(state, line, v, y, x),
-        Frame::Called(line, es, names) => {
-            begin_arguments(state, at, line, &es, Purpose::Call(x, names))
-        }
-        Frame::On(line, name, es, names) => {
+        Frame::Items { line, series } => item_done(line, series, x),
+        Frame::Key { line, pairs, next } => entry_value(state, frames, at, line, pairs, next, x),
+        Frame::Entry {
+            line,
+            pairs,
+            next,
+            key: k,
+        } => entry_done(state, line, pairs, next, k, x),
+        Frame::Unary { op, .. } => unary_done(state, op, x),
+        Frame::Right { line, op, right: b } => right_operand(state, frames, at, line, op, x, &b),
+        Frame::Both { op, left: v, .. } => both_done(state, op, v, x),
+        Frame::Choice {
+            line,
+            chosen: a,
+            other: b,
+        } => choose(state, frames, at, line, x, &a, &b),
+        Frame::Indexed { line, index: i } => begin_above(
+            state,
+            frames,
+            at,
+            Frame::Index { line, container: x },
+            line,
+            &i,
+        ),
+        Frame::Index { line, container: v } => index_done(state, line, v, x),
+        Frame::Sliced {
+            line,
+            from: i,
+            to: j,
+        } => slice_from(state, frames, at, line, x, &i, j),
+        Frame::From {
+            line,
+            container: v,
+            to: j,
+        } => slice_to(state, frames, at, line, v, x, &j),
+        Frame::To {
+            line,
+            container: v,
+            from: y,
+        } => slice_done(state, line, v, y, x),
+        Frame::Called {
+            line,
+            arguments: es,
+            names,
+        } => { begin_arguments(state, at, line, &es, Purpose::Call(x, names)) }
+        Frame::On {
+            line,
+            name,
+            arguments: es,
+            names,
+        } => {
             let purpose = Purpose::Method(Receiver::Of(x), name, names);
             begin_arguments(state, at, line, &es, purpose)
         }
-        Frame::Container(line, i) => {
-            begin_above(state, frames, at, Frame::Member(line, x), line, &i)
+        Frame::Container { line, index: i } => {
+            begin_above(
+                state,
+                frames,
+                at,
+                Frame::Member { line, container: x },
+                line,
+                &i,
+            )
         }
-        Frame::Member(_, v) => Ok(Control::Signal(Signal::Aim(Aim::Member(v, x)))),
+        Frame::Member { container: v, .. } => Ok(Control::Signal(Signal::Aim(Aim::Member(v, x)))),
         Frame::Discard => Ok(Control::Signal(Signal::Exit(Exit::GoesOn))),
-        Frame::Assign(line, target) => assign(state, frames, at, line, &target, x),
-        Frame::Change(line, op, aim, v) => change(state, at, frames, line, op, aim, v, x),
+        Frame::Assign { line, target } => assign(state, frames, at, line, &target, x),
+        Frame::Change {
+            line,
+            op,
+            aim,
+            old: v,
+        } => change(state, at, frames, line, op, aim, v, x),
         Frame::Return => Ok(Control::Signal(Signal::Exit(Exit::Returns(x)))),
-        Frame::Branch(ss, bs, next, other) => branch_known(state, ss, bs, next, other, x),
-        Frame::For(line, target, body) => { turns_over(state, line, target, body, x) }
-        Frame::First(line, target, of) => Ok(Control::First(line, target, of, x)),
-        Frame::Each(line, target, of, inner, got) => {
-            clause_over(state, line, target, of, inner, got, x)
+        Frame::Branch {
+            body: ss,
+            branches: bs,
+            next,
+            other,
+        } => branch_known(state, ss, bs, next, other, x),
+        Frame::For { line, target, body } => { turns_over(state, line, target, body, x) }
+        Frame::First { line, target, of } => Ok(Control::First {
+            line,
+            target,
+            of,
+            value: x,
+        }),
+        Frame::Each {
+            line,
+            target,
+            of,
+            inner,
+            got,
+        } => { clause_over(state, line, target, of, inner, got, x) }
+        Frame::Only {
+            line,
+            of,
+            inner,
+            got,
+        } => clause_known(state, line, of, inner, got, x),
+        Frame::OneMore { line, got } => member_gathered(line, got, x),
+        Frame::OneKey {
+            line,
+            value: e,
+            got,
+        } => {
+            begin_above(
+                state,
+                frames,
+                at,
+                Frame::OneEntry { line, key: x, got },
+                line,
+                &e,
+            )
         }
-        Frame::Only(line, of, inner, got) => clause_known(state, line, of, inner, got, x),
-        Frame::OneMore(line, got) => member_gathered(line, got, x),
-        Frame::OneKey(line, e, got) => {
-            begin_above(state, frames, at, Frame::OneEntry(line, x, got), line, &e)
-        }
-        Frame::OneEntry(line, k, got) => entry_gathered(state, line, k, got, x),
-        Frame::Default(line, def, next, done) => default_done(line, def, next, done, x),
-        Frame::Aims(_, _, _) => Err(Halt::Code(0)),
-        Frame::Store(_, _) => Err(Halt::Code(0)),
-        Frame::Augment(_, _, _) => Err(Halt::Code(0)),
-        Frame::Turn(_, _) => Err(Halt::Code(0)),
-        Frame::Turns(_) => Err(Halt::Code(0)),
-        Frame::Rest(_, _) => Err(Halt::Code(0)),
-        Frame::Leave(_) => Err(Halt::Code(0)),
-        Frame::Aimed(_, _, _) => Err(Halt::Code(0)),
-        Frame::Gather(_) => Err(Halt::Code(0)),
-        Frame::EndBlock => Err(Halt::Code(0)),
-        Frame::MakeList(_) => Err(Halt::Code(0)),
-        Frame::MakeDict(_) => Err(Halt::Code(0)),
-        Frame::Tops(_, _) => Err(Halt::Code(0)),
+        Frame::OneEntry { line, key: k, got } => entry_gathered(state, line, k, got, x),
+        Frame::Default {
+            line,
+            def,
+            next,
+            done,
+        } => default_done(line, def, next, done, x),
+        Frame::Aims { .. } => Err(Halt::Code(NOT_AWAITED)),
+        Frame::Store { .. } => Err(Halt::Code(NOT_AWAITED)),
+        Frame::Augment { .. } => Err(Halt::Code(NOT_AWAITED)),
+        Frame::Turn(_, _) => Err(Halt::Code(NOT_AWAITED)),
+        Frame::Turns(_) => Err(Halt::Code(NOT_AWAITED)),
+        Frame::Rest { .. } => Err(Halt::Code(NOT_AWAITED)),
+        Frame::Leave(_) => Err(Halt::Code(NOT_AWAITED)),
+        Frame::Aimed(_, _, _) => Err(Halt::Code(NOT_AWAITED)),
+        Frame::Gather(_) => Err(Halt::Code(NOT_AWAITED)),
+        Frame::EndBlock => Err(Halt::Code(NOT_AWAITED)),
+        Frame::MakeList(_) => Err(Halt::Code(NOT_AWAITED)),
+        Frame::MakeDict(_) => Err(Halt::Code(NOT_AWAITED)),
+        Frame::Tops { .. } => Err(Halt::Code(NOT_AWAITED)),
     }
 }
 
@@ -172,8 +285,16 @@ pub fn deliver(
     frame: Frame,
     signal: Signal,
 ) -> Result<Control, Halt>
-    ensures goes { (env : Env) (n : ℕ) (running : List (List ℕ × List ℕ)) → let here = here_of at.now at.now.line running in Goes (on env n here (frame_line at.now.line frame)).site (above env n here (frame_does env n here frame (sig_of signal)) frames.old.items (world_of state.old)) result (λ control. machine_does env n here control frames.new.items (world_of state.new)) }
-    ensures lighter { IfOk result (λ control. Lighter state.old.heap.steps (frames_weight frames.old.items + frame_weight frame) state.new.heap.steps (frames_weight frames.new.items + control_weight control)) }
+    ensures goes { (env : Env) (n : ℕ) (running : List (List ℕ × List ℕ))
+        → let here = here_of at.now at.now.line running in
+        Goes (on env n here (frame_line at.now.line frame)).site
+        (above env n here (frame_does env n here frame (sig_of signal)) frames.old.items
+        (world_of state.old)) result (λ control. machine_does env n here control frames.new.items
+        (world_of state.new)) }
+    ensures lighter { IfOk result
+        (λ control. Lighter state.old.heap.steps
+        (frames_weight frames.old.items + frame_weight frame) state.new.heap.steps
+        (frames_weight frames.new.items + control_weight control)) }
 {
     match signal {
         Signal::Value(x) => deliver_value(state, frames, at, frame, x),

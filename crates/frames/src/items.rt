@@ -32,18 +32,38 @@ use tree::Expr;
 // Calls a value: a function of a file, a built-in function or a package call; else fault 5.
 #[tactic(auto, unfolding(language::specs::Expressions::apply))]
 fn apply(line: usize, g: Val, xs: Vec<Val>, names: Arc<Vec<Text>, Global>) -> Result<Control, Halt>
-    ensures goes { (env : Env) (n : ℕ) (here : Here) (w : World) (frames : List Frame) → Goes (on env n here line).site (above env n here (valued (e.apply env (call env n) g (plain_part xs.items (arc_value names).items) (named_part xs.items (arc_value names).items) (on env n here line))) frames w) result (λ control. machine_does env n here control frames w) }
+    ensures goes { (env : Env) (n : ℕ) (here : Here) (w : World) (frames : List Frame)
+        → Goes (on env n here line).site
+        (above env n here
+        (valued (e.apply env (call env n) g (plain_part xs.items (arc_value names).items)
+        (named_part xs.items (arc_value names).items) (on env n here line))) frames w) result
+        (λ control. machine_does env n here control frames w) }
     ensures light { IfOk result (λ control. control_weight control < 8) }
 {
     match g {
         Val::Builtin(f) => {
             if f.is_package_call() {
-                Ok(Control::Package(line, f, xs, names))
+                Ok(Control::Package {
+                    line,
+                    function: f,
+                    arguments: xs,
+                    names,
+                })
             } else {
-                Ok(Control::Builtin(line, f, xs, names))
+                Ok(Control::Builtin {
+                    line,
+                    function: f,
+                    arguments: xs,
+                    names,
+                })
             }
         }
-        Val::At(place) => Ok(Control::Enter(line, place, xs, names)),
+        Val::At(place) => Ok(Control::Enter {
+            line,
+            place,
+            arguments: xs,
+            names,
+        }),
         _ => Err(Halt::Code(faults::WRONG_TYPE)),
     }
 }
@@ -57,21 +77,42 @@ fn apply_method(
     xs: Vec<Val>,
     names: Arc<Vec<Text>, Global>,
 ) -> Result<Control, Halt>
-    ensures goes { (env : Env) (n : ℕ) (here : Here) (w : World) (frames : List Frame) → Goes (on env n here line).site (above env n here (valued (e.apply_method env (receiver_of r) name (plain_part xs.items (arc_value names).items) (named_part xs.items (arc_value names).items) (on env n here line))) frames w) result (λ control. machine_does env n here control frames w) }
+    ensures goes { (env : Env) (n : ℕ) (here : Here) (w : World) (frames : List Frame)
+        → Goes (on env n here line).site
+        (above env n here
+        (valued
+        (e.apply_method env (receiver_of r) name (plain_part xs.items (arc_value names).items)
+        (named_part xs.items (arc_value names).items) (on env n here line))) frames w) result
+        (λ control. machine_does env n here control frames w) }
     ensures light { IfOk result (λ control. control_weight control < 8) }
 {
     match r {
         Receiver::Native => match package_function(&name) {
-            Some(f) => Ok(Control::Package(line, f, xs, names)),
+            Some(f) => Ok(Control::Package {
+                line,
+                function: f,
+                arguments: xs,
+                names,
+            }),
             None => Err(Halt::Code(faults::WRONG_TYPE)),
         },
-        Receiver::Of(x) => Ok(Control::Method(line, x, name, xs, names)),
+        Receiver::Of(x) => Ok(Control::Method {
+            line,
+            receiver: x,
+            name,
+            arguments: xs,
+            names,
+        }),
     }
 }
 
 // What the values of several expressions are for.
 fn use_items(state: &mut State, line: usize, xs: Vec<Val>, p: Purpose) -> Result<Control, Halt>
-    ensures goes { (env : Env) (n : ℕ) (here : Here) (frames : List Frame) → Goes (on env n here line).site (above env n here (valued (use_items env n here p xs.items line)) frames (world_of state.old)) result (λ control. machine_does env n here control frames (world_of state.new)) }
+    ensures goes { (env : Env) (n : ℕ) (here : Here) (frames : List Frame)
+        → Goes (on env n here line).site
+        (above env n here (valued (use_items env n here p xs.items line)) frames
+        (world_of state.old)) result (λ control. machine_does env n here control frames
+        (world_of state.new)) }
     ensures steps { IfOk result (λ _. state.new.heap.steps ≤ state.old.heap.steps) }
     ensures light { IfOk result (λ control. control_weight control < 8) }
 {
@@ -91,7 +132,11 @@ pub fn begin_arguments(
     es: &Arc<Vec<Expr>, Global>,
     purpose: Purpose,
 ) -> Result<Control, Halt>
-    ensures goes { (env : Env) (n : ℕ) (running : List (List ℕ × List ℕ)) (frames : List Frame) → let here = here_of at.now at.now.line running in Goes (on env n here line).site (above env n here (valued (items_from env n here purpose (shared_trees es.now) [] line)) frames (world_of state.old)) result (λ control. machine_does env n here control frames (world_of state.new)) }
+    ensures goes { (env : Env) (n : ℕ) (running : List (List ℕ × List ℕ)) (frames : List Frame)
+        → let here = here_of at.now at.now.line running in Goes (on env n here line).site
+        (above env n here (valued (items_from env n here purpose (shared_trees es.now) [] line))
+        frames (world_of state.old)) result (λ control. machine_does env n here control frames
+        (world_of state.new)) }
     ensures steps { IfOk result (λ _. state.new.heap.steps ≤ state.old.heap.steps) }
     ensures light { IfOk result (λ control. control_weight control < 9) }
 {
@@ -113,7 +158,12 @@ pub fn begin_above(
     line: usize,
     e: &Expr,
 ) -> Result<Control, Halt>
-    ensures goes { (env : Env) (n : ℕ) (running : List (List ℕ × List ℕ)) → let here = here_of at.now at.now.line running in calls_below frame n ≡ n → here_below frame here ≡ here → Goes (on env n here line).site (then_runs (ex env n here (tree_of e.now) line (world_of state.old)) (λ v. above env n here (frame_does env n here frame (a_value v)) frames.old.items)) result (λ control. machine_does env n here control frames.new.items (world_of state.new)) }
+    ensures goes { (env : Env) (n : ℕ) (running : List (List ℕ × List ℕ))
+        → let here = here_of at.now at.now.line running in calls_below frame n ≡ n
+        → here_below frame here ≡ here → Goes (on env n here line).site
+        (then_runs (ex env n here (tree_of e.now) line (world_of state.old))
+        (λ v. above env n here (frame_does env n here frame (a_value v)) frames.old.items)) result
+        (λ control. machine_does env n here control frames.new.items (world_of state.new)) }
     ensures steps { IfOk result (λ _. state.new.heap.steps < state.old.heap.steps) }
 {
     push(frames, frame)?;
@@ -129,7 +179,12 @@ pub fn parts_above(
     line: usize,
     e: &Expr,
 ) -> Result<Control, Halt>
-    ensures goes { (env : Env) (n : ℕ) (running : List (List ℕ × List ℕ)) → let here = here_of at.now at.now.line running in calls_below frame n ≡ n → here_below frame here ≡ here → Goes (on env n here line).site (then_runs (ex env n here (tree_of e.now) line (world_of state.old)) (λ v. above env n here (frame_does env n here frame (a_value v)) frames.old.items)) result (λ control. machine_does env n here control frames.new.items (world_of state.new)) }
+    ensures goes { (env : Env) (n : ℕ) (running : List (List ℕ × List ℕ))
+        → let here = here_of at.now at.now.line running in calls_below frame n ≡ n
+        → here_below frame here ≡ here → Goes (on env n here line).site
+        (then_runs (ex env n here (tree_of e.now) line (world_of state.old))
+        (λ v. above env n here (frame_does env n here frame (a_value v)) frames.old.items)) result
+        (λ control. machine_does env n here control frames.new.items (world_of state.new)) }
     ensures steps { IfOk result (λ _. state.new.heap.steps < state.old.heap.steps) }
 {
     push(frames, frame)?;
@@ -144,8 +199,13 @@ pub fn next_item(
     line: usize,
     series: Box<Series>,
 ) -> Result<Control, Halt>
-    ensures goes { (env : Env) (n : ℕ) (running : List (List ℕ × List ℕ)) → let here = here_of at.now at.now.line running in Goes (on env n here line).site (machine_does env n here (c.Items line series) frames.old.items (world_of state.old)) result (λ control. machine_does env n here control frames.new.items (world_of state.new)) }
-    ensures lighter { IfOk result (λ control. Lighter state.old.heap.steps (frames_weight frames.old.items + 8) state.new.heap.steps (frames_weight frames.new.items + control_weight control)) }
+    ensures goes { (env : Env) (n : ℕ) (running : List (List ℕ × List ℕ))
+        → let here = here_of at.now at.now.line running in Goes (on env n here line).site
+        (machine_does env n here (c.Items line series) frames.old.items (world_of state.old)) result
+        (λ control. machine_does env n here control frames.new.items (world_of state.new)) }
+    ensures lighter { IfOk result
+        (λ control. Lighter state.old.heap.steps (frames_weight frames.old.items + 8)
+        state.new.heap.steps (frames_weight frames.new.items + control_weight control)) }
 {
     let now = &*series;
     let next = now.done.len();

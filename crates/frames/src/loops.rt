@@ -35,8 +35,14 @@ pub fn next_stmt(
     ss: Arc<Vec<Stmt>, Global>,
     next: usize,
 ) -> Result<Control, Halt>
-    ensures goes { (env : Env) (n : ℕ) (running : List (List ℕ × List ℕ)) → let here = here_of at.now at.now.line running in Goes (on env n here (suite_line (suite_from next ss))).site (machine_does env n here (c.Suite ss next) frames.old.items (world_of state.old)) result (λ control. machine_does env n here control frames.new.items (world_of state.new)) }
-    ensures lighter { IfOk result (λ control. Lighter state.old.heap.steps (frames_weight frames.old.items + 1) state.new.heap.steps (frames_weight frames.new.items + control_weight control)) }
+    ensures goes { (env : Env) (n : ℕ) (running : List (List ℕ × List ℕ))
+        → let here = here_of at.now at.now.line running in
+        Goes (on env n here (suite_line (suite_from next ss))).site
+        (machine_does env n here (c.Suite ss next) frames.old.items (world_of state.old)) result
+        (λ control. machine_does env n here control frames.new.items (world_of state.new)) }
+    ensures lighter { IfOk result
+        (λ control. Lighter state.old.heap.steps (frames_weight frames.old.items + 1)
+        state.new.heap.steps (frames_weight frames.new.items + control_weight control)) }
 {
     let ahead = match ahead(state, at, &ss, next) {
         Ok(ahead) => ahead,
@@ -45,7 +51,7 @@ pub fn next_stmt(
     match ahead {
         Ahead::At(i) => {
             if i > next {
-                return Ok(Control::Suite(ss, i));
+                return Ok(Control::Suite { suite: ss, next: i });
             }
             stmt_above(state, frames, at, ss, i)
         }
@@ -62,11 +68,21 @@ fn stmt_above(
     next: usize,
 ) -> Result<Control, Halt>
     requires { next < length (arc_value ss).items }
-    ensures goes { (env : Env) (n : ℕ) (running : List (List ℕ × List ℕ)) → let here = here_of at.now at.now.line running in Goes (on env n here (suite_line (suite_from next ss))).site (machine_does env n here (c.Suite ss next) frames.old.items (world_of state.old)) result (λ control. machine_does env n here control frames.new.items (world_of state.new)) }
+    ensures goes { (env : Env) (n : ℕ) (running : List (List ℕ × List ℕ))
+        → let here = here_of at.now at.now.line running in
+        Goes (on env n here (suite_line (suite_from next ss))).site
+        (machine_does env n here (c.Suite ss next) frames.old.items (world_of state.old)) result
+        (λ control. machine_does env n here control frames.new.items (world_of state.new)) }
     ensures steps { IfOk result (λ _. state.new.heap.steps < state.old.heap.steps) }
 {
     let again = Arc::try_clone(&ss)?;
-    push(frames, Frame::Rest(again, next + 1))?;
+    push(
+        frames,
+        Frame::Rest {
+            suite: again,
+            next: next + 1,
+        },
+    )?;
     let stmt = &ss[next];
     let line = line_of(stmt);
     begin_stmt(state, frames, at, line, stmt)
@@ -82,17 +98,31 @@ pub fn next_branch(
     next: usize,
     other: Arc<Vec<Stmt>, Global>,
 ) -> Result<Control, Halt>
-    ensures goes { (env : Env) (n : ℕ) (running : List (List ℕ × List ℕ)) → let here = here_of at.now at.now.line running in Goes (on env n here (first_line (branches_from next bs))).site (machine_does env n here (c.Branches bs next other) frames.old.items (world_of state.old)) result (λ control. machine_does env n here control frames.new.items (world_of state.new)) }
-    ensures lighter { IfOk result (λ control. Lighter state.old.heap.steps (frames_weight frames.old.items + 2) state.new.heap.steps (frames_weight frames.new.items + control_weight control)) }
+    ensures goes { (env : Env) (n : ℕ) (running : List (List ℕ × List ℕ))
+        → let here = here_of at.now at.now.line running in
+        Goes (on env n here (first_line (branches_from next bs))).site
+        (machine_does env n here (c.Branches bs next other) frames.old.items (world_of state.old))
+        result (λ control. machine_does env n here control frames.new.items (world_of state.new)) }
+    ensures lighter { IfOk result
+        (λ control. Lighter state.old.heap.steps (frames_weight frames.old.items + 2)
+        state.new.heap.steps (frames_weight frames.new.items + control_weight control)) }
 {
     if next >= bs.len() {
-        return Ok(Control::Suite(other, 0));
+        return Ok(Control::Suite {
+            suite: other,
+            next: 0,
+        });
     }
     let branch = &bs[next];
     tick(&mut state.heap)?;
     let body = Arc::try_clone(&branch.body)?;
     let again = Arc::try_clone(&bs)?;
-    let frame = Frame::Branch(body, again, next + 1, other);
+    let frame = Frame::Branch {
+        body,
+        branches: again,
+        next: next + 1,
+        other,
+    };
     begin_above(state, frames, at, frame, branch.line, &branch.condition)
 }
 
@@ -104,8 +134,14 @@ pub fn next_turn(
     at: &Standing,
     turns: Box<Turns>,
 ) -> Result<Control, Halt>
-    ensures goes { (env : Env) (n : ℕ) (running : List (List ℕ × List ℕ)) → let here = here_of at.now at.now.line running in Goes (on env n here turns.value.line).site (machine_does env n here (c.Turns turns) frames.old.items (world_of state.old)) result (λ control. machine_does env n here control frames.new.items (world_of state.new)) }
-    ensures lighter { IfOk result (λ control. Lighter state.old.heap.steps (frames_weight frames.old.items + 1) state.new.heap.steps (frames_weight frames.new.items + control_weight control)) }
+    ensures goes { (env : Env) (n : ℕ) (running : List (List ℕ × List ℕ))
+        → let here = here_of at.now at.now.line running in
+        Goes (on env n here turns.value.line).site
+        (machine_does env n here (c.Turns turns) frames.old.items (world_of state.old)) result
+        (λ control. machine_does env n here control frames.new.items (world_of state.new)) }
+    ensures lighter { IfOk result
+        (λ control. Lighter state.old.heap.steps (frames_weight frames.old.items + 1)
+        state.new.heap.steps (frames_weight frames.new.items + control_weight control)) }
 {
     let now = &*turns;
     if now.next >= now.items.len() {
@@ -133,7 +169,12 @@ fn aim_turn(
     x: Val,
 ) -> Result<Control, Halt>
     requires { line ≡ turns.value.line }
-    ensures goes { (env : Env) (n : ℕ) (running : List (List ℕ × List ℕ)) → let here = here_of at.now at.now.line running in Goes (on env n here line).site (then_runs (aims_at env n here (tree_of target.now) line (world_of state.old)) (λ a. above env n here (frame_does env n here (f.Turn turns x) (an_aim a)) frames.old.items)) result (λ control. machine_does env n here control frames.new.items (world_of state.new)) }
+    ensures goes { (env : Env) (n : ℕ) (running : List (List ℕ × List ℕ))
+        → let here = here_of at.now at.now.line running in Goes (on env n here line).site
+        (then_runs (aims_at env n here (tree_of target.now) line (world_of state.old))
+        (λ a. above env n here (frame_does env n here (f.Turn turns x) (an_aim a))
+        frames.old.items)) result (λ control. machine_does env n here control frames.new.items
+        (world_of state.new)) }
     ensures steps { IfOk result (λ _. state.new.heap.steps ≤ state.old.heap.steps) }
 {
     match target {
@@ -155,7 +196,12 @@ fn begin_named(
     turns: Box<Turns>,
     x: Val,
 ) -> Result<Control, Halt>
-    ensures goes { (env : Env) (n : ℕ) (running : List (List ℕ × List ℕ)) → let here = here_of at.now at.now.line running in Goes (on env n here turns.value.line).site (above env n here (frame_does env n here (f.Turn turns x) (an_aim (to_name name.now))) frames.old.items (world_of state.old)) result (λ control. machine_does env n here control frames.new.items (world_of state.new)) }
+    ensures goes { (env : Env) (n : ℕ) (running : List (List ℕ × List ℕ))
+        → let here = here_of at.now at.now.line running in
+        Goes (on env n here turns.value.line).site
+        (above env n here (frame_does env n here (f.Turn turns x) (an_aim (to_name name.now)))
+        frames.old.items (world_of state.old)) result
+        (λ control. machine_does env n here control frames.new.items (world_of state.new)) }
     ensures steps { IfOk result (λ _. state.new.heap.steps ≤ state.old.heap.steps) }
 {
     if let Err(halt) = bind(state, at, name, last, x) {

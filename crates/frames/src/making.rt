@@ -30,7 +30,10 @@ pub fn items_of(
     items: Arc<Vec<Expr>, Global>,
     purpose: Purpose,
 ) -> Result<Control, Halt>
-    ensures ok { IfOk result (λ control. (env : Env) (n : ℕ) (here : Here) (frames : List Frame) (w : World) → above env n here (valued (items_from env n here purpose (shared_trees items) [] line)) frames w ≡ machine_does env n here control frames w) }
+    ensures ok { IfOk result (λ control. (env : Env) (n : ℕ) (here : Here) (frames : List Frame)
+        (w : World) → above env n here
+        (valued (items_from env n here purpose (shared_trees items) [] line)) frames w
+        ≡ machine_does env n here control frames w) }
     ensures err { IsOkUnless result Memory }
     ensures light { IfOk result (λ control. control_weight control ≡ 8) }
 {
@@ -39,7 +42,10 @@ pub fn items_of(
         done: Vec::new(alloc),
         purpose,
     };
-    Ok(Control::Items(line, Box::new(alloc, series)?))
+    Ok(Control::Items {
+        line,
+        series: Box::new(alloc, series)?,
+    })
 }
 
 /// The entries of a dictionary, of which none is done.
@@ -49,7 +55,10 @@ pub fn entries_of(
     keys: Arc<Vec<Expr>, Global>,
     values: Arc<Vec<Expr>, Global>,
 ) -> Result<Control, Halt>
-    ensures ok { IfOk result (λ control. (env : Env) (n : ℕ) (here : Here) (frames : List Frame) (w : World) → above env n here (valued (entries_from env n here (shared_trees keys) (shared_trees values) [] line)) frames w ≡ machine_does env n here control frames w) }
+    ensures ok { IfOk result (λ control. (env : Env) (n : ℕ) (here : Here) (frames : List Frame)
+        (w : World) → above env n here
+        (valued (entries_from env n here (shared_trees keys) (shared_trees values) [] line)) frames
+        w ≡ machine_does env n here control frames w) }
     ensures err { IsOkUnless result Memory }
     ensures light { IfOk result (λ control. control_weight control ≡ 3) }
 {
@@ -58,7 +67,11 @@ pub fn entries_of(
         values,
         done: IndexMap::new(alloc),
     };
-    Ok(Control::Entries(line, Box::new(alloc, pairs)?, 0))
+    Ok(Control::Entries {
+        line,
+        pairs: Box::new(alloc, pairs)?,
+        next: 0,
+    })
 }
 
 /// A loop over the members of a value, before its first turn.
@@ -69,8 +82,17 @@ pub fn turns_over(
     statements: Arc<Vec<Stmt>, Global>,
     x: Val,
 ) -> Result<Control, Halt>
-    ensures goes { (env : Env) (n : ℕ) (here : Here) (frames : List Frame) → Goes (on env n here line).site (above env n here (exited (over x (s.turns (s.turn env (call env n) (shared_tree target) (body env n here (shared_suite statements)) (on env n here line))) (on env n here line))) frames (world_of state.old)) result (λ control. machine_does env n here control frames (world_of state.new)) }
-    ensures light { IfOk result (λ control. (state.new.heap.steps ≤ state.old.heap.steps) × (control_weight control ≡ 1)) }
+    ensures goes { (env : Env) (n : ℕ) (here : Here) (frames : List Frame)
+        → Goes (on env n here line).site
+        (above env n here
+        (exited
+        (over x
+        (s.turns (s.turn env (call env n) (shared_tree target)
+        (body env n here (shared_suite statements)) (on env n here line))) (on env n here line)))
+        frames (world_of state.old)) result (λ control. machine_does env n here control frames
+        (world_of state.new)) }
+    ensures light { IfOk result (λ control. (state.new.heap.steps ≤ state.old.heap.steps)
+        × (control_weight control ≡ 1)) }
 {
     let members = items(&state.heap, x)?;
     lock(&mut state.heap, x)?;
@@ -95,8 +117,14 @@ pub fn clause_over(
     got: Box<Gathered>,
     x: Val,
 ) -> Result<Control, Halt>
-    ensures goes { (env : Env) (n : ℕ) (here : Here) (frames : List Frame) → Goes (on env n here line).site (above env n here (gathered (each_does env n here (shared_tree target) (arc_value of) inner line (gathered_of got.value) x)) frames (world_of state.old)) result (λ control. machine_does env n here control frames (world_of state.new)) }
-    ensures light { IfOk result (λ control. (state.new.heap.steps ≤ state.old.heap.steps) × (control_weight control ≡ 1)) }
+    ensures goes { (env : Env) (n : ℕ) (here : Here) (frames : List Frame)
+        → Goes (on env n here line).site
+        (above env n here
+        (gathered (each_does env n here (shared_tree target) (arc_value of) inner line
+        (gathered_of got.value) x)) frames (world_of state.old)) result
+        (λ control. machine_does env n here control frames (world_of state.new)) }
+    ensures light { IfOk result (λ control. (state.new.heap.steps ≤ state.old.heap.steps)
+        × (control_weight control ≡ 1)) }
 {
     let members = items(&state.heap, x)?;
     lock(&mut state.heap, x)?;

@@ -22,13 +22,13 @@ fn is_within(control: &Control) -> bool
 {
     match control {
         Control::Signal(_) => false,
-        Control::First(_, _, _, _) => false,
-        Control::Enter(_, _, _, _) => false,
-        Control::Builtin(_, _, _, _) => false,
-        Control::Method(_, _, _, _, _) => false,
-        Control::Package(_, _, _, _) => false,
-        Control::Add(_, _, _, _) => false,
-        Control::Define(_, _, _) => false,
+        Control::First { .. } => false,
+        Control::Enter { .. } => false,
+        Control::Builtin { .. } => false,
+        Control::Method { .. } => false,
+        Control::Package { .. } => false,
+        Control::Add { .. } => false,
+        Control::Define { .. } => false,
         _ => true,
     }
 }
@@ -41,9 +41,15 @@ fn stepped(
     control: Control,
 ) -> Result<Control, Halt>
     requires { is_within control ≡ true }
-    ensures goes { (env : Env) (n : ℕ) (running : List (List ℕ × List ℕ)) → let here = here_of at.now at.now.line running in IfOk result (λ next. machine_does env n here control frames.old.items (world_of state.old) ≡ machine_does env n here next frames.new.items (world_of state.new)) }
+    ensures goes { (env : Env) (n : ℕ) (running : List (List ℕ × List ℕ))
+        → let here = here_of at.now at.now.line running in
+        IfOk result (λ next. machine_does env n here control frames.old.items (world_of state.old)
+        ≡ machine_does env n here next frames.new.items (world_of state.new)) }
     ensures err { IsOkUnless result Memory }
-    ensures lighter { IfOk result (λ next. AsLight state.old.heap.steps (frames_weight frames.old.items + control_weight control) state.new.heap.steps (frames_weight frames.new.items + control_weight next)) }
+    ensures lighter { IfOk result
+        (λ next. AsLight state.old.heap.steps
+        (frames_weight frames.old.items + control_weight control) state.new.heap.steps
+        (frames_weight frames.new.items + control_weight next)) }
 {
     let line = control_line(&control, at.line);
     match step(state, frames, at, control) {
@@ -51,7 +57,7 @@ fn stepped(
         Err(Halt::Code(code)) => {
             state.heap.steps = 0;
             frames.clear();
-            Ok(Control::Fault(line, code))
+            Ok(Control::Fault { line, code })
         }
         Err(Halt::Memory) => Err(Halt::Memory),
     }
@@ -64,9 +70,15 @@ fn onward(
     at: &Standing,
     control: Control,
 ) -> Result<Control, Halt>
-    ensures goes { (env : Env) (n : ℕ) (running : List (List ℕ × List ℕ)) → let here = here_of at.now at.now.line running in IfOk result (λ next. machine_does env n here control frames.old.items (world_of state.old) ≡ machine_does env n here next frames.new.items (world_of state.new)) }
+    ensures goes { (env : Env) (n : ℕ) (running : List (List ℕ × List ℕ))
+        → let here = here_of at.now at.now.line running in
+        IfOk result (λ next. machine_does env n here control frames.old.items (world_of state.old)
+        ≡ machine_does env n here next frames.new.items (world_of state.new)) }
     ensures err { IsOkUnless result Memory }
-    ensures lighter { IfOk result (λ next. AsLight state.old.heap.steps (frames_weight frames.old.items + control_weight control) state.new.heap.steps (frames_weight frames.new.items + control_weight next)) }
+    ensures lighter { IfOk result
+        (λ next. AsLight state.old.heap.steps
+        (frames_weight frames.old.items + control_weight control) state.new.heap.steps
+        (frames_weight frames.new.items + control_weight next)) }
 {
     if is_within(&control) {
         return stepped(state, frames, at, control);
@@ -82,8 +94,16 @@ fn hand_on(
     frame: Frame,
     signal: Signal,
 ) -> Result<Control, Halt>
-    ensures goes { (env : Env) (n : ℕ) (running : List (List ℕ × List ℕ)) → let here = here_of at.now at.now.line running in Goes (on env n here (frame_line at.now.line frame)).site (above env n here (frame_does env n here frame (sig_of signal)) frames.old.items (world_of state.old)) result (λ control. machine_does env n here control frames.new.items (world_of state.new)) }
-    ensures lighter { IfOk result (λ control. Lighter state.old.heap.steps (frames_weight frames.old.items + frame_weight frame) state.new.heap.steps (frames_weight frames.new.items + control_weight control)) }
+    ensures goes { (env : Env) (n : ℕ) (running : List (List ℕ × List ℕ))
+        → let here = here_of at.now at.now.line running in
+        Goes (on env n here (frame_line at.now.line frame)).site
+        (above env n here (frame_does env n here frame (sig_of signal)) frames.old.items
+        (world_of state.old)) result (λ control. machine_does env n here control frames.new.items
+        (world_of state.new)) }
+    ensures lighter { IfOk result
+        (λ control. Lighter state.old.heap.steps
+        (frames_weight frames.old.items + frame_weight frame) state.new.heap.steps
+        (frames_weight frames.new.items + control_weight control)) }
 {
     match deliver(state, frames, at, frame, signal) {
         Ok(control) => onward(state, frames, at, control),
@@ -100,8 +120,15 @@ pub fn hand_down(
     signal: Signal,
 ) -> Result<Control, Halt>
     requires { is_leave frame ≡ false }
-    ensures goes { (env : Env) (n : ℕ) (running : List (List ℕ × List ℕ)) → let here = here_of at.now at.now.line running in Goes (on env n here (frame_line at.now.line frame)).site (machine_does env n here (c.Signal signal) (frames.old.items ++ frame ∷ []) (world_of state.old)) result (λ next. machine_does env n here next frames.new.items (world_of state.new)) }
-    ensures lighter { IfOk result (λ next. Lighter state.old.heap.steps (frames_weight (frames.old.items ++ frame ∷ [])) state.new.heap.steps (frames_weight frames.new.items + control_weight next)) }
+    ensures goes { (env : Env) (n : ℕ) (running : List (List ℕ × List ℕ))
+        → let here = here_of at.now at.now.line running in
+        Goes (on env n here (frame_line at.now.line frame)).site
+        (machine_does env n here (c.Signal signal) (frames.old.items ++ frame ∷ [])
+        (world_of state.old)) result (λ next. machine_does env n here next frames.new.items
+        (world_of state.new)) }
+    ensures lighter { IfOk result
+        (λ next. Lighter state.old.heap.steps (frames_weight (frames.old.items ++ frame ∷ []))
+        state.new.heap.steps (frames_weight frames.new.items + control_weight next)) }
 {
     hand_on(state, frames, at, frame, signal)
 }

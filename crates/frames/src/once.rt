@@ -25,7 +25,9 @@ use tree::{BinaryOp, Expr};
 
 /// The value of an expression in which nothing can wait; with another one nothing is done.
 pub fn at_once(state: &mut State, at: &Standing, e: &Expr) -> Result<Option<Val>, Halt>
-    ensures says { (env : Env) (n line : ℕ) (running : List (List ℕ × List ℕ)) → let here = here_of at.now at.now.line running in AtOnce (on env n here line).site (ex env n here (tree_of e.now) line (world_of state.old)) result (world_of state.new) }
+    ensures says { (env : Env) (n line : ℕ) (running : List (List ℕ × List ℕ))
+        → let here = here_of at.now at.now.line running in AtOnce (on env n here line).site
+        (ex env n here (tree_of e.now) line (world_of state.old)) result (world_of state.new) }
     ensures costs { Costs result state.old state.new }
 {
     if !is_quiet_at(state, at, e) {
@@ -39,13 +41,19 @@ pub fn at_once(state: &mut State, at: &Standing, e: &Expr) -> Result<Option<Val>
 
 /// A further item is done.
 pub fn item_done(line: usize, series: Box<Series>, x: Val) -> Result<Control, Halt>
-    ensures ok { IfOk result (λ control. (env : Env) (n : ℕ) (here : Here) (frames : List Frame) (w : World) → above env n here (valued (items_from env n here series.value.purpose (trees_from (length series.value.done.items + 1) series.value.items) (series.value.done.items ++ x ∷ []) line)) frames w ≡ machine_does env n here control frames w) }
+    ensures ok { IfOk result (λ control. (env : Env) (n : ℕ) (here : Here) (frames : List Frame)
+        (w : World) → above env n here
+        (valued
+        (items_from env n here series.value.purpose
+        (trees_from (length series.value.done.items + 1) series.value.items)
+        (series.value.done.items ++ x ∷ []) line)) frames w ≡ machine_does env n here control frames
+        w) }
     ensures err { IsOkUnless result Memory }
     ensures light { IfOk result (λ control. control_weight control ≡ 8) }
 {
     let mut series = series;
     series.done.push(x)?;
-    Ok(Control::Items(line, series))
+    Ok(Control::Items { line, series })
 }
 
 /// The next item.
@@ -57,19 +65,31 @@ pub fn one_item(
     series: Box<Series>,
     e: &Expr,
 ) -> Result<Control, Halt>
-    ensures goes { (env : Env) (n : ℕ) (running : List (List ℕ × List ℕ)) → let here = here_of at.now at.now.line running in Goes (on env n here line).site (then_runs (ex env n here (tree_of e.now) line (world_of state.old)) (λ v. above env n here (valued (items_from env n here series.value.purpose (trees_from (length series.value.done.items + 1) series.value.items) (series.value.done.items ++ v ∷ []) line)) frames.old.items)) result (λ control. machine_does env n here control frames.new.items (world_of state.new)) }
+    ensures goes { (env : Env) (n : ℕ) (running : List (List ℕ × List ℕ))
+        → let here = here_of at.now at.now.line running in Goes (on env n here line).site
+        (then_runs (ex env n here (tree_of e.now) line (world_of state.old))
+        (λ v. above env n here
+        (valued
+        (items_from env n here series.value.purpose
+        (trees_from (length series.value.done.items + 1) series.value.items)
+        (series.value.done.items ++ v ∷ []) line)) frames.old.items)) result
+        (λ control. machine_does env n here control frames.new.items (world_of state.new)) }
     ensures steps { IfOk result (λ _. state.new.heap.steps < state.old.heap.steps) }
 {
     match at_once(state, at, e) {
         Ok(Some(x)) => item_done(line, series, x),
-        Ok(None) => parts_above(state, frames, at, Frame::Items(line, series), line, e),
+        Ok(None) => parts_above(state, frames, at, Frame::Items { line, series }, line, e),
         Err(halt) => Err(halt),
     }
 }
 
 /// Both operands are done.
 pub fn both_done(state: &mut State, op: BinaryOp, x: Val, y: Val) -> Result<Control, Halt>
-    ensures goes { (env : Env) (n line : ℕ) (here : Here) (frames : List Frame) → Goes (on env n here line).site (above env n here (valued (on_heap (on env n here line) (binary (operator_of op) x y))) frames (world_of state.old)) result (λ control. machine_does env n here control frames (world_of state.new)) }
+    ensures goes { (env : Env) (n line : ℕ) (here : Here) (frames : List Frame)
+        → Goes (on env n here line).site
+        (above env n here (valued (on_heap (on env n here line) (binary (operator_of op) x y)))
+        frames (world_of state.old)) result (λ control. machine_does env n here control frames
+        (world_of state.new)) }
     ensures steps { IfOk result (λ _. state.new.heap.steps ≤ state.old.heap.steps) }
     ensures light { IfOk result (λ control. control_weight control ≡ 0) }
 {
@@ -86,12 +106,24 @@ pub fn second_operand(
     x: Val,
     e: &Expr,
 ) -> Result<Control, Halt>
-    ensures goes { (env : Env) (n : ℕ) (running : List (List ℕ × List ℕ)) → let here = here_of at.now at.now.line running in Goes (on env n here line).site (then_runs (ex env n here (tree_of e.now) line (world_of state.old)) (λ y. above env n here (valued (on_heap (on env n here line) (binary (operator_of op) x y))) frames.old.items)) result (λ control. machine_does env n here control frames.new.items (world_of state.new)) }
+    ensures goes { (env : Env) (n : ℕ) (running : List (List ℕ × List ℕ))
+        → let here = here_of at.now at.now.line running in Goes (on env n here line).site
+        (then_runs (ex env n here (tree_of e.now) line (world_of state.old))
+        (λ y. above env n here (valued (on_heap (on env n here line) (binary (operator_of op) x y)))
+        frames.old.items)) result (λ control. machine_does env n here control frames.new.items
+        (world_of state.new)) }
     ensures steps { IfOk result (λ _. state.new.heap.steps < state.old.heap.steps) }
 {
     match at_once(state, at, e) {
         Ok(Some(y)) => both_done(state, op, x, y),
-        Ok(None) => parts_above(state, frames, at, Frame::Both(line, op, x), line, e),
+        Ok(None) => parts_above(
+            state,
+            frames,
+            at,
+            Frame::Both { line, op, left: x },
+            line,
+            e,
+        ),
         Err(halt) => Err(halt),
     }
 }
@@ -105,13 +137,22 @@ pub fn value_above(
     line: usize,
     e: &Arc<Expr, Global>,
 ) -> Result<Control, Halt>
-    ensures goes { (env : Env) (n : ℕ) (running : List (List ℕ × List ℕ)) (before : Ends Sig) → let here = here_of at.now at.now.line running in calls_below frame n ≡ n → here_below frame here ≡ here → before ≡ then_runs (ex env n here (shared_tree e.now) line (world_of state.old)) (λ v. above env n here (frame_does env n here frame (a_value v)) frames.old.items) → Goes (on env n here line).site before result (λ control. machine_does env n here control frames.new.items (world_of state.new)) }
+    ensures goes { (env : Env) (n : ℕ) (running : List (List ℕ × List ℕ)) (before : Ends Sig)
+        → let here = here_of at.now at.now.line running in calls_below frame n ≡ n
+        → here_below frame here ≡ here → before ≡ then_runs
+        (ex env n here (shared_tree e.now) line (world_of state.old))
+        (λ v. above env n here (frame_does env n here frame (a_value v)) frames.old.items)
+        → Goes (on env n here line).site before result
+        (λ control. machine_does env n here control frames.new.items (world_of state.new)) }
     ensures steps { IfOk result (λ _. state.new.heap.steps ≤ state.old.heap.steps) }
 {
     push(frames, frame)?;
     match at_once(state, at, e) {
         Ok(Some(x)) => Ok(Control::Signal(Signal::Value(x))),
-        Ok(None) => Ok(Control::Eval(line, Arc::try_clone(e)?)),
+        Ok(None) => Ok(Control::Eval {
+            line,
+            expr: Arc::try_clone(e)?,
+        }),
         Err(halt) => Err(halt),
     }
 }

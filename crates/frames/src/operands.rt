@@ -25,7 +25,10 @@ use tree::{BinaryOp, Expr, UnaryOp};
 
 /// An operator before a value.
 pub fn unary_done(state: &mut State, op: UnaryOp, x: Val) -> Result<Control, Halt>
-    ensures goes { (env : Env) (n : ℕ) (here : Here) (line : ℕ) (frames : List Frame) → Goes (on env n here line).site (above env n here (valued (e.unary op x (on env n here line))) frames (world_of state.old)) result (λ control. machine_does env n here control frames (world_of state.new)) }
+    ensures goes { (env : Env) (n : ℕ) (here : Here) (line : ℕ) (frames : List Frame)
+        → Goes (on env n here line).site
+        (above env n here (valued (e.unary op x (on env n here line))) frames (world_of state.old))
+        result (λ control. machine_does env n here control frames (world_of state.new)) }
     ensures steps { IfOk result (λ _. state.new.heap.steps ≤ state.old.heap.steps) }
     ensures light { IfOk result (λ control. control_weight control ≡ 0) }
 {
@@ -45,8 +48,15 @@ pub fn right_operand(
     x: Val,
     b: &Arc<Expr, Global>,
 ) -> Result<Control, Halt>
-    ensures goes { (env : Env) (n : ℕ) (running : List (List ℕ × List ℕ)) → let here = here_of at.now at.now.line running in Goes (on env n here line).site (above env n here (valued (right op x (ex env n here (shared_tree b.now) line) (on env n here line))) frames.old.items (world_of state.old)) result (λ control. machine_does env n here control frames.new.items (world_of state.new)) }
-    ensures lighter { IfOk result (λ control. Lighter state.old.heap.steps (frames_weight frames.old.items + 2) state.new.heap.steps (frames_weight frames.new.items + control_weight control)) }
+    ensures goes { (env : Env) (n : ℕ) (running : List (List ℕ × List ℕ))
+        → let here = here_of at.now at.now.line running in Goes (on env n here line).site
+        (above env n here
+        (valued (right op x (ex env n here (shared_tree b.now) line) (on env n here line)))
+        frames.old.items (world_of state.old)) result
+        (λ control. machine_does env n here control frames.new.items (world_of state.new)) }
+    ensures lighter { IfOk result
+        (λ control. Lighter state.old.heap.steps (frames_weight frames.old.items + 2)
+        state.new.heap.steps (frames_weight frames.new.items + control_weight control)) }
 {
     match op {
         BinaryOp::Or => {
@@ -77,7 +87,12 @@ pub fn choose(
     a: &Arc<Expr, Global>,
     b: &Arc<Expr, Global>,
 ) -> Result<Control, Halt>
-    ensures goes { (env : Env) (n : ℕ) (running : List (List ℕ × List ℕ)) → let here = here_of at.now at.now.line running in Goes (on env n here line).site (above env n here (valued (by_truth x (ex env n here (shared_tree a.now) line) (ex env n here (shared_tree b.now) line))) frames.old.items (world_of state.old)) result (λ control. machine_does env n here control frames.new.items (world_of state.new)) }
+    ensures goes { (env : Env) (n : ℕ) (running : List (List ℕ × List ℕ))
+        → let here = here_of at.now at.now.line running in Goes (on env n here line).site
+        (above env n here
+        (valued (by_truth x (ex env n here (shared_tree a.now) line)
+        (ex env n here (shared_tree b.now) line))) frames.old.items (world_of state.old)) result
+        (λ control. machine_does env n here control frames.new.items (world_of state.new)) }
     ensures steps { IfOk result (λ _. state.new.heap.steps < state.old.heap.steps) }
 {
     let holds = is_true(&state.heap, x)?;
@@ -97,11 +112,28 @@ pub fn slice_to(
     y: Val,
     j: &Option<Arc<Expr, Global>>,
 ) -> Result<Control, Halt>
-    ensures goes { (env : Env) (n : ℕ) (running : List (List ℕ × List ℕ)) → let here = here_of at.now at.now.line running in Goes (on env n here line).site (above env n here (valued (sliced env n here x y (bound_tree j.now) line)) frames.old.items (world_of state.old)) result (λ control. machine_does env n here control frames.new.items (world_of state.new)) }
-    ensures lighter { IfOk result (λ control. Lighter state.old.heap.steps (frames_weight frames.old.items + 2) state.new.heap.steps (frames_weight frames.new.items + control_weight control)) }
+    ensures goes { (env : Env) (n : ℕ) (running : List (List ℕ × List ℕ))
+        → let here = here_of at.now at.now.line running in Goes (on env n here line).site
+        (above env n here (valued (sliced env n here x y (bound_tree j.now) line)) frames.old.items
+        (world_of state.old)) result (λ control. machine_does env n here control frames.new.items
+        (world_of state.new)) }
+    ensures lighter { IfOk result
+        (λ control. Lighter state.old.heap.steps (frames_weight frames.old.items + 2)
+        state.new.heap.steps (frames_weight frames.new.items + control_weight control)) }
 {
     match j {
-        Some(e) => begin_above(state, frames, at, Frame::To(line, x, y), line, e),
+        Some(e) => begin_above(
+            state,
+            frames,
+            at,
+            Frame::To {
+                line,
+                container: x,
+                from: y,
+            },
+            line,
+            e,
+        ),
         None => Ok(Control::Signal(Signal::Value(slice(&mut state.heap, x, y, Val::Nothing)?))),
     }
 }
@@ -115,13 +147,18 @@ pub fn next_entry(
     pairs: Box<Pairs>,
     next: usize,
 ) -> Result<Control, Halt>
-    ensures goes { (env : Env) (n : ℕ) (running : List (List ℕ × List ℕ)) → let here = here_of at.now at.now.line running in Goes (on env n here line).site (machine_does env n here (c.Entries line pairs next) frames.old.items (world_of state.old)) result (λ control. machine_does env n here control frames.new.items (world_of state.new)) }
-    ensures lighter { IfOk result (λ control. Lighter state.old.heap.steps (frames_weight frames.old.items + 3) state.new.heap.steps (frames_weight frames.new.items + control_weight control)) }
+    ensures goes { (env : Env) (n : ℕ) (running : List (List ℕ × List ℕ))
+        → let here = here_of at.now at.now.line running in Goes (on env n here line).site
+        (machine_does env n here (c.Entries line pairs next) frames.old.items (world_of state.old))
+        result (λ control. machine_does env n here control frames.new.items (world_of state.new)) }
+    ensures lighter { IfOk result
+        (λ control. Lighter state.old.heap.steps (frames_weight frames.old.items + 3)
+        state.new.heap.steps (frames_weight frames.new.items + control_weight control)) }
 {
     let now = &*pairs;
     if next < now.keys.len() && next < now.values.len() {
         let keys = Arc::try_clone(&now.keys)?;
-        let frame = Frame::Key(line, pairs, next);
+        let frame = Frame::Key { line, pairs, next };
         return begin_above(state, frames, at, frame, line, &keys[next]);
     }
     let pairs = Box::into_inner(pairs);
@@ -138,13 +175,26 @@ pub fn entry_value(
     next: usize,
     k: Val,
 ) -> Result<Control, Halt>
-    ensures goes { (env : Env) (n : ℕ) (running : List (List ℕ × List ℕ)) → let here = here_of at.now at.now.line running in Goes (on env n here line).site (above env n here (valued (entry_from env n here k (trees_from next pairs.value.values) (trees_from (next + 1) pairs.value.keys) pairs.value.done.entries line)) frames.old.items (world_of state.old)) result (λ control. machine_does env n here control frames.new.items (world_of state.new)) }
-    ensures lighter { IfOk result (λ control. Lighter state.old.heap.steps (frames_weight frames.old.items + 3) state.new.heap.steps (frames_weight frames.new.items + control_weight control)) }
+    ensures goes { (env : Env) (n : ℕ) (running : List (List ℕ × List ℕ))
+        → let here = here_of at.now at.now.line running in Goes (on env n here line).site
+        (above env n here
+        (valued (entry_from env n here k (trees_from next pairs.value.values)
+        (trees_from (next + 1) pairs.value.keys) pairs.value.done.entries line)) frames.old.items
+        (world_of state.old)) result (λ control. machine_does env n here control frames.new.items
+        (world_of state.new)) }
+    ensures lighter { IfOk result
+        (λ control. Lighter state.old.heap.steps (frames_weight frames.old.items + 3)
+        state.new.heap.steps (frames_weight frames.new.items + control_weight control)) }
 {
     let now = &*pairs;
     if next < now.values.len() {
         let values = Arc::try_clone(&now.values)?;
-        let frame = Frame::Entry(line, pairs, next + 1, k);
+        let frame = Frame::Entry {
+            line,
+            pairs,
+            next: next + 1,
+            key: k,
+        };
         return begin_above(state, frames, at, frame, line, &values[next]);
     }
     let pairs = Box::into_inner(pairs);
@@ -161,11 +211,28 @@ pub fn slice_from(
     i: &Option<Arc<Expr, Global>>,
     j: Option<Arc<Expr, Global>>,
 ) -> Result<Control, Halt>
-    ensures goes { (env : Env) (n : ℕ) (running : List (List ℕ × List ℕ)) → let here = here_of at.now at.now.line running in Goes (on env n here line).site (above env n here (valued (sliced_from env n here x (bound_tree i.now) (bound_tree j) line)) frames.old.items (world_of state.old)) result (λ control. machine_does env n here control frames.new.items (world_of state.new)) }
-    ensures lighter { IfOk result (λ control. Lighter state.old.heap.steps (frames_weight frames.old.items + 3) state.new.heap.steps (frames_weight frames.new.items + control_weight control)) }
+    ensures goes { (env : Env) (n : ℕ) (running : List (List ℕ × List ℕ))
+        → let here = here_of at.now at.now.line running in Goes (on env n here line).site
+        (above env n here (valued (sliced_from env n here x (bound_tree i.now) (bound_tree j) line))
+        frames.old.items (world_of state.old)) result
+        (λ control. machine_does env n here control frames.new.items (world_of state.new)) }
+    ensures lighter { IfOk result
+        (λ control. Lighter state.old.heap.steps (frames_weight frames.old.items + 3)
+        state.new.heap.steps (frames_weight frames.new.items + control_weight control)) }
 {
     match i {
-        Some(e) => begin_above(state, frames, at, Frame::From(line, x, j), line, e),
+        Some(e) => begin_above(
+            state,
+            frames,
+            at,
+            Frame::From {
+                line,
+                container: x,
+                to: j,
+            },
+            line,
+            e,
+        ),
         None => slice_to(state, frames, at, line, x, Val::Nothing, &j),
     }
 }

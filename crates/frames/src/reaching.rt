@@ -88,41 +88,45 @@ fn reach_signal(reached: &mut Reached, signal: &Signal) -> Result<(), Memory> {
 // What waits for a value of an expression, of a target or of a statement. Each frame that holds a value stands here.
 fn reach_frame(reached: &mut Reached, frame: &Frame) -> Result<(), Memory> {
     match frame {
-        Frame::Items(_, series) => reach_series(reached, series),
-        Frame::Key(_, pairs, _) => reached.add_entries(&pairs.done),
-        Frame::Entry(_, pairs, _, k) => {
+        Frame::Items { series, .. } => reach_series(reached, series),
+        Frame::Key { pairs, .. } => reached.add_entries(&pairs.done),
+        Frame::Entry { pairs, key: k, .. } => {
             reached.add(*k)?;
             reached.add_entries(&pairs.done)
         }
-        Frame::Both(_, _, x) => reached.add(*x),
-        Frame::Index(_, x) => reached.add(*x),
-        Frame::From(_, x, _) => reached.add(*x),
-        Frame::To(_, x, y) => reached.add_all(&[*x, *y]),
-        Frame::Member(_, x) => reached.add(*x),
-        Frame::Aims(_, _, done) => reach_aims(reached, done.as_slice()),
-        Frame::Store(_, x) => reached.add(*x),
-        Frame::Change(_, _, aim, x) => reach_change(reached, aim, *x),
+        Frame::Both { left: x, .. } => reached.add(*x),
+        Frame::Index { container: x, .. } => reached.add(*x),
+        Frame::From { container: x, .. } => reached.add(*x),
+        Frame::To {
+            container: x,
+            from: y,
+            ..
+        } => reached.add_all(&[*x, *y]),
+        Frame::Member { container: x, .. } => reached.add(*x),
+        Frame::Aims { done, .. } => reach_aims(reached, done.as_slice()),
+        Frame::Store { value: x, .. } => reached.add(*x),
+        Frame::Change { aim, old: x, .. } => reach_change(reached, aim, *x),
         Frame::Turn(turns, x) => reach_turn(reached, turns, *x),
         Frame::Turns(turns) => reach_turns(reached, turns),
         Frame::Leave(caller) => reach_blocks(reached, caller.blocks.as_slice()),
-        Frame::Default(_, _, _, done) => reached.add_all(done.as_slice()),
-        Frame::Unary(_, _) | Frame::Right(_, _, _) | Frame::Choice(_, _, _) => Ok(()),
-        Frame::Indexed(_, _) | Frame::Sliced(_, _, _) | Frame::Called(_, _, _) => Ok(()),
-        Frame::On(_, _, _, _) | Frame::Container(_, _) | Frame::Discard => Ok(()),
-        Frame::Assign(_, _) | Frame::Augment(_, _, _) | Frame::Return => Ok(()),
-        Frame::Branch(_, _, _, _) | Frame::For(_, _, _) | Frame::Rest(_, _) => Ok(()),
-        Frame::EndBlock | Frame::MakeList(_) | Frame::MakeDict(_) | Frame::Tops(_, _) => Ok(()),
-        Frame::First(_, _, _) => Ok(()),
-        Frame::Each(_, _, _, _, got) => reach_gathered(reached, got),
-        Frame::Only(_, _, _, got) => reach_gathered(reached, got),
+        Frame::Default { done, .. } => reached.add_all(done.as_slice()),
+        Frame::Unary { .. } | Frame::Right { .. } | Frame::Choice { .. } => Ok(()),
+        Frame::Indexed { .. } | Frame::Sliced { .. } | Frame::Called { .. } => Ok(()),
+        Frame::On { .. } | Frame::Container { .. } | Frame::Discard => Ok(()),
+        Frame::Assign { .. } | Frame::Augment { .. } | Frame::Return => Ok(()),
+        Frame::Branch { .. } | Frame::For { .. } | Frame::Rest { .. } => Ok(()),
+        Frame::EndBlock | Frame::MakeList(_) | Frame::MakeDict(_) | Frame::Tops { .. } => Ok(()),
+        Frame::First { .. } => Ok(()),
+        Frame::Each { got, .. } => reach_gathered(reached, got),
+        Frame::Only { got, .. } => reach_gathered(reached, got),
         Frame::Aimed(gathering, x, got) => {
             reached.add(*x)?;
             reach_clause(reached, gathering, got)
         }
         Frame::Gather(gathering) => reach_gathering(reached, gathering),
-        Frame::OneMore(_, got) => reach_gathered(reached, got),
-        Frame::OneKey(_, _, got) => reach_gathered(reached, got),
-        Frame::OneEntry(_, x, got) => reach_one_more(reached, *x, got),
+        Frame::OneMore { got, .. } => reach_gathered(reached, got),
+        Frame::OneKey { got, .. } => reach_gathered(reached, got),
+        Frame::OneEntry { key: x, got, .. } => reach_one_more(reached, *x, got),
     }
 }
 
@@ -144,21 +148,34 @@ fn reach_sum(reached: &mut Reached, aim: &Aim, x: Val, y: Val) -> Result<(), Mem
 pub fn reach_control(reached: &mut Reached, control: &Control) -> Result<(), Memory> {
     match control {
         Control::Signal(signal) => reach_signal(reached, signal),
-        Control::Items(_, series) => reach_series(reached, series),
-        Control::Entries(_, pairs, _) => reached.add_entries(&pairs.done),
-        Control::Aims(_, _, done) => reach_aims(reached, done.as_slice()),
+        Control::Items { series, .. } => reach_series(reached, series),
+        Control::Entries { pairs, .. } => reached.add_entries(&pairs.done),
+        Control::Aims { done, .. } => reach_aims(reached, done.as_slice()),
         Control::Turns(turns) => reach_turns(reached, turns),
-        Control::Clauses(_, _, _, got) => reach_gathered(reached, got),
+        Control::Clauses { got, .. } => reach_gathered(reached, got),
         Control::Gather(gathering, got) => reach_clause(reached, gathering, got),
-        Control::First(_, _, _, x) => reached.add(*x),
-        Control::Enter(_, place, xs, _) => reach_arguments(reached, Val::At(*place), xs.as_slice()),
-        Control::Builtin(_, _, xs, _) => reached.add_all(xs.as_slice()),
-        Control::Method(_, x, _, xs, _) => reach_arguments(reached, *x, xs.as_slice()),
-        Control::Package(_, _, xs, _) => reached.add_all(xs.as_slice()),
-        Control::Add(_, aim, x, y) => reach_sum(reached, aim, *x, *y),
-        Control::Defaults(_, _, _, xs) => reached.add_all(xs.as_slice()),
-        Control::Define(_, _, xs) => reached.add_all(xs.as_slice()),
-        Control::Eval(_, _) | Control::Aim(_, _) | Control::Suite(_, _) => Ok(()),
-        Control::Branches(_, _, _) | Control::Tops(_, _) | Control::Fault(_, _) => Ok(()),
+        Control::First { value: x, .. } => reached.add(*x),
+        Control::Enter {
+            place,
+            arguments: xs,
+            ..
+        } => reach_arguments(reached, Val::At(*place), xs.as_slice()),
+        Control::Builtin { arguments: xs, .. } => reached.add_all(xs.as_slice()),
+        Control::Method {
+            receiver: x,
+            arguments: xs,
+            ..
+        } => reach_arguments(reached, *x, xs.as_slice()),
+        Control::Package { arguments: xs, .. } => reached.add_all(xs.as_slice()),
+        Control::Add {
+            aim,
+            old: x,
+            right: y,
+            ..
+        } => reach_sum(reached, aim, *x, *y),
+        Control::Defaults { done: xs, .. } => reached.add_all(xs.as_slice()),
+        Control::Define { defaults: xs, .. } => reached.add_all(xs.as_slice()),
+        Control::Eval { .. } | Control::Aim { .. } | Control::Suite { .. } => Ok(()),
+        Control::Branches { .. } | Control::Tops { .. } | Control::Fault { .. } => Ok(()),
     }
 }

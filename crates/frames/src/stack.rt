@@ -16,9 +16,13 @@ use tree::Expr;
 /// One more frame.
 #[tactic(auto, using(crate::proofs::Bind::stack_push))]
 pub fn push(frames: &mut Vec<Frame>, frame: Frame) -> Result<(), Halt>
-    ensures ok { OnOk result ((env : Env) (n : ℕ) (here : Here) → stack_does env n here frames.new.items ≡ (λ (sig : Sig) (w : World). then_runs (frame_does env n here frame sig w) (stack_does env (calls_below frame n) (here_below frame here) frames.old.items))) }
+    ensures ok { OnOk result ((env : Env) (n : ℕ) (here : Here)
+        → stack_does env n here frames.new.items
+        ≡ (λ (sig : Sig) (w : World). then_runs (frame_does env n here frame sig w)
+        (stack_does env (calls_below frame n) (here_below frame here) frames.old.items))) }
     ensures err { IsOkUnless result Memory }
-    ensures weight { OnOk result (frames_weight frames.new.items ≡ frames_weight frames.old.items + frame_weight frame) }
+    ensures weight { OnOk result (frames_weight frames.new.items ≡ frames_weight frames.old.items
+        + frame_weight frame) }
 {
     frames.push(frame)?;
     Ok(())
@@ -31,9 +35,16 @@ pub fn eval_above(
     line: usize,
     e: &Arc<Expr, Global>,
 ) -> Result<Control, Halt>
-    ensures ok { IfOk result (λ control. (env : Env) (n : ℕ) (here : Here) (w : World) → calls_below frame n ≡ n → here_below frame here ≡ here → then_runs (ex env n here (shared_tree e.now) line w) (λ v. above env n here (frame_does env n here frame (a_value v)) frames.old.items) ≡ machine_does env n here control frames.new.items w) }
+    ensures ok { IfOk result (λ control. (env : Env) (n : ℕ) (here : Here) (w : World)
+        → calls_below frame n ≡ n → here_below frame here ≡ here
+        → then_runs (ex env n here (shared_tree e.now) line w)
+        (λ v. above env n here (frame_does env n here frame (a_value v)) frames.old.items)
+        ≡ machine_does env n here control frames.new.items w) }
     ensures err { IsOkUnless result Memory }
 {
     push(frames, frame)?;
-    Ok(Control::Eval(line, Arc::try_clone(e)?))
+    Ok(Control::Eval {
+        line,
+        expr: Arc::try_clone(e)?,
+    })
 }

@@ -30,7 +30,13 @@ fn part_above(
     line: usize,
     e: &Arc<Expr, Global>,
 ) -> Result<Control, Halt>
-    ensures goes { (env : Env) (n : ℕ) (running : List (List ℕ × List ℕ)) (before : Ends Sig) → let here = here_of at.now at.now.line running in calls_below frame n ≡ n → here_below frame here ≡ here → before ≡ then_runs (ex env n here (shared_tree e.now) line (world_of state.old)) (λ v. above env n here (frame_does env n here frame (a_value v)) frames.old.items) → Goes (on env n here line).site before result (λ control. machine_does env n here control frames.new.items (world_of state.new)) }
+    ensures goes { (env : Env) (n : ℕ) (running : List (List ℕ × List ℕ)) (before : Ends Sig)
+        → let here = here_of at.now at.now.line running in calls_below frame n ≡ n
+        → here_below frame here ≡ here → before ≡ then_runs
+        (ex env n here (shared_tree e.now) line (world_of state.old))
+        (λ v. above env n here (frame_does env n here frame (a_value v)) frames.old.items)
+        → Goes (on env n here line).site before result
+        (λ control. machine_does env n here control frames.new.items (world_of state.new)) }
     ensures steps { IfOk result (λ _. state.new.heap.steps < state.old.heap.steps) }
 {
     begin_above(state, frames, at, frame, line, e)
@@ -46,7 +52,11 @@ pub fn begin_stmt(
     stmt: &Stmt,
 ) -> Result<Control, Halt>
     requires { line ≡ stmt_line (stmt_of stmt.now) }
-    ensures goes { (env : Env) (n : ℕ) (running : List (List ℕ × List ℕ)) → let here = here_of at.now at.now.line running in Goes (on env n here line).site (above env n here (exited (s.exec env (call env n) (stmt_of stmt.now) here)) frames.old.items (world_of state.old)) result (λ control. machine_does env n here control frames.new.items (world_of state.new)) }
+    ensures goes { (env : Env) (n : ℕ) (running : List (List ℕ × List ℕ))
+        → let here = here_of at.now at.now.line running in Goes (on env n here line).site
+        (above env n here (exited (s.exec env (call env n) (stmt_of stmt.now) here))
+        frames.old.items (world_of state.old)) result
+        (λ control. machine_does env n here control frames.new.items (world_of state.new)) }
     ensures steps { IfOk result (λ _. state.new.heap.steps < state.old.heap.steps) }
 {
     tick(&mut state.heap)?;
@@ -54,28 +64,78 @@ pub fn begin_stmt(
         Stmt::Pass(_) => Ok(Control::Signal(Signal::Exit(Exit::GoesOn))),
         Stmt::Break(_) => Ok(Control::Signal(Signal::Exit(Exit::Breaks))),
         Stmt::Continue(_) => Ok(Control::Signal(Signal::Exit(Exit::Continues))),
-        Stmt::Return(_, None) => Ok(Control::Signal(Signal::Exit(Exit::Returns(Val::Nothing)))),
-        Stmt::Return(_, Some(e)) => part_above(state, frames, at, Frame::Return, line, e),
-        Stmt::Eval(_, e) => part_above(state, frames, at, Frame::Discard, line, e),
-        Stmt::Assign(_, target, e) => {
+        Stmt::Return { value: None, .. } => Ok(Control::Signal(Signal::Exit(Exit::Returns(
+            Val::Nothing,
+        )))),
+        Stmt::Return { value: Some(e), .. } => part_above(
+            state,
+            frames,
+            at,
+            Frame::Return,
+            line,
+            e,
+        ),
+        Stmt::Eval { value: e, .. } => part_above(state, frames, at, Frame::Discard, line, e),
+        Stmt::Assign {
+            target,
+            value: e,
+            ..
+        } => {
             let target = Arc::try_clone(target)?;
-            part_above(state, frames, at, Frame::Assign(line, target), line, e)
+            part_above(state, frames, at, Frame::Assign { line, target }, line, e)
         }
-        Stmt::Augment(_, target, op, e) => {
+        Stmt::Augment {
+            target,
+            op,
+            value: e,
+            ..
+        } => {
             let right = Arc::try_clone(e)?;
-            aim_above(frames, Frame::Augment(line, *op, right), line, target)
+            aim_above(
+                frames,
+                Frame::Augment {
+                    line,
+                    op: *op,
+                    right,
+                },
+                line,
+                target,
+            )
         }
-        Stmt::If(_, condition, body, branches, other) => {
+        Stmt::If {
+            condition,
+            body,
+            branches,
+            other,
+            ..
+        } => {
             let body = Arc::try_clone(body)?;
             let branches = Arc::try_clone(branches)?;
             let other = Arc::try_clone(other)?;
-            let frame = Frame::Branch(body, branches, 0, other);
+            let frame = Frame::Branch {
+                body,
+                branches,
+                next: 0,
+                other,
+            };
             part_above(state, frames, at, frame, line, condition)
         }
-        Stmt::For(_, target, e, body) => {
+        Stmt::For {
+            target,
+            sequence: e,
+            body,
+            ..
+        } => {
             let target = Arc::try_clone(target)?;
             let body = Arc::try_clone(body)?;
-            part_above(state, frames, at, Frame::For(line, target, body), line, e)
+            part_above(
+                state,
+                frames,
+                at,
+                Frame::For { line, target, body },
+                line,
+                e,
+            )
         }
     }
 }
@@ -88,11 +148,11 @@ pub fn line_of(stmt: &Stmt) -> usize
         Stmt::Pass(line) => *line,
         Stmt::Break(line) => *line,
         Stmt::Continue(line) => *line,
-        Stmt::Return(line, _) => *line,
-        Stmt::Eval(line, _) => *line,
-        Stmt::Assign(line, _, _) => *line,
-        Stmt::Augment(line, _, _, _) => *line,
-        Stmt::If(line, _, _, _, _) => *line,
-        Stmt::For(line, _, _, _) => *line,
+        Stmt::Return { line, .. } => *line,
+        Stmt::Eval { line, .. } => *line,
+        Stmt::Assign { line, .. } => *line,
+        Stmt::Augment { line, .. } => *line,
+        Stmt::If { line, .. } => *line,
+        Stmt::For { line, .. } => *line,
     }
 }

@@ -25,27 +25,49 @@ pub fn step(
     at: &Standing,
     control: Control,
 ) -> Result<Control, Halt>
-    ensures goes { (env : Env) (n : ℕ) (running : List (List ℕ × List ℕ)) → let here = here_of at.now at.now.line running in Goes (on env n here (control_line at.now.line control)).site (machine_does env n here control frames.old.items (world_of state.old)) result (λ next. machine_does env n here next frames.new.items (world_of state.new)) }
-    ensures lighter { is_within control ≡ true → IfOk result (λ next. Lighter state.old.heap.steps (frames_weight frames.old.items + control_weight control) state.new.heap.steps (frames_weight frames.new.items + control_weight next)) }
+    ensures goes { (env : Env) (n : ℕ) (running : List (List ℕ × List ℕ))
+        → let here = here_of at.now at.now.line running in
+        Goes (on env n here (control_line at.now.line control)).site
+        (machine_does env n here control frames.old.items (world_of state.old)) result
+        (λ next. machine_does env n here next frames.new.items (world_of state.new)) }
+    ensures lighter { is_within control ≡ true
+        → IfOk result
+        (λ next. Lighter state.old.heap.steps
+        (frames_weight frames.old.items + control_weight control) state.new.heap.steps
+        (frames_weight frames.new.items + control_weight next)) }
 {
     match control {
-        Control::Eval(line, e) => begin(state, frames, at, line, &e),
-        Control::Items(line, series) => next_item(state, frames, at, line, series),
-        Control::Entries(line, pairs, next) => next_entry(state, frames, at, line, pairs, next),
-        Control::Aim(line, e) => begin_aim(state, frames, at, line, &e),
-        Control::Aims(line, es, done) => next_aim(state, frames, at, line, es, done),
-        Control::Suite(ss, next) => next_stmt(state, frames, at, ss, next),
-        Control::Branches(bs, next, other) => next_branch(state, frames, at, bs, next, other),
+        Control::Eval { line, expr: e } => begin(state, frames, at, line, &e),
+        Control::Items { line, series } => next_item(state, frames, at, line, series),
+        Control::Entries { line, pairs, next } => next_entry(state, frames, at, line, pairs, next),
+        Control::Aim { line, target: e } => begin_aim(state, frames, at, line, &e),
+        Control::Aims {
+            line,
+            targets: es,
+            done,
+        } => next_aim(state, frames, at, line, es, done),
+        Control::Suite { suite: ss, next } => next_stmt(state, frames, at, ss, next),
+        Control::Branches {
+            branches: bs,
+            next,
+            other,
+        } => next_branch(state, frames, at, bs, next, other),
         Control::Turns(turns) => next_turn(state, frames, at, turns),
-        Control::Clauses(line, of, inner, got) => {
-            next_clause(state, frames, at, line, of, inner, got)
-        }
+        Control::Clauses {
+            line,
+            of,
+            inner,
+            got,
+        } => { next_clause(state, frames, at, line, of, inner, got) }
         Control::Gather(turns, got) => next_gather(state, frames, at, turns, got),
-        Control::Tops(file, next) => next_top(state, frames, at, file, next),
-        Control::Defaults(line, def, next, done) => next_default(
-            state, frames, at, line, def, next, done,
-        ),
-        Control::Fault(_, code) => Err(Halt::Code(code)),
+        Control::Tops { file, next } => next_top(state, frames, at, file, next),
+        Control::Defaults {
+            line,
+            def,
+            next,
+            done,
+        } => next_default(state, frames, at, line, def, next, done),
+        Control::Fault { code, .. } => Err(Halt::Code(code)),
         control => Ok(control),
     }
 }

@@ -28,11 +28,18 @@ pub fn aim_above(
     line: usize,
     e: &Arc<Expr, Global>,
 ) -> Result<Control, Halt>
-    ensures ok { IfOk result (λ control. (env : Env) (n : ℕ) (here : Here) (w : World) → calls_below frame n ≡ n → here_below frame here ≡ here → then_runs (aims_at env n here (shared_tree e.now) line w) (λ a. above env n here (frame_does env n here frame (an_aim a)) frames.old.items) ≡ machine_does env n here control frames.new.items w) }
+    ensures ok { IfOk result (λ control. (env : Env) (n : ℕ) (here : Here) (w : World)
+        → calls_below frame n ≡ n → here_below frame here ≡ here
+        → then_runs (aims_at env n here (shared_tree e.now) line w)
+        (λ a. above env n here (frame_does env n here frame (an_aim a)) frames.old.items)
+        ≡ machine_does env n here control frames.new.items w) }
     ensures err { IsOkUnless result Memory }
 {
     push(frames, frame)?;
-    Ok(Control::Aim(line, Arc::try_clone(e)?))
+    Ok(Control::Aim {
+        line,
+        target: Arc::try_clone(e)?,
+    })
 }
 
 /// Begins a target.
@@ -43,8 +50,15 @@ pub fn begin_aim(
     line: usize,
     e: &Expr,
 ) -> Result<Control, Halt>
-    ensures goes { (env : Env) (n : ℕ) (running : List (List ℕ × List ℕ)) → let here = here_of at.now at.now.line running in Goes (on env n here line).site (above env n here (aimed (aims_at env n here (tree_of e.now) line)) frames.old.items (world_of state.old)) result (λ control. machine_does env n here control frames.new.items (world_of state.new)) }
-    ensures lighter { IfOk result (λ control. Lighter state.old.heap.steps (frames_weight frames.old.items + aim_size (tree_of e.now)) state.new.heap.steps (frames_weight frames.new.items + control_weight control)) }
+    ensures goes { (env : Env) (n : ℕ) (running : List (List ℕ × List ℕ))
+        → let here = here_of at.now at.now.line running in Goes (on env n here line).site
+        (above env n here (aimed (aims_at env n here (tree_of e.now) line)) frames.old.items
+        (world_of state.old)) result (λ control. machine_does env n here control frames.new.items
+        (world_of state.new)) }
+    ensures lighter { IfOk result
+        (λ control. Lighter state.old.heap.steps
+        (frames_weight frames.old.items + aim_size (tree_of e.now)) state.new.heap.steps
+        (frames_weight frames.new.items + control_weight control)) }
 {
     match e {
         Expr::Name(x, last) => {
@@ -54,11 +68,22 @@ pub fn begin_aim(
             Ok(Control::Signal(Signal::Aim(Aim::Name(x.share()?, place))))
         }
         Expr::Index(a, i) => {
-            let frame = Frame::Container(line, Arc::try_clone(i)?);
+            let frame = Frame::Container {
+                line,
+                index: Arc::try_clone(i)?,
+            };
             begin_above(state, frames, at, frame, line, a)
         }
-        Expr::Tuple(es) => Ok(Control::Aims(line, Arc::try_clone(es)?, Vec::new(state.heap.alloc))),
-        Expr::List(es) => Ok(Control::Aims(line, Arc::try_clone(es)?, Vec::new(state.heap.alloc))),
+        Expr::Tuple(es) => Ok(Control::Aims {
+            line,
+            targets: Arc::try_clone(es)?,
+            done: Vec::new(state.heap.alloc),
+        }),
+        Expr::List(es) => Ok(Control::Aims {
+            line,
+            targets: Arc::try_clone(es)?,
+            done: Vec::new(state.heap.alloc),
+        }),
         _ => Err(Halt::Code(faults::WRONG_TYPE)),
     }
 }
@@ -72,13 +97,26 @@ pub fn next_aim(
     es: Arc<Vec<Expr>, Global>,
     done: Vec<Aim>,
 ) -> Result<Control, Halt>
-    ensures goes { (env : Env) (n : ℕ) (running : List (List ℕ × List ℕ)) → let here = here_of at.now at.now.line running in Goes (on env n here line).site (machine_does env n here (c.Aims line es done) frames.old.items (world_of state.old)) result (λ control. machine_does env n here control frames.new.items (world_of state.new)) }
-    ensures lighter { IfOk result (λ control. Lighter state.old.heap.steps (frames_weight frames.old.items + control_weight (c.Aims line es done)) state.new.heap.steps (frames_weight frames.new.items + control_weight control)) }
+    ensures goes { (env : Env) (n : ℕ) (running : List (List ℕ × List ℕ))
+        → let here = here_of at.now at.now.line running in Goes (on env n here line).site
+        (machine_does env n here (c.Aims line es done) frames.old.items (world_of state.old)) result
+        (λ control. machine_does env n here control frames.new.items (world_of state.new)) }
+    ensures lighter { IfOk result
+        (λ control. Lighter state.old.heap.steps (frames_weight frames.old.items + control_weight
+        (c.Aims line es done)) state.new.heap.steps
+        (frames_weight frames.new.items + control_weight control)) }
 {
     let next = done.len();
     if next < es.len() {
         let all = Arc::try_clone(&es)?;
-        push(frames, Frame::Aims(line, all, done))?;
+        push(
+            frames,
+            Frame::Aims {
+                line,
+                targets: all,
+                done,
+            },
+        )?;
         return begin_aim(state, frames, at, line, &es[next]);
     }
     Ok(Control::Signal(Signal::Aim(Aim::Each(done))))

@@ -27,20 +27,37 @@ pub fn next_top(
     file: Arc<File, Global>,
     next: usize,
 ) -> Result<Control, Halt>
-    ensures goes { (env : Env) (n : ℕ) (running : List (List ℕ × List ℕ)) → let here = here_of at.now at.now.line running in Goes (on env n here (tops_line (tops_at next file))).site (machine_does env n here (c.Tops file next) frames.old.items (world_of state.old)) result (λ control. machine_does env n here control frames.new.items (world_of state.new)) }
-    ensures lighter { IfOk result (λ control. Lighter state.old.heap.steps (frames_weight frames.old.items + 1) state.new.heap.steps (frames_weight frames.new.items + control_weight control)) }
+    ensures goes { (env : Env) (n : ℕ) (running : List (List ℕ × List ℕ))
+        → let here = here_of at.now at.now.line running in
+        Goes (on env n here (tops_line (tops_at next file))).site
+        (machine_does env n here (c.Tops file next) frames.old.items (world_of state.old)) result
+        (λ control. machine_does env n here control frames.new.items (world_of state.new)) }
+    ensures lighter { IfOk result
+        (λ control. Lighter state.old.heap.steps (frames_weight frames.old.items + 1)
+        state.new.heap.steps (frames_weight frames.new.items + control_weight control)) }
 {
     if next >= file.tops.len() {
         return Ok(Control::Signal(Signal::Exit(Exit::GoesOn)));
     }
     let again = Arc::try_clone(&file)?;
-    push(frames, Frame::Tops(again, next + 1))?;
+    push(
+        frames,
+        Frame::Tops {
+            file: again,
+            next: next + 1,
+        },
+    )?;
     match &file.tops[next] {
         Top::Stmt(stmt) => begin_stmt(state, frames, at, line_of(stmt), stmt),
         Top::Def(def) => {
             tick(&mut state.heap)?;
             let line = def.line;
-            Ok(Control::Defaults(line, Arc::try_clone(def)?, 0, Vec::new(state.heap.alloc)))
+            Ok(Control::Defaults {
+                line,
+                def: Arc::try_clone(def)?,
+                next: 0,
+                done: Vec::new(state.heap.alloc),
+            })
         }
     }
 }
@@ -55,18 +72,39 @@ pub fn next_default(
     next: usize,
     done: Vec<Val>,
 ) -> Result<Control, Halt>
-    ensures goes { (env : Env) (n : ℕ) (running : List (List ℕ × List ℕ)) → let here = here_of at.now at.now.line running in Goes (on env n here line).site (machine_does env n here (c.Defaults line def next done) frames.old.items (world_of state.old)) result (λ control. machine_does env n here control frames.new.items (world_of state.new)) }
-    ensures lighter { IfOk result (λ control. Lighter state.old.heap.steps (frames_weight frames.old.items + control_weight (c.Defaults line def next done)) state.new.heap.steps (frames_weight frames.new.items + control_weight control)) }
+    ensures goes { (env : Env) (n : ℕ) (running : List (List ℕ × List ℕ))
+        → let here = here_of at.now at.now.line running in Goes (on env n here line).site
+        (machine_does env n here (c.Defaults line def next done) frames.old.items
+        (world_of state.old)) result (λ control. machine_does env n here control frames.new.items
+        (world_of state.new)) }
+    ensures lighter { IfOk result
+        (λ control. Lighter state.old.heap.steps (frames_weight frames.old.items + control_weight
+        (c.Defaults line def next done)) state.new.heap.steps
+        (frames_weight frames.new.items + control_weight control)) }
 {
     if next >= def.params.len() {
-        return Ok(Control::Define(line, def, done));
+        return Ok(Control::Define {
+            line,
+            def,
+            defaults: done,
+        });
     }
     let again = Arc::try_clone(&def)?;
     match &def.params[next].default {
         Some(e) => {
-            let frame = Frame::Default(line, again, next + 1, done);
+            let frame = Frame::Default {
+                line,
+                def: again,
+                next: next + 1,
+                done,
+            };
             begin_above(state, frames, at, frame, line, e)
         }
-        None => Ok(Control::Defaults(line, again, next + 1, done)),
+        None => Ok(Control::Defaults {
+            line,
+            def: again,
+            next: next + 1,
+            done,
+        }),
     }
 }

@@ -54,7 +54,8 @@ impl Frozen {
 
     /// A tuple.
     pub fn tuple(alloc: Global, members: Vec<Frozen>) -> Result<Frozen, Memory>
-        ensures { IfOk result (λ f. frozen_of f ≡ tuple (members_of (map frozen_of members.items))) }
+        ensures { IfOk result
+            (λ f. frozen_of f ≡ tuple (members_of (map frozen_of members.items))) }
     {
         Ok(Frozen::Tuple(Arc::new(alloc, members)?))
     }

@@ -11,7 +11,8 @@ use heap::DEEPEST;
 /// steps.
 #[tactic(auto, using(crate::specs::SameLaws::within_exact, crate::specs::SameLaws::same_is_one))]
 pub fn same_frozen(a: &Frozen, b: &Frozen) -> bool
-    ensures exact { depth (frozen_of a.now) ≤ 64 → Decides result (frozen_of a.now ≡ frozen_of b.now) }
+    ensures exact { depth (frozen_of a.now) ≤ 64
+        → Decides result (frozen_of a.now ≡ frozen_of b.now) }
     ensures alike { IsTrue result → frozen_of a.now ≡ frozen_of b.now }
 {
     same(a, b, DEEPEST)
@@ -45,7 +46,8 @@ fn same(a: &Frozen, b: &Frozen, left: u32) -> bool
 // Whether members are the same, in order.
 #[cycle(same)]
 fn same_all(xs: &[Frozen], ys: &[Frozen], left: u32) -> bool
-    ensures { result ≡ same_members (members_of (map frozen_of xs.now)) (members_of (map frozen_of ys.now)) left }
+    ensures { result ≡ same_members (members_of (map frozen_of xs.now))
+        (members_of (map frozen_of ys.now)) left }
 {
     if xs.len() != ys.len() {
         return false;
@@ -61,7 +63,8 @@ fn same_all(xs: &[Frozen], ys: &[Frozen], left: u32) -> bool
 // Whether entries are the same, in order.
 #[cycle(same)]
 fn same_entries(xs: &[FrozenEntry], ys: &[FrozenEntry], left: u32) -> bool
-    ensures { result ≡ same_pairs (pairs_of (map entry_of xs.now)) (pairs_of (map entry_of ys.now)) left }
+    ensures { result ≡ same_pairs (pairs_of (map entry_of xs.now)) (pairs_of (map entry_of ys.now))
+        left }
 {
     if xs.len() != ys.len() {
         return false;

@@ -42,7 +42,8 @@ pub fn thaw(heap: &mut Heap, f: &Frozen) -> Result<Val, Halt>
 // Members on a heap, in order.
 #[cycle(thawing)]
 fn thaw_members(heap: &mut Heap, members: &[Frozen]) -> Result<Vec<Val>, Halt>
-    ensures { SaysItems (thaw_members (members_of (map frozen_of members.now)) (store_of heap.old)) result (store_of heap.new) }
+    ensures { SaysItems (thaw_members (members_of (map frozen_of members.now)) (store_of heap.old))
+        result (store_of heap.new) }
 {
     let mut all = Vec::new(heap.alloc);
     for f in members.iter() {
@@ -61,7 +62,8 @@ fn thaw_entries(
     entries: &[FrozenEntry],
     all: &mut IndexMap<Key, Entry>,
 ) -> Result<(), Halt>
-    ensures { SaysSet (thaw_pairs all.old.entries (pairs_of (map entry_of entries.now)) (store_of heap.old)) result all.new.entries (store_of heap.new) }
+    ensures { SaysSet (thaw_pairs all.old.entries (pairs_of (map entry_of entries.now))
+        (store_of heap.old)) result all.new.entries (store_of heap.new) }
 {
     for e in entries.iter() {
         match thaw_entry(heap, e, all) {
@@ -75,7 +77,8 @@ fn thaw_entries(
 // Sets an entry, with its key and value on a heap.
 #[cycle(thawing)]
 fn thaw_entry(heap: &mut Heap, e: &FrozenEntry, all: &mut IndexMap<Key, Entry>) -> Result<(), Halt>
-    ensures { SaysSet (thaw_entry all.old.entries (entry_of e.now) (store_of heap.old)) result all.new.entries (store_of heap.new) }
+    ensures { SaysSet (thaw_entry all.old.entries (entry_of e.now) (store_of heap.old)) result
+        all.new.entries (store_of heap.new) }
 {
     let at = frozen_key_of(heap.alloc, &e.key)?;
     let key = thaw(heap, &e.key)?;
@@ -124,7 +127,9 @@ fn add_key(f: &Frozen, all: &mut Vec<Part>) -> Result<(), Memory>
 #[cycle(keying)]
 #[tactic(auto, using(crate::proofs::Thawed::tuple_keyed))]
 fn add_tuple(members: &[Frozen], all: &mut Vec<Part>) -> Result<(), Memory>
-    ensures { OnOk result (all.new.items ≡ all.old.items ++ frozen_key (tuple (members_of (map frozen_of members.now)))) }
+    ensures { OnOk result
+        (all.new.items ≡ all.old.items ++ frozen_key
+        (tuple (members_of (map frozen_of members.now)))) }
 {
     all.push(Part::Tuple(members.len()))?;
     add_keys(members, all)?;
@@ -134,7 +139,8 @@ fn add_tuple(members: &[Frozen], all: &mut Vec<Part>) -> Result<(), Memory>
 // The parts of keys, behind others.
 #[cycle(keying)]
 fn add_keys(members: &[Frozen], all: &mut Vec<Part>) -> Result<(), Memory>
-    ensures { OnOk result (all.new.items ≡ all.old.items ++ frozen_keys (members_of (map frozen_of members.now))) }
+    ensures { OnOk result (all.new.items ≡ all.old.items ++ frozen_keys
+        (members_of (map frozen_of members.now))) }
 {
     for f in members.iter() {
         add_key(f, all)?;

@@ -48,7 +48,8 @@ fn freeze_object(
     place: usize,
     left: u32,
 ) -> Result<Frozen, Halt>
-    ensures { SaysFrozen (visit_held (inner_freeze left (map object_in objects.now)) (held_object (slice_get (map object_in objects.now) place)) steps.old) result steps.new }
+    ensures { SaysFrozen (visit_held (inner_freeze left (map object_in objects.now))
+        (held_object (slice_get (map object_in objects.now) place)) steps.old) result steps.new }
 {
     match object_at(objects, place)? {
         Some(Object::Text(bytes)) => settled(steps, Frozen::text(bytes.share()?)),
@@ -88,7 +89,8 @@ fn freeze_list(
     members: &[Val],
     left: u32,
 ) -> Result<Frozen, Halt>
-    ensures { SaysFrozen (visit_held (inner_freeze left (map object_in objects.now)) (listed members.now) steps.old) result steps.new }
+    ensures { SaysFrozen (visit_held (inner_freeze left (map object_in objects.now))
+        (listed members.now) steps.old) result steps.new }
 {
     if left == 0 {
         return Err(Halt::Code(faults::TOO_DEEP));
@@ -108,7 +110,8 @@ fn freeze_tuple(
     members: &[Val],
     left: u32,
 ) -> Result<Frozen, Halt>
-    ensures { SaysFrozen (visit_held (inner_freeze left (map object_in objects.now)) (tupled members.now) steps.old) result steps.new }
+    ensures { SaysFrozen (visit_held (inner_freeze left (map object_in objects.now))
+        (tupled members.now) steps.old) result steps.new }
 {
     if left == 0 {
         return Err(Halt::Code(faults::TOO_DEEP));
@@ -127,7 +130,8 @@ fn freeze_members(
     members: &[Val],
     left: u32,
 ) -> Result<Vec<Frozen>, Halt>
-    ensures { SaysMembers (freeze_members (freeze left (map object_in objects.now)) members.now steps.old) result steps.new }
+    ensures { SaysMembers (freeze_members (freeze left (map object_in objects.now)) members.now
+        steps.old) result steps.new }
 {
     let mut all = Vec::new(alloc);
     for i in 0..members.len() {
@@ -152,7 +156,8 @@ fn freeze_dict(
     entries: &IndexMap<Key, Entry>,
     left: u32,
 ) -> Result<Frozen, Halt>
-    ensures { SaysFrozen (visit_held (inner_freeze left (map object_in objects.now)) (mapped entries.now.entries) steps.old) result steps.new }
+    ensures { SaysFrozen (visit_held (inner_freeze left (map object_in objects.now))
+        (mapped entries.now.entries) steps.old) result steps.new }
 {
     if left == 0 {
         return Err(Halt::Code(faults::TOO_DEEP));
@@ -171,7 +176,9 @@ fn freeze_entries(
     entries: &IndexMap<Key, Entry>,
     left: u32,
 ) -> Result<Vec<FrozenEntry>, Halt>
-    ensures { SaysEntries (freeze_entries (freeze left (map object_in objects.now)) entries.now.entries steps.old) result steps.new }
+    ensures { SaysEntries
+        (freeze_entries (freeze left (map object_in objects.now)) entries.now.entries steps.old)
+        result steps.new }
 {
     let mut all = Vec::new(alloc);
     for i in 0..entries.len() {
@@ -195,7 +202,8 @@ fn freeze_entry(
     entry: Entry,
     left: u32,
 ) -> Result<FrozenEntry, Halt>
-    ensures { SaysEntry (freeze_entry (freeze left (map object_in objects.now)) entry steps.old) result steps.new }
+    ensures { SaysEntry (freeze_entry (freeze left (map object_in objects.now)) entry steps.old)
+        result steps.new }
 {
     let key = freeze(alloc, objects, steps, entry.key, left)?;
     let value = freeze(alloc, objects, steps, entry.value, left)?;

@@ -5,7 +5,7 @@ use Rattle.std.specs.declared.vec.Vec.{Vec}
 use Rattle.tokens.specs.Reading as tokens
 use Rattle.tree.specs.Tree.{Fi}
 use Rattle.tree.specs.Statements.{file_of}
-use Rattle.tree.specs.declared.stmt.File.{File}
+use Rattle.tree.specs.declared.def.File.{File}
 use Rattle.keys.specs.declared.value.Fault.{Fault}
 use Rattle.functions.specs.Sources.{fault_at}
 

@@ -29,7 +29,7 @@ pub enum Went {
     // It ends, or asks.
     Ends(Reply),
     // It has gone on to this outcome, with so many answers.
-    Goes(Outcome, usize),
+    Goes { outcome: Outcome, used: usize },
 }
 
 // The keys of the globs of patterns.
@@ -46,7 +46,8 @@ fn glob_keys(alloc: Global, package_name: &Text, patterns: &[Text]) -> Result<Ve
 
 // The paths of an answer, shared.
 fn paths_at(alloc: Global, answer: Option<&Value>) -> Result<Arc<Vec<Text>, Global>, Memory>
-    ensures { IfOk result (λ a. shared_texts a ≡ specs.paths_or_none (option_map (λ v. v.now) answer.entry)) }
+    ensures { IfOk result
+        (λ a. shared_texts a ≡ specs.paths_or_none (option_map (λ v. v.now) answer.entry)) }
 {
     match answer {
         Some(Value::Paths(paths)) => paths.share_items(),
@@ -64,7 +65,8 @@ fn paths_in(
     keys: &[Key],
     answers: &[Arc<Value>],
 ) -> Result<Vec<Arc<Vec<Text>, Global>>, Memory>
-    ensures { IfOk result (λ v. map shared_texts v.items ≡ specs.paths_in places.now keys.now (values answers.now)) }
+    ensures { IfOk result (λ v. map shared_texts v.items ≡ specs.paths_in places.now keys.now
+        (values answers.now)) }
 {
     let mut all = Vec::new(alloc);
     for key in keys {
@@ -80,7 +82,8 @@ fn paths_by(
     keys: &[Key],
     answers: &[Arc<Value>],
 ) -> Result<Vec<Arc<Vec<Text>, Global>>, Memory>
-    ensures { IfOk result (λ v. map shared_texts v.items ≡ specs.paths_by group.now keys.now (values answers.now)) }
+    ensures { IfOk result (λ v. map shared_texts v.items ≡ specs.paths_by group.now keys.now
+        (values answers.now)) }
 {
     let places = first_places(alloc, group)?;
     paths_in(alloc, &places, keys, answers)
@@ -94,7 +97,10 @@ enum Heard {
     // Too few are there: this group is asked again.
     TooFew(Vec<Key>),
     // So many answers give these paths.
-    Paths(Vec<Arc<Vec<Text>, Global>>, usize),
+    Paths {
+        paths: Vec<Arc<Vec<Text>, Global>>,
+        used: usize,
+    },
 }
 
 // What the answers are good for, where an evaluation waits for globs of a package.
@@ -116,13 +122,14 @@ fn hear(
         return Ok(Heard::TooFew(group));
     }
     let paths = paths_by(alloc, group.as_slice(), keys.as_slice(), answers)?;
-    Ok(Heard::Paths(paths, count))
+    Ok(Heard::Paths { paths, used: count })
 }
 
 // Goes on with an evaluation that waits, if the answers of its group are there.
 fn wait(alloc: Global, paused: Paused, answers: &[Arc<Value>]) -> Result<Went, Memory>
     ensures within { IfOk result (IsWithin (length answers.now)) }
-    ensures went { IfOk result (λ went. IsWaiting paused → IsWent (env_in paused) (values answers.now) went) }
+    ensures went { IfOk result (λ went. IsWaiting paused → IsWent (env_in paused)
+        (values answers.now) went) }
 {
     let patterns = paused.suspended.patterns();
     match hear(alloc, &paused.package_name, patterns, answers) {
@@ -137,8 +144,11 @@ fn wait(alloc: Global, paused: Paused, answers: &[Arc<Value>]) -> Result<Went, M
             drop(paused);
             Ok(Went::Ends(Reply::Ask(group)))
         }
-        Ok(Heard::Paths(paths, count)) => {
-            Ok(Went::Goes(resume(paused.suspended, paths)?, count))
+        Ok(Heard::Paths { paths, used: count }) => {
+            Ok(Went::Goes {
+                outcome: resume(paused.suspended, paths)?,
+                used: count,
+            })
         }
         Err(memory) => {
             drop(paused);
@@ -155,7 +165,8 @@ fn go_on(
     answers: &[Arc<Value>],
 ) -> Result<Went, Memory>
     ensures within { IfOk result (IsWithin (length answers.now)) }
-    ensures went { IfOk result (λ went. (env : Env) → env.package_name ≡ package_name.now → IsOutcome env outcome → IsWent env (values answers.now) went) }
+    ensures went { IfOk result (λ went. (env : Env) → env.package_name ≡ package_name.now
+        → IsOutcome env outcome → IsWent env (values answers.now) went) }
 {
     match outcome {
         Outcome::Module(loaded) => Ok(Went::Ends(Reply::Done(Value::Module(loaded)))),
@@ -193,7 +204,10 @@ fn rounds(
     loop {
         match go_on(alloc, package_name, outcome, left)? {
             Went::Ends(reply) => return Ok(reply),
-            Went::Goes(next, taken) => {
+            Went::Goes {
+                outcome: next,
+                used: taken,
+            } => {
                 outcome = next;
                 let (_, behind) = left.split_at(taken);
                 left = behind;
@@ -210,7 +224,10 @@ pub fn go_further(alloc: Global, paused: Paused, answers: &[Arc<Value>]) -> Resu
     let package_name = paused.package_name.share()?;
     match wait(alloc, paused, answers)? {
         Went::Ends(reply) => Ok(reply),
-        Went::Goes(next, taken) => rounds(alloc, &package_name, next, &answers[taken..]),
+        Went::Goes {
+            outcome: next,
+            used: taken,
+        } => rounds(alloc, &package_name, next, &answers[taken..]),
     }
 }
 
@@ -221,7 +238,8 @@ fn environment(
     file: Arc<File, Global>,
     loads: Vec<Loaded>,
 ) -> Result<Environment, Memory>
-    ensures { IfOk result (λ e. env_of e ≡ specs.env_of source.now (file_of (arc_value file)) loads.items) }
+    ensures { IfOk result (λ e. env_of e ≡ specs.env_of source.now (file_of (arc_value file))
+        loads.items) }
 {
     let package = Package {
         kind: source.kind,
@@ -245,7 +263,9 @@ pub fn evaluated(
     loads: Vec<Loaded>,
     answers: &[Arc<Value>],
 ) -> Result<Reply, Memory>
-    ensures { IfOk result (IsMade (specs.after_modules source.now (file_of (arc_value file)) (Ok loads.items)) (values answers.now)) }
+    ensures { IfOk result
+        (IsMade (specs.after_modules source.now (file_of (arc_value file)) (Ok loads.items))
+        (values answers.now)) }
 {
     let environment = environment(alloc, source, file, loads)?;
     let first = run(alloc, environment)?;

@@ -85,7 +85,8 @@ pub fn load_keys(
     source: &Source,
     loads: &[LoadStmt],
 ) -> Result<Result<Vec<Key>, Fault>, Memory>
-    ensures { IfOk result (IsAll (specs.each_or_fault (specs.load_key source.now) (map load_of loads.now))) }
+    ensures { IfOk result
+        (IsAll (specs.each_or_fault (specs.load_key source.now) (map load_of loads.now))) }
 {
     let mut all = Vec::new(alloc);
     for load in loads {
@@ -114,7 +115,8 @@ fn module_in(
     path: &Text,
     answer: Option<&Value>,
 ) -> Result<Result<Loaded, Fault>, Memory>
-    ensures { IfOk result (λ r. r ≡ specs.module_in path.now (option_map (λ v. v.now) answer.entry)) }
+    ensures { IfOk result
+        (λ r. r ≡ specs.module_in path.now (option_map (λ v. v.now) answer.entry)) }
 {
     match answer {
         Some(Value::Module(loaded)) => Ok(Ok(share_loaded(alloc, loaded)?)),
@@ -131,7 +133,8 @@ fn modules_in(
     keys: &[Key],
     answers: &[Arc<Value>],
 ) -> Result<Result<Vec<Loaded>, Fault>, Memory>
-    ensures { IfOk result (IsAll (specs.modules_in path.now places.now keys.now (values answers.now))) }
+    ensures { IfOk result
+        (IsAll (specs.modules_in path.now places.now keys.now (values answers.now))) }
 {
     let mut all = Vec::new(alloc);
     for key in keys {
@@ -151,7 +154,8 @@ pub fn all_modules(
     keys: &[Key],
     answers: &[Arc<Value>],
 ) -> Result<Result<Vec<Loaded>, Fault>, Memory>
-    ensures { IfOk result (IsAll (specs.all_modules path.now group.now keys.now (values answers.now))) }
+    ensures { IfOk result
+        (IsAll (specs.all_modules path.now group.now keys.now (values answers.now))) }
 {
     let places = first_places(alloc, group)?;
     modules_in(alloc, path, &places, keys, answers)
@@ -166,7 +170,8 @@ fn faulty(code: u8, path: &Text, line: usize) -> Result<Reply, Memory>
 
 // Asks the modules of a file's loads. With some of their answers alone the next turn begins anew.
 fn ask_modules(group: Vec<Key>, parsed: Parsed, answers: &[Arc<Value>]) -> Reply
-    requires { specs.after_loads parsed.source (file_of (arc_value parsed.file)) (Ok parsed.keys.items) (values answers.now) ≡ Ask group.items }
+    requires { specs.after_loads parsed.source (file_of (arc_value parsed.file))
+        (Ok parsed.keys.items) (values answers.now) ≡ Ask group.items }
     ensures { IsMade (table_of (continuation.Loads parsed)) (values answers.now) result }
 {
     if answers.is_empty() {
@@ -248,7 +253,8 @@ fn by_file(alloc: Global, source: Source, answers: &[Arc<Value>]) -> Result<Repl
 
 // Adds look-ups of directories.
 fn add_lookups(keys: &mut Vec<Key>, names: &[Text]) -> Result<(), Memory>
-    ensures { OnOk result (keys.new.items ≡ keys.old.items ++ map (λ name. key.Lookup name) names.now) }
+    ensures { OnOk result (keys.new.items ≡ keys.old.items ++ map (λ name. key.Lookup name)
+        names.now) }
 {
     for name in names {
         keys.push(Key::Lookup(name.share()?))?;
@@ -318,7 +324,8 @@ fn after_lookups(
     looks: &[Arc<Value>],
     answers: &[Arc<Value>],
 ) -> Result<Reply, Memory>
-    ensures { IfOk result (IsMade (modules.after_lookups label.now (values looks.now)) (values answers.now)) }
+    ensures { IfOk result (IsMade (modules.after_lookups label.now (values looks.now))
+        (values answers.now)) }
 {
     if !is_in_package(looks) {
         return faulty(faults::NO_PACKAGE, label.package_name(), 0);

@@ -43,7 +43,8 @@ pub struct Kept {
 
 // The reply of a node that goes by directories, of which nothing waits.
 fn plain(reply: walks::Reply) -> Reply
-    ensures { (next : Table) (answers : List Value) → IsWalked (next answers) reply → IsMade next answers result }
+    ensures { (next : Table) (answers : List Value) → IsWalked (next answers) reply
+        → IsMade next answers result }
 {
     match reply {
         walks::Reply::Ask(group) => Reply::Ask(group),

@@ -79,7 +79,8 @@ pub fn answer_of<'a>(
     places: &BTreeMap<Key, usize>,
     answers: &'a [Arc<Value>],
 ) -> Option<&'a Value>
-    ensures { option_map (λ v. v.now) result ≡ specs.answer_in places.now key.now (values answers.now) }
+    ensures { option_map (λ v. v.now) result ≡ specs.answer_in places.now key.now
+        (values answers.now) }
 {
     match places.get(key) {
         Some(place) => {

@@ -1,5 +1,6 @@
 -- How the tokens of a file are read, and what a text is parsed to.
 use Rattle.std.specs.Prelude.{ℕ, zero, suc, List, [], ◌∷◌, ◌++◌, Bool, true, false, ◌&&◌, length, if◌then◌else◌, Option, Some, None, Result, Ok, Err}
+use Rattle.meaning.specs.declared.faults.TheConstants.{SYNTAX}
 use Rattle.tokens.specs.declared.symbol.Symbol.TheVariants as s
 use Rattle.tokens.specs.Token.{Lex}
 use Rattle.tokens.specs.Reading.{Fault, fault, tokens_of}
@@ -131,7 +132,7 @@ unfoldable pub file : FileKind → Reading Fi
 file kind ts = and_then (leading ts) (λ l. loads >>= λ ls. tops kind >>= λ xs. at_end (record { leading = l; loads = ls; tops = xs }))
 
 abbrev pub file_or_fault : Option (Part Fi) → Result Fi Fault
-file_or_fault None = fault 3 0
+file_or_fault None = fault SYNTAX 0
 file_or_fault (Some part) = Ok part.value
 
 abbrev pub file_of_tokens : FileKind → Result (List Lex) Fault → Result Fi Fault

@@ -1,5 +1,6 @@
 -- The tree of a text, and what refuses a text.
 use Rattle.std.specs.Prelude.{◌≡◌, ℕ, List, Ok, Err}
+use Rattle.meaning.specs.declared.faults.TheConstants.{SYNTAX}
 use Rattle.tokens.specs.Token.{Lex}
 use Rattle.tokens.specs.Reading.{Fault, tokens_of}
 use Rattle.tree.specs.Tree.{Fi}
@@ -13,10 +14,10 @@ pub record IsTree (kind : FileKind) (bytes : List ℕ) (tree : Fi) : Type 0 wher
   pub is : IsFile kind tokens tree
 
 -- A text is refused by the fault of its tokens, which is looked for first; else, where the grammar relates its tokens to
--- no tree, by 3.
+-- no tree, by the fault of the syntax.
 pub data IsRefused (kind : FileKind) (bytes : List ℕ) : Fault → Type 0 where
   by_tokens : {e : Fault} → tokens_of bytes ≡ Err e → IsRefused kind bytes e
-  by_grammar : {tokens : List Lex} → tokens_of bytes ≡ Ok tokens → ((tree : Fi) → IsFile kind tokens tree → ⊥) → IsRefused kind bytes (record { code = 3; line = 0 })
+  by_grammar : {tokens : List Lex} → tokens_of bytes ≡ Ok tokens → ((tree : Fi) → IsFile kind tokens tree → ⊥) → IsRefused kind bytes (record { code = SYNTAX; line = 0 })
 
 -- no text has two trees
 abbrev pub NoTextHasTwoTrees : Type 0

@@ -59,7 +59,8 @@ impl Heap {
 
     /// The object at a place. `Memory` where it has been given back.
     pub fn object(&self, place: usize) -> Result<Option<&Object>, Memory>
-        ensures found { IfOk result (λ found. at place (store_of self.now) ≡ option_map (λ o. object_of o.now) found) }
+        ensures found { IfOk result (λ found. at place (store_of self.now) ≡ option_map
+            (λ o. object_of o.now) found) }
         ensures gone { OnErr result (IsGone self.now.objects.items place) }
     {
         object_at(self.objects.as_slice(), place)
@@ -69,7 +70,8 @@ impl Heap {
     /// has been given back.
     pub fn take(&mut self, place: usize) -> Result<Option<Object>, Memory>
         ensures same { store_of self.new ≡ store_of self.old }
-        ensures taken { IfOk result (λ found. at place (store_of self.old) ≡ option_map object_of found) }
+        ensures taken { IfOk result (λ found. at place (store_of self.old) ≡ option_map object_of
+            found) }
         ensures gone { OnErr result (IsGone self.old.objects.items place) }
         ensures held { self.new.held ≡ self.old.held }
     {
@@ -85,7 +87,8 @@ impl Heap {
     /// Another object at a place, if one stands there. The bytes that it takes more are counted by `hold_members` and
     /// `hold_entry`.
     pub fn put(&mut self, place: usize, object: Object)
-        ensures put { puts place (object_of object) (store_of self.old) ≡ gives tt (store_of self.new) }
+        ensures put { puts place (object_of object) (store_of self.old) ≡ gives tt
+            (store_of self.new) }
         ensures held { self.new.held ≡ self.old.held }
     {
         if let Some(found) = self.objects.get_mut(place) {
@@ -148,7 +151,8 @@ impl Heap {
     /// Counts the copy that a loop goes over of what stands at a place, as `hold_members` does.
     pub fn hold_copy(&mut self, place: usize) -> Result<(), Halt>
         ensures same { store_of self.new ≡ store_of self.old }
-        ensures counted { Counted (place_bytes place (store_of self.old)) self.old.held result self.new.held }
+        ensures counted { Counted (place_bytes place (store_of self.old)) self.old.held result
+            self.new.held }
     {
         let bytes = self.size_at(place);
         self.hold(bytes)
@@ -185,9 +189,11 @@ impl Heap {
 
     /// A new object. `Memory` also where the objects would take more than `MOST_HELD` bytes.
     pub fn make(&mut self, object: Object) -> Result<Val, Halt>
-        ensures held { OnOk result (self.new.held ≡ self.old.held + object_bytes (object_of object)) }
+        ensures held { OnOk result (self.new.held ≡ self.old.held + object_bytes
+            (object_of object)) }
         ensures within { OnOk result (self.new.held ≤ most_held) }
-        ensures says { Says (makes (object_of object) (store_of self.old)) result (store_of self.new) }
+        ensures says { Says (makes (object_of object) (store_of self.old)) result
+            (store_of self.new) }
     {
         self.hold(size_of(shape_of(&object)))?;
         let place = self.objects.len();
@@ -244,7 +250,8 @@ impl Heap {
 
 /// The object at a place. `Memory` where it has been given back.
 pub fn object_at(objects: &[HeapObject], place: usize) -> Result<Option<&Object>, Memory>
-    ensures found { IfOk result (λ found. slice_get (map object_in objects.now) place ≡ option_map (λ o. object_of o.now) found) }
+    ensures found { IfOk result (λ found. slice_get (map object_in objects.now) place ≡ option_map
+        (λ o. object_of o.now) found) }
     ensures gone { OnErr result (IsGone objects.now place) }
 {
     match objects.get(place) {

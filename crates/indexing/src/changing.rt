@@ -23,7 +23,8 @@ pub fn set_index(heap: &mut Heap, a: Val, i: Val, x: Val) -> Result<(), Halt>
 
 // Sets what an object has at an index.
 fn set_object(heap: &mut Heap, a: usize, i: Val, x: Val) -> Result<(), Halt>
-    ensures { Says (set_object a (at a (store_of heap.old)) i x (store_of heap.old)) result (store_of heap.new) }
+    ensures { Says (set_object a (at a (store_of heap.old)) i x (store_of heap.old)) result
+        (store_of heap.new) }
 {
     match heap.object(a)? {
         Some(Object::List(_, frozen)) => {
@@ -62,7 +63,8 @@ fn may_change(heap: &Heap, a: usize, frozen: bool) -> Result<(), Halt>
 
 // Sets a member of a list.
 fn set_member(heap: &mut Heap, a: usize, i: i64, x: Val) -> Result<(), Halt>
-    ensures { Says (set_member a (at a (store_of heap.old)) i x (store_of heap.old)) result (store_of heap.new) }
+    ensures { Says (set_member a (at a (store_of heap.old)) i x (store_of heap.old)) result
+        (store_of heap.new) }
 {
     let Some(Object::List(mut members, frozen)) = heap.take(a)? else {
         return Err(Halt::Code(faults::WRONG_TYPE));
@@ -77,7 +79,8 @@ fn set_member(heap: &mut Heap, a: usize, i: i64, x: Val) -> Result<(), Halt>
 
 // Sets a key of a dictionary.
 fn set_key(heap: &mut Heap, a: usize, key: Key, entry: Entry) -> Result<(), Halt>
-    ensures { Says (set_key a (at a (store_of heap.old)) key entry (store_of heap.old)) result (store_of heap.new) }
+    ensures { Says (set_key a (at a (store_of heap.old)) key entry (store_of heap.old)) result
+        (store_of heap.new) }
 {
     let Some(Object::Dict(mut entries, frozen)) = heap.take(a)? else {
         return Err(Halt::Code(faults::WRONG_TYPE));

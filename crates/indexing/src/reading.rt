@@ -41,7 +41,8 @@ pub fn index(heap: &mut Heap, a: Val, i: Val) -> Result<Val, Halt>
 
 // What an object has at an index.
 fn index_object(heap: &mut Heap, a: usize, i: Val) -> Result<Val, Halt>
-    ensures { Says (index_object (at a (store_of heap.old)) i (store_of heap.old)) result (store_of heap.new) }
+    ensures { Says (index_object (at a (store_of heap.old)) i (store_of heap.old)) result
+        (store_of heap.new) }
 {
     match heap.object(a)? {
         Some(Object::Text(bytes)) => {
@@ -59,7 +60,8 @@ fn index_object(heap: &mut Heap, a: usize, i: Val) -> Result<Val, Halt>
 // What a dictionary has at a key.
 #[tactic(auto, unfolding(meaning::specs::Indexing::found_key))]
 fn found_key(heap: &mut Heap, a: usize, i: Val) -> Result<Val, Halt>
-    ensures { Says (found_key (at a (store_of heap.old)) i (store_of heap.old)) result (store_of heap.new) }
+    ensures { Says (found_key (at a (store_of heap.old)) i (store_of heap.old)) result
+        (store_of heap.new) }
 {
     let key = hash(heap, i)?;
     at_key(heap, a, &key)
@@ -67,7 +69,8 @@ fn found_key(heap: &mut Heap, a: usize, i: Val) -> Result<Val, Halt>
 
 // The value at a key.
 fn at_key(heap: &Heap, a: usize, key: &Key) -> Result<Val, Halt>
-    ensures { Says (at_key (at a (store_of heap.now)) key.now (store_of heap.now)) result (store_of heap.now) }
+    ensures { Says (at_key (at a (store_of heap.now)) key.now (store_of heap.now)) result
+        (store_of heap.now) }
 {
     match heap.object(a)? {
         Some(Object::Dict(entries, _)) => match found(entries, key) {
@@ -99,7 +102,8 @@ pub fn slice(heap: &mut Heap, a: Val, i: Val, j: Val) -> Result<Val, Halt>
 
 // The part of an object between two bounds.
 fn slice_object(heap: &mut Heap, a: usize, i: Val, j: Val) -> Result<Val, Halt>
-    ensures { Says (slice_object (at a (store_of heap.old)) i j (store_of heap.old)) result (store_of heap.new) }
+    ensures { Says (slice_object (at a (store_of heap.old)) i j (store_of heap.old)) result
+        (store_of heap.new) }
 {
     match heap.object(a)? {
         Some(Object::Text(bytes)) => {

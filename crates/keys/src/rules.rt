@@ -48,7 +48,8 @@ pub trait Rules {
         answers: &[Arc<Value>],
     ) -> Result<Turn<Self::State>, Memory>
         requires { (key : Key) × fits state key (values answers.now) }
-        ensures is_next { IfOk result (λ t. (key : Key) → fits state key (values answers.now) → IsTurn fits next key (values answers.now) t) }
+        ensures is_next { IfOk result (λ t. (key : Key) → fits state key (values answers.now)
+            → IsTurn fits next key (values answers.now) t) }
         ensures counted { turns self.new ≡ turns self.old + 1 };
 
     /// No group has a key twice.

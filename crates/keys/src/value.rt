@@ -1,8 +1,7 @@
 //! What a node holds.
-ghost use Rattle.std.specs.Prelude.{◌≡◌};
+ghost use Rattle.std.specs.Prelude.{◌≡◌, IfOk};
 ghost use Rattle.std.specs.Cmp.{partial_equiv_from_equiv};
 ghost use Rattle.std.specs.Cmp.Lexicographic.{pointwise};
-ghost use Rattle.std.specs.Prelude.{IfOk};
 ghost use Rattle.std.specs.Arc.{arc_value};
 ghost use Rattle.keys.specs.Values.{text_eq, build_eq, listed_eq, fault_eq, value_eq};
 ghost use Rattle.keys.specs.ValueLaws.{builds_equiv, names_equiv, listed_equiv, faults_equiv, values_equiv};

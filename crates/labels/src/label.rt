@@ -77,7 +77,8 @@ fn would_name<'a>(text: &'a str, present: &'a str) -> (&'a str, &'a str)
 }
 
 fn is_target(package_name: &str, name: &str) -> bool
-    ensures { result ≡ labels.is_target (record { package_name = package_name.now; name = name.now }) }
+    ensures { result ≡ labels.is_target
+        (record { package_name = package_name.now; name = name.now }) }
 {
     if !is_package_name(package_name) || !is_path(name) {
         return false;
@@ -104,7 +105,8 @@ fn joined(alloc: Global, package_name: &str, name: &str) -> Result<Text, Memory>
 
 // The text of the label of a target.
 fn written(alloc: Global, package_name: &str, name: &str) -> Result<Text, Memory>
-    ensures { IfOk result (λ t. t ≡ labels.label_text (record { package_name = package_name.now; name = name.now })) }
+    ensures { IfOk result
+        (λ t. t ≡ labels.label_text (record { package_name = package_name.now; name = name.now })) }
 {
     let room = package_name.len().saturating_add(name.len());
     let mut text = String::with_capacity(alloc, room.saturating_add(3))?;
@@ -118,7 +120,8 @@ fn written(alloc: Global, package_name: &str, name: &str) -> Result<Text, Memory
 /// The text of the label that `Label::read` gives, always `//P:T`, where only the text is wanted. Any other text is
 /// `Code15`.
 pub fn label_text(alloc: Global, text: &str, present: &str) -> Result<Text, BadLabel>
-    ensures ok { IfOk result (λ t. option_map labels.label_text (labels.label_of text.now present.now) ≡ Some t) }
+    ensures ok { IfOk result
+        (λ t. option_map labels.label_text (labels.label_of text.now present.now) ≡ Some t) }
     ensures bad { IsErrOf result BadLabel.Code15 → labels.label_of text.now present.now ≡ None }
 {
     let (package_name, name) = would_name(text, present);
@@ -173,7 +176,8 @@ impl Label {
     /// The label's text, always `//P:T`. Read in any package it is this label again.
     pub fn text(&self) -> &Text
         ensures value { result.now ≡ labels.label_text self.now }
-        ensures reads_back { (present : List ℕ) → labels.label_of result.now present ≡ Some self.now }
+        ensures reads_back { (present : List ℕ) → labels.label_of result.now present
+            ≡ Some self.now }
     {
         &self.text
     }

@@ -2,11 +2,10 @@
 use Rattle.std.specs.Prelude.{ℕ, List, Result}
 use Rattle.grammar.specs.declared.kind.FileKind.{FileKind}
 use Rattle.tree.specs.Tree.{Fi}
-use Rattle.tokens.specs.Reading.{Fault}
+use Rattle.tokens.specs.Reading.{Fault, tokens_of}
 use Rattle.tokens.specs.Lines.{begun, layout, brackets_after, part_after, said, ending, scan}
 use Rattle.tokens.specs.Nesting.{too_deep}
 use Rattle.tokens.specs.Pieces.{operator_at, word_at, number_at, string_at, piece_at}
-use Rattle.tokens.specs.Reading.{tokens_of}
 use Rattle.tokens.specs.Strings.{extent}
 use Rattle.tokens.specs.Words.{word_of, is_name_text}
 use Rattle.grammar.specs.Front.{same, is_at, tail, line_at, name_at, is_name_before, text_at, is_end}

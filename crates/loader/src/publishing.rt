@@ -28,7 +28,9 @@ pub struct Packages {
 
 // Returns the text of the package that is held of a key.
 fn text_of(alloc: Global, graph: &Graph, key: &Key) -> Result<Text, Memory>
-    ensures { IfOk result (λ text. text ≡ compact_text (package_told key.now (present (record_at graph.now key.now)))) }
+    ensures { IfOk result
+        (λ text. text ≡ compact_text
+        (package_told key.now (present (record_at graph.now key.now)))) }
 {
     let mut out = Draft::new(alloc);
     write_package_held(alloc, &mut out, graph, key)?;
@@ -38,7 +40,8 @@ fn text_of(alloc: Global, graph: &Graph, key: &Key) -> Result<Text, Memory>
 
 // Returns the text of the first entry for a name.
 fn text_in<'a>(entries: &'a [(Text, Text)], name: &Text) -> Option<&'a Text>
-    ensures { option_map (λ text. text.now) result ≡ lookup (λ n. same_text n name.now) entries.now }
+    ensures { option_map (λ text. text.now) result ≡ lookup (λ n. same_text n name.now)
+        entries.now }
 {
     for entry in entries {
         if entry.0 == *name {
@@ -58,7 +61,8 @@ fn text_once(
     requires { HaveTextsHeld graph.now entries.old.items }
     ensures text { IfOk result (λ text. text ≡ text_held graph.now name) }
     ensures held { OnOk result (HaveTextsHeld graph.now entries.new.items) }
-    ensures names { OnOk result (names_in entries.new.items ≡ and_name (names_in entries.old.items) name) }
+    ensures names { OnOk result (names_in entries.new.items ≡ and_name (names_in entries.old.items)
+        name) }
 {
     if let Some(text) = text_in(entries.as_slice(), &name) {
         return text.share();
@@ -71,7 +75,8 @@ fn text_once(
 
 // Adds an item of an array to a line, with a comma before it where it is not the first.
 fn add_item(line: &mut String, later: bool, text: &Text) -> Result<(), Memory>
-    ensures { OnOk result (string_bytes line.new ≡ string_bytes line.old ++ (comma_if later ++ text.now)) }
+    ensures { OnOk result (string_bytes line.new ≡ string_bytes line.old
+        ++ (comma_if later ++ text.now)) }
 {
     if later {
         line.push(',')?;
@@ -82,7 +87,9 @@ fn add_item(line: &mut String, later: bool, text: &Text) -> Result<(), Memory>
 
 /// Tells the packages with these names, in their order. Each text is made once.
 pub fn packages_told(alloc: Global, graph: &Graph, names: &[&str]) -> Result<Packages, Memory>
-    ensures line { IfOk result (λ p. string_bytes p.line ≡ compact_text (packages_data (map (package_held graph.now) (texts_seen names.now)))) }
+    ensures line { IfOk result
+        (λ p. string_bytes p.line ≡ compact_text
+        (packages_data (map (package_held graph.now) (texts_seen names.now)))) }
     ensures held { IfOk result (λ p. HaveTextsHeld graph.now p.entries.items) }
     ensures names { IfOk result (λ p. names_in p.entries.items ≡ each_of (texts_seen names.now)) }
 {

@@ -167,14 +167,16 @@ fn serve_line<R: Input, W: Output, J: Runs>(
     line: &mut Line,
     budget: u64,
 ) -> Result<bool, ServeStop>
-    ensures ok { IfOk result (λ more. (told held : List ℕ) →
-        Between budget told (R.told reader.old) held (W.held writer.old) pending.old session.old (J.kept journal.old)
-        → After budget more told (R.told reader.new) held (W.held writer.new) pending.new session.new (J.kept journal.new)) }
-    ensures left { IfOk result (λ more. R.left reader.new + length pending.new + (if more then 1 else 0)
-        ≤ R.left reader.old + length pending.old) }
-    ensures err { OnErr result ((told held : List ℕ) →
-        Between budget told (R.told reader.old) held (W.held writer.old) pending.old session.old (J.kept journal.old)
-        → Stopped (R.ends reader.old) (R.ends reader.new) told (R.told reader.new) held (W.held writer.new)) }
+    ensures ok { IfOk result (λ more. (told held : List ℕ) → Between budget told (R.told reader.old)
+        held (W.held writer.old) pending.old session.old (J.kept journal.old)
+        → After budget more told (R.told reader.new) held (W.held writer.new) pending.new
+        session.new (J.kept journal.new)) }
+    ensures left { IfOk result (λ more. R.left reader.new + length pending.new
+        + (if more then 1 else 0) ≤ R.left reader.old + length pending.old) }
+    ensures err { OnErr result ((told held : List ℕ) → Between budget told (R.told reader.old) held
+        (W.held writer.old) pending.old session.old (J.kept journal.old)
+        → Stopped (R.ends reader.old) (R.ends reader.new) told (R.told reader.new) held
+        (W.held writer.new)) }
     ensures reader_counts { R.failures reader.old ≤ R.failures reader.new }
     ensures writer_counts { W.failures writer.old ≤ W.failures writer.new }
     ensures read { IsErrOf result ServeStop.Read → R.failures reader.old < R.failures reader.new }
@@ -215,14 +217,16 @@ fn serve_line_with<
     ensures hands { OnOk result (length hands.new.items ≡ length hands.old.items) }
     ensures counted { OnOk result (total H.turns hands.new.items + turns_of (J.kept journal.old)
         ≡ total H.turns hands.old.items + turns_of (J.kept journal.new)) }
-    ensures ok { IfOk result (λ more. (told held : List ℕ) →
-        Between budget told (R.told reader.old) held (W.held writer.old) pending.old session.old (J.kept journal.old)
-        → After budget more told (R.told reader.new) held (W.held writer.new) pending.new session.new (J.kept journal.new)) }
-    ensures left { IfOk result (λ more. R.left reader.new + length pending.new + (if more then 1 else 0)
-        ≤ R.left reader.old + length pending.old) }
-    ensures err { OnErr result ((told held : List ℕ) →
-        Between budget told (R.told reader.old) held (W.held writer.old) pending.old session.old (J.kept journal.old)
-        → Stopped (R.ends reader.old) (R.ends reader.new) told (R.told reader.new) held (W.held writer.new)) }
+    ensures ok { IfOk result (λ more. (told held : List ℕ) → Between budget told (R.told reader.old)
+        held (W.held writer.old) pending.old session.old (J.kept journal.old)
+        → After budget more told (R.told reader.new) held (W.held writer.new) pending.new
+        session.new (J.kept journal.new)) }
+    ensures left { IfOk result (λ more. R.left reader.new + length pending.new
+        + (if more then 1 else 0) ≤ R.left reader.old + length pending.old) }
+    ensures err { OnErr result ((told held : List ℕ) → Between budget told (R.told reader.old) held
+        (W.held writer.old) pending.old session.old (J.kept journal.old)
+        → Stopped (R.ends reader.old) (R.ends reader.new) told (R.told reader.new) held
+        (W.held writer.new)) }
     ensures reader_counts { R.failures reader.old ≤ R.failures reader.new }
     ensures writer_counts { W.failures writer.old ≤ W.failures writer.new }
     ensures read { IsErrOf result ServeStop.Read → R.failures reader.old < R.failures reader.new }
@@ -256,8 +260,10 @@ pub fn serve_into<R: Input, W: Output, J: Runs>(
     journal: &mut J,
 ) -> Result<(), ServeStop>
     requires { J.kept journal.old ≡ [] }
-    ensures ok { OnOk result (Served budget (R.told reader.old) (R.told reader.new) (W.held writer.old) (W.held writer.new) (J.kept journal.new)) }
-    ensures err { OnErr result (Stopped (R.ends reader.old) (R.ends reader.new) (R.told reader.old) (R.told reader.new) (W.held writer.old) (W.held writer.new)) }
+    ensures ok { OnOk result (Served budget (R.told reader.old) (R.told reader.new)
+        (W.held writer.old) (W.held writer.new) (J.kept journal.new)) }
+    ensures err { OnErr result (Stopped (R.ends reader.old) (R.ends reader.new) (R.told reader.old)
+        (R.told reader.new) (W.held writer.old) (W.held writer.new)) }
     ensures read { IsErrOf result ServeStop.Read → R.failures reader.old < R.failures reader.new }
     ensures write { IsErrOf result ServeStop.Write → W.failures writer.old < W.failures writer.new }
     ensures ended { OnOk result (R.ends reader.old < R.ends reader.new) }
@@ -290,8 +296,10 @@ pub fn serve_here<R: Input, W: Output>(
     writer: &mut W,
     budget: u64,
 ) -> Result<Journal, ServeStop>
-    ensures ok { IfOk result (λ journal. Served budget (R.told reader.old) (R.told reader.new) (W.held writer.old) (W.held writer.new) journal.items) }
-    ensures err { OnErr result (Stopped (R.ends reader.old) (R.ends reader.new) (R.told reader.old) (R.told reader.new) (W.held writer.old) (W.held writer.new)) }
+    ensures ok { IfOk result (λ journal. Served budget (R.told reader.old) (R.told reader.new)
+        (W.held writer.old) (W.held writer.new) journal.items) }
+    ensures err { OnErr result (Stopped (R.ends reader.old) (R.ends reader.new) (R.told reader.old)
+        (R.told reader.new) (W.held writer.old) (W.held writer.new)) }
     ensures read { IsErrOf result ServeStop.Read → R.failures reader.old < R.failures reader.new }
     ensures write { IsErrOf result ServeStop.Write → W.failures writer.old < W.failures writer.new }
     ensures ended { OnOk result (R.ends reader.old < R.ends reader.new) }
@@ -322,9 +330,12 @@ pub fn serve_with<
     requires hands { (1 ≤ length hands.items) × (length hands.items ≤ 16) }
     requires none { J.kept journal.old ≡ [] }
     ensures hands { IfOk result (λ back. length back.items ≡ length hands.items) }
-    ensures counted { IfOk result (λ back. total H.turns back.items ≡ total H.turns hands.items + turns_of (J.kept journal.new)) }
-    ensures ok { OnOk result (Served budget (R.told reader.old) (R.told reader.new) (W.held writer.old) (W.held writer.new) (J.kept journal.new)) }
-    ensures err { OnErr result (Stopped (R.ends reader.old) (R.ends reader.new) (R.told reader.old) (R.told reader.new) (W.held writer.old) (W.held writer.new)) }
+    ensures counted { IfOk result (λ back. total H.turns back.items ≡ total H.turns hands.items
+        + turns_of (J.kept journal.new)) }
+    ensures ok { OnOk result (Served budget (R.told reader.old) (R.told reader.new)
+        (W.held writer.old) (W.held writer.new) (J.kept journal.new)) }
+    ensures err { OnErr result (Stopped (R.ends reader.old) (R.ends reader.new) (R.told reader.old)
+        (R.told reader.new) (W.held writer.old) (W.held writer.new)) }
     ensures read { IsErrOf result ServeStop.Read → R.failures reader.old < R.failures reader.new }
     ensures write { IsErrOf result ServeStop.Write → W.failures writer.old < W.failures writer.new }
     ensures ended { OnOk result (R.ends reader.old < R.ends reader.new) }
@@ -363,9 +374,12 @@ pub fn serve<H: LoadRules + Send + Drop, T: Threads + Wait + Sync, R: Input, W: 
 ) -> Result<(Vec<H>, Journal), ServeStop>
     requires { (1 ≤ length hands.items) × (length hands.items ≤ 16) }
     ensures hands { IfOk result (λ done. length done.0.items ≡ length hands.items) }
-    ensures counted { IfOk result (λ done. total H.turns done.0.items ≡ total H.turns hands.items + turns_of done.1.items) }
-    ensures ok { IfOk result (λ done. Served budget (R.told reader.old) (R.told reader.new) (W.held writer.old) (W.held writer.new) done.1.items) }
-    ensures err { OnErr result (Stopped (R.ends reader.old) (R.ends reader.new) (R.told reader.old) (R.told reader.new) (W.held writer.old) (W.held writer.new)) }
+    ensures counted { IfOk result (λ done. total H.turns done.0.items ≡ total H.turns hands.items
+        + turns_of done.1.items) }
+    ensures ok { IfOk result (λ done. Served budget (R.told reader.old) (R.told reader.new)
+        (W.held writer.old) (W.held writer.new) done.1.items) }
+    ensures err { OnErr result (Stopped (R.ends reader.old) (R.ends reader.new) (R.told reader.old)
+        (R.told reader.new) (W.held writer.old) (W.held writer.new)) }
     ensures read { IsErrOf result ServeStop.Read → R.failures reader.old < R.failures reader.new }
     ensures write { IsErrOf result ServeStop.Write → W.failures writer.old < W.failures writer.new }
     ensures ended { OnOk result (R.ends reader.old < R.ends reader.new) }
@@ -463,8 +477,10 @@ fn serve_lines<T: Threads + Wait + Sync, R: Input, W: Output, J: Runs>(
 ) -> Result<(), ServeStop>
     requires count { (1 ≤ count) × (count ≤ 16) }
     requires none { J.kept journal.old ≡ [] }
-    ensures ok { OnOk result (Served BUDGET (R.told reader.old) (R.told reader.new) (W.held writer.old) (W.held writer.new) (J.kept journal.new)) }
-    ensures err { OnErr result (Stopped (R.ends reader.old) (R.ends reader.new) (R.told reader.old) (R.told reader.new) (W.held writer.old) (W.held writer.new)) }
+    ensures ok { OnOk result (Served BUDGET (R.told reader.old) (R.told reader.new)
+        (W.held writer.old) (W.held writer.new) (J.kept journal.new)) }
+    ensures err { OnErr result (Stopped (R.ends reader.old) (R.ends reader.new) (R.told reader.old)
+        (R.told reader.new) (W.held writer.old) (W.held writer.new)) }
     ensures ended { OnOk result (R.ends reader.old < R.ends reader.new) }
 {
     if count == 1 {
@@ -485,9 +501,11 @@ fn serve_and_tell<T: Threads + Wait + Sync, R: Input, W: Output, E: Write>(
     errors: &mut E,
 ) -> u8
     requires { (1 ≤ count) × (count ≤ 16) }
-    ensures served { result ≡ 0 → (journal : List Run) × Served BUDGET (R.told reader.old) (R.told reader.new) (W.held writer.old) (W.held writer.new) journal }
+    ensures served { result ≡ 0 → (journal : List Run) × Served BUDGET (R.told reader.old)
+        (R.told reader.new) (W.held writer.old) (W.held writer.new) journal }
     ensures ended { result ≡ 0 → R.ends reader.old < R.ends reader.new }
-    ensures stopped { result ≡ 3 → Stopped (R.ends reader.old) (R.ends reader.new) (R.told reader.old) (R.told reader.new) (W.held writer.old) (W.held writer.new) }
+    ensures stopped { result ≡ 3 → Stopped (R.ends reader.old) (R.ends reader.new)
+        (R.told reader.old) (R.told reader.new) (W.held writer.old) (W.held writer.new) }
     ensures status { (result ≡ 0) ⊎ (result ≡ 3) }
 {
     let mut journal: Vec<Run> = Vec::new(alloc);
@@ -512,9 +530,11 @@ fn serve_alone<T: Threads + Wait + Sync, R: Input, W: Output, E: Write>(
     errors: &mut E,
 ) -> u8
     requires { (1 ≤ count) × (count ≤ 16) }
-    ensures served { result ≡ 0 → (journal : List Run) × Served BUDGET (R.told reader.old) (R.told reader.new) (W.held writer.old) (W.held writer.new) journal }
+    ensures served { result ≡ 0 → (journal : List Run) × Served BUDGET (R.told reader.old)
+        (R.told reader.new) (W.held writer.old) (W.held writer.new) journal }
     ensures ended { result ≡ 0 → R.ends reader.old < R.ends reader.new }
-    ensures stopped { result ≡ 3 → Stopped (R.ends reader.old) (R.ends reader.new) (R.told reader.old) (R.told reader.new) (W.held writer.old) (W.held writer.new) }
+    ensures stopped { result ≡ 3 → Stopped (R.ends reader.old) (R.ends reader.new)
+        (R.told reader.old) (R.told reader.new) (W.held writer.old) (W.held writer.new) }
     ensures status { (result ≡ 0) ⊎ (result ≡ 3) }
 {
     let mut runs = Unkept::new();
@@ -537,10 +557,13 @@ pub fn command<T: Threads + Wait + Sync, S: AsStr, R: Input, W: Output, E: Write
     writer: &mut W,
     errors: &mut E,
 ) -> u8
-    ensures served { result ≡ 0 → (journal : List Run) × Served BUDGET (R.told reader.old) (R.told reader.new) (W.held writer.old) (W.held writer.new) journal }
+    ensures served { result ≡ 0 → (journal : List Run) × Served BUDGET (R.told reader.old)
+        (R.told reader.new) (W.held writer.old) (W.held writer.new) journal }
     ensures ended { result ≡ 0 → R.ends reader.old < R.ends reader.new }
-    ensures stopped { result ≡ 3 → Stopped (R.ends reader.old) (R.ends reader.new) (R.told reader.old) (R.told reader.new) (W.held writer.old) (W.held writer.new) }
-    ensures bad_words { result ≡ 2 → (R.told reader.new ≡ R.told reader.old) × (W.held writer.new ≡ W.held writer.old) }
+    ensures stopped { result ≡ 3 → Stopped (R.ends reader.old) (R.ends reader.new)
+        (R.told reader.old) (R.told reader.new) (W.held writer.old) (W.held writer.new) }
+    ensures bad_words { result ≡ 2 → (R.told reader.new ≡ R.told reader.old)
+        × (W.held writer.new ≡ W.held writer.old) }
     ensures status { (result ≡ 0) ⊎ (result ≡ 2) ⊎ (result ≡ 3) }
 {
     match read_words(alloc, words) {

@@ -115,9 +115,12 @@ impl Session {
     /// touches are marked as dirty. What is refused changes nothing: what is reached is found out first, then the files are changed in place,
     /// and the marks take no memory.
     pub fn apply(&mut self, edit: &Edit<'_>) -> Result<u32, EditError>
-        ensures applies { state.Applies (edit_seen edit.now) (state_of self.old) (state_of self.new) result }
-        ensures history { OnOk result ((self.new.began ≡ self.old.began) × (self.new.edits ≡ self.old.edits ++ edit_seen edit.now ∷ [])) }
-        ensures marks { OnOk result (Marks (record_at self.old.graph) (record_at self.new.graph) (IsTouched (paths_of (edit_seen edit.now)))) }
+        ensures applies { state.Applies (edit_seen edit.now) (state_of self.old) (state_of self.new)
+            result }
+        ensures history { OnOk result ((self.new.began ≡ self.old.began)
+            × (self.new.edits ≡ self.old.edits ++ edit_seen edit.now ∷ [])) }
+        ensures marks { OnOk result (Marks (record_at self.old.graph) (record_at self.new.graph)
+            (IsTouched (paths_of (edit_seen edit.now)))) }
         ensures lawful { IsLawful self.new }
         ensures refused { OnErr result (self.new ≡ self.old) }
     {
@@ -136,8 +139,12 @@ impl Session {
     /// that is lawful stays so, and each run is justified. The files stay as they are, and after a stop too a later
     /// request is answered as from nothing.
     pub fn request(&mut self, request: &Request<'_>, budget: u64) -> Result<Reply, Stop>
-        ensures text { IfOk result (λ reply. answers.Tells (answers.IsRequestAnswer (request_seen request.now) (files_of self.old)) (string_bytes reply.text)) }
-        ensures moves { IfOk result (λ reply. Moves (request_effect (request_seen request.now) (state_of self.old)) self.old self.new reply.runs.items) }
+        ensures text { IfOk result
+            (λ reply. answers.Tells (answers.IsRequestAnswer (request_seen request.now)
+            (files_of self.old)) (string_bytes reply.text)) }
+        ensures moves { IfOk result
+            (λ reply. Moves (request_effect (request_seen request.now) (state_of self.old)) self.old
+            self.new reply.runs.items) }
         ensures turns { IfOk result (λ reply. turns_of reply.runs.items ≤ budget) }
         ensures stopped { OnErr result (StopsRequest (request_seen request.now) self.old self.new) }
         ensures history { (self.new.began ≡ self.old.began) × (self.new.edits ≡ self.old.edits) }
@@ -167,9 +174,15 @@ impl Session {
     ) -> Result<(Vec<R>, Reply), Stop>
         requires { (1 ≤ length hands.items) × (length hands.items ≤ 16) }
         ensures hands { IfOk result (λ done. length done.0.items ≡ length hands.items) }
-        ensures counted { IfOk result (λ done. total R.turns done.0.items ≡ total R.turns hands.items + turns_of done.1.runs.items) }
-        ensures text { IfOk result (λ done. answers.Tells (answers.IsRequestAnswer (request_seen request.now) (files_of self.old)) (string_bytes done.1.text)) }
-        ensures moves { IfOk result (λ done. Moves (request_effect (request_seen request.now) (state_of self.old)) self.old self.new done.1.runs.items) }
+        ensures counted { IfOk result
+            (λ done. total R.turns done.0.items ≡ total R.turns hands.items
+            + turns_of done.1.runs.items) }
+        ensures text { IfOk result
+            (λ done. answers.Tells (answers.IsRequestAnswer (request_seen request.now)
+            (files_of self.old)) (string_bytes done.1.text)) }
+        ensures moves { IfOk result
+            (λ done. Moves (request_effect (request_seen request.now) (state_of self.old)) self.old
+            self.new done.1.runs.items) }
         ensures turns { IfOk result (λ done. turns_of done.1.runs.items ≤ budget) }
         ensures stopped { OnErr result (StopsRequest (request_seen request.now) self.old self.new) }
         ensures history { (self.new.began ≡ self.old.began) × (self.new.edits ≡ self.old.edits) }
@@ -195,9 +208,13 @@ impl Session {
         request: &Request<'_>,
         budget: u64,
     ) -> Result<(Vec<Key>, Vec<Run>), Stop>
-        ensures roots { IfOk result (λ done. done.0.items ≡ told_roots (request_seen request.now) (files_of self.old)) }
-        ensures held { IfOk result (λ done. AreHeld (files_of self.old) done.0.items self.new.graph) }
-        ensures moves { IfOk result (λ done. Moves (evaluations (request_seen request.now) (state_of self.old)) self.old self.new done.1.items) }
+        ensures roots { IfOk result (λ done. done.0.items ≡ told_roots (request_seen request.now)
+            (files_of self.old)) }
+        ensures held { IfOk result
+            (λ done. AreHeld (files_of self.old) done.0.items self.new.graph) }
+        ensures moves { IfOk result
+            (λ done. Moves (evaluations (request_seen request.now) (state_of self.old)) self.old
+            self.new done.1.items) }
         ensures turns { IfOk result (λ done. turns_of done.1.items ≤ budget) }
         ensures stopped { OnErr result (StopsRequest (request_seen request.now) self.old self.new) }
         ensures history { (self.new.began ≡ self.old.began) × (self.new.edits ≡ self.old.edits) }
@@ -225,10 +242,16 @@ impl Session {
     ) -> Result<(Vec<R>, Vec<Key>, Vec<Run>), Stop>
         requires { (1 ≤ length hands.items) × (length hands.items ≤ 16) }
         ensures hands { IfOk result (λ done. length done.0.items ≡ length hands.items) }
-        ensures counted { IfOk result (λ done. total R.turns done.0.items ≡ total R.turns hands.items + turns_of done.2.items) }
-        ensures roots { IfOk result (λ done. done.1.items ≡ told_roots (request_seen request.now) (files_of self.old)) }
-        ensures held { IfOk result (λ done. AreHeld (files_of self.old) done.1.items self.new.graph) }
-        ensures moves { IfOk result (λ done. Moves (evaluations (request_seen request.now) (state_of self.old)) self.old self.new done.2.items) }
+        ensures counted { IfOk result
+            (λ done. total R.turns done.0.items ≡ total R.turns hands.items
+            + turns_of done.2.items) }
+        ensures roots { IfOk result (λ done. done.1.items ≡ told_roots (request_seen request.now)
+            (files_of self.old)) }
+        ensures held { IfOk result
+            (λ done. AreHeld (files_of self.old) done.1.items self.new.graph) }
+        ensures moves { IfOk result
+            (λ done. Moves (evaluations (request_seen request.now) (state_of self.old)) self.old
+            self.new done.2.items) }
         ensures turns { IfOk result (λ done. turns_of done.2.items ≤ budget) }
         ensures stopped { OnErr result (StopsRequest (request_seen request.now) self.old self.new) }
         ensures history { (self.new.began ≡ self.old.began) × (self.new.edits ≡ self.old.edits) }
@@ -249,7 +272,9 @@ impl Session {
     // Evaluates keys over the graph, in at most `budget` turns, and answers what that ran. Each of them that has a value for
     // the present files is then held with it.
     fn settle(&mut self, roots: &[Key], budget: u64) -> Result<Vec<Run>, Stop>
-        ensures law { IfOk result (λ runs. Calls next (read (files_of self.old)) roots.now self.old.graph self.new.graph (Ok runs.items)) }
+        ensures law { IfOk result
+            (λ runs. Calls next (read (files_of self.old)) roots.now self.old.graph self.new.graph
+            (Ok runs.items)) }
         ensures turns { IfOk result (λ runs. turns_of runs.items ≤ budget) }
         ensures held { OnOk result (AreHeld (files_of self.old) roots.now self.new.graph) }
         ensures stopped { OnErr result (StopsAfter roots.now self.old self.new) }
@@ -279,8 +304,12 @@ impl Session {
     ) -> Result<(Vec<R>, Vec<Run>), Stop>
         requires { (1 ≤ length hands.items) × (length hands.items ≤ 16) }
         ensures hands { IfOk result (λ done. length done.0.items ≡ length hands.items) }
-        ensures counted { IfOk result (λ done. total R.turns done.0.items ≡ total R.turns hands.items + turns_of done.1.items) }
-        ensures law { IfOk result (λ done. Calls next (read (files_of self.old)) roots.now self.old.graph self.new.graph (Ok done.1.items)) }
+        ensures counted { IfOk result
+            (λ done. total R.turns done.0.items ≡ total R.turns hands.items
+            + turns_of done.1.items) }
+        ensures law { IfOk result
+            (λ done. Calls next (read (files_of self.old)) roots.now self.old.graph self.new.graph
+            (Ok done.1.items)) }
         ensures turns { IfOk result (λ done. turns_of done.1.items ≤ budget) }
         ensures held { OnOk result (AreHeld (files_of self.old) roots.now self.new.graph) }
         ensures stopped { OnErr result (StopsAfter roots.now self.old self.new) }
@@ -303,7 +332,8 @@ impl Session {
 
 /// Compact JSON.
 pub fn written(alloc: Global, answer: &Value) -> Result<String, Memory>
-    ensures { IfOk result (λ text. has_float (json_view answer.now) ≡ false → string_bytes text ≡ compact_text (json_view answer.now)) }
+    ensures { IfOk result (λ text. has_float (json_view answer.now) ≡ false → string_bytes text
+        ≡ compact_text (json_view answer.now)) }
 {
     Ok(answer.to_string(alloc)?)
 }
@@ -353,7 +383,8 @@ pub fn accepted(alloc: Global, version: u32) -> Result<String, Memory>
 
 // The answer that tells a package's build file.
 fn build_answer(alloc: Global, found: Option<BuildName>) -> Result<Value, Memory>
-    ensures { IfOk result (λ value. json_view value ≡ answers.one_member (text_codes "build") (answers.build_text found)) }
+    ensures { IfOk result (λ value. json_view value ≡ answers.one_member (text_codes "build")
+        (answers.build_text found)) }
 {
     match found {
         Some(BuildName::BuildBazel) => Ok(json!(in alloc; {"build": "BUILD.bazel"})?),
@@ -364,7 +395,9 @@ fn build_answer(alloc: Global, found: Option<BuildName>) -> Result<Value, Memory
 
 /// The text of the answer that tells a package's build file.
 pub fn build_text(alloc: Global, found: Option<BuildName>) -> Result<String, Memory>
-    ensures { IfOk result (λ text. string_bytes text ≡ compact_text (answers.one_member (text_codes "build") (answers.build_text found))) }
+    ensures { IfOk result
+        (λ text. string_bytes text ≡ compact_text
+        (answers.one_member (text_codes "build") (answers.build_text found))) }
 {
     let answer = build_answer(alloc, found)?;
     written(alloc, &answer)
@@ -377,15 +410,22 @@ pub(crate) enum Step<'a> {
 }
 
 fn edit_answer(alloc: Global, session: &mut Session, edit: &Edit<'_>) -> Result<String, Memory>
-    ensures answer { IfOk result (λ text. answers.Tells (answers.IsAnswerTo (commands.change (edit_seen edit.now)) (state_of session.old)) (string_bytes text)
-        × (state_of session.new ≡ answers.state_by (commands.change (edit_seen edit.now)) (state_of session.old))) }
-    ensures moves { IfOk result (λ _. Moves (edit_effect (edit_seen edit.now) (state.refusal_of (edit_seen edit.now) (state_of session.old))) session.old session.new []) }
+    ensures answer { IfOk result
+        (λ text. answers.Tells (answers.IsAnswerTo (commands.change (edit_seen edit.now))
+        (state_of session.old)) (string_bytes text)
+        × (state_of session.new ≡ answers.state_by (commands.change (edit_seen edit.now))
+        (state_of session.old))) }
+    ensures moves { IfOk result
+        (λ _. Moves
+        (edit_effect (edit_seen edit.now)
+        (state.refusal_of (edit_seen edit.now) (state_of session.old))) session.old session.new
+        []) }
     ensures lawful { IsLawful session.old → IsLawful session.new }
 {
     match session.apply(edit) {
         Ok(version) => accepted(alloc, version),
         Err(EditError::Refused(n)) => refused(alloc, n),
-        Err(EditError::RefusedAt(at, n)) => refused_at(alloc, at, n),
+        Err(EditError::RefusedAt { at, number: n }) => refused_at(alloc, at, n),
         Err(EditError::Memory) => Err(Memory),
     }
 }
@@ -406,7 +446,9 @@ fn begin<'a>(
     session: &mut Session,
     value: &'a Option<Value>,
 ) -> Result<Step<'a>, Memory>
-    ensures begins { IfOk result (λ step. Begins (option_and_then commands.command_of (option_map json_view value.now)) session.old session.new step) }
+    ensures begins { IfOk result
+        (λ step. Begins (option_and_then commands.command_of (option_map json_view value.now))
+        session.old session.new step) }
     ensures lawful { IsLawful session.old → IsLawful session.new }
 {
     let Some(value) = value else {
@@ -430,7 +472,8 @@ fn ended(text: String) -> Result<String, Memory>
 
 // An answer with byte 10 behind it.
 fn ended_reply(reply: Reply) -> Result<Reply, Memory>
-    ensures { IfOk result (λ r. (string_bytes r.text ≡ string_bytes reply.text ++ 10 ∷ []) × (r.runs ≡ reply.runs)) }
+    ensures { IfOk result (λ r. (string_bytes r.text ≡ string_bytes reply.text ++ 10 ∷ [])
+        × (r.runs ≡ reply.runs)) }
 {
     Ok(Reply {
         text: ended(reply.text)?,
@@ -441,8 +484,9 @@ fn ended_reply(reply: Reply) -> Result<Reply, Memory>
 /// The answer to a line, with its byte 10, and what its evaluation ran, in at most `budget` turns. A stop leaves the files
 /// as they were, or with the line's edit made and its answer lost.
 pub fn answer(alloc: Global, session: &mut Session, line: &Line, budget: u64) -> Result<Reply, Stop>
-    ensures answer { IfOk result (λ answer. (whole : List ℕ) → Keeps line.now.bytes.items line.now.too_long whole
-        → AnswersLine whole session.old session.new (string_bytes answer.text) answer.runs.items) }
+    ensures answer { IfOk result (λ answer. (whole : List ℕ)
+        → Keeps line.now.bytes.items line.now.too_long whole → AnswersLine whole session.old
+        session.new (string_bytes answer.text) answer.runs.items) }
     ensures turns { IfOk result (λ answer. turns_of answer.runs.items ≤ budget) }
     ensures lawful { IsLawful session.old → IsLawful session.new }
 {
@@ -471,8 +515,10 @@ pub fn answer_with<H: LoadRules + Send + Drop, T: Threads + Wait + Sync>(
 ) -> Result<(Vec<H>, Reply), Stop>
     requires { (1 ≤ length hands.items) × (length hands.items ≤ 16) }
     ensures hands { IfOk result (λ done. length done.0.items ≡ length hands.items) }
-    ensures counted { IfOk result (λ done. total H.turns done.0.items ≡ total H.turns hands.items + turns_of done.1.runs.items) }
-    ensures answer { IfOk result (λ done. (whole : List ℕ) → Keeps line.now.bytes.items line.now.too_long whole
+    ensures counted { IfOk result (λ done. total H.turns done.0.items ≡ total H.turns hands.items
+        + turns_of done.1.runs.items) }
+    ensures answer { IfOk result
+        (λ done. (whole : List ℕ) → Keeps line.now.bytes.items line.now.too_long whole
         → AnswersLine whole session.old session.new (string_bytes done.1.text) done.1.runs.items) }
     ensures turns { IfOk result (λ done. turns_of done.1.runs.items ≤ budget) }
     ensures lawful { IsLawful session.old → IsLawful session.new }

@@ -32,7 +32,8 @@ use texts::{Memory, Text};
 
 /// The key of each package.
 pub fn package_keys(alloc: Global, names: &[&str]) -> Result<Vec<Key>, Memory>
-    ensures { IfOk result (λ roots. roots.items ≡ map (λ name. keys.Package name) (texts_seen names.now)) }
+    ensures { IfOk result (λ roots. roots.items ≡ map (λ name. keys.Package name)
+        (texts_seen names.now)) }
 {
     let mut roots = Vec::new(alloc);
     for name in names {
@@ -80,7 +81,10 @@ pub fn later_roots(
     request: &Request<'_>,
     roots: &[Key],
 ) -> Result<Option<Vec<Key>>, Memory>
-    ensures { IfOk result (λ found. (files : Files) → HasPaths files → roots.now ≡ request_roots (request_seen request.now) → AreHeld files roots.now graph.now → option_map (λ keys. keys.items) found ≡ effects.later_roots (request_seen request.now) files) }
+    ensures { IfOk result (λ found. (files : Files) → HasPaths files → roots.now ≡ request_roots
+        (request_seen request.now) → AreHeld files roots.now graph.now
+        → option_map (λ keys. keys.items) found ≡ effects.later_roots (request_seen request.now)
+        files) }
 {
     match request {
         Request::Find(_) => Ok(None),
@@ -106,7 +110,9 @@ fn named_keys(alloc: Global, names: &[Text]) -> Result<Vec<Key>, Memory>
 
 // The names that are held of the first of these keys.
 fn names_held<'a>(graph: &'a Graph, roots: &[Key]) -> &'a [Text]
-    ensures { (directory : List ℕ) (names : List (List ℕ)) → roots.now ≡ keys.Under directory ∷ [] → present (record_at graph.now (keys.Under directory)) ≡ Some (values.Paths names) → result.now ≡ names }
+    ensures { (directory : List ℕ) (names : List (List ℕ)) → roots.now ≡ keys.Under directory ∷ []
+        → present (record_at graph.now (keys.Under directory)) ≡ Some (values.Paths names)
+        → result.now ≡ names }
 {
     match roots.first() {
         Some(root) => held_names(graph.get(root)),
@@ -116,7 +122,8 @@ fn names_held<'a>(graph: &'a Graph, roots: &[Key]) -> &'a [Text]
 
 // The names that a value holds.
 fn held_names(value: Option<&Arc<Value>>) -> &[Text]
-    ensures { (names : List (List ℕ)) → option_map (λ v. arc_value v.now) value.entry ≡ Some (values.Paths names) → result.now ≡ names }
+    ensures { (names : List (List ℕ)) → option_map (λ v. arc_value v.now) value.entry
+        ≡ Some (values.Paths names) → result.now ≡ names }
 {
     match value {
         None => &[],
@@ -134,7 +141,10 @@ pub fn told(
     request: &Request<'_>,
     roots: &[Key],
 ) -> Result<String, Memory>
-    ensures { IfOk result (λ text. (files : Files) → HasPaths files → request_refusal (request_seen request.now) ≡ None → roots.now ≡ told_roots (request_seen request.now) files → AreHeld files roots.now graph.now → answers.Tells (answers.IsValueOf (request_seen request.now) files) (string_bytes text)) }
+    ensures { IfOk result (λ text. (files : Files) → HasPaths files
+        → request_refusal (request_seen request.now) ≡ None → roots.now ≡ told_roots
+        (request_seen request.now) files → AreHeld files roots.now graph.now
+        → answers.Tells (answers.IsValueOf (request_seen request.now) files) (string_bytes text)) }
 {
     match request {
         Request::Find(_) => build_text(alloc, found_by(graph, roots)),
@@ -146,7 +156,9 @@ pub fn told(
 
 // The packages that are held of these keys.
 fn packages_text(alloc: Global, graph: &Graph, roots: &[Key]) -> Result<String, Memory>
-    ensures { IfOk result (λ text. string_bytes text ≡ compact_text (packages_data (map (λ k. package_told k (present (record_at graph.now k))) roots.now))) }
+    ensures { IfOk result
+        (λ text. string_bytes text ≡ compact_text
+        (packages_data (map (λ k. package_told k (present (record_at graph.now k))) roots.now))) }
 {
     let mut out = Draft::new(alloc);
     write_packages(alloc, &mut out, graph, roots)?;
@@ -160,7 +172,9 @@ fn write_packages(
     graph: &Graph,
     roots: &[Key],
 ) -> Result<(), Memory>
-    ensures { OnOk result (out.new ≡ out.old ++ tokens_of (packages_data (map (λ k. package_told k (present (record_at graph.now k))) roots.now))) }
+    ensures { OnOk result
+        (out.new ≡ out.old ++ tokens_of
+        (packages_data (map (λ k. package_told k (present (record_at graph.now k))) roots.now))) }
 {
     begin_packages(out)?;
     for root in roots {
@@ -176,7 +190,9 @@ pub fn write_package_held(
     graph: &Graph,
     key: &Key,
 ) -> Result<(), Memory>
-    ensures { OnOk result (out.new ≡ out.old ++ tokens_of (package_told key.now (present (record_at graph.now key.now)))) }
+    ensures { OnOk result
+        (out.new ≡ out.old ++ tokens_of
+        (package_told key.now (present (record_at graph.now key.now)))) }
 {
     match graph.get(key) {
         Some(value) => write_package_shown(alloc, out, key.name(), value),
@@ -186,7 +202,8 @@ pub fn write_package_held(
 
 // The module that is held of the first of these keys.
 fn module_text(alloc: Global, graph: &Graph, roots: &[Key]) -> Result<String, Memory>
-    ensures { IfOk result (λ text. (k : Key) → roots.now ≡ k ∷ [] → string_bytes text ≡ compact_text (module_told (present (record_at graph.now k)))) }
+    ensures { IfOk result (λ text. (k : Key) → roots.now ≡ k ∷ [] → string_bytes text ≡ compact_text
+        (module_told (present (record_at graph.now k)))) }
 {
     let mut out = Draft::new(alloc);
     write_first_module(alloc, &mut out, graph, roots)?;
@@ -200,7 +217,8 @@ fn write_first_module(
     graph: &Graph,
     roots: &[Key],
 ) -> Result<(), Memory>
-    ensures { OnOk result ((k : Key) → roots.now ≡ k ∷ [] → out.new ≡ out.old ++ tokens_of (module_told (present (record_at graph.now k)))) }
+    ensures { OnOk result ((k : Key) → roots.now ≡ k ∷ [] → out.new ≡ out.old ++ tokens_of
+        (module_told (present (record_at graph.now k)))) }
 {
     match roots.first() {
         Some(root) => write_module_held(alloc, out, graph, root),
@@ -210,7 +228,8 @@ fn write_first_module(
 
 // Writes the module that is held of a key.
 fn write_module_held(alloc: Global, out: &mut Draft, graph: &Graph, key: &Key) -> Result<(), Memory>
-    ensures { OnOk result (out.new ≡ out.old ++ tokens_of (module_told (present (record_at graph.now key.now)))) }
+    ensures { OnOk result
+        (out.new ≡ out.old ++ tokens_of (module_told (present (record_at graph.now key.now)))) }
 {
     match graph.get(key) {
         Some(value) => write_module_shown(alloc, out, value),
@@ -220,14 +239,17 @@ fn write_module_held(alloc: Global, out: &mut Draft, graph: &Graph, key: &Key) -
 
 // The build file that is held of the first of these keys.
 fn found_by(graph: &Graph, roots: &[Key]) -> Option<BuildName>
-    ensures { (name : List ℕ) (found : Option BuildName) → roots.now ≡ keys.Lookup name ∷ [] → present (record_at graph.now (keys.Lookup name)) ≡ Some (values.Lookup found) → result ≡ found }
+    ensures { (name : List ℕ) (found : Option BuildName) → roots.now ≡ keys.Lookup name ∷ []
+        → present (record_at graph.now (keys.Lookup name)) ≡ Some (values.Lookup found)
+        → result ≡ found }
 {
     held_build(graph.get(roots.first()?))
 }
 
 // The build file that the value of a look-up holds.
 fn held_build(value: Option<&Arc<Value>>) -> Option<BuildName>
-    ensures { (found : Option BuildName) → option_map (λ v. arc_value v.now) value.entry ≡ Some (values.Lookup found) → result ≡ found }
+    ensures { (found : Option BuildName) → option_map (λ v. arc_value v.now) value.entry
+        ≡ Some (values.Lookup found) → result ≡ found }
 {
     match &**value? {
         Value::Lookup(found) => *found,
@@ -242,7 +264,8 @@ pub fn write_package_shown(
     name: &Text,
     value: &Value,
 ) -> Result<(), Memory>
-    ensures { OnOk result (out.new ≡ out.old ++ tokens_of (answers.package_shown name.now value.now)) }
+    ensures { OnOk result
+        (out.new ≡ out.old ++ tokens_of (answers.package_shown name.now value.now)) }
 {
     match value {
         Value::Package(targets) => write_package(alloc, out, name.as_str(), targets),

@@ -26,9 +26,12 @@ pub(crate) fn evaluate_with<R: LoadRules + Send + Drop, T: Threads + Wait + Sync
     budget: u64,
 ) -> Result<(Vec<R>, Vec<Run>), Stop>
     requires { (1 ≤ length hands.items) × (length hands.items ≤ 16) }
-    ensures law { IfOk result (λ done. Calls next (read tree.now) roots.now graph.old graph.new (Ok done.1.items)) }
-    ensures stopped { IfErr result (λ e. Calls next (read tree.now) roots.now graph.old graph.new (Err e)) }
-    ensures counted { IfOk result (λ done. total R.turns done.0.items ≡ total R.turns hands.items + turns_of done.1.items) }
+    ensures law { IfOk result (λ done. Calls next (read tree.now) roots.now graph.old graph.new
+        (Ok done.1.items)) }
+    ensures stopped { IfErr result (λ e. Calls next (read tree.now) roots.now graph.old graph.new
+        (Err e)) }
+    ensures counted { IfOk result (λ done. total R.turns done.0.items ≡ total R.turns hands.items
+        + turns_of done.1.items) }
     ensures hands { IfOk result (λ done. length done.0.items ≡ length hands.items) }
     ensures within { IfOk result (λ done. turns_of done.1.items ≤ budget) }
 {

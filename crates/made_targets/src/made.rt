@@ -13,7 +13,8 @@ use texts::{Memory, Text};
 
 /// The targets that were made, in byte order of their names.
 pub fn targets_made(alloc: Global, state: &State) -> Result<Targets, Memory>
-    ensures { IfOk result (λ targets. targets ≡ in_order (λ x. x.name) (world_of state.now).targets) }
+    ensures { IfOk result
+        (λ targets. targets ≡ in_order (λ x. x.name) (world_of state.now).targets) }
 {
     let set = ordered(alloc, state.targets.as_slice())?;
     let mut all = Vec::new(alloc);

@@ -21,7 +21,8 @@ pub fn method(
     xs: &[Val],
     named: &[(Text, Val)],
 ) -> Result<Val, Halt>
-    ensures { Says (method x name.now xs.now named.now (store_of heap.old)) result (store_of heap.new) }
+    ensures { Says (method x name.now xs.now named.now (store_of heap.old)) result
+        (store_of heap.new) }
 {
     match x {
         Val::At(place) => {
@@ -40,7 +41,8 @@ pub fn method(
 // A method of what stands at a place.
 #[tactic(auto, using(crate::proofs::Bridges::text_here, crate::proofs::Bridges::list_here, crate::proofs::Bridges::dict_here))]
 fn object_method(heap: &mut Heap, a: usize, name: &str, xs: &[Val]) -> Result<Val, Halt>
-    ensures { Says (object_method a (at a (store_of heap.old)) name.now xs.now (store_of heap.old)) result (store_of heap.new) }
+    ensures { Says (object_method a (at a (store_of heap.old)) name.now xs.now (store_of heap.old))
+        result (store_of heap.new) }
 {
     let found = heap.object(a)?;
     match found {

@@ -14,7 +14,8 @@ use texts::Memory;
 
 /// A method of a dictionary: fault 5, 11, 12, 13 or 25.
 pub fn dict_method(heap: &mut Heap, a: usize, name: &str, xs: &[Val]) -> Result<Val, Halt>
-    ensures { Says (of_dict (at a (store_of heap.old)) name.now xs.now (store_of heap.old)) result (store_of heap.new) }
+    ensures { Says (of_dict (at a (store_of heap.old)) name.now xs.now (store_of heap.old)) result
+        (store_of heap.new) }
 {
     if is_name(name, "get") {
         return get(heap, a, xs);
@@ -36,7 +37,8 @@ pub fn dict_method(heap: &mut Heap, a: usize, name: &str, xs: &[Val]) -> Result<
 
 // `get(k)` or `get(k, other)`
 fn get(heap: &mut Heap, a: usize, xs: &[Val]) -> Result<Val, Halt>
-    ensures { Says (get_at (at a (store_of heap.old)) xs.now (store_of heap.old)) result (store_of heap.new) }
+    ensures { Says (get_at (at a (store_of heap.old)) xs.now (store_of heap.old)) result
+        (store_of heap.new) }
 {
     match heap.object(a)? {
         Some(Object::Dict(_, _)) => {
@@ -54,7 +56,8 @@ fn get(heap: &mut Heap, a: usize, xs: &[Val]) -> Result<Val, Halt>
 // The value at a key, or another.
 #[tactic(auto, unfolding(crate::specs::Cases::get_other))]
 fn get_or_else(heap: &mut Heap, a: usize, k: Val, other: Val) -> Result<Val, Halt>
-    ensures { Says (get_other (at a (store_of heap.old)) k other (store_of heap.old)) result (store_of heap.new) }
+    ensures { Says (get_other (at a (store_of heap.old)) k other (store_of heap.old)) result
+        (store_of heap.new) }
 {
     let key = hash(heap, k)?;
     found_or(heap, a, &key, other)
@@ -62,7 +65,8 @@ fn get_or_else(heap: &mut Heap, a: usize, k: Val, other: Val) -> Result<Val, Hal
 
 // `keys()`, a new list.
 fn all_keys(heap: &mut Heap, a: usize) -> Result<Val, Halt>
-    ensures { Says (keys_at (at a (store_of heap.old)) (store_of heap.old)) result (store_of heap.new) }
+    ensures { Says (keys_at (at a (store_of heap.old)) (store_of heap.old)) result
+        (store_of heap.new) }
 {
     match heap.object(a)? {
         Some(Object::Dict(entries, _)) => {
@@ -75,7 +79,8 @@ fn all_keys(heap: &mut Heap, a: usize) -> Result<Val, Halt>
 
 // `values()`, a new list.
 fn all_values(heap: &mut Heap, a: usize) -> Result<Val, Halt>
-    ensures { Says (values_at (at a (store_of heap.old)) (store_of heap.old)) result (store_of heap.new) }
+    ensures { Says (values_at (at a (store_of heap.old)) (store_of heap.old)) result
+        (store_of heap.new) }
 {
     match heap.object(a)? {
         Some(Object::Dict(entries, _)) => {
@@ -88,7 +93,8 @@ fn all_values(heap: &mut Heap, a: usize) -> Result<Val, Halt>
 
 // `items()`, a new list of new pairs.
 fn all_items(heap: &mut Heap, a: usize) -> Result<Val, Halt>
-    ensures { Says (items_at (at a (store_of heap.old)) (store_of heap.old)) result (store_of heap.new) }
+    ensures { Says (items_at (at a (store_of heap.old)) (store_of heap.old)) result
+        (store_of heap.new) }
 {
     match heap.object(a)? {
         Some(Object::Dict(entries, _)) => {
@@ -142,7 +148,8 @@ fn tuple(heap: &mut Heap, pair: Entry) -> Result<Val, Halt>
 
 // The value that a dictionary has at a key, or another.
 fn found_or(heap: &Heap, a: usize, key: &Key, other: Val) -> Result<Val, Halt>
-    ensures { Says (found_other (at a (store_of heap.now)) other key.now (store_of heap.now)) result (store_of heap.now) }
+    ensures { Says (found_other (at a (store_of heap.now)) other key.now (store_of heap.now)) result
+        (store_of heap.now) }
 {
     match heap.object(a)? {
         Some(Object::Dict(entries, _)) => match found(entries, key) {

@@ -13,7 +13,8 @@ use meaning::faults;
 
 /// A method of a list: fault 5, 6, 7, 13 or 25.
 pub fn list_method(heap: &mut Heap, a: usize, name: &str, xs: &[Val]) -> Result<Val, Halt>
-    ensures { Says (of_list a (at a (store_of heap.old)) name.now xs.now (store_of heap.old)) result (store_of heap.new) }
+    ensures { Says (of_list a (at a (store_of heap.old)) name.now xs.now (store_of heap.old)) result
+        (store_of heap.new) }
 {
     if is_name(name, "append") {
         return append(heap, a, xs);
@@ -37,7 +38,8 @@ pub fn add_in_place(heap: &mut Heap, x: Val, y: Val) -> Result<Val, Halt>
 
 // Adds what stands at a place to what stands at another, in place where both are lists.
 fn add_objects(heap: &mut Heap, a: usize, b: usize) -> Result<Val, Halt>
-    ensures { Says (objects_added a (at a (store_of heap.old)) b (at b (store_of heap.old)) (store_of heap.old)) result (store_of heap.new) }
+    ensures { Says (objects_added a (at a (store_of heap.old)) b (at b (store_of heap.old))
+        (store_of heap.old)) result (store_of heap.new) }
 {
     let more = match (heap.object(a)?, heap.object(b)?) {
         (Some(Object::List(_, _)), Some(Object::List(members, _))) => {
@@ -53,7 +55,8 @@ fn add_objects(heap: &mut Heap, a: usize, b: usize) -> Result<Val, Halt>
 
 // `append(x)`
 fn append(heap: &mut Heap, a: usize, xs: &[Val]) -> Result<Val, Halt>
-    ensures { Says (append_to a (at a (store_of heap.old)) xs.now (store_of heap.old)) result (store_of heap.new) }
+    ensures { Says (append_to a (at a (store_of heap.old)) xs.now (store_of heap.old)) result
+        (store_of heap.new) }
 {
     let [_] = xs else {
         return Err(Halt::Code(faults::WRONG_ARGUMENTS));
@@ -64,7 +67,8 @@ fn append(heap: &mut Heap, a: usize, xs: &[Val]) -> Result<Val, Halt>
 
 // `extend(x)`, whose items are taken first.
 fn extend(heap: &mut Heap, a: usize, xs: &[Val]) -> Result<Val, Halt>
-    ensures { Says (extend_to a (at a (store_of heap.old)) xs.now (store_of heap.old)) result (store_of heap.new) }
+    ensures { Says (extend_to a (at a (store_of heap.old)) xs.now (store_of heap.old)) result
+        (store_of heap.new) }
 {
     let [x] = xs else {
         return Err(Halt::Code(faults::WRONG_ARGUMENTS));
@@ -76,7 +80,8 @@ fn extend(heap: &mut Heap, a: usize, xs: &[Val]) -> Result<Val, Halt>
 
 // Adds members at the end of a list, in place.
 fn adds(heap: &mut Heap, a: usize, more: &[Val]) -> Result<(), Halt>
-    ensures { Says (adds a (at a (store_of heap.old)) more.now (store_of heap.old)) result (store_of heap.new) }
+    ensures { Says (adds a (at a (store_of heap.old)) more.now (store_of heap.old)) result
+        (store_of heap.new) }
 {
     match heap.object(a)? {
         Some(Object::List(_, frozen)) => {
@@ -104,7 +109,8 @@ fn may_change(heap: &Heap, a: usize, frozen: bool) -> Result<(), Halt>
 
 // Members at the end of a list, or fault 13.
 fn extend_members(heap: &mut Heap, a: usize, more: &[Val]) -> Result<(), Halt>
-    ensures { Says (extended a (at a (store_of heap.old)) more.now (store_of heap.old)) result (store_of heap.new) }
+    ensures { Says (extended a (at a (store_of heap.old)) more.now (store_of heap.old)) result
+        (store_of heap.new) }
 {
     let Some(Object::List(mut members, frozen)) = heap.take(a)? else {
         return Err(Halt::Code(faults::WRONG_TYPE));

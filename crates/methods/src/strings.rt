@@ -14,7 +14,8 @@ use meaning::faults;
 
 /// A method of a string: fault 5, 13 or 25.
 pub fn text_method(heap: &mut Heap, whole: &[u8], name: &str, xs: &[Val]) -> Result<Val, Halt>
-    ensures { Says (of_text whole.now name.now xs.now (store_of heap.old)) result (store_of heap.new) }
+    ensures { Says (of_text whole.now name.now xs.now (store_of heap.old)) result
+        (store_of heap.new) }
 {
     if is_name(name, "startswith") {
         let part = only_text(heap, xs)?;
@@ -87,7 +88,8 @@ fn make_copy(heap: &mut Heap, bytes: &[u8]) -> Result<Val, Halt>
 
 // New strings, in order.
 fn make_copies(heap: &mut Heap, parts: &[&[u8]]) -> Result<Vec<Val>, Halt>
-    ensures { SaysItems (makes_texts (shown parts.now) (store_of heap.old)) result (store_of heap.new) }
+    ensures { SaysItems (makes_texts (shown parts.now) (store_of heap.old)) result
+        (store_of heap.new) }
 {
     let mut all = Vec::new(heap.alloc);
     for part in parts {
@@ -101,7 +103,8 @@ fn make_copies(heap: &mut Heap, parts: &[&[u8]]) -> Result<Vec<Val>, Halt>
 
 // `join(x)`
 fn join(heap: &mut Heap, separator: &[u8], xs: &[Val]) -> Result<Val, Halt>
-    ensures { Says (joins_items separator.now xs.now (store_of heap.old)) result (store_of heap.new) }
+    ensures { Says (joins_items separator.now xs.now (store_of heap.old)) result
+        (store_of heap.new) }
 {
     let [x] = xs else {
         return Err(Halt::Code(faults::WRONG_ARGUMENTS));

@@ -56,7 +56,15 @@ impl Module {
         functions: Vec<Function>,
         defaults: Vec<Defaults>,
     ) -> Result<Module, Memory>
-        ensures { IfOk result (λ m. m ≡ record { label = label; path = path; own = own.items; loaded = loaded.items; functions = functions.items; defaults = defaults.items }) }
+        ensures { IfOk result
+            (λ m. m ≡ record {
+              label = label;
+              path = path;
+              own = own.items;
+              loaded = loaded.items;
+              functions = functions.items;
+              defaults = defaults.items;
+            }) }
     {
         let parts = Parts {
             label,

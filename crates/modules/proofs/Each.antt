@@ -9,7 +9,7 @@ use Rattle.module_values.specs.Values.{Body, Loaded}
 use Rattle.language.specs.Modules.{all_bodies, each_once}
 use Rattle.tree.specs.Tree.{Ld}
 use Rattle.tree.specs.Statements.{load_of}
-use Rattle.tree.specs.declared.stmt.LoadStmt.{LoadStmt}
+use Rattle.tree.specs.declared.def.LoadStmt.{LoadStmt}
 use Rattle.language.specs.Files.{frozen_loads}
 use Rattle.modules.specs.Once.{labels_of}
 

@@ -24,7 +24,17 @@ fn module_of(
     own: Vec<Binding>,
     defaults: Vec<Defaults>,
 ) -> Result<Module, Memory>
-    ensures { IfOk result (λ m. m ≡ record { label = at.now.label; path = at.now.path; own = own.items; loaded = frozen_loads (map load_of file.now.loads.items) loads.now; functions = defs (map top_of file.now.tops.items); defaults = defaults.items }) }
+    ensures { IfOk result
+        (λ m. m ≡ record {
+          label = at.now.label;
+          path = at.now.path;
+          own = own.items;
+          loaded =
+              frozen_loads (map load_of file.now.loads.items) loads.now;
+          functions = defs
+              (map top_of file.now.tops.items);
+          defaults = defaults.items;
+        }) }
 {
     let loaded = frozen_loads(alloc, file.loads.as_slice(), loads)?;
     let functions = functions_of(alloc, file.tops.as_slice())?;
@@ -46,7 +56,10 @@ pub fn frozen_module(
     file: &File,
     loads: &[Loaded],
 ) -> Result<Loaded, Halt>
-    ensures says { (env : Env) (line : ℕ) (running : List (List ℕ × List ℕ)) → env.label ≡ at.now.label → env.path ≡ at.now.path → env.file ≡ file_of file.now → env.loads ≡ loads.now → let here = here_of at.now line running in Ran here.site (frozen_module env here (world_of state.old)) result (world_of state.new) }
+    ensures says { (env : Env) (line : ℕ) (running : List (List ℕ × List ℕ)) → env.label
+        ≡ at.now.label → env.path ≡ at.now.path → env.file ≡ file_of file.now → env.loads
+        ≡ loads.now → let here = here_of at.now line running in
+        Ran here.site (frozen_module env here (world_of state.old)) result (world_of state.new) }
     ensures steps { IfOk result (λ _. state.new.heap.steps ≤ state.old.heap.steps) }
 {
     let alloc = state.heap.alloc;

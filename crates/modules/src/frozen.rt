@@ -28,7 +28,8 @@ fn freeze_value(heap: &mut Heap, x: Val) -> Result<FrozenValue, Halt>
 
 // Values, frozen, in order.
 fn freeze_values(heap: &mut Heap, xs: &[Val]) -> Result<Vec<FrozenValue>, Halt>
-    ensures says { SaysFrozen (freeze_values xs.now (store_of heap.old)) result (store_of heap.new) }
+    ensures says { SaysFrozen (freeze_values xs.now (store_of heap.old)) result
+        (store_of heap.new) }
     ensures steps { IfOk result (λ _. heap.new.steps ≤ heap.old.steps) }
 {
     let mut all = Vec::new(heap.alloc);
@@ -53,7 +54,8 @@ fn bound_value(block: &Block, x: &Text, place: usize) -> Option<Val>
 
 // The values of names of a block, frozen in order: fault 4 for one without a value, 11 or 12.
 fn freeze_names(heap: &mut Heap, block: &Block, names: &[Slot]) -> Result<Vec<Binding>, Halt>
-    ensures says { SaysItems (freeze_names (held block.now) (slot_names names.now) (store_of heap.old)) result (store_of heap.new) }
+    ensures says { SaysItems (freeze_names (held block.now) (slot_names names.now)
+        (store_of heap.old)) result (store_of heap.new) }
     ensures steps { IfOk result (λ _. heap.new.steps ≤ heap.old.steps) }
 {
     let mut all = Vec::new(heap.alloc);
@@ -78,7 +80,9 @@ pub fn freeze_globals(
     label: &Text,
     names: &[Slot],
 ) -> Result<Vec<Binding>, Halt>
-    ensures says { SaysItems (freeze_names (block_among (names_at label.now (map names_of files.now))) (slot_names names.now) (store_of heap.old)) result (store_of heap.new) }
+    ensures says { SaysItems
+        (freeze_names (block_among (names_at label.now (map names_of files.now)))
+        (slot_names names.now) (store_of heap.old)) result (store_of heap.new) }
     ensures steps { IfOk result (λ _. heap.new.steps ≤ heap.old.steps) }
 {
     match file_with(files, label) {
@@ -97,7 +101,8 @@ pub fn freeze_defaults(
     label: &Text,
     tops: &[Top],
 ) -> Result<Vec<Defaults>, Halt>
-    ensures says { SaysItems (freeze_defaults (names_at label.now (map names_of files.now)) (defs (map top_of tops.now)) (store_of heap.old)) result (store_of heap.new) }
+    ensures says { SaysItems (freeze_defaults (names_at label.now (map names_of files.now))
+        (defs (map top_of tops.now)) (store_of heap.old)) result (store_of heap.new) }
     ensures steps { IfOk result (λ _. heap.new.steps ≤ heap.old.steps) }
 {
     let mut all = Vec::new(heap.alloc);

@@ -32,7 +32,9 @@ pub fn keep_defaults(
     name: &Text,
     values: Vec<Val>,
 ) -> Result<(), Halt>
-    ensures says { (here : Here) → Ran here.site (keep_defaults label.now name.now values.items (world_of state.old)) result (world_of state.new) }
+    ensures says { (here : Here)
+        → Ran here.site (keep_defaults label.now name.now values.items (world_of state.old)) result
+        (world_of state.new) }
     ensures heap { state.new.heap ≡ state.old.heap }
 {
     let Some(i) = file_at(state.files.as_slice(), label) else {

@@ -15,7 +15,8 @@ use tree::{LoadItem, LoadStmt, Top};
 
 // The values of a load's items, under their names, behind others.
 fn add_items(all: &mut Vec<Binding>, body: &Module, items: &[LoadItem]) -> Result<(), Memory>
-    ensures { OnOk result (all.new.items ≡ all.old.items ++ frozen_items body.now (map item_of items.now)) }
+    ensures { OnOk result (all.new.items ≡ all.old.items ++ frozen_items body.now
+        (map item_of items.now)) }
 {
     for item in items.iter() {
         if let Some(f) = exported(body, &item.exported) {

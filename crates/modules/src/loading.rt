@@ -15,7 +15,9 @@ use tree::LoadItem;
 
 // Binds an item of a load.
 fn load_item(state: &mut State, at: &Standing, body: &Module, item: &LoadItem) -> Result<(), Halt>
-    ensures says { (line : ℕ) (running : List (List ℕ × List ℕ)) → let here = here_of at.now line running in Ran here.site (load_items body.now (item_of item.now ∷ []) here (world_of state.old)) result (world_of state.new) }
+    ensures says { (line : ℕ) (running : List (List ℕ × List ℕ)) → let here = here_of at.now line
+        running in Ran here.site (load_items body.now (item_of item.now ∷ []) here
+        (world_of state.old)) result (world_of state.new) }
     ensures steps { IfOk result (λ _. state.new.heap.steps ≡ state.old.heap.steps) }
 {
     let Some(f) = exported(body, &item.exported) else {
@@ -40,7 +42,9 @@ pub fn load_items(
     body: &Module,
     items: &[LoadItem],
 ) -> Result<(), Halt>
-    ensures says { (line : ℕ) (running : List (List ℕ × List ℕ)) → let here = here_of at.now line running in Ran here.site (load_items body.now (map item_of items.now) here (world_of state.old)) result (world_of state.new) }
+    ensures says { (line : ℕ) (running : List (List ℕ × List ℕ)) → let here = here_of at.now line
+        running in Ran here.site (load_items body.now (map item_of items.now) here
+        (world_of state.old)) result (world_of state.new) }
     ensures steps { IfOk result (λ _. state.new.heap.steps ≡ state.old.heap.steps) }
 {
     for item in items.iter() {

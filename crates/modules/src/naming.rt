@@ -14,7 +14,9 @@ use texts::Text;
 
 // Puts the names of a module on the heap.
 fn thaw_body(state: &mut State, body: &Module) -> Result<(), Halt>
-    ensures says { (here : Here) → Ran here.site (thaw_body (Some body.now) here (world_of state.old)) result (world_of state.new) }
+    ensures says { (here : Here)
+        → Ran here.site (thaw_body (Some body.now) here (world_of state.old)) result
+        (world_of state.new) }
     ensures steps { IfOk result (λ _. state.new.heap.steps ≡ state.old.heap.steps) }
 {
     let mut slots = Vec::new(state.heap.alloc);
@@ -45,7 +47,9 @@ fn thaw_body(state: &mut State, body: &Module) -> Result<(), Halt>
 ///
 /// `Halt::Memory` where memory is refused.
 pub fn need_names(state: &mut State, loads: &[Loaded], label: &Text) -> Result<(), Halt>
-    ensures says { (env : Env) (here : Here) → env.loads ≡ loads.now → Ran here.site (need_names env label.now here (world_of state.old)) result (world_of state.new) }
+    ensures says { (env : Env) (here : Here) → env.loads ≡ loads.now
+        → Ran here.site (need_names env label.now here (world_of state.old)) result
+        (world_of state.new) }
     ensures steps { IfOk result (λ _. state.new.heap.steps ≡ state.old.heap.steps) }
 {
     if file_with(state.files.as_slice(), label).is_some() {

@@ -20,7 +20,8 @@ fn module_at<'a>(modules: &'a [Module], label: &Text) -> Option<&'a Module>
 
 // The module with a label, of those that a load reaches.
 fn module_in<'a>(loaded: &'a Loaded, label: &Text) -> Option<&'a Module>
-    ensures { let m = loaded.now in option_map (λ m. m.now) result ≡ body_at label.now (m.body ∷ m.reached) }
+    ensures { let m = loaded.now in option_map (λ m. m.now) result ≡ body_at label.now
+        (m.body ∷ m.reached) }
 {
     if *label == *loaded.body().label() {
         return Some(loaded.body());

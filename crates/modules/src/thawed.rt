@@ -21,7 +21,8 @@ pub fn thaw_value(heap: &mut Heap, f: &FrozenValue) -> Result<Val, Halt>
 
 // Frozen values on a heap, in order.
 fn thaw_values(heap: &mut Heap, values: &[FrozenValue]) -> Result<Vec<Val>, Halt>
-    ensures says { SaysItems (thaw_members (members_of values.now) (store_of heap.old)) result (store_of heap.new) }
+    ensures says { SaysItems (thaw_members (members_of values.now) (store_of heap.old)) result
+        (store_of heap.new) }
     ensures steps { IfOk result (λ _. heap.new.steps ≡ heap.old.steps) }
 {
     let mut all = Vec::new(heap.alloc);
@@ -36,7 +37,9 @@ fn thaw_values(heap: &mut Heap, values: &[FrozenValue]) -> Result<Vec<Val>, Halt
 
 /// Names with their values on a heap, behind the others of a block.
 pub fn thaw_names(heap: &mut Heap, bindings: &[Binding], block: &mut Vec<Slot>) -> Result<(), Halt>
-    ensures says { SaysBlock (behind (block_of block.old) (thaw_names bindings.now (store_of heap.old))) result (block_of block.new) (store_of heap.new) }
+    ensures says { SaysBlock
+        (behind (block_of block.old) (thaw_names bindings.now (store_of heap.old))) result
+        (block_of block.new) (store_of heap.new) }
     ensures steps { IfOk result (λ _. heap.new.steps ≡ heap.old.steps) }
 {
     for b in bindings.iter() {
@@ -52,7 +55,8 @@ pub fn thaw_names(heap: &mut Heap, bindings: &[Binding], block: &mut Vec<Slot>) 
 
 /// The values of functions' defaults on a heap.
 pub fn thaw_defaults(heap: &mut Heap, defaults: &[Defaults]) -> Result<Vec<Kept>, Halt>
-    ensures says { SaysKept (thaw_defaults defaults.now (store_of heap.old)) result (store_of heap.new) }
+    ensures says { SaysKept (thaw_defaults defaults.now (store_of heap.old)) result
+        (store_of heap.new) }
     ensures steps { IfOk result (λ _. heap.new.steps ≡ heap.old.steps) }
 {
     let mut all = Vec::new(heap.alloc);

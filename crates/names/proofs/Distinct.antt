@@ -1,10 +1,8 @@
 -- Names each of which stands once: a name is first where it stands, more names, and names that stay.
 use Rattle.std.proofs.Common.{◌≡◌, ◌<◌, ◌+◌, ◌++◌, ◌||◌, ℕ, zero, suc, Bool, true, false, cond, List, [], ◌∷◌, length, take, get_or, refl, ap, sym, subst, ◌∙◌, arith}
 use Rattle.std.proofs.lemmas.Bool.Decides.{nat_tests}
-use Rattle.std.specs.Prelude.{slice_set, not, nat_lt, position, Some, None}
-use Rattle.std.specs.List.{position_or_len}
-use Rattle.std.specs.Prelude.{nat_eq, Option, is_some}
-use Rattle.std.specs.List.{list_any}
+use Rattle.std.specs.Prelude.{slice_set, not, nat_lt, position, Some, None, nat_eq, Option, is_some}
+use Rattle.std.specs.List.{position_or_len, list_any}
 use Rattle.std.specs.Cmp.Lexicographic.{pointwise}
 use Rattle.indexmap.specs.IndexSet.{insert_key}
 use lib.Pointwise.{bytes_decides}

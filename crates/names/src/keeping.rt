@@ -78,7 +78,10 @@ fn values_at<'a>(kept: &'a [Kept], place: Option<usize>) -> &'a [Val]
 
 // The names of functions with one more, where it is none of them.
 fn with_name(index: Option<IndexSet<Text>>, name: &Text) -> Result<Option<IndexSet<Text>>, Memory>
-    ensures { IfOk result (λ now. IfSome now (λ s. IsSomeAnd index (λ o. (has_name name.now o.keys ≡ false) × (s.keys ≡ o.keys ++ name.now ∷ [])))) }
+    ensures { IfOk result
+        (λ now. IfSome now
+        (λ s. IsSomeAnd index (λ o. (has_name name.now o.keys ≡ false)
+        × (s.keys ≡ o.keys ++ name.now ∷ [])))) }
 {
     let Some(names) = index else {
         return Ok(None);

@@ -101,7 +101,8 @@ impl Made {
     /// Adds a target as the last, if none has its name, and returns whether none had. `Memory` where a growth was refused:
     /// none is added.
     pub fn add(&mut self, target: Target) -> Result<bool, Memory>
-        ensures added { IfOk result (λ added. added ≡ not (has_name target.name (map name_of self.old))) }
+        ensures added { IfOk result
+            (λ added. added ≡ not (has_name target.name (map name_of self.old))) }
         ensures last { IfOk result (λ added. OnTrue added (self.new ≡ self.old ++ target ∷ [])) }
         ensures same { IfOk result (λ added. OnFalse added (self.new ≡ self.old)) }
         ensures refused { OnErr result (self.new ≡ self.old) }

@@ -91,7 +91,9 @@ fn few_differ(slots: &[Slot]) -> bool
 
 // The names of many slots, where each stands once.
 fn index_of(alloc: Global, slots: &[Slot]) -> Result<Option<IndexSet<Text>>, Memory>
-    ensures { IfOk result (λ o. IfSome o (λ s. (s.keys ≡ names_in slots.now) × (differ (names_in slots.now) ≡ true))) }
+    ensures { IfOk result
+        (λ o. IfSome o (λ s. (s.keys ≡ names_in slots.now)
+        × (differ (names_in slots.now) ≡ true))) }
 {
     let mut index = IndexSet::new(alloc);
     for slot in slots.iter() {
@@ -104,6 +106,18 @@ fn index_of(alloc: Global, slots: &[Slot]) -> Result<Option<IndexSet<Text>>, Mem
 }
 
 impl Block {
+    /// A block with these slots, whose names differ. They are few: else `new` makes a set of them.
+    pub fn of_few(slots: Vec<Slot>) -> Block
+        requires { differ (names_in slots.items) ≡ true }
+        ensures { held result ≡ block_of slots }
+    {
+        Block {
+            slots,
+            once: true,
+            index: None,
+        }
+    }
+
     /// A block with these slots.
     ///
     /// # Errors

@@ -28,7 +28,8 @@ fn file_slot(files: &[FileNames], label: &Text, x: &Text, last: &AtomicUsize) ->
 
 /// What a name is in a scope: one of the blocks, else a global of the file; `last` is where it was found last.
 pub fn slot_in_scope(scope: &Scope<'_>, x: &Text, last: &AtomicUsize) -> Option<Option<Val>>
-    ensures { result ≡ or_else (slot_among x.now (map held scope.now.blocks.now)) (file_slot x.now (names_at scope.now.at.now.label (map names_of scope.now.files.now))) }
+    ensures { result ≡ or_else (slot_among x.now (map held scope.now.blocks.now))
+        (file_slot x.now (names_at scope.now.at.now.label (map names_of scope.now.files.now))) }
 {
     match slot_among(scope.blocks, x, last) {
         Some(value) => Some(value),
@@ -38,7 +39,8 @@ pub fn slot_in_scope(scope: &Scope<'_>, x: &Text, last: &AtomicUsize) -> Option<
 
 /// What a name is where it stands: one of the blocks, else a global of the file; `last` is where it was found last.
 pub fn slot(state: &State, at: &Standing, x: &Text, last: &AtomicUsize) -> Option<Option<Val>>
-    ensures { result ≡ or_else (slot_among x.now (map held state.now.blocks.items)) (file_slot x.now (names_at at.now.label (map names_of state.now.files.items))) }
+    ensures { result ≡ or_else (slot_among x.now (map held state.now.blocks.items))
+        (file_slot x.now (names_at at.now.label (map names_of state.now.files.items))) }
 {
     let scope = Scope {
         blocks: state.blocks.as_slice(),
@@ -50,7 +52,9 @@ pub fn slot(state: &State, at: &Standing, x: &Text, last: &AtomicUsize) -> Optio
 
 // The value of a universal name.
 fn read_universal(at: &Standing, x: &Text) -> Result<Val, Halt>
-    ensures { (line : ℕ) (running : List (List ℕ × List ℕ)) (w : World) → let here = here_of at.now line running in Ran here.site (read_universal x.now here w) result w }
+    ensures { (line : ℕ) (running : List (List ℕ × List ℕ)) (w : World)
+        → let here = here_of at.now line running in Ran here.site (read_universal x.now here w)
+        result w }
 {
     if is_native(at.kind, x) {
         return Err(Halt::Code(faults::WRONG_TYPE));
@@ -63,7 +67,9 @@ fn read_universal(at: &Standing, x: &Text) -> Result<Val, Halt>
 
 /// The value of a name in a scope: fault 4 where it has none, and 5 for `native` that is not before a dot.
 pub fn read_in_scope(scope: &Scope<'_>, x: &Text, last: &AtomicUsize) -> Result<Val, Halt>
-    ensures { (line : ℕ) (running : List (List ℕ × List ℕ)) (store : Store) (targets : List Target) → let here = here_of scope.now.at.now line running in let w = world_in store scope.now targets in Ran here.site (read x.now here w) result w }
+    ensures { (line : ℕ) (running : List (List ℕ × List ℕ)) (store : Store) (targets : List Target)
+        → let here = here_of scope.now.at.now line running in let w = world_in store scope.now
+        targets in Ran here.site (read x.now here w) result w }
 {
     match slot_in_scope(scope, x, last) {
         Some(Some(value)) => Ok(value),
@@ -74,7 +80,8 @@ pub fn read_in_scope(scope: &Scope<'_>, x: &Text, last: &AtomicUsize) -> Result<
 
 /// The value of a name: fault 4 where it has none, and 5 for `native` that is not before a dot.
 pub fn read(state: &State, at: &Standing, x: &Text, last: &AtomicUsize) -> Result<Val, Halt>
-    ensures { (line : ℕ) (running : List (List ℕ × List ℕ)) → let here = here_of at.now line running in Ran here.site (read x.now here (world_of state.now)) result (world_of state.now) }
+    ensures { (line : ℕ) (running : List (List ℕ × List ℕ)) → let here = here_of at.now line running
+        in Ran here.site (read x.now here (world_of state.now)) result (world_of state.now) }
 {
     let scope = Scope {
         blocks: state.blocks.as_slice(),
@@ -86,7 +93,8 @@ pub fn read(state: &State, at: &Standing, x: &Text, last: &AtomicUsize) -> Resul
 
 /// Whether a name is the `native` of .bzl files.
 pub fn is_native_name(state: &State, at: &Standing, x: &Text, last: &AtomicUsize) -> bool
-    ensures { (line : ℕ) (running : List (List ℕ × List ℕ)) → result ≡ is_native_name (tree.name x.now) (here_of at.now line running) (world_of state.now) }
+    ensures { (line : ℕ) (running : List (List ℕ × List ℕ)) → result ≡ is_native_name
+        (tree.name x.now) (here_of at.now line running) (world_of state.now) }
 {
     if !is_native(at.kind, x) {
         return false;
@@ -102,7 +110,9 @@ pub fn bind(
     last: &AtomicUsize,
     value: Val,
 ) -> Result<(), Halt>
-    ensures says { (line : ℕ) (running : List (List ℕ × List ℕ)) → let here = here_of at.now line running in Ran here.site (bind x.now value here (world_of state.old)) result (world_of state.new) }
+    ensures says { (line : ℕ) (running : List (List ℕ × List ℕ)) → let here = here_of at.now line
+        running in Ran here.site (bind x.now value here (world_of state.old)) result
+        (world_of state.new) }
     ensures heap { state.new.heap ≡ state.old.heap }
 {
     if bind_among(&mut state.blocks, x, last, value) {
@@ -119,7 +129,10 @@ fn bind_global(
     last: &AtomicUsize,
     value: Val,
 ) -> Result<(), Halt>
-    ensures { (line : ℕ) (running : List (List ℕ × List ℕ)) (u : World) → u.files ≡ map names_of files.old.items → let here = here_of at.now line running in Ran here.site (bind_global (file_slot x.now (names_at at.now.label u.files)) x.now value here u) result (record u { files = map names_of files.new.items }) }
+    ensures { (line : ℕ) (running : List (List ℕ × List ℕ)) (u : World) → u.files
+        ≡ map names_of files.old.items → let here = here_of at.now line running in
+        Ran here.site (bind_global (file_slot x.now (names_at at.now.label u.files)) x.now value
+        here u) result (record u { files = map names_of files.new.items }) }
 {
     let Some(i) = file_at(files.as_slice(), &at.label) else {
         return Err(Halt::Code(faults::BOUND_TWICE));

@@ -1,8 +1,8 @@
 -- Records that are put at the keys of several entries, and their edges.
 use Rattle.std.proofs.Common.{◌≡◌, ◌≢◌, ◌⊎◌, inl, inr, ℕ, ◌+◌, ◌<◌, ◌≤◌, ◌↔◌, arith, List, [], ◌∷◌, ◌++◌, length, take, drop, add-one, slice_index_or, Option, Some, None, refl, sym, ◌∙◌, ap, subst}
 use Rattle.std.specs.List.{AllByRecursion}
-use Rattle.std.specs.Option.{option_to_list, is_some, IsSome}
-use Rattle.std.proofs.lemmas.List.{map-append, append-nil, append_assoc, length-append}
+use Rattle.std.specs.Option.{option_to_list, is_some, IsSome, unwrap_or}
+use Rattle.std.proofs.lemmas.List.{map-append, append-nil, append_assoc, length-append, same_from_push}
 use Rattle.std.proofs.Math.ListN.{take-append-drop}
 use Rattle.std.proofs.Math.Seq.{take-suc, take_all}
 use Rattle.evaluation.specs.Graph.{Record}
@@ -13,10 +13,8 @@ use Rattle.node.specs.declared.kept.Kept.{Kept}
 use Rattle.node.specs.declared.entry.Entry.{Entry}
 use Rattle.std.specs.Arc.{arc_value}
 use Rattle.std.specs.Prelude.{All, map, position}
-use Rattle.std.specs.Option.{unwrap_or}
 use Rattle.keys.specs.Keys.{key_eq}
 use Rattle.std.specs.Map.{keys_of as keys_of_records}
-use Rattle.std.proofs.lemmas.List.{same_from_push}
 use Rattle.numbered.specs.Tables.{AreDistinct}
 use Rattle.numbered.specs.Flats.{HaveNumbers, groups_in, numbers_in}
 use Rattle.numbered.proofs.Flats.{groups_back}

@@ -1,35 +1,26 @@
 -- Keys by the numbers of their records.
-use Rattle.std.proofs.Common.{drop, add-one, take, ◌+◌, ◌≡◌, ◌∙◌, ℕ, zero, suc, ◌<◌, List, [], ◌∷◌, ◌++◌, Option, Some, None, refl, sym, ap, subst, length, arith, append-nil, append_assoc, slice_index_or}
-use Rattle.std.specs.Prelude.{slice_get, All}
-use Rattle.std.specs.List.{flat_map}
-use Rattle.std.specs.Option.{option_to_list, IsSome, is_some}
+use Rattle.std.proofs.Common.{drop, add-one, take, ◌+◌, ◌≡◌, ◌∙◌, ℕ, zero, suc, ◌<◌, List, [], ◌∷◌, ◌++◌, Option, Some, None, refl, sym, ap, subst, length, arith, append-nil, append_assoc, slice_index_or, inl, inr, ◌≤◌, ◌||◌, map}
+use Rattle.std.specs.Prelude.{slice_get, All, sum_by}
+use Rattle.std.specs.List.{flat_map, concat, list_any}
+use Rattle.std.specs.Option.{option_to_list, IsSome, is_some, unwrap_or}
 use Rattle.std.proofs.lemmas.Option.{slice_get_within}
 use Rattle.std.specs.Map.{keys_of}
-use Rattle.std.proofs.lemmas.List.Elements.{All-append, All-nil}
+use Rattle.std.proofs.lemmas.List.Elements.{All-append, All-nil, All-cons, All-head, All-tail}
 use Rattle.std.proofs.lemmas.Map.Entries.{length-keys_of}
-use Rattle.evaluation.specs.Value.{In, first, after}
+use Rattle.evaluation.specs.Value.{In, first, after, IsMember}
 use Rattle.numbered.specs.Tables.{key_at, value_at, value_of, number_of, AreDistinct}
-use Rattle.numbered.specs.Flats.{members_in}
-use Rattle.numbered.proofs.Numbers.{value_by_number, none_without_number}
+use Rattle.numbered.specs.Flats.{members_in, HasNumber, HaveNumbers, numbers_in}
+use Rattle.numbered.proofs.Numbers.{value_by_number, none_without_number, number_iff}
 use Rattle.keys.specs.declared.key.Key.{Key}
-use Rattle.node.specs.Kept.{Records}
+use Rattle.node.specs.Kept.{Records, named}
 use Rattle.node.specs.Marks.{Lists}
 use Rattle.std.proofs.Math.ListN.{take-append-drop}
 use Rattle.std.proofs.Math.Seq.{take-suc}
-use Rattle.std.proofs.Common.{inl, inr, ◌≤◌, ◌||◌, map}
-use Rattle.std.specs.Prelude.{sum_by}
 use Rattle.std.proofs.lemmas.List.{length-append}
 use Rattle.std.proofs.lemmas.List.Sums.{sum_by-cons}
 use Rattle.std.proofs.lemmas.List.Folds.{list_any-append}
 use Rattle.keys.specs.Keys.{key_eq}
 use Rattle.node.specs.Edges.{among}
-use Rattle.std.specs.List.{concat, list_any}
-use Rattle.std.specs.Option.{unwrap_or}
-use Rattle.std.proofs.lemmas.List.Elements.{All-cons, All-head, All-tail}
-use Rattle.evaluation.specs.Value.{IsMember}
-use Rattle.numbered.specs.Flats.{HasNumber, HaveNumbers, numbers_in}
-use Rattle.numbered.proofs.Numbers.{number_iff}
-use Rattle.node.specs.Kept.{named}
 use Rattle.node.proofs.Lists.{in_left, in_right, in_split, none_some, true_false}
 
 module _ {X : Type 0} where

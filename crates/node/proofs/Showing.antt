@@ -15,7 +15,7 @@ use Rattle.keys.specs.declared.value.Value.{Value}
 use Rattle.node.specs.declared.kept.Kept.{Kept}
 use Rattle.std.specs.Prelude.{All, map}
 use Rattle.indexmap.specs.IndexMap.{set_value_at}
-use Rattle.std.specs.List.{concat}
+use Rattle.std.specs.List.{concat, IsDistinct}
 use Rattle.std.proofs.lemmas.List.Elements.{All-nil}
 use Rattle.evaluation.specs.Value.{In, IsMember}
 use Rattle.numbered.specs.Flats.{groups_in, members_in}
@@ -24,7 +24,6 @@ use Rattle.node.specs.Graphs.{seen, Sets}
 use Rattle.node.specs.Writes.{groups_at, stored, written}
 use Rattle.node.specs.Batches.{HasPlacedSome}
 use Rattle.node.proofs.Lists.{some_is, none_some, true_false, decide_key}
-use Rattle.std.specs.List.{IsDistinct}
 use Rattle.node.proofs.Numbering.{concat_below, key_there, key_same, member_named, named_member, same_length}
 
 rows_keys : (es : Records) → keys_of (rows es) ≡ keys_of es

@@ -16,7 +16,6 @@ use Rattle.node.specs.Graphs.{Recorded, recorded, record_at, seen, IsLinked, Has
 use Rattle.node.proofs.Lists.{some_is, true_false, decide_key}
 use Rattle.node.proofs.Linking.{seen_all, is_kept}
 use Rattle.node.proofs.Showing.{writes_sets, writes_lists}
-use Rattle.node.proofs.Numbering.{same_length}
 
 module _ (old new : Key → Option (Record Key Value)) (old_users users : Users) (key : Key) (r : Record Key Value) (u : Sets old new key r) (linked : IsLinked old old_users) (uses : HasUsers old_users users key r.groups) (clean : r.dirty ≡ false)
     (ready : (j : Key) → IsMember j r.groups → (s : Record Key Value) × (new j ≡ Some s) × (s.dirty ≡ false)) where

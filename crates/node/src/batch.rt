@@ -32,7 +32,8 @@ fn place_entry(
 ) -> Result<(), Memory>
     requires distinct { AreDistinct records.old }
     requires asks { AsksNumbers records.old }
-    ensures some { (original : Records) → HasPlacedSome original records.old → HasPlacedSome original records.new }
+    ensures some { (original : Records) → HasPlacedSome original records.old
+        → HasPlacedSome original records.new }
     ensures there { OnOk result (IsThere (seen records.old) (seen records.new) entry.now version) }
     ensures others { (k : Key) → entry.now.key ≢ k → seen records.new k ≡ seen records.old k }
     ensures asks { AsksNumbers records.new }
@@ -57,7 +58,8 @@ fn place_all(
     requires asks { AsksNumbers records.old }
     requires differ { AllDiffer (keys_of entries.now) }
     ensures some { HasPlacedSome records.old records.new }
-    ensures all { OnOk result (HasPlacedAll (seen records.old) (seen records.new) entries.now version) }
+    ensures all { OnOk result (HasPlacedAll (seen records.old) (seen records.new) entries.now
+        version) }
     ensures asks { AsksNumbers records.new }
     ensures lists { SameUsers (numbers_of records.old) (numbers_of records.new) }
     ensures ordered { AreDistinct records.new }
@@ -70,7 +72,8 @@ fn place_all(
 
 // Removes the records after the first ones, of which there are so many.
 fn remove_all(records: &mut Records, first: usize)
-    ensures { (original : Records) → HasPlacedSome original records.old → first ≡ length original → records.new ≡ original }
+    ensures { (original : Records) → HasPlacedSome original records.old → first ≡ length original
+        → records.new ≡ original }
 {
     while records.len() > first {
         drop(records.pop());
@@ -113,7 +116,8 @@ fn link_all(alloc: Global, records: &mut Records, entries: &[Entry]) -> Result<(
 fn cut_all(records: &mut Records, entries: &[Entry])
     requires there { AreRecorded (seen records.old) entries.now }
     requires asks { AsksNumbers records.old }
-    ensures cut { HasCutAll (seen records.old) (users_of records.old) (users_of records.new) entries.now }
+    ensures cut { HasCutAll (seen records.old) (users_of records.old) (users_of records.new)
+        entries.now }
     ensures fewer { HasFewer (numbers_of records.old) (numbers_of records.new) }
     ensures same { KeepsRecords records.old records.new }
 {
@@ -127,8 +131,10 @@ fn cut_all(records: &mut Records, entries: &[Entry])
 fn write_entry(records: &mut Records, entry: Entry, flat: Flat, version: u32)
     requires asks { AsksNumbers records.old }
     requires members { HasReadyFlat records.old entry flat }
-    requires ready { (w : Record Key Value) × IsToWrite (seen records.old) (users_of records.old) entry w }
-    ensures sets { Sets (seen records.old) (seen records.new) entry.key (stored (seen records.old entry.key) (arc_value entry.value) (asked entry) version) }
+    requires ready { (w : Record Key Value) × IsToWrite (seen records.old) (users_of records.old)
+        entry w }
+    ensures sets { Sets (seen records.old) (seen records.new) entry.key
+        (stored (seen records.old entry.key) (arc_value entry.value) (asked entry) version) }
     ensures users { HasUsers (users_of records.old) (users_of records.new) entry.key (asked entry) }
     ensures fewer { HasFewer (numbers_of records.old) (numbers_of records.new) }
     ensures keys { keys_of_records records.new ≡ keys_of_records records.old }
@@ -151,8 +157,10 @@ fn write_all(records: &mut Records, mut entries: Vec<Entry>, mut flats: Vec<Flat
     requires members { HaveMembers (seen records.old) entries.items }
     requires flats { flats.items ≡ flats_in records.old entries.items }
     requires differ { AllDiffer (keys_of entries.items) }
-    requires ready { (e : Entry) → In e entries.items → (w : Record Key Value) × IsToWrite (seen records.old) (users_of records.old) e w }
-    ensures written { HasWrittenAll (seen records.old) (seen records.new) (users_of records.old) (users_of records.new) entries.items version }
+    requires ready { (e : Entry) → In e entries.items → (w : Record Key Value)
+        × IsToWrite (seen records.old) (users_of records.old) e w }
+    ensures written { HasWrittenAll (seen records.old) (seen records.new) (users_of records.old)
+        (users_of records.new) entries.items version }
     ensures fewer { HasFewer (numbers_of records.old) (numbers_of records.new) }
     ensures keys { keys_of_records records.new ≡ keys_of_records records.old }
     ensures asks { AsksNumbers records.new }

@@ -30,7 +30,8 @@ pub enum Compared {
 fn unsettled_with(alloc: Global, records: &Records, numbers: &[Number]) -> Result<Vec<Key>, Memory>
     requires within { All (λ n. n < length records.now) numbers.now }
     requires distinct { AreDistinct records.now }
-    ensures { IfOk result (λ keys. keys.items ≡ unsettled (seen records.now) (members_in records.now numbers.now)) }
+    ensures { IfOk result (λ keys. keys.items ≡ unsettled (seen records.now)
+        (members_in records.now numbers.now)) }
 {
     let mut missing = Vec::new(alloc);
     for number in numbers {
@@ -67,7 +68,8 @@ fn compare_group(
 ) -> Result<Compared, Memory>
     requires within { All (λ n. n < length records.now) numbers.now }
     requires distinct { AreDistinct records.now }
-    ensures { IfOk result (ComparesGroup (seen records.now) (members_in records.now numbers.now) since next) }
+    ensures { IfOk result (ComparesGroup (seen records.now) (members_in records.now numbers.now)
+        since next) }
 {
     let missing = unsettled_with(alloc, records, numbers)?;
     if !missing.is_empty() {
@@ -88,7 +90,9 @@ pub fn compare_next(
 ) -> Result<Compared, Memory>
     requires within { All (All (λ n. n < length records.now)) kept.now.groups }
     requires distinct { AreDistinct records.now }
-    ensures { IfOk result (ComparesNext (seen records.now) (slice_get (groups_in records.now kept.now.groups) passed) kept.now.settled_at (passed + 1)) }
+    ensures { IfOk result
+        (ComparesNext (seen records.now) (slice_get (groups_in records.now kept.now.groups) passed)
+        kept.now.settled_at (passed + 1)) }
 {
     if passed >= kept.groups.len() {
         return Ok(Compared::Over);

@@ -53,7 +53,8 @@ fn has(set: &BTreeSet<Key>, key: &Key) -> bool
 // Makes the record with a number a user of the member, which has a record.
 fn link(records: &mut Records, member: &Key, user: Number) -> Result<(), Memory>
     requires { IsSome (seen records.old member.now) }
-    ensures ok { OnOk result (HasLinked (numbers_of records.old) (numbers_of records.new) member.now user) }
+    ensures ok { OnOk result (HasLinked (numbers_of records.old) (numbers_of records.new) member.now
+        user) }
     ensures err { OnErr result (SameUsers (numbers_of records.old) (numbers_of records.new)) }
     ensures same { KeepsRecords records.old records.new }
 {
@@ -82,7 +83,8 @@ fn link_group(
 ) -> Result<(), Memory>
     requires linked { (j : Key) → In j linked.now.keys → In user (numbers_of records.old j) }
     requires members { (j : Key) → In j group.now → IsSome (seen records.old j) }
-    ensures some { HasLinkedSome (numbers_of records.old) (numbers_of records.new) user (λ j. In j group.now) }
+    ensures some { HasLinkedSome (numbers_of records.old) (numbers_of records.new) user
+        (λ j. In j group.now) }
     ensures all { OnOk result (HasLinkedAll (numbers_of records.new) user (λ j. In j group.now)) }
     ensures same { KeepsRecords records.old records.new }
 {
@@ -103,8 +105,10 @@ pub fn link_groups(
 ) -> Result<(), Memory>
     requires linked { (j : Key) → In j linked.now.keys → In user (numbers_of records.old j) }
     requires members { (j : Key) → IsMember j (items_of groups.now) → IsSome (seen records.old j) }
-    ensures some { HasLinkedSome (numbers_of records.old) (numbers_of records.new) user (λ j. IsMember j (items_of groups.now)) }
-    ensures all { OnOk result (HasLinkedAll (numbers_of records.new) user (λ j. IsMember j (items_of groups.now))) }
+    ensures some { HasLinkedSome (numbers_of records.old) (numbers_of records.new) user
+        (λ j. IsMember j (items_of groups.now)) }
+    ensures all { OnOk result
+        (HasLinkedAll (numbers_of records.new) user (λ j. IsMember j (items_of groups.now))) }
     ensures same { KeepsRecords records.old records.new }
 {
     for group in groups {
@@ -131,7 +135,8 @@ fn asks(records: &Records, user: Number, member: &Key) -> bool
     requires within { user < length records.now }
     requires distinct { AreDistinct records.now }
     requires members { AsksNumbers records.now }
-    ensures { (k : Key) → key_at records.now user ≡ Some k → result ≡ among (groups_at (seen records.now k)) member.now }
+    ensures { (k : Key) → key_at records.now user ≡ Some k
+        → result ≡ among (groups_at (seen records.now k)) member.now }
 {
     is_named(records, records.value_at(user).groups.members(), member)
 }
@@ -141,7 +146,9 @@ fn cut_group(records: &mut Records, group: &[Key], user: Number)
     requires within { user < length records.old }
     requires distinct { AreDistinct records.old }
     requires members { AsksNumbers records.old }
-    ensures cut { (k : Key) → key_at records.old user ≡ Some k → HasCut (numbers_of records.old) (numbers_of records.new) user (λ j. In j group.now) (λ j. IsMember j (groups_at (seen records.old k))) }
+    ensures cut { (k : Key) → key_at records.old user ≡ Some k → HasCut (numbers_of records.old)
+        (numbers_of records.new) user (λ j. In j group.now)
+        (λ j. IsMember j (groups_at (seen records.old k))) }
     ensures same { KeepsRecords records.old records.new }
 {
     for member in group {
@@ -156,7 +163,9 @@ pub fn cut(records: &mut Records, groups: &[Vec<Key>], user: Number)
     requires within { user < length records.old }
     requires distinct { AreDistinct records.old }
     requires members { AsksNumbers records.old }
-    ensures cut { (k : Key) → key_at records.old user ≡ Some k → HasCut (numbers_of records.old) (numbers_of records.new) user (λ j. IsMember j (items_of groups.now)) (λ j. IsMember j (groups_at (seen records.old k))) }
+    ensures cut { (k : Key) → key_at records.old user ≡ Some k → HasCut (numbers_of records.old)
+        (numbers_of records.new) user (λ j. IsMember j (items_of groups.now))
+        (λ j. IsMember j (groups_at (seen records.old k))) }
     ensures same { KeepsRecords records.old records.new }
 {
     for group in groups {
@@ -192,7 +201,8 @@ pub fn members_with(
     numbers: &[Number],
 ) -> Result<BTreeSet<Key>, Memory>
     requires { All (λ n. n < length records.now) numbers.now }
-    ensures { IfOk result (λ set. (j : Key) → In j set.keys ↔ In j (members_in records.now numbers.now)) }
+    ensures { IfOk result
+        (λ set. (j : Key) → In j set.keys ↔ In j (members_in records.now numbers.now)) }
 {
     let mut set = BTreeSet::new(alloc);
     for number in numbers {
@@ -207,7 +217,8 @@ pub fn members_beside(
     old: &[Number],
     new: &[Vec<Key>],
 ) -> Result<Option<BTreeSet<Key>>, Memory>
-    ensures some { IfOk result (λ found. IfSome found (λ set. AreMembers set.keys (items_of new.now))) }
+    ensures some { IfOk result
+        (λ found. IfSome found (λ set. AreMembers set.keys (items_of new.now))) }
     ensures none { IfOk result (λ found. IfNone found (old.now ≡ [])) }
 {
     if old.is_empty() {
@@ -220,7 +231,8 @@ pub fn members_beside(
 fn unlink_at(records: &mut Records, member: Number, user: Number)
     requires within { member < length records.old }
     requires distinct { AreDistinct records.old }
-    ensures users { (k : Key) → key_at records.old member ≡ Some k → HasUnlinked (numbers_of records.old) (numbers_of records.new) k user }
+    ensures users { (k : Key) → key_at records.old member ≡ Some k
+        → HasUnlinked (numbers_of records.old) (numbers_of records.new) k user }
     ensures same { KeepsRecords records.old records.new }
 {
     remove_user(&mut records.value_mut(member).users, user);
@@ -233,7 +245,9 @@ pub fn cut_with(records: &mut Records, members: &[Number], user: Number)
     requires numbers { All (λ n. n < length records.old) members.now }
     requires distinct { AreDistinct records.old }
     requires members { AsksNumbers records.old }
-    ensures cut { (k : Key) → key_at records.old user ≡ Some k → HasCut (numbers_of records.old) (numbers_of records.new) user (λ j. In j (members_in records.old members.now)) (λ j. IsMember j (groups_at (seen records.old k))) }
+    ensures cut { (k : Key) → key_at records.old user ≡ Some k → HasCut (numbers_of records.old)
+        (numbers_of records.new) user (λ j. In j (members_in records.old members.now))
+        (λ j. IsMember j (groups_at (seen records.old k))) }
     ensures same { KeepsRecords records.old records.new }
 {
     for member in members {
@@ -247,7 +261,8 @@ pub fn cut_with(records: &mut Records, members: &[Number], user: Number)
 fn cut_others(records: &mut Records, members: &[Number], keep: &BTreeSet<Key>, user: Number)
     requires numbers { All (λ n. n < length records.old) members.now }
     requires distinct { AreDistinct records.old }
-    ensures cut { HasCut (numbers_of records.old) (numbers_of records.new) user (λ j. In j (members_in records.old members.now)) (λ j. In j keep.now.keys) }
+    ensures cut { HasCut (numbers_of records.old) (numbers_of records.new) user
+        (λ j. In j (members_in records.old members.now)) (λ j. In j keep.now.keys) }
     ensures same { KeepsRecords records.old records.new }
 {
     for member in members {
@@ -267,7 +282,8 @@ pub fn cut_beside(
 )
     requires numbers { All (λ n. n < length records.old) members.now }
     requires distinct { AreDistinct records.old }
-    ensures some { IfSome keep (λ set. HasCut (numbers_of records.old) (numbers_of records.new) user (λ j. In j (members_in records.old members.now)) (λ j. In j set.keys)) }
+    ensures some { IfSome keep (λ set. HasCut (numbers_of records.old) (numbers_of records.new) user
+        (λ j. In j (members_in records.old members.now)) (λ j. In j set.keys)) }
     ensures none { IfNone keep (numbers_of records.new ≡ numbers_of records.old) }
     ensures same { KeepsRecords records.old records.new }
 {

@@ -88,7 +88,8 @@ impl Graph {
 
     // What is kept of a key.
     fn kept(&self, key: &Key) -> Option<&Kept>
-        ensures { option_map (λ e. record_of (keys_of_records self.now.records) e.now) result ≡ record_at self.now key.now }
+        ensures { option_map (λ e. record_of (keys_of_records self.now.records) e.now) result
+            ≡ record_at self.now key.now }
     {
         self.records.get(key)
     }
@@ -105,7 +106,8 @@ impl Graph {
 
     /// The groups of a key's record, dirty or not, and None without one. `Memory` where a growth was refused.
     pub fn groups(&self, alloc: Global, key: &Key) -> Result<Option<Vec<Vec<Key>>>, Memory>
-        ensures { IfOk result (λ found. option_map (λ groups. items_of groups.items) found ≡ option_map (λ r. r.groups) (record_at self.now key.now)) }
+        ensures { IfOk result (λ found. option_map (λ groups. items_of groups.items) found
+            ≡ option_map (λ r. r.groups) (record_at self.now key.now)) }
     {
         match self.records.get(key) {
             None => Ok(None),
@@ -162,7 +164,9 @@ impl Graph {
     /// touches. These leaves are the file of each path, and the listing of each directory that it lies below, the root
     /// among them. The cost follows what is reached. Nothing changes. `Memory` where a growth was refused.
     pub fn reached_by(&mut self, paths: &[&str]) -> Result<Vec<Key>, Memory>
-        ensures reached { IfOk result (λ keys. AreReached (record_at self.old) (IsTouched (paths_seen paths.now)) keys.items) }
+        ensures reached { IfOk result
+            (λ keys. AreReached (record_at self.old) (IsTouched (paths_seen paths.now))
+            keys.items) }
         ensures same { self.new ≡ self.old }
     {
         let leaves = touched(self.alloc, paths)?;
@@ -180,11 +184,14 @@ impl Graph {
     /// value is the caller's condition. The new version.
     pub fn mark(&mut self, reached: &[Key]) -> u32
         requires below { self.old.version < u32.MAX }
-        requires reached { (paths : List (List ℕ)) × AreReached (record_at self.old) (IsTouched paths) reached.now }
+        requires reached { (paths : List (List ℕ)) × AreReached (record_at self.old)
+            (IsTouched paths) reached.now }
         ensures version { result ≡ self.old.version + 1 }
         ensures moved { self.new.version ≡ self.old.version + 1 }
-        ensures marks { (paths : List (List ℕ)) → AreReached (record_at self.old) (IsTouched paths) reached.now → Marks (record_at self.old) (record_at self.new) (IsTouched paths) }
-        ensures lawful { (paths : List (List ℕ)) → AreReached (record_at self.old) (IsTouched paths) reached.now → TouchKeepsLawful self.old self.new paths }
+        ensures marks { (paths : List (List ℕ)) → AreReached (record_at self.old) (IsTouched paths)
+            reached.now → Marks (record_at self.old) (record_at self.new) (IsTouched paths) }
+        ensures lawful { (paths : List (List ℕ)) → AreReached (record_at self.old) (IsTouched paths)
+            reached.now → TouchKeepsLawful self.old self.new paths }
     {
         set_all(&mut self.records, reached, true);
         self.version += 1;
@@ -199,7 +206,8 @@ impl Graph {
         requires { self.old.version < u32.MAX }
         ensures version { IfOk result (λ v. v ≡ self.old.version + 1) }
         ensures moved { OnOk result (self.new.version ≡ self.old.version + 1) }
-        ensures marks { OnOk result (Marks (record_at self.old) (record_at self.new) (IsTouched (paths_seen paths.now))) }
+        ensures marks { OnOk result (Marks (record_at self.old) (record_at self.new)
+            (IsTouched (paths_seen paths.now))) }
         ensures lawful { OnOk result (TouchKeepsLawful self.old self.new (paths_seen paths.now)) }
         ensures refused { OnErr result (self.new ≡ self.old) }
     {
@@ -213,7 +221,8 @@ impl Graph {
         requires { self.old.version < u32.MAX }
         ensures version { IfOk result (λ v. v ≡ self.old.version + 1) }
         ensures moved { OnOk result (self.new.version ≡ self.old.version + 1) }
-        ensures marks { OnOk result (Marks (record_at self.old) (record_at self.new) (IsTouched (path.now ∷ []))) }
+        ensures marks { OnOk result (Marks (record_at self.old) (record_at self.new)
+            (IsTouched (path.now ∷ []))) }
         ensures lawful { OnOk result (TouchKeepsLawful self.old self.new (path.now ∷ [])) }
         ensures refused { OnErr result (self.new ≡ self.old) }
     {
@@ -237,7 +246,8 @@ impl Graph {
     /// with these groups.
     pub fn is_ready(&self, key: &Key, groups: &[Vec<Key>]) -> bool
         ensures test { result ≡ are_ready (record_at self.now) key.now (items_of groups.now) }
-        ensures ready { IsTrue result → HasReadyMembers (record_at self.now) key.now (items_of groups.now) }
+        ensures ready { IsTrue result → HasReadyMembers (record_at self.now) key.now
+            (items_of groups.now) }
     {
         for group in groups {
             if !self.is_ready_group(key, group.as_slice()) {
@@ -260,8 +270,11 @@ impl Graph {
     ) -> Result<(), Memory>
         requires { HasReadyMembers (record_at self.old) key (items_of groups.items) }
         ensures version { self.new.version ≡ self.old.version }
-        ensures recorded { OnOk result (Sets (record_at self.old) (record_at self.new) key (stored (record_at self.old key) (arc_value value) (items_of groups.items) self.old.version)) }
-        ensures lawful { OnOk result (SettlingKeepsLawful self.old self.new key (arc_value value) (items_of groups.items)) }
+        ensures recorded { OnOk result (Sets (record_at self.old) (record_at self.new) key
+            (stored (record_at self.old key) (arc_value value) (items_of groups.items)
+            self.old.version)) }
+        ensures lawful { OnOk result (SettlingKeepsLawful self.old self.new key (arc_value value)
+            (items_of groups.items)) }
         ensures refused { OnErr result (self.new ≡ self.old) }
     {
         let version = self.version;
@@ -277,7 +290,8 @@ impl Graph {
         requires differ { AllDiffer (keys_of entries.items) }
         requires ready { HasReadyEntries (record_at self.old) entries.items }
         ensures version { self.new.version ≡ self.old.version }
-        ensures recorded { OnOk result (SetsAll (record_at self.old) (record_at self.new) entries.items self.old.version) }
+        ensures recorded { OnOk result
+            (SetsAll (record_at self.old) (record_at self.new) entries.items self.old.version) }
         ensures lawful { OnOk result (BatchKeepsLawful self.old self.new entries.items) }
         ensures refused { OnErr result (self.new ≡ self.old) }
     {
@@ -292,8 +306,11 @@ impl Graph {
         requires recorded { IsSome (record_at self.old key.now) }
         requires members { HasCleanMembers (record_at self.old) key.now }
         ensures version { self.new.version ≡ self.old.version }
-        ensures confirmed { (r : Record Key Value) → record_at self.old key.now ≡ Some r → Sets (record_at self.old) (record_at self.new) key.now (record r { settled_at = self.old.version; dirty = false }) }
-        ensures lawful { (r : Record Key Value) → record_at self.old key.now ≡ Some r → SettlingKeepsLawful self.old self.new key.now r.value r.groups }
+        ensures confirmed { (r : Record Key Value) → record_at self.old key.now ≡ Some r
+            → Sets (record_at self.old) (record_at self.new) key.now
+            (record r { settled_at = self.old.version; dirty = false }) }
+        ensures lawful { (r : Record Key Value) → record_at self.old key.now ≡ Some r
+            → SettlingKeepsLawful self.old self.new key.now r.value r.groups }
     {
         settle(&mut self.records, key, self.version);
     }

@@ -57,8 +57,12 @@ pub fn touched(alloc: Global, paths: &[&str]) -> Result<Vec<Key>, Memory>
 fn set_at(records: &mut Records, number: Number, dirty: bool)
     requires within { number < length records.old }
     requires distinct { AreDistinct records.old }
-    ensures updates { (k : Key) (e : Kept) → key_at records.old number ≡ Some k → kept_at records.old k ≡ Some e → Writes records.old records.new k (record e { dirty = dirty }) }
-    ensures work { (k : Key) (e : Kept) → key_at records.old number ≡ Some k → kept_at records.old k ≡ Some e → cleans records.new + cost e ≡ cleans records.old + cost (record e { dirty = dirty }) }
+    ensures updates { (k : Key) (e : Kept) → key_at records.old number ≡ Some k
+        → kept_at records.old k ≡ Some e → Writes records.old records.new k
+        (record e { dirty = dirty }) }
+    ensures work { (k : Key) (e : Kept) → key_at records.old number ≡ Some k → kept_at records.old k
+        ≡ Some e → cleans records.new + cost e ≡ cleans records.old + cost
+        (record e { dirty = dirty }) }
     ensures keys { keys_of records.new ≡ keys_of records.old }
 {
     records.value_mut(number).dirty = dirty;
@@ -66,7 +70,8 @@ fn set_at(records: &mut Records, number: Number, dirty: bool)
 
 // Sets or takes away the mark of a key's record, if it has one.
 fn set(records: &mut Records, key: &Key, dirty: bool)
-    ensures updates { (e : Kept) → kept_at records.old key.now ≡ Some e → Writes records.old records.new key.now (record e { dirty = dirty }) }
+    ensures updates { (e : Kept) → kept_at records.old key.now ≡ Some e
+        → Writes records.old records.new key.now (record e { dirty = dirty }) }
     ensures absent { kept_at records.old key.now ≡ None → records.new ≡ records.old }
     ensures keys { keys_of records.new ≡ keys_of records.old }
 {
@@ -79,9 +84,13 @@ fn set(records: &mut Records, key: &Key, dirty: bool)
 fn reach(records: &mut Records, marked: &mut Vec<Number>, number: Number) -> Result<(), Memory>
     requires within { number < length records.old }
     requires distinct { AreDistinct records.old }
-    ensures ok { OnOk result ((k : Key) → key_at records.old number ≡ Some k → HasReached records.old records.new (members_in records.old marked.old.items) (members_in records.new marked.new.items) k) }
-    ensures err { OnErr result ((records.new ≡ records.old) × (marked.new.items ≡ marked.old.items)) }
-    ensures work { cleans records.new + vec_len marked.new ≤ cleans records.old + vec_len marked.old }
+    ensures ok { OnOk result ((k : Key) → key_at records.old number ≡ Some k
+        → HasReached records.old records.new (members_in records.old marked.old.items)
+        (members_in records.new marked.new.items) k) }
+    ensures err { OnErr result
+        ((records.new ≡ records.old) × (marked.new.items ≡ marked.old.items)) }
+    ensures work { cleans records.new + vec_len marked.new ≤ cleans records.old
+        + vec_len marked.old }
     ensures lists { Lists records.old marked.old.items marked.new.items }
 {
     if records.value_at(number).dirty {
@@ -94,8 +103,11 @@ fn reach(records: &mut Records, marked: &mut Vec<Number>, number: Number) -> Res
 
 // Marks a leaf's record if it has one, and lists its number.
 fn reach_leaf(records: &mut Records, marked: &mut Vec<Number>, leaf: &Key) -> Result<(), Memory>
-    ensures ok { OnOk result (HasReached records.old records.new (members_in records.old marked.old.items) (members_in records.new marked.new.items) leaf.now) }
-    ensures err { OnErr result ((records.new ≡ records.old) × (marked.new.items ≡ marked.old.items)) }
+    ensures ok { OnOk result
+        (HasReached records.old records.new (members_in records.old marked.old.items)
+        (members_in records.new marked.new.items) leaf.now) }
+    ensures err { OnErr result
+        ((records.new ≡ records.old) × (marked.new.items ≡ marked.old.items)) }
     ensures lists { Lists records.old marked.old.items marked.new.items }
 {
     let Some(number) = records.number_of(leaf) else {
@@ -111,7 +123,8 @@ fn reach_leaves(
     marked: &mut Vec<Number>,
     leaves: &[Key],
 ) -> Result<(), Memory>
-    ensures some { HasReachedSome records.old records.new (members_in records.old marked.old.items) (members_in records.new marked.new.items) leaves.now }
+    ensures some { HasReachedSome records.old records.new (members_in records.old marked.old.items)
+        (members_in records.new marked.new.items) leaves.now }
     ensures all { OnOk result (HasReachedAll records.new leaves.now) }
     ensures lists { Lists records.old marked.old.items marked.new.items }
 {
@@ -138,9 +151,13 @@ fn reach_users(
     requires within { number < length records.old }
     requires users { All (λ n. n < length records.old) (numbers_with records.old number) }
     requires distinct { AreDistinct records.old }
-    ensures some { HasReachedSome records.old records.new (members_in records.old marked.old.items) (members_in records.new marked.new.items) (members_in records.old (numbers_with records.old number)) }
-    ensures all { OnOk result (HasReachedAll records.new (members_in records.old (numbers_with records.old number))) }
-    ensures work { cleans records.new + vec_len marked.new ≤ cleans records.old + vec_len marked.old }
+    ensures some { HasReachedSome records.old records.new (members_in records.old marked.old.items)
+        (members_in records.new marked.new.items)
+        (members_in records.old (numbers_with records.old number)) }
+    ensures all { OnOk result
+        (HasReachedAll records.new (members_in records.old (numbers_with records.old number))) }
+    ensures work { cleans records.new + vec_len marked.new ≤ cleans records.old
+        + vec_len marked.old }
     ensures lists { Lists records.old marked.old.items marked.new.items }
 {
     let count = users_with(records, number).len();
@@ -156,8 +173,10 @@ fn spread(records: &mut Records, marked: &mut Vec<Number>) -> Result<(), Memory>
     requires within { All (λ n. n < length records.old) marked.old.items }
     requires distinct { AreDistinct records.old }
     requires numbers { AreNumbers records.old (numbers_of records.old) }
-    ensures spread { HasSpread (users_of records.old) records.old records.new (members_in records.old marked.old.items) (members_in records.new marked.new.items) }
-    ensures passed { OnOk result (HasPassed (users_of records.old) records.new (members_in records.new marked.new.items)) }
+    ensures spread { HasSpread (users_of records.old) records.old records.new
+        (members_in records.old marked.old.items) (members_in records.new marked.new.items) }
+    ensures passed { OnOk result (HasPassed (users_of records.old) records.new
+        (members_in records.new marked.new.items)) }
     ensures lists { Lists records.old marked.old.items marked.new.items }
 {
     let mut at = 0;
@@ -212,10 +231,12 @@ pub fn mark_from(
     requires none { marked.old.items ≡ [] }
     requires distinct { AreDistinct records.old }
     requires numbers { AreNumbers records.old (numbers_of records.old) }
-    ensures marked { Marked (users_of records.old) leaves.now records.old records.new (members_in records.new marked.new.items) }
+    ensures marked { Marked (users_of records.old) leaves.now records.old records.new
+        (members_in records.new marked.new.items) }
     ensures keys { keys_of records.new ≡ keys_of records.old }
     ensures within { All (λ n. n < length records.new) marked.new.items }
-    ensures passed { OnOk result (HasPassed (users_of records.old) records.new (members_in records.new marked.new.items)) }
+    ensures passed { OnOk result (HasPassed (users_of records.old) records.new
+        (members_in records.new marked.new.items)) }
     ensures begun { OnOk result (HasReachedAll records.new leaves.now) }
 {
     reach_leaves(records, marked, leaves)?;

@@ -23,7 +23,9 @@ use texts::Memory;
 
 /// Writes a version into a record, and takes its mark away.
 pub fn settle(records: &mut Records, key: &Key, version: u32)
-    ensures updates { (e : Kept) → kept_at records.old key.now ≡ Some e → Writes records.old records.new key.now (record e { settled_at = version; dirty = false }) }
+    ensures updates { (e : Kept) → kept_at records.old key.now ≡ Some e
+        → Writes records.old records.new key.now
+        (record e { settled_at = version; dirty = false }) }
 {
     if let Some(found) = records.get_mut(key) {
         found.settled_at = version;
@@ -34,7 +36,8 @@ pub fn settle(records: &mut Records, key: &Key, version: u32)
 // Returns when a record's value last changed, once it holds this value. A value that changed at the version is not
 // compared.
 fn changed_at(kept: &Kept, value: &Value, version: u32) -> u32
-    ensures { result ≡ (if value_eq (arc_value kept.now.value) value.now then kept.now.changed_at else version) }
+    ensures { result ≡ (if value_eq (arc_value kept.now.value) value.now then kept.now.changed_at
+        else version) }
 {
     if kept.changed_at == version || *kept.value == *value {
         kept.changed_at
@@ -51,7 +54,8 @@ pub fn write(
     groups: Flat,
     version: u32,
 ) -> Flat
-    ensures updates { (e : Kept) → kept_at records.old key.now ≡ Some e → Writes records.old records.new key.now (written e value groups version) }
+    ensures updates { (e : Kept) → kept_at records.old key.now ≡ Some e
+        → Writes records.old records.new key.now (written e value groups version) }
     ensures groups { (e : Kept) → kept_at records.old key.now ≡ Some e → result ≡ e.groups }
 {
     match records.get_mut(key) {
@@ -86,7 +90,8 @@ pub fn place(
 ) -> Result<(), Memory>
     requires ordered { AreDistinct records.old }
     requires none { kept_at records.old key.now ≡ None }
-    ensures ok { OnOk result (HasPlaced records.old records.new key.now (arc_value value.now) version) }
+    ensures ok { OnOk result (HasPlaced records.old records.new key.now (arc_value value.now)
+        version) }
     ensures err { OnErr result (records.new ≡ records.old) }
     ensures ordered { AreDistinct records.new }
 {
@@ -114,10 +119,14 @@ pub fn rewrite(
 ) -> Result<(), Memory>
     requires recorded { IsSome (seen records.old key.now) }
     requires linked { IsLinkedBy records.old }
-    requires members { (j : Key) → IsMember j (items_of groups.items) → IsSome (seen records.old j) }
-    ensures ok { OnOk result (Sets (seen records.old) (seen records.new) key.now (stored (seen records.old key.now) (arc_value value) (items_of groups.items) version)) }
-    ensures users { OnOk result (HasUsers (users_of records.old) (users_of records.new) key.now (items_of groups.items)) }
-    ensures err { OnErr result (KeepsRecords records.old records.new × SameSets (users_of records.old) (users_of records.new)) }
+    requires members { (j : Key) → IsMember j (items_of groups.items)
+        → IsSome (seen records.old j) }
+    ensures ok { OnOk result (Sets (seen records.old) (seen records.new) key.now
+        (stored (seen records.old key.now) (arc_value value) (items_of groups.items) version)) }
+    ensures users { OnOk result (HasUsers (users_of records.old) (users_of records.new) key.now
+        (items_of groups.items)) }
+    ensures err { OnErr result (KeepsRecords records.old records.new
+        × SameSets (users_of records.old) (users_of records.new)) }
     ensures keys { keys_of records.new ≡ keys_of records.old }
     ensures numbers { AreNumbers records.new (numbers_of records.new) }
     ensures asks { AsksNumbers records.new }
@@ -146,7 +155,8 @@ pub fn store(
 ) -> Result<(), Memory>
     requires linked { IsLinkedBy records.old }
     requires ready { HasReadyMembers (seen records.old) key.now (items_of groups.items) }
-    ensures ok { OnOk result (Sets (seen records.old) (seen records.new) key.now (stored (seen records.old key.now) (arc_value value) (items_of groups.items) version)) }
+    ensures ok { OnOk result (Sets (seen records.old) (seen records.new) key.now
+        (stored (seen records.old key.now) (arc_value value) (items_of groups.items) version)) }
     ensures err { OnErr result (KeepsRecords records.old records.new) }
     ensures linked { IsLinkedBy records.new }
 {

@@ -65,7 +65,9 @@ fn push_groups<V>(
     groups: &[Vec<Key>],
 ) -> Result<(), Memory>
     requires { HaveNumbers table.now (items_of groups.now) }
-    ensures { OnOk result (words.new.items ≡ words.old.items ++ concat (map (numbers_in table.now) (items_of groups.now))) }
+    ensures { OnOk result
+        (words.new.items ≡ words.old.items ++ concat
+        (map (numbers_in table.now) (items_of groups.now))) }
 {
     for group in groups {
         push_members(words, table, group.as_slice())?;
@@ -87,7 +89,8 @@ impl Flat {
     /// fails, or if there are more groups or members than a word of 32 bits counts.
     pub fn of<V>(alloc: Global, table: &Table<V>, groups: &[Vec<Key>]) -> Result<Flat, Memory>
         requires { HaveNumbers table.now (items_of groups.now) }
-        ensures numbers { IfOk result (λ flat. flat ≡ map (numbers_in table.now) (items_of groups.now)) }
+        ensures numbers { IfOk result
+            (λ flat. flat ≡ map (numbers_in table.now) (items_of groups.now)) }
         ensures keys { IfOk result (λ flat. groups_in table.now flat ≡ items_of groups.now) }
     {
         let mut words = Vec::new(alloc);

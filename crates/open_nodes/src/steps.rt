@@ -77,7 +77,8 @@ pub fn put_ready(table: &mut Table, key: &Key) -> Result<(), Memory>
 /// A node comes in whose record is to be checked.
 pub fn begin_check(alloc: Global, table: &mut Table, key: &Key) -> Result<(), Memory>
     ensures pends { OnOk result (Pends table.old table.new key.now) }
-    ensures entered { OnOk result (HasEntered table.old.nodes table.new.nodes key.now (phase.Checking 0)) }
+    ensures entered { OnOk result (HasEntered table.old.nodes table.new.nodes key.now
+        (phase.Checking 0)) }
     ensures looked { OnOk result (table.new.looked ≡ table.old.looked) }
 {
     look_again(table, key)?;
@@ -88,7 +89,8 @@ pub fn begin_check(alloc: Global, table: &mut Table, key: &Key) -> Result<(), Me
 /// A node comes in that wants its first turn.
 pub fn begin_run(alloc: Global, table: &mut Table, key: &Key) -> Result<(), Memory>
     ensures readies { OnOk result (Readies table.old table.new key.now) }
-    ensures entered { OnOk result (HasEntered table.old.nodes table.new.nodes key.now phase.Running) }
+    ensures entered { OnOk result
+        (HasEntered table.old.nodes table.new.nodes key.now phase.Running) }
     ensures looked { OnOk result (table.new.looked ≡ table.old.looked) }
 {
     put_ready(table, key)?;
@@ -108,7 +110,8 @@ fn set_phase(nodes: &mut Nodes, key: &Key, phase: Phase)
 /// A check has passed this many groups, and goes on.
 pub fn pass(table: &mut Table, key: &Key, passed: usize) -> Result<(), Memory>
     ensures pends { OnOk result (Pends table.old table.new key.now) }
-    ensures phase { OnOk result (HasPhase table.old.nodes table.new.nodes key.now (phase.Checking passed)) }
+    ensures phase { OnOk result (HasPhase table.old.nodes table.new.nodes key.now
+        (phase.Checking passed)) }
     ensures looked { OnOk result (table.new.looked ≡ table.old.looked) }
 {
     look_again(table, key)?;
@@ -151,8 +154,10 @@ pub fn watch(table: &mut Table, member: &Key, key: &Key) -> Result<(), Memory>
 
 /// The node leaves, and those that wait for it are to be looked at. The groups that it asked.
 pub fn leave(alloc: Global, table: &mut Table, key: &Key) -> Result<Vec<Vec<Key>>, Memory>
-    ensures left { OnOk result ((n : Node) → node_at table.old.nodes key.now ≡ Some n → HasLeft table.old table.new key.now n) }
-    ensures groups { IfOk result (λ groups. (n : Node) → node_at table.old.nodes key.now ≡ Some n → items_of groups.items ≡ groups_of n) }
+    ensures left { OnOk result ((n : Node) → node_at table.old.nodes key.now ≡ Some n
+        → HasLeft table.old table.new key.now n) }
+    ensures groups { IfOk result (λ groups. (n : Node) → node_at table.old.nodes key.now ≡ Some n
+        → items_of groups.items ≡ groups_of n) }
     ensures looked { OnOk result (table.new.looked ≡ table.old.looked) }
 {
     match table.nodes.swap_remove(key) {
@@ -171,7 +176,9 @@ pub fn leave(alloc: Global, table: &mut Table, key: &Key) -> Result<Vec<Vec<Key>
 
 /// A run is noted.
 pub fn note(table: &mut Table, key: &Key, version: u32, turns: u64) -> Result<(), Memory>
-    ensures { OnOk result (HasNoted table.old table.new (record { key = key.now; version = version; turns = turns })) }
+    ensures { OnOk result
+        (HasNoted table.old table.new
+        (record { key = key.now; version = version; turns = turns })) }
 {
     table.runs.push(Run {
         key: key.share()?,

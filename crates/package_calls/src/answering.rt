@@ -22,7 +22,8 @@ use texts::{Memory, Text};
 
 // The paths that a question finds, where it is answered.
 fn answer_to<'a>(answers: &'a [Answer], question: &Text) -> Option<&'a [Text]>
-    ensures { option_map (λ paths. paths.now) result ≡ answer_to question.now (answers_of answers.now) }
+    ensures { option_map (λ paths. paths.now) result ≡ answer_to question.now
+        (answers_of answers.now) }
 {
     for answer in answers {
         if *question == answer.pattern {
@@ -50,7 +51,8 @@ pub fn unanswered(
     answers: &[Answer],
     questions: &[Text],
 ) -> Result<Vec<Text>, Memory>
-    ensures { IfOk result (λ v. v.items ≡ globs.unanswered (answers_of answers.now) [] questions.now) }
+    ensures { IfOk result (λ v. v.items ≡ globs.unanswered (answers_of answers.now) []
+        questions.now) }
 {
     let mut all = Vec::new(alloc);
     for question in questions {
@@ -61,7 +63,8 @@ pub fn unanswered(
 
 // Adds a question that has no answer and is not there.
 fn add_unanswered(all: &mut Vec<Text>, answers: &[Answer], question: &Text) -> Result<(), Memory>
-    ensures { OnOk result (all.new.items ≡ with_unanswered question.now (answers_of answers.now) all.old.items) }
+    ensures { OnOk result (all.new.items ≡ with_unanswered question.now (answers_of answers.now)
+        all.old.items) }
 {
     if answer_to(answers, question).is_some() {
         return Ok(());
@@ -80,7 +83,9 @@ pub fn found(
     questions: &[Text],
     excludes: &[Pattern],
 ) -> Result<Vec<Text>, Memory>
-    ensures { IfOk result (λ v. v.items ≡ in_order (λ path. path) (kept_of excludes.now (found_all (answers_of answers.now) questions.now))) }
+    ensures { IfOk result
+        (λ v. v.items ≡ in_order (λ path. path)
+        (kept_of excludes.now (found_all (answers_of answers.now) questions.now))) }
 {
     let all = gathered(alloc, answers, questions, excludes)?;
     in_order(alloc, all.as_slice())
@@ -93,7 +98,8 @@ fn gathered(
     questions: &[Text],
     excludes: &[Pattern],
 ) -> Result<Vec<Text>, Memory>
-    ensures { IfOk result (λ v. v.items ≡ kept_of excludes.now (found_all (answers_of answers.now) questions.now)) }
+    ensures { IfOk result
+        (λ v. v.items ≡ kept_of excludes.now (found_all (answers_of answers.now) questions.now)) }
 {
     let mut all = Vec::new(alloc);
     for question in questions {
@@ -109,7 +115,8 @@ fn add_found(
     question: &Text,
     excludes: &[Pattern],
 ) -> Result<(), Memory>
-    ensures { OnOk result (all.new.items ≡ all.old.items ++ kept_of excludes.now (found_or_none (answer_to question.now (answers_of answers.now)))) }
+    ensures { OnOk result (all.new.items ≡ all.old.items ++ kept_of excludes.now
+        (found_or_none (answer_to question.now (answers_of answers.now)))) }
 {
     match answer_to(answers, question) {
         Some(paths) => {
@@ -146,7 +153,8 @@ fn some_matches(patterns: &[Pattern], path: &str) -> bool
 
 /// A new list of paths, or fault 22 or 13.
 pub fn make_paths(heap: &mut Heap, allow_empty: bool, paths: &[Text]) -> Result<Val, Halt>
-    ensures { Says (makes_paths allow_empty paths.now (store_of heap.old)) result (store_of heap.new) }
+    ensures { Says (makes_paths allow_empty paths.now (store_of heap.old)) result
+        (store_of heap.new) }
 {
     if !allow_empty && paths.is_empty() {
         return Err(Halt::Code(faults::EMPTY_GLOB));

@@ -29,7 +29,8 @@ pub struct Given {
 
 /// The attributes that are given, in byte order, or fault 5.
 pub fn all_typed(heap: &Heap, fields: &[Field], ns: &[(Text, Val)]) -> Result<Vec<Given>, Halt>
-    ensures { ChecksAs (λ v. map given_of v.items) (all_typed (shapes fields.now) ns.now (store_of heap.now)) result }
+    ensures { ChecksAs (λ v. map given_of v.items)
+        (all_typed (shapes fields.now) ns.now (store_of heap.now)) result }
 {
     let mut all = Vec::new(heap.alloc);
     for field in fields {
@@ -68,7 +69,8 @@ pub fn all_shaped(
     package_name: &Text,
     given: &[Given],
 ) -> Result<Vec<Attributed>, Halt>
-    ensures { ChecksAs (λ v. map attributed_of v.items) (all_shaped package_name.now (map given_of given.now)) result }
+    ensures { ChecksAs (λ v. map attributed_of v.items)
+        (all_shaped package_name.now (map given_of given.now)) result }
 {
     let mut all = Vec::new(alloc);
     for g in given {
@@ -85,7 +87,8 @@ pub fn all_shaped(
 
 // An attribute with its labels read in the package, or fault 15.
 fn as_shape(alloc: Global, package_name: &Text, given: &Given) -> Result<Attribute, Halt>
-    ensures { ChecksAs attribute_of (as_shape package_name.now (field_shape given.now.field) (attribute_of given.now.value)) result }
+    ensures { ChecksAs attribute_of (as_shape package_name.now (field_shape given.now.field)
+        (attribute_of given.now.value)) result }
 {
     match &given.value {
         Attribute::Single(text) => {
@@ -106,7 +109,8 @@ fn single_shaped(
     field: Field,
     text: &Bytes,
 ) -> Result<Bytes, Halt>
-    ensures { ChecksAs single (as_shape package_name.now (field_shape field) (single text.now)) result }
+    ensures { ChecksAs single (as_shape package_name.now (field_shape field) (single text.now))
+        result }
 {
     match field {
         Field::Actual => label_in(alloc, package_name, text.as_slice()),
@@ -124,7 +128,8 @@ fn several_shaped(
     field: Field,
     texts: &[Bytes],
 ) -> Result<Vec<Bytes>, Halt>
-    ensures { ChecksAs (λ v. several v.items) (as_shape package_name.now (field_shape field) (several texts.now)) result }
+    ensures { ChecksAs (λ v. several v.items) (as_shape package_name.now (field_shape field)
+        (several texts.now)) result }
 {
     match field {
         Field::Data | Field::Srcs | Field::Tests | Field::Tools => {

@@ -119,7 +119,8 @@ fn names_two(ns: &[(Text, Val)]) -> bool
 
 // Whether one of the three parameters is named.
 fn names_three(ns: &[(Text, Val)]) -> bool
-    ensures { result ≡ ((is_named (codes "include") ns.now || is_named (codes "exclude") ns.now) || is_named (codes "allow_empty") ns.now) }
+    ensures { result ≡ ((is_named (codes "include") ns.now || is_named (codes "exclude") ns.now)
+        || is_named (codes "allow_empty") ns.now) }
 {
     if names_two(ns) {
         return true;
@@ -215,7 +216,8 @@ fn with_patterns(alloc: Global, written: &Written) -> Result<Asked, Halt>
 
 // Texts as patterns, or fault 21.
 fn all_patterns(alloc: Global, texts: &[Bytes]) -> Result<Vec<Pattern>, Halt>
-    ensures { ChecksItems (if list_all is_pattern texts.now then good texts.now else bad 21) result }
+    ensures { ChecksItems (if list_all is_pattern texts.now then good texts.now else bad 21)
+        result }
 {
     let mut all = Vec::new(alloc);
     for text in texts {

@@ -42,7 +42,9 @@ pub fn package_call(
     xs: &[Val],
     names: &[Text],
 ) -> Result<Called, Halt>
-    ensures says { (env : Env) (here : Here) → IsOf known.now env → EndsAs here.site (package_call env f (plain_part xs.now names.now) (named_part xs.now names.now) here (world_of state.old)) result (world_of state.new) }
+    ensures says { (env : Env) (here : Here) → IsOf known.now env → EndsAs here.site
+        (package_call env f (plain_part xs.now names.now) (named_part xs.now names.now) here
+        (world_of state.old)) result (world_of state.new) }
     ensures waits { IfWaits result (state.new ≡ state.old) }
     ensures steps { IfOk result (λ _. state.new.heap.steps ≤ state.old.heap.steps) }
 {
@@ -64,7 +66,9 @@ fn in_package(
     xs: &[Val],
     ns: &[(Text, Val)],
 ) -> Result<Called, Halt>
-    ensures says { (here : Here) → EndsAs here.site (within known.now.name (answers_of known.now.answers.items) f xs.now ns.now here (world_of state.old)) result (world_of state.new) }
+    ensures says { (here : Here) → EndsAs here.site
+        (within known.now.name (answers_of known.now.answers.items) f xs.now ns.now here
+        (world_of state.old)) result (world_of state.new) }
     ensures waits { IfWaits result (state.new ≡ state.old) }
     ensures steps { IfOk result (λ _. state.new.heap.steps ≤ state.old.heap.steps) }
 {
@@ -83,7 +87,8 @@ fn in_package(
 
 // The name of the package, or fault 25 or 13.
 fn package_name(heap: &mut Heap, name: &Text, xs: &[Val], ns: &[(Text, Val)]) -> Result<Val, Halt>
-    ensures says { Says (named_package name.now xs.now ns.now (store_of heap.old)) result (store_of heap.new) }
+    ensures says { Says (named_package name.now xs.now ns.now (store_of heap.old)) result
+        (store_of heap.new) }
     ensures steps { IfOk result (λ _. heap.new.steps ≤ heap.old.steps) }
 {
     if !xs.is_empty() || !ns.is_empty() {
@@ -95,7 +100,9 @@ fn package_name(heap: &mut Heap, name: &Text, xs: &[Val], ns: &[(Text, Val)]) ->
 
 // A call of `glob`.
 fn glob(heap: &mut Heap, answers: &[Answer], xs: &[Val], ns: &[(Text, Val)]) -> Result<Called, Halt>
-    ensures says { (here : Here) (w : World) → w.store ≡ store_of heap.old → EndsAs here.site (glob (answers_of answers.now) xs.now ns.now here w) result (record w { store = store_of heap.new }) }
+    ensures says { (here : Here) (w : World) → w.store ≡ store_of heap.old → EndsAs here.site
+        (glob (answers_of answers.now) xs.now ns.now here w) result
+        (record w { store = store_of heap.new }) }
     ensures waits { IfWaits result (heap.new ≡ heap.old) }
     ensures steps { IfOk result (λ _. heap.new.steps ≤ heap.old.steps) }
 {
@@ -128,7 +135,9 @@ pub fn rule(
     xs: &[Val],
     ns: &[(Text, Val)],
 ) -> Result<Val, Halt>
-    ensures says { (here : Here) → Ran here.site (rule f package_name.now xs.now ns.now here (world_of state.old)) result (world_of state.new) }
+    ensures says { (here : Here)
+        → Ran here.site (rule f package_name.now xs.now ns.now here (world_of state.old)) result
+        (world_of state.new) }
     ensures heap { state.new.heap ≡ state.old.heap }
 {
     let target = match target_of(&state.heap, f, package_name, xs, ns) {
@@ -149,7 +158,8 @@ fn target_of(
     xs: &[Val],
     ns: &[(Text, Val)],
 ) -> Result<Target, Halt>
-    ensures { ChecksAs view.target_of (target_of f package_name.now xs.now ns.now (store_of heap.now)) result }
+    ensures { ChecksAs view.target_of
+        (target_of f package_name.now xs.now ns.now (store_of heap.now)) result }
 {
     let fields = fields_of(f);
     let given = not_none(heap.alloc, ns)?;
@@ -167,7 +177,10 @@ fn described(
     given: &[(Text, Val)],
     fields: &[Field],
 ) -> Result<Target, Halt>
-    ensures { ChecksAs view.target_of (then_checked (name_text (value_named (codes "name") given.now) (store_of heap.now)) (λ name. then_checked (all_typed (shapes fields.now) given.now (store_of heap.now)) (makes_target (builtin_name f) package_name.now name))) result }
+    ensures { ChecksAs view.target_of
+        (then_checked (name_text (value_named (codes "name") given.now) (store_of heap.now))
+        (λ name. then_checked (all_typed (shapes fields.now) given.now (store_of heap.now))
+        (makes_target (builtin_name f) package_name.now name))) result }
 {
     let name = name_in(heap, given)?;
     let (name, typed) = beside(name, all_typed(heap, fields, given))?;
@@ -239,7 +252,8 @@ fn make_target(
     name: Bytes,
     given: &[Given],
 ) -> Result<Target, Halt>
-    ensures { ChecksAs view.target_of (makes_target (builtin_name f) package_name.now name (map given_of given.now)) result }
+    ensures { ChecksAs view.target_of (makes_target (builtin_name f) package_name.now name
+        (map given_of given.now)) result }
 {
     if !is_path(name.as_slice()) {
         return Err(Halt::Code(faults::BAD_LABEL));

@@ -81,7 +81,8 @@ fn after_listing(
     names: &[Text],
     answers: &[Arc<Value>],
 ) -> Result<Reply, Memory>
-    ensures { IfOk result (IsReply (specs.after_listing directory.now lookup.now names.now (values answers.now))) }
+    ensures { IfOk result
+        (IsReply (specs.after_listing directory.now lookup.now names.now (values answers.now))) }
 {
     if answers.len() < names.len() {
         return Ok(Reply::Ask(keys_below(alloc, directory, names)?));

@@ -1,7 +1,6 @@
 -- Pieces of a pattern, from one wild item to the next.
-use Rattle.std.proofs.Common.{◌≡◌, ◌∙◌, ap, sym, refl, Bool, true, false, cond, ◌&&◌, ◌||◌, ◌⊎◌, List, [], ◌∷◌, length}
+use Rattle.std.proofs.Common.{◌≡◌, ◌∙◌, ap, sym, refl, Bool, true, false, cond, ◌&&◌, ◌||◌, ◌⊎◌, List, [], ◌∷◌, length, inl, inr}
 use Rattle.std.proofs.lemmas.Bool.{and_parts, or_cases, false≢true}
-use Rattle.std.proofs.Common.{inl, inr}
 use Rattle.pattern.specs.Wild.{some_end, first_fits, wild_matches}
 use Rattle.pattern.specs.Pieces.{PieceFits}
 

@@ -7,7 +7,8 @@ ghost use Rattle.pattern.specs.Pieces.{PieceFits, PieceFound};
 // Takes the bytes of the pattern up to its first star, or its end, from the front of the name.
 fn piece<'a>(pattern: &'a [u8], name: &'a [u8]) -> Option<(&'a [u8], &'a [u8])>
     ensures { MatchOption result (patterns.segment_matches pattern.now name.now ≡ false)
-        (λ left. PieceFits patterns.is_star patterns.segment_matches pattern.now name.now left.0.now left.1.now) }
+        (λ left. PieceFits patterns.is_star patterns.segment_matches pattern.now name.now left.0.now
+        left.1.now) }
 {
     let mut pattern = pattern;
     let mut name = name;
@@ -29,7 +30,8 @@ fn piece<'a>(pattern: &'a [u8], name: &'a [u8]) -> Option<(&'a [u8], &'a [u8])>
 // The first end of the name that begins with the piece; the last piece has to end with the name.
 fn search<'a>(pattern: &'a [u8], name: &'a [u8]) -> Option<(&'a [u8], &'a [u8])>
     ensures { MatchOption result (some_end (patterns.segment_matches pattern.now) name.now ≡ false)
-        (λ left. PieceFound patterns.is_star patterns.segment_matches pattern.now name.now left.0.now left.1.now) }
+        (λ left. PieceFound patterns.is_star patterns.segment_matches pattern.now name.now
+        left.0.now left.1.now) }
 {
     let mut name = name;
     loop {

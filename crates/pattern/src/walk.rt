@@ -9,7 +9,8 @@ use crate::segment::segment_matches;
 
 // The first segment, and the rest, if it is there.
 fn split_segment<'a>(text: Option<&'a str>) -> Option<(&'a str, Option<&'a str>)>
-    ensures { MatchOption result (parts text.entry ≡ []) (λ x. parts text.entry ≡ x.0.now ∷ parts x.1) }
+    ensures { MatchOption result (parts text.entry ≡ [])
+        (λ x. parts text.entry ≡ x.0.now ∷ parts x.1) }
 {
     let text = text?;
     match text.split_once('/') {
@@ -23,8 +24,9 @@ fn piece<'a>(
     pattern: Option<&'a str>,
     path: Option<&'a str>,
 ) -> Option<(Option<&'a str>, Option<&'a str>)>
-    ensures { MatchOption result (patterns.path_matches (parts pattern.entry) (parts path.entry) ≡ false)
-        (λ left. PieceFits patterns.is_double_star patterns.path_matches (parts pattern.entry) (parts path.entry) (parts left.0) (parts left.1)) }
+    ensures { MatchOption result (patterns.path_matches (parts pattern.entry) (parts path.entry)
+        ≡ false) (λ left. PieceFits patterns.is_double_star patterns.path_matches
+        (parts pattern.entry) (parts path.entry) (parts left.0) (parts left.1)) }
 {
     let mut pattern = pattern;
     let mut path = path;
@@ -47,8 +49,9 @@ fn whole_piece<'a>(
     pattern: Option<&'a str>,
     path: Option<&'a str>,
 ) -> Option<(Option<&'a str>, Option<&'a str>)>
-    ensures { MatchOption result (patterns.path_matches (parts pattern.entry) (parts path.entry) ≡ false)
-        (λ left. PieceFound patterns.is_double_star patterns.path_matches (parts pattern.entry) (parts path.entry) (parts left.0) (parts left.1)) }
+    ensures { MatchOption result (patterns.path_matches (parts pattern.entry) (parts path.entry)
+        ≡ false) (λ left. PieceFound patterns.is_double_star patterns.path_matches
+        (parts pattern.entry) (parts path.entry) (parts left.0) (parts left.1)) }
 {
     let (rest, after) = piece(pattern, path)?;
     match rest {
@@ -65,8 +68,10 @@ fn search<'a>(
     pattern: Option<&'a str>,
     path: Option<&'a str>,
 ) -> Option<(Option<&'a str>, Option<&'a str>)>
-    ensures { MatchOption result (some_end (patterns.path_matches (parts pattern.entry)) (parts path.entry) ≡ false)
-        (λ left. PieceFound patterns.is_double_star patterns.path_matches (parts pattern.entry) (parts path.entry) (parts left.0) (parts left.1)) }
+    ensures { MatchOption result (some_end (patterns.path_matches (parts pattern.entry))
+        (parts path.entry) ≡ false)
+        (λ left. PieceFound patterns.is_double_star patterns.path_matches (parts pattern.entry)
+        (parts path.entry) (parts left.0) (parts left.1)) }
 {
     let mut path = path;
     loop {

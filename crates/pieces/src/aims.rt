@@ -26,7 +26,9 @@ pub enum Aim {
 
 /// The present value of a target.
 pub fn present(state: &mut State, at: &Standing, aim: &Aim) -> Result<Val, Halt>
-    ensures says { (line : ℕ) (running : List (List ℕ × List ℕ)) → let here = here_of at.now line running in Ran here.site (s.present (aim_of aim.now) here (world_of state.old)) result (world_of state.new) }
+    ensures says { (line : ℕ) (running : List (List ℕ × List ℕ)) → let here = here_of at.now line
+        running in Ran here.site (s.present (aim_of aim.now) here (world_of state.old)) result
+        (world_of state.new) }
     ensures steps { IfOk result (λ _. state.new.heap.steps ≤ state.old.heap.steps) }
 {
     match aim {
@@ -58,7 +60,9 @@ fn unpack(heap: &Heap, n: usize, x: Val) -> Result<Vec<Val>, Halt>
 /// Stores a value in a target.
 #[cycle(storing)]
 pub fn store(state: &mut State, at: &Standing, aim: &Aim, value: Val) -> Result<(), Halt>
-    ensures says { (line : ℕ) (running : List (List ℕ × List ℕ)) → let here = here_of at.now line running in Ran here.site (t.store (aim_of aim.now) value here (world_of state.old)) result (world_of state.new) }
+    ensures says { (line : ℕ) (running : List (List ℕ × List ℕ)) → let here = here_of at.now line
+        running in Ran here.site (t.store (aim_of aim.now) value here (world_of state.old)) result
+        (world_of state.new) }
     ensures steps { IfOk result (λ _. state.new.heap.steps ≤ state.old.heap.steps) }
 {
     match aim {
@@ -78,7 +82,9 @@ pub fn store(state: &mut State, at: &Standing, aim: &Aim, value: Val) -> Result<
 #[cycle(storing)]
 fn store_each(state: &mut State, at: &Standing, aims: &[Aim], xs: &[Val]) -> Result<(), Halt>
     requires { length aims.now ≡ length xs.now }
-    ensures says { (line : ℕ) (running : List (List ℕ × List ℕ)) → let here = here_of at.now line running in Ran here.site (t.store_each (aims_of (map aim_of aims.now)) xs.now here (world_of state.old)) result (world_of state.new) }
+    ensures says { (line : ℕ) (running : List (List ℕ × List ℕ)) → let here = here_of at.now line
+        running in Ran here.site (t.store_each (aims_of (map aim_of aims.now)) xs.now here
+        (world_of state.old)) result (world_of state.new) }
     ensures steps { IfOk result (λ _. state.new.heap.steps ≤ state.old.heap.steps) }
 {
     for i in 0..aims.len() {

@@ -35,7 +35,8 @@ fn plain<'a>(xs: &'a [Val], names: &[Text]) -> &'a [Val]
 
 /// Calls a built-in function.
 pub fn call_builtin(heap: &mut Heap, f: Builtin, xs: &[Val], names: &[Text]) -> Result<Val, Halt>
-    ensures says { Says (m.builtin f (plain_part xs.now names.now) (named_part xs.now names.now) (store_of heap.old)) result (store_of heap.new) }
+    ensures says { Says (m.builtin f (plain_part xs.now names.now) (named_part xs.now names.now)
+        (store_of heap.old)) result (store_of heap.new) }
     ensures steps { IfOk result (λ _. heap.new.steps ≤ heap.old.steps) }
 {
     let named = named(heap.alloc, xs, names)?;
@@ -50,7 +51,8 @@ pub fn call_method(
     xs: &[Val],
     names: &[Text],
 ) -> Result<Val, Halt>
-    ensures says { Says (mm.method x name.now (plain_part xs.now names.now) (named_part xs.now names.now) (store_of heap.old)) result (store_of heap.new) }
+    ensures says { Says (mm.method x name.now (plain_part xs.now names.now)
+        (named_part xs.now names.now) (store_of heap.old)) result (store_of heap.new) }
     ensures steps { IfOk result (λ _. heap.new.steps ≤ heap.old.steps) }
 {
     let named = named(heap.alloc, xs, names)?;

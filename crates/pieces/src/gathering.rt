@@ -31,7 +31,8 @@ pub fn nothing_yet(alloc: Global) -> Gathered
 
 /// One more member, or fault 13.
 pub fn one_more(g: &mut Gathered, x: Val) -> Result<(), Halt>
-    ensures { (here : Here) (u : World) → RanInto here.site (l.one_more x (gathered_of g.old) here u) result (gathered_of g.new) u }
+    ensures { (here : Here) (u : World) → RanInto here.site
+        (l.one_more x (gathered_of g.old) here u) result (gathered_of g.new) u }
 {
     if g.members.len() >= LONGEST {
         return Err(Halt::Code(faults::TOO_LARGE));
@@ -42,7 +43,8 @@ pub fn one_more(g: &mut Gathered, x: Val) -> Result<(), Halt>
 
 /// One more entry; at a key that is there the later value stays. Fault 5, 11, 12 or 13.
 pub fn one_entry(heap: &mut Heap, g: &mut Gathered, k: Val, x: Val) -> Result<(), Halt>
-    ensures says { SaysInto (grows k x g.old.entries.entries (store_of heap.old)) result g.new.entries.entries (store_of heap.new) }
+    ensures says { SaysInto (grows k x g.old.entries.entries (store_of heap.old)) result
+        g.new.entries.entries (store_of heap.new) }
     ensures members { g.new.members ≡ g.old.members }
     ensures steps { IfOk result (λ _. heap.new.steps ≤ heap.old.steps) }
 {
@@ -61,7 +63,8 @@ pub fn fresh(
     k: Val,
     x: Val,
 ) -> Result<(), Halt>
-    ensures says { SaysInto (set_fresh k x entries.old.entries (store_of heap.old)) result entries.new.entries (store_of heap.new) }
+    ensures says { SaysInto (set_fresh k x entries.old.entries (store_of heap.old)) result
+        entries.new.entries (store_of heap.new) }
     ensures steps { IfOk result (λ _. heap.new.steps ≤ heap.old.steps) }
 {
     let key = hash(heap, k)?;

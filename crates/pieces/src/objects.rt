@@ -14,7 +14,8 @@ use texts::Text;
 
 /// One step, or fault 11.
 pub fn tick(heap: &mut Heap) -> Result<(), Halt>
-    ensures says { Says (h.walks (λ objects. o.tick) (store_of heap.old)) result (store_of heap.new) }
+    ensures says { Says (h.walks (λ objects. o.tick) (store_of heap.old)) result
+        (store_of heap.new) }
     ensures steps { IfOk result (λ _. heap.new.steps < heap.old.steps) }
 {
     heap::tick(&mut heap.steps)
@@ -34,7 +35,8 @@ pub fn make_text(heap: &mut Heap, text: &Text) -> Result<Val, Halt>
 
 /// A new list, or fault 13.
 pub fn make_list(heap: &mut Heap, members: Vec<Val>) -> Result<Val, Halt>
-    ensures says { Says (h.makes_list members.items (store_of heap.old)) result (store_of heap.new) }
+    ensures says { Says (h.makes_list members.items (store_of heap.old)) result
+        (store_of heap.new) }
     ensures steps { IfOk result (λ _. heap.new.steps ≤ heap.old.steps) }
 {
     heap.make_list(members)
@@ -42,7 +44,8 @@ pub fn make_list(heap: &mut Heap, members: Vec<Val>) -> Result<Val, Halt>
 
 /// A new tuple, or fault 13.
 pub fn make_tuple(heap: &mut Heap, members: Vec<Val>) -> Result<Val, Halt>
-    ensures says { Says (h.makes_tuple members.items (store_of heap.old)) result (store_of heap.new) }
+    ensures says { Says (h.makes_tuple members.items (store_of heap.old)) result
+        (store_of heap.new) }
     ensures steps { IfOk result (λ _. heap.new.steps ≤ heap.old.steps) }
 {
     heap.make_tuple(members)
@@ -50,7 +53,8 @@ pub fn make_tuple(heap: &mut Heap, members: Vec<Val>) -> Result<Val, Halt>
 
 /// A new dictionary, or fault 13.
 pub fn make_dict(heap: &mut Heap, entries: IndexMap<Key, Entry>) -> Result<Val, Halt>
-    ensures says { Says (h.makes_dict entries.entries (store_of heap.old)) result (store_of heap.new) }
+    ensures says { Says (h.makes_dict entries.entries (store_of heap.old)) result
+        (store_of heap.new) }
     ensures steps { IfOk result (λ _. heap.new.steps ≤ heap.old.steps) }
 {
     heap.make_dict(entries)

@@ -20,7 +20,9 @@ pub fn is_true(heap: &Heap, x: Val) -> Result<bool, Memory>
 
 /// An operator before an operand.
 pub fn unary(heap: &mut Heap, op: UnaryOp, x: Val) -> Result<Val, Halt>
-    ensures says { (here : Here) (w : World) → Ran here.site (e.unary op x here (record w { store = store_of heap.old })) result (record w { store = store_of heap.new }) }
+    ensures says { (here : Here) (w : World)
+        → Ran here.site (e.unary op x here (record w { store = store_of heap.old })) result
+        (record w { store = store_of heap.new }) }
     ensures steps { IfOk result (λ _. heap.new.steps ≤ heap.old.steps) }
 {
     match op {
@@ -55,7 +57,8 @@ fn operator_of(op: BinaryOp) -> Operator
 
 /// An operator between two values.
 pub fn both(heap: &mut Heap, op: BinaryOp, x: Val, y: Val) -> Result<Val, Halt>
-    ensures says { Says (binary (e.operator_of op) x y (store_of heap.old)) result (store_of heap.new) }
+    ensures says { Says (binary (e.operator_of op) x y (store_of heap.old)) result
+        (store_of heap.new) }
     ensures steps { IfOk result (λ _. heap.new.steps ≤ heap.old.steps) }
 {
     values::binary(heap, operator_of(op), x, y)

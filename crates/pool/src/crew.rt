@@ -33,10 +33,14 @@ pub(crate) fn hire<'s, E, R: Rules + Send + Drop + 's, T: Wait + Sync>(
 ) -> Result<(), Memory>
     requires host { IsHostAtRest board.now.table.shared.table_id host.old.seat }
     requires crew { IsCrew board.now.table.shared.table_id crew.old }
-    requires new { All (λ h. IsNewHand board.now.table.shared.table_id h.seat) crew.old.hands.items }
-    ensures host { IsHostAtRest board.now.table.shared.table_id host.new.seat × IsShutOnly host.old.seat.me.0 host.new.seat.me.0 }
-    ensures crew { IsCrew board.now.table.shared.table_id crew.new × SameCrew R.turns crew.old crew.new }
-    ensures new { OnOk result (All (λ h. IsNewHand board.now.table.shared.table_id h.seat) crew.new.hands.items) }
+    requires new { All (λ h. IsNewHand board.now.table.shared.table_id h.seat)
+        crew.old.hands.items }
+    ensures host { IsHostAtRest board.now.table.shared.table_id host.new.seat
+        × IsShutOnly host.old.seat.me.0 host.new.seat.me.0 }
+    ensures crew { IsCrew board.now.table.shared.table_id crew.new × SameCrew R.turns crew.old
+        crew.new }
+    ensures new { OnOk result (All (λ h. IsNewHand board.now.table.shared.table_id h.seat)
+        crew.new.hands.items) }
     ensures hired { length crew.new.workers.items ≤ length crew.old.workers.items + 1 }
 {
     let Some(own) = crew.rules.pop() else {
@@ -54,7 +58,8 @@ pub(crate) fn hire<'s, E, R: Rules + Send + Drop + 's, T: Wait + Sync>(
         move || -> Back<R>
             requires { IsNewHand board.now.table.shared.table_id hand.seat }
             ensures seat { IsHandAtRest board.entry.now.table.shared.table_id result.hand.seat }
-            ensures counted { R.turns result.rules ≡ R.turns own + made_in result.hand.seat.me.0.answers }
+            ensures counted { R.turns result.rules ≡ R.turns own
+                + made_in result.hand.seat.me.0.answers }
         { work_on(rt, board, bells, hand, own) },
     );
     match hired {
@@ -79,9 +84,13 @@ pub(crate) fn join_all<'s, R: Rules + Drop, T: Threads>(
     crew: Crew<'s, R>,
 ) -> (Vec<R>, Vec<Hand<R>>)
     requires { IsCrew board.now.table.shared.table_id crew }
-    ensures as_many { (length result.0.items ≡ length crew.entry.rules.items + length crew.entry.workers.items) × (length result.1.items ≡ length result.0.items) }
+    ensures as_many { (length result.0.items ≡ length crew.entry.rules.items
+        + length crew.entry.workers.items) × (length result.1.items ≡ length result.0.items) }
     ensures hands { All (λ h. IsHandAtRest board.now.table.shared.table_id h.seat) result.1.items }
-    ensures turns { total R.turns result.0.items + total (λ h. made_in h.seat.me.0.answers) crew.entry.hands.items ≡ total R.turns crew.entry.rules.items + total (λ w. R.turns w.promise.given.value) crew.entry.workers.items + total (λ h. made_in h.seat.me.0.answers) result.1.items }
+    ensures turns { total R.turns result.0.items + total (λ h. made_in h.seat.me.0.answers)
+        crew.entry.hands.items ≡ total R.turns crew.entry.rules.items + total
+        (λ w. R.turns w.promise.given.value) crew.entry.workers.items + total
+        (λ h. made_in h.seat.me.0.answers) result.1.items }
 {
     let Crew {
         mut workers,

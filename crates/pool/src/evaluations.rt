@@ -64,12 +64,16 @@ fn run<'s, E, R: Rules + Send + Drop + 's, T: Threads + Wait + Sync>(
     first: u64,
     budget: u64,
 ) -> Ran<R>
-    requires host { IsNewHost board.now.table.shared.table_id board.now.capacity (length rules.items) host.seat }
-    requires hands { All (λ h. IsNewHand board.now.table.shared.table_id h.seat) hands.items × (length hands.items ≡ length rules.items) }
+    requires host { IsNewHost board.now.table.shared.table_id board.now.capacity
+        (length rules.items) host.seat }
+    requires hands { All (λ h. IsNewHand board.now.table.shared.table_id h.seat) hands.items
+        × (length hands.items ≡ length rules.items) }
     requires places { 0 < board.now.capacity }
     requires rests { IsResting graph round (standing round).roots first × (first ≤ budget) }
-    requires truth { IsTrueSinceSome R.next (leaves.read tree.now) (standing round).roots entry.value graph round.table }
-    ensures { HasRun R.next R.turns (leaves.read tree.now) board.now.table.shared.table_id board.now.capacity (standing round).roots entry.value first rules.items budget result }
+    requires truth { IsTrueSinceSome R.next (leaves.read tree.now) (standing round).roots
+        entry.value graph round.table }
+    ensures { HasRun R.next R.turns (leaves.read tree.now) board.now.table.shared.table_id
+        board.now.capacity (standing round).roots entry.value first rules.items budget result }
 {
     let workers = match with_room(alloc, rules.len()) {
         Ok(workers) => workers,
@@ -120,23 +124,32 @@ fn scoped<R: Rules + Send + Drop, T: Threads + Wait + Sync>(
     first: u64,
     budget: u64,
 ) -> Ran<R>
-    requires host { IsNewHost board.now.table.shared.table_id board.now.capacity (length rules.items) host.seat }
-    requires hands { All (λ h. IsNewHand board.now.table.shared.table_id h.seat) hands.items × (length hands.items ≡ length rules.items) }
+    requires host { IsNewHost board.now.table.shared.table_id board.now.capacity
+        (length rules.items) host.seat }
+    requires hands { All (λ h. IsNewHand board.now.table.shared.table_id h.seat) hands.items
+        × (length hands.items ≡ length rules.items) }
     requires places { 0 < board.now.capacity }
     requires rests { IsResting graph round (standing round).roots first × (first ≤ budget) }
-    requires truth { IsTrueSinceSome R.next (leaves.read tree.now) (standing round).roots entry.value graph round.table }
-    ensures { HasRun R.next R.turns (leaves.read tree.now) board.now.table.shared.table_id board.now.capacity (standing round).roots entry.value first rules.items budget result }
+    requires truth { IsTrueSinceSome R.next (leaves.read tree.now) (standing round).roots
+        entry.value graph round.table }
+    ensures { HasRun R.next R.turns (leaves.read tree.now) board.now.table.shared.table_id
+        board.now.capacity (standing round).roots entry.value first rules.items budget result }
 {
     thread::scope(
         thread::scope_env(),
         rt,
         move |scope| -> Ran<R>
-            requires host { IsNewHost board.now.table.shared.table_id board.now.capacity (length rules.items) host.seat }
-            requires hands { All (λ h. IsNewHand board.now.table.shared.table_id h.seat) hands.items × (length hands.items ≡ length rules.items) }
+            requires host { IsNewHost board.now.table.shared.table_id board.now.capacity
+                (length rules.items) host.seat }
+            requires hands { All (λ h. IsNewHand board.now.table.shared.table_id h.seat) hands.items
+                × (length hands.items ≡ length rules.items) }
             requires places { 0 < board.now.capacity }
             requires rests { IsResting graph round (standing round).roots first × (first ≤ budget) }
-            requires truth { IsTrueSinceSome R.next (leaves.read tree.now) (standing round).roots entry.value graph round.table }
-            ensures { HasRun R.next R.turns (leaves.read tree.entry.now) board.entry.now.table.shared.table_id board.entry.now.capacity (standing round).roots entry.value first rules.items budget result }
+            requires truth { IsTrueSinceSome R.next (leaves.read tree.now) (standing round).roots
+                entry.value graph round.table }
+            ensures { HasRun R.next R.turns (leaves.read tree.entry.now)
+                board.entry.now.table.shared.table_id board.entry.now.capacity
+                (standing round).roots entry.value first rules.items budget result }
         {
             run(
                 scope, rt, alloc, board, bells, host, hands, rules, graph, tree, entry, round,
@@ -160,14 +173,20 @@ fn by_workers<R: Rules + Send + Drop, T: Threads + Wait + Sync>(
 ) -> Result<(Vec<R>, Vec<Run>), Stop>
     requires hands { (1 ≤ length hands.items) × (length hands.items ≤ 16) }
     requires rests { IsResting graph.old round (standing round).roots first × (first ≤ budget) }
-    requires truth { IsTrueSinceSome R.next (leaves.read tree.now) (standing round).roots entry.value graph.old round.table }
-    ensures law { IfOk result (λ done. Calls R.next (leaves.read tree.now) (standing round).roots entry.value graph.new (Ok done.1.items)) }
-    ensures stopped { IfErr result (λ e. Calls R.next (leaves.read tree.now) (standing round).roots entry.value graph.new (Err e)) }
-    ensures turns { IfOk result (λ done. first + total R.turns done.0.items ≡ total R.turns hands.items + turns_of done.1.items) }
+    requires truth { IsTrueSinceSome R.next (leaves.read tree.now) (standing round).roots
+        entry.value graph.old round.table }
+    ensures law { IfOk result (λ done. Calls R.next (leaves.read tree.now) (standing round).roots
+        entry.value graph.new (Ok done.1.items)) }
+    ensures stopped { IfErr result (λ e. Calls R.next (leaves.read tree.now) (standing round).roots
+        entry.value graph.new (Err e)) }
+    ensures turns { IfOk result (λ done. first + total R.turns done.0.items
+        ≡ total R.turns hands.items + turns_of done.1.items) }
     ensures hands { IfOk result (λ done. length done.0.items ≡ length hands.items) }
     ensures within { IfOk result (λ done. turns_of done.1.items ≤ budget) }
-    ensures budget { IsErrOf result Stop.Budget → HasOpenRoot R.next (leaves.read tree.now) (standing round).roots entry.value graph.new }
-    ensures spent { IsErrOf result Stop.Budget → HasTurnToMake R.next (leaves.read tree.now) (standing round).roots entry.value graph.new }
+    ensures budget { IsErrOf result Stop.Budget → HasOpenRoot R.next (leaves.read tree.now)
+        (standing round).roots entry.value graph.new }
+    ensures spent { IsErrOf result Stop.Budget → HasTurnToMake R.next (leaves.read tree.now)
+        (standing round).roots entry.value graph.new }
 {
     let (board, host, seats) = match Board::open(alloc, CAPACITY, hands.len()) {
         Ok(made) => made,
@@ -212,13 +231,18 @@ pub fn evaluate<R: Rules + Send + Drop, T: Threads + Wait + Sync>(
     budget: u64,
 ) -> Result<(Vec<R>, Vec<Run>), Stop>
     requires { (1 ≤ length hands.items) × (length hands.items ≤ 16) }
-    ensures law { IfOk result (λ done. Calls R.next (leaves.read tree.now) roots.now graph.old graph.new (Ok done.1.items)) }
-    ensures stopped { IfErr result (λ e. Calls R.next (leaves.read tree.now) roots.now graph.old graph.new (Err e)) }
-    ensures turns { IfOk result (λ done. total R.turns done.0.items ≡ total R.turns hands.items + turns_of done.1.items) }
+    ensures law { IfOk result (λ done. Calls R.next (leaves.read tree.now) roots.now graph.old
+        graph.new (Ok done.1.items)) }
+    ensures stopped { IfErr result (λ e. Calls R.next (leaves.read tree.now) roots.now graph.old
+        graph.new (Err e)) }
+    ensures turns { IfOk result (λ done. total R.turns done.0.items ≡ total R.turns hands.items
+        + turns_of done.1.items) }
     ensures hands { IfOk result (λ done. length done.0.items ≡ length hands.items) }
     ensures within { IfOk result (λ done. turns_of done.1.items ≤ budget) }
-    ensures budget { IsErrOf result Stop.Budget → HasOpenRoot R.next (leaves.read tree.now) roots.now graph.old graph.new }
-    ensures spent { IsErrOf result Stop.Budget → HasTurnToMake R.next (leaves.read tree.now) roots.now graph.old graph.new }
+    ensures budget { IsErrOf result Stop.Budget → HasOpenRoot R.next (leaves.read tree.now)
+        roots.now graph.old graph.new }
+    ensures spent { IsErrOf result Stop.Budget → HasTurnToMake R.next (leaves.read tree.now)
+        roots.now graph.old graph.new }
 {
     let roots = share_all(alloc, roots)?;
     let entry = Snapshot::of(&*graph);

@@ -20,11 +20,14 @@ pub(crate) fn make_first_turns<R: Rules>(
     budget: u64,
 ) -> Result<u64, Memory>
     requires { IsResting graph.old round.old (standing round.old).roots 0 }
-    ensures rests { IfOk result (λ made. IsResting graph.new round.new (standing round.old).roots made) }
+    ensures rests { IfOk result (λ made. IsResting graph.new round.new (standing round.old).roots
+        made) }
     ensures counted { IfOk result (λ made. R.turns rules.new ≡ R.turns rules.old + made) }
     ensures within { IfOk result (λ made. made ≤ budget) }
-    ensures truth { OnOk result (StaysTrueSince R.next (leaves.read tree.now) graph.old graph.new round.old.table round.new.table) }
-    ensures stopped { OnErr result (IsAfterStop R.next (leaves.read tree.now) graph.old graph.new round.old.table) }
+    ensures truth { OnOk result (StaysTrueSince R.next (leaves.read tree.now) graph.old graph.new
+        round.old.table round.new.table) }
+    ensures stopped { OnErr result (IsAfterStop R.next (leaves.read tree.now) graph.old graph.new
+        round.old.table) }
 {
     for made in 0..budget {
         if 1 < round.ready_count() {

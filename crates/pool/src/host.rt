@@ -37,11 +37,16 @@ fn staff<'s, E, R: Rules + Send + Drop + 's, T: Wait + Sync>(
 ) -> Result<(), Memory>
     requires host { IsHostAtRest board.now.table.shared.table_id host.old.seat }
     requires crew { IsCrew board.now.table.shared.table_id crew.old }
-    requires new { All (λ h. IsNewHand board.now.table.shared.table_id h.seat) crew.old.hands.items }
-    ensures host { IsHostAtRest board.now.table.shared.table_id host.new.seat × IsShutOnly host.old.seat.me.0 host.new.seat.me.0 }
-    ensures crew { IsCrew board.now.table.shared.table_id crew.new × SameCrew R.turns crew.old crew.new }
-    ensures new { OnOk result (All (λ h. IsNewHand board.now.table.shared.table_id h.seat) crew.new.hands.items) }
-    ensures few { (length crew.new.workers.items ≤ length crew.old.workers.items) ⊎ (length crew.new.workers.items ≤ out) }
+    requires new { All (λ h. IsNewHand board.now.table.shared.table_id h.seat)
+        crew.old.hands.items }
+    ensures host { IsHostAtRest board.now.table.shared.table_id host.new.seat
+        × IsShutOnly host.old.seat.me.0 host.new.seat.me.0 }
+    ensures crew { IsCrew board.now.table.shared.table_id crew.new × SameCrew R.turns crew.old
+        crew.new }
+    ensures new { OnOk result (All (λ h. IsNewHand board.now.table.shared.table_id h.seat)
+        crew.new.hands.items) }
+    ensures few { (length crew.new.workers.items ≤ length crew.old.workers.items)
+        ⊎ (length crew.new.workers.items ≤ out) }
 {
     if crew.workers.len() < out && !crew.rules.is_empty() {
         return hire(scope, rt, board, bells, host, crew);
@@ -66,22 +71,34 @@ pub(crate) fn serve<'s, E, R: Rules + Send + Drop + 's, T: Wait + Sync>(
     first: u64,
     budget: u64,
 ) -> Result<Vec<Run>, Stop>
-    requires host { IsNewHost board.now.table.shared.table_id board.now.capacity host.old.seat.me.0.hands host.old.seat }
+    requires host { IsNewHost board.now.table.shared.table_id board.now.capacity
+        host.old.seat.me.0.hands host.old.seat }
     requires places { 0 < board.now.capacity }
     requires crew { IsCrew board.now.table.shared.table_id crew.old }
-    requires new { All (λ h. IsNewHand board.now.table.shared.table_id h.seat) crew.old.hands.items }
+    requires new { All (λ h. IsNewHand board.now.table.shared.table_id h.seat)
+        crew.old.hands.items }
     requires none { length crew.old.workers.items ≡ 0 }
     requires rests { IsResting graph.old round (standing round).roots first × (first ≤ budget) }
-    requires truth { IsTrueSinceSome R.next (leaves.read tree.now) (standing round).roots entry.value graph.old round.table }
-    ensures host { IsHostAtRest board.now.table.shared.table_id host.new.seat × IsSameHost host.old.seat.me.0 host.new.seat.me.0 }
-    ensures crew { IsCrew board.now.table.shared.table_id crew.new × SameCrew R.turns crew.old crew.new }
-    ensures law { IfOk result (λ runs. Calls R.next (leaves.read tree.now) (standing round).roots entry.value graph.new (Ok runs.items)) }
-    ensures stopped { IfErr result (λ e. Calls R.next (leaves.read tree.now) (standing round).roots entry.value graph.new (Err e)) }
-    ensures budget { IsErrOf result Stop.Budget → HasOpenRoot R.next (leaves.read tree.now) (standing round).roots entry.value graph.new }
-    ensures spent { IsErrOf result Stop.Budget → HasTurnToMake R.next (leaves.read tree.now) (standing round).roots entry.value graph.new }
-    ensures made { IsErrOf result Stop.Budget → (jobs_out host.new.seat.me.0 ≡ 0) × (first + made_in host.new.seat.me.0.collected ≡ budget) }
-    ensures back { IfOk result (λ runs. (jobs_out host.new.seat.me.0 ≡ 0) × (first + made_in host.new.seat.me.0.collected ≡ turns_of runs.items)) }
-    ensures few { IfOk result (λ runs. first + length crew.new.workers.items ≤ turns_of runs.items) }
+    requires truth { IsTrueSinceSome R.next (leaves.read tree.now) (standing round).roots
+        entry.value graph.old round.table }
+    ensures host { IsHostAtRest board.now.table.shared.table_id host.new.seat
+        × IsSameHost host.old.seat.me.0 host.new.seat.me.0 }
+    ensures crew { IsCrew board.now.table.shared.table_id crew.new × SameCrew R.turns crew.old
+        crew.new }
+    ensures law { IfOk result (λ runs. Calls R.next (leaves.read tree.now) (standing round).roots
+        entry.value graph.new (Ok runs.items)) }
+    ensures stopped { IfErr result (λ e. Calls R.next (leaves.read tree.now) (standing round).roots
+        entry.value graph.new (Err e)) }
+    ensures budget { IsErrOf result Stop.Budget → HasOpenRoot R.next (leaves.read tree.now)
+        (standing round).roots entry.value graph.new }
+    ensures spent { IsErrOf result Stop.Budget → HasTurnToMake R.next (leaves.read tree.now)
+        (standing round).roots entry.value graph.new }
+    ensures made { IsErrOf result Stop.Budget → (jobs_out host.new.seat.me.0 ≡ 0)
+        × (first + made_in host.new.seat.me.0.collected ≡ budget) }
+    ensures back { IfOk result (λ runs. (jobs_out host.new.seat.me.0 ≡ 0)
+        × (first + made_in host.new.seat.me.0.collected ≡ turns_of runs.items)) }
+    ensures few { IfOk result (λ runs. first + length crew.new.workers.items
+        ≤ turns_of runs.items) }
     ensures within { IfOk result (λ runs. turns_of runs.items ≤ budget) }
 {
     let mut out: usize = 0;

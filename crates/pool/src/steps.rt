@@ -25,13 +25,19 @@ pub(crate) fn give<R: Rules>(
     host: &mut Host<R>,
 ) -> Result<(), Memory>
     requires seat { IsHostAtRest board.now.table.shared.table_id host.old.seat }
-    requires room { (length host.old.seat.me.0.out ≡ board.now.capacity) × (jobs_out host.old.seat.me.0 < board.now.capacity) }
+    requires room { (length host.old.seat.me.0.out ≡ board.now.capacity)
+        × (jobs_out host.old.seat.me.0 < board.now.capacity) }
     requires beside { StandsBeside graph.now round.old }
     requires ready { (k : Key) × In k (standing round.old).table.ready.keys }
     ensures seat { IsHostAtRest board.now.table.shared.table_id host.new.seat }
     ensures same { IsSameHost host.old.seat.me.0 host.new.seat.me.0 }
-    ensures serving { OnOk result ((roots : List Key) (first places hands out handed : ℕ) → IsServing graph.now round.old host.old.seat.me.0 roots first places hands out handed → IsServing graph.now round.new host.new.seat.me.0 roots first places hands (out + 1) (handed + 1)) }
-    ensures truth { OnOk result ((next : Key → List Value → Reply Key Value) (read : Key → Option Value) → StaysTrueSince next read graph.now graph.now round.old.table round.new.table) }
+    ensures serving { OnOk result ((roots : List Key) (first places hands out handed : ℕ)
+        → IsServing graph.now round.old host.old.seat.me.0 roots first places hands out handed
+        → IsServing graph.now round.new host.new.seat.me.0 roots first places hands (out + 1)
+        (handed + 1)) }
+    ensures truth { OnOk result
+        ((next : Key → List Value → Reply Key Value) (read : Key → Option Value)
+        → StaysTrueSince next read graph.now graph.now round.old.table round.new.table) }
 {
     match next_key(round)? {
         None => unreachable!(),
@@ -58,9 +64,14 @@ pub(crate) fn take<R: Rules>(
     requires known { AreKnown graph.old (standing round.old) host.old.seat.me.0 }
     ensures seat { IsHostAtRest board.now.table.shared.table_id host.new.seat }
     ensures same { IsSameHost host.old.seat.me.0 host.new.seat.me.0 }
-    ensures serving { IfOk result (λ took. (roots : List Key) (first places hands out handed : ℕ) → IsServing graph.old round.old host.old.seat.me.0 roots first places hands out handed → IsServing graph.new round.new host.new.seat.me.0 roots first places hands (left_out took out) handed × (took ≡ true → 0 < out)) }
-    ensures truth { OnOk result (StaysTrueSince R.next (leaves.read tree.now) graph.old graph.new round.old.table round.new.table) }
-    ensures stopped { OnErr result (IsAfterStop R.next (leaves.read tree.now) graph.old graph.new round.old.table) }
+    ensures serving { IfOk result (λ took. (roots : List Key) (first places hands out handed : ℕ)
+        → IsServing graph.old round.old host.old.seat.me.0 roots first places hands out handed
+        → IsServing graph.new round.new host.new.seat.me.0 roots first places hands
+        (left_out took out) handed × (took ≡ true → 0 < out)) }
+    ensures truth { OnOk result (StaysTrueSince R.next (leaves.read tree.now) graph.old graph.new
+        round.old.table round.new.table) }
+    ensures stopped { OnErr result (IsAfterStop R.next (leaves.read tree.now) graph.old graph.new
+        round.old.table) }
 {
     match board.collect(host) {
         None => Ok(false),

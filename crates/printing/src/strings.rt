@@ -47,7 +47,8 @@ pub fn text(heap: &mut Heap, x: Val) -> Result<Val, Halt>
 
 // `str` of what stands at a place.
 fn object_text(heap: &mut Heap, place: usize) -> Result<Val, Halt>
-    ensures { Says (str_object (at place (store_of heap.old)) (At place) (store_of heap.old)) result (store_of heap.new) }
+    ensures { Says (str_object (at place (store_of heap.old)) (At place) (store_of heap.old)) result
+        (store_of heap.new) }
 {
     match heap.object(place)? {
         Some(Object::Text(_)) => return Ok(Val::At(place)),

@@ -24,7 +24,8 @@ pub fn print(
     left: u32,
     out: &mut Written,
 ) -> Result<(), Halt>
-    ensures { Tells (print left (map object_in objects.now) x) steps.old (kept out.old) result steps.new (kept out.new) }
+    ensures { Tells (print left (map object_in objects.now) x) steps.old (kept out.old) result
+        steps.new (kept out.new) }
 {
     match x {
         Val::Nothing => print_plain(steps, b"None", out)?,
@@ -58,7 +59,8 @@ fn print_int(steps: &mut u64, n: i64, out: &mut Written) -> Result<(), Halt>
 
 // Writes a built-in function.
 fn print_builtin(steps: &mut u64, f: Builtin, out: &mut Written) -> Result<(), Halt>
-    ensures { Tells (plain (codes "<built-in " ++ builtin_name f ++ codes ">")) steps.old (kept out.old) result steps.new (kept out.new) }
+    ensures { Tells (plain (codes "<built-in " ++ builtin_name f ++ codes ">")) steps.old
+        (kept out.old) result steps.new (kept out.new) }
 {
     tick(steps)?;
     out.write(b"<built-in ")?;
@@ -69,7 +71,8 @@ fn print_builtin(steps: &mut u64, f: Builtin, out: &mut Written) -> Result<(), H
 
 // Writes a function of a file.
 fn print_function(steps: &mut u64, name: &[u8], out: &mut Written) -> Result<(), Halt>
-    ensures { Tells (plain (codes "<function " ++ name.now ++ codes ">")) steps.old (kept out.old) result steps.new (kept out.new) }
+    ensures { Tells (plain (codes "<function " ++ name.now ++ codes ">")) steps.old (kept out.old)
+        result steps.new (kept out.new) }
 {
     tick(steps)?;
     out.write(b"<function ")?;
@@ -80,7 +83,8 @@ fn print_function(steps: &mut u64, name: &[u8], out: &mut Written) -> Result<(),
 
 // Writes a string.
 fn print_text(steps: &mut u64, bytes: &[u8], out: &mut Written) -> Result<(), Halt>
-    ensures { Tells (plain (quoted bytes.now)) steps.old (kept out.old) result steps.new (kept out.new) }
+    ensures { Tells (plain (quoted bytes.now)) steps.old (kept out.old) result steps.new
+        (kept out.new) }
 {
     tick(steps)?;
     write_quoted(out, bytes)?;
@@ -96,7 +100,9 @@ fn print_object(
     left: u32,
     out: &mut Written,
 ) -> Result<(), Halt>
-    ensures { Tells (visit_shown (inner_print left (map object_in objects.now)) (shown_object (slice_get (map object_in objects.now) place))) steps.old (kept out.old) result steps.new (kept out.new) }
+    ensures { Tells (visit_shown (inner_print left (map object_in objects.now))
+        (shown_object (slice_get (map object_in objects.now) place))) steps.old (kept out.old)
+        result steps.new (kept out.new) }
 {
     match object_at(objects, place)? {
         Some(Object::Text(bytes)) => print_text(steps, bytes.as_slice(), out)?,
@@ -128,7 +134,8 @@ fn print_list(
     left: u32,
     out: &mut Written,
 ) -> Result<(), Halt>
-    ensures { Tells (visit_shown (inner_print left (map object_in objects.now)) (listed members.now)) steps.old (kept out.old) result steps.new (kept out.new) }
+    ensures { Tells (visit_shown (inner_print left (map object_in objects.now))
+        (listed members.now)) steps.old (kept out.old) result steps.new (kept out.new) }
 {
     if left == 0 {
         return Err(Halt::Code(faults::TOO_DEEP));
@@ -147,7 +154,8 @@ fn print_tuple(
     left: u32,
     out: &mut Written,
 ) -> Result<(), Halt>
-    ensures { Tells (visit_shown (inner_print left (map object_in objects.now)) (tupled members.now)) steps.old (kept out.old) result steps.new (kept out.new) }
+    ensures { Tells (visit_shown (inner_print left (map object_in objects.now))
+        (tupled members.now)) steps.old (kept out.old) result steps.new (kept out.new) }
 {
     if left == 0 {
         return Err(Halt::Code(faults::TOO_DEEP));
@@ -183,7 +191,9 @@ fn print_enclosed(
     left: u32,
     out: &mut Written,
 ) -> Result<(), Halt>
-    ensures { Tells (container before.now (separated (print left (map object_in objects.now)) members.now) after.now) steps.old (kept out.old) result steps.new (kept out.new) }
+    ensures { Tells
+        (container before.now (separated (print left (map object_in objects.now)) members.now)
+        after.now) steps.old (kept out.old) result steps.new (kept out.new) }
 {
     tick(steps)?;
     out.write(before)?;
@@ -201,7 +211,8 @@ fn print_members(
     left: u32,
     out: &mut Written,
 ) -> Result<(), Halt>
-    ensures { Tells (separated (print left (map object_in objects.now)) members.now) steps.old (kept out.old) result steps.new (kept out.new) }
+    ensures { Tells (separated (print left (map object_in objects.now)) members.now) steps.old
+        (kept out.old) result steps.new (kept out.new) }
 {
     for i in 0..members.len() {
         let Some(x) = val_at(members, i) else {
@@ -238,7 +249,8 @@ fn print_dict(
     left: u32,
     out: &mut Written,
 ) -> Result<(), Halt>
-    ensures { Tells (visit_shown (inner_print left (map object_in objects.now)) (mapped entries.now.entries)) steps.old (kept out.old) result steps.new (kept out.new) }
+    ensures { Tells (visit_shown (inner_print left (map object_in objects.now))
+        (mapped entries.now.entries)) steps.old (kept out.old) result steps.new (kept out.new) }
 {
     if left == 0 {
         return Err(Halt::Code(faults::TOO_DEEP));
@@ -257,7 +269,10 @@ fn print_braced(
     left: u32,
     out: &mut Written,
 ) -> Result<(), Halt>
-    ensures { Tells (container (codes "{") (separated (pair_text (print left (map object_in objects.now))) entries.now.entries) (codes "}")) steps.old (kept out.old) result steps.new (kept out.new) }
+    ensures { Tells
+        (container
+        (codes "{") (separated (pair_text (print left (map object_in objects.now)))
+        entries.now.entries) (codes "}")) steps.old (kept out.old) result steps.new (kept out.new) }
 {
     tick(steps)?;
     out.write(b"{")?;
@@ -275,7 +290,8 @@ fn print_entries(
     left: u32,
     out: &mut Written,
 ) -> Result<(), Halt>
-    ensures { Tells (separated (pair_text (print left (map object_in objects.now))) entries.now.entries) steps.old (kept out.old) result steps.new (kept out.new) }
+    ensures { Tells (separated (pair_text (print left (map object_in objects.now)))
+        entries.now.entries) steps.old (kept out.old) result steps.new (kept out.new) }
 {
     for i in 0..entries.len() {
         let Some((_key, entry)) = entries.get_index(i) else {
@@ -299,7 +315,8 @@ fn print_entry(
     left: u32,
     out: &mut Written,
 ) -> Result<(), Halt>
-    ensures { Tells (entry_text (print left (map object_in objects.now)) entry) steps.old (kept out.old) result steps.new (kept out.new) }
+    ensures { Tells (entry_text (print left (map object_in objects.now)) entry) steps.old
+        (kept out.old) result steps.new (kept out.new) }
 {
     print(objects, steps, entry.key, left, out)?;
     out.write(b": ")?;

@@ -6,10 +6,9 @@ use Rattle.texts.specs.declared.text.Text.{Text}
 use Rattle.std.specs.declared.sync.atomic.AtomicUsize.{AtomicUsize}
 use Rattle.tree.specs.Tree as t
 use Rattle.tree.specs.Tree.{Ex, Cl, St, Br}
-use Rattle.tree.specs.declared.stmt.Stmt.{fold-roll-Stmt}
+use Rattle.tree.specs.declared.stmt.Stmt.{fold-roll-Stmt, Stmt}
 use Rattle.tree.specs.declared.stmt.Stmt.TheOpen.{Stmt-F}
 use Rattle.tree.specs.declared.stmt.Stmt.TheVariants as z
-use Rattle.tree.specs.declared.stmt.Stmt.{Stmt}
 use Rattle.tree.specs.declared.stmt.Branch.{Branch}
 use Rattle.tree.specs.Statements.{stmt_of, stmts_of, branch_trees, stmt_step, branch_step}
 use Rattle.tree.specs.declared.expr.Literal.{Literal}

@@ -36,7 +36,8 @@ fn literal(word: Literal) -> Val
 #[tactic(auto, unfolding(language::specs::World::tick))]
 pub fn value(heap: &mut Heap, scope: &Scope<'_>, e: &Expr) -> Result<Val, Halt>
     requires { quiet (is_free scope.now) (tree_of e.now) ≡ true }
-    ensures says { Does scope.now (λ env call here. ex.value env call (tree_of e.now) here) (store_of heap.old) result (store_of heap.new) }
+    ensures says { Does scope.now (λ env call here. ex.value env call (tree_of e.now) here)
+        (store_of heap.old) result (store_of heap.new) }
     ensures steps { IfOk result (λ _. heap.new.steps < heap.old.steps) }
 {
     if let Err(halt) = tick(heap) {
@@ -68,7 +69,8 @@ pub fn value(heap: &mut Heap, scope: &Scope<'_>, e: &Expr) -> Result<Val, Halt>
 #[cycle(values)]
 pub fn values(heap: &mut Heap, scope: &Scope<'_>, es: &[Expr]) -> Result<Vec<Val>, Halt>
     requires { quiets (is_free scope.now) (trees_of es.now) ≡ true }
-    ensures says { DoesItems scope.now (λ env call here. ex.values env call (trees_of es.now) here) (store_of heap.old) result (store_of heap.new) }
+    ensures says { DoesItems scope.now (λ env call here. ex.values env call (trees_of es.now) here)
+        (store_of heap.old) result (store_of heap.new) }
     ensures steps { IfOk result (λ _. heap.new.steps ≤ heap.old.steps) }
 {
     let mut all = Vec::with_capacity(heap.alloc, es.len())?;
@@ -86,7 +88,8 @@ pub fn values(heap: &mut Heap, scope: &Scope<'_>, es: &[Expr]) -> Result<Vec<Val
 #[cycle(values)]
 fn tuple(heap: &mut Heap, scope: &Scope<'_>, es: &[Expr]) -> Result<Val, Halt>
     requires { quiets (is_free scope.now) (trees_of es.now) ≡ true }
-    ensures says { Does scope.now (p.tuple_does (trees_of es.now)) (store_of heap.old) result (store_of heap.new) }
+    ensures says { Does scope.now (p.tuple_does (trees_of es.now)) (store_of heap.old) result
+        (store_of heap.new) }
     ensures steps { IfOk result (λ _. heap.new.steps ≤ heap.old.steps) }
 {
     let xs = match values(heap, scope, es) {
@@ -100,7 +103,8 @@ fn tuple(heap: &mut Heap, scope: &Scope<'_>, es: &[Expr]) -> Result<Val, Halt>
 #[cycle(values)]
 fn list(heap: &mut Heap, scope: &Scope<'_>, es: &[Expr]) -> Result<Val, Halt>
     requires { quiets (is_free scope.now) (trees_of es.now) ≡ true }
-    ensures says { Does scope.now (p.list_does (trees_of es.now)) (store_of heap.old) result (store_of heap.new) }
+    ensures says { Does scope.now (p.list_does (trees_of es.now)) (store_of heap.old) result
+        (store_of heap.new) }
     ensures steps { IfOk result (λ _. heap.new.steps ≤ heap.old.steps) }
 {
     let xs = match values(heap, scope, es) {
@@ -114,7 +118,8 @@ fn list(heap: &mut Heap, scope: &Scope<'_>, es: &[Expr]) -> Result<Val, Halt>
 #[cycle(values)]
 fn operated(heap: &mut Heap, scope: &Scope<'_>, op: UnaryOp, a: &Expr) -> Result<Val, Halt>
     requires { quiet (is_free scope.now) (tree_of a.now) ≡ true }
-    ensures says { Does scope.now (p.unary_does op (tree_of a.now)) (store_of heap.old) result (store_of heap.new) }
+    ensures says { Does scope.now (p.unary_does op (tree_of a.now)) (store_of heap.old) result
+        (store_of heap.new) }
     ensures steps { IfOk result (λ _. heap.new.steps ≤ heap.old.steps) }
 {
     let x = match value(heap, scope, a) {
@@ -135,7 +140,8 @@ fn between(
 ) -> Result<Val, Halt>
     requires first { quiet (is_free scope.now) (tree_of a.now) ≡ true }
     requires second { quiet (is_free scope.now) (tree_of b.now) ≡ true }
-    ensures says { Does scope.now (p.between_does op (tree_of a.now) (tree_of b.now)) (store_of heap.old) result (store_of heap.new) }
+    ensures says { Does scope.now (p.between_does op (tree_of a.now) (tree_of b.now))
+        (store_of heap.old) result (store_of heap.new) }
     ensures steps { IfOk result (λ _. heap.new.steps ≤ heap.old.steps) }
 {
     let x = match value(heap, scope, a) {
@@ -163,7 +169,8 @@ fn between(
 #[cycle(values)]
 fn second(heap: &mut Heap, scope: &Scope<'_>, op: BinaryOp, x: Val, b: &Expr) -> Result<Val, Halt>
     requires { quiet (is_free scope.now) (tree_of b.now) ≡ true }
-    ensures says { Does scope.now (p.both_does op x (tree_of b.now)) (store_of heap.old) result (store_of heap.new) }
+    ensures says { Does scope.now (p.both_does op x (tree_of b.now)) (store_of heap.old) result
+        (store_of heap.new) }
     ensures steps { IfOk result (λ _. heap.new.steps ≤ heap.old.steps) }
 {
     let y = match value(heap, scope, b) {
@@ -179,7 +186,8 @@ fn choice(heap: &mut Heap, scope: &Scope<'_>, a: &Expr, c: &Expr, b: &Expr) -> R
     requires first { quiet (is_free scope.now) (tree_of a.now) ≡ true }
     requires condition { quiet (is_free scope.now) (tree_of c.now) ≡ true }
     requires second { quiet (is_free scope.now) (tree_of b.now) ≡ true }
-    ensures says { Does scope.now (p.choice_does (tree_of a.now) (tree_of c.now) (tree_of b.now)) (store_of heap.old) result (store_of heap.new) }
+    ensures says { Does scope.now (p.choice_does (tree_of a.now) (tree_of c.now) (tree_of b.now))
+        (store_of heap.old) result (store_of heap.new) }
     ensures steps { IfOk result (λ _. heap.new.steps ≤ heap.old.steps) }
 {
     let x = match value(heap, scope, c) {
@@ -197,7 +205,8 @@ fn choice(heap: &mut Heap, scope: &Scope<'_>, a: &Expr, c: &Expr, b: &Expr) -> R
 fn member(heap: &mut Heap, scope: &Scope<'_>, a: &Expr, i: &Expr) -> Result<Val, Halt>
     requires first { quiet (is_free scope.now) (tree_of a.now) ≡ true }
     requires second { quiet (is_free scope.now) (tree_of i.now) ≡ true }
-    ensures says { Does scope.now (p.index_does (tree_of a.now) (tree_of i.now)) (store_of heap.old) result (store_of heap.new) }
+    ensures says { Does scope.now (p.index_does (tree_of a.now) (tree_of i.now)) (store_of heap.old)
+        result (store_of heap.new) }
     ensures steps { IfOk result (λ _. heap.new.steps ≤ heap.old.steps) }
 {
     let x = match value(heap, scope, a) {
@@ -223,7 +232,8 @@ fn part(
     requires value { quiet (is_free scope.now) (tree_of a.now) ≡ true }
     requires from { quiet_bound (is_free scope.now) (bound_tree i.now) ≡ true }
     requires to { quiet_bound (is_free scope.now) (bound_tree j.now) ≡ true }
-    ensures says { Does scope.now (p.slice_does (tree_of a.now) (bound_tree i.now) (bound_tree j.now)) (store_of heap.old) result (store_of heap.new) }
+    ensures says { Does scope.now (p.slice_does (tree_of a.now) (bound_tree i.now)
+        (bound_tree j.now)) (store_of heap.old) result (store_of heap.new) }
     ensures steps { IfOk result (λ _. heap.new.steps ≤ heap.old.steps) }
 {
     let x = match value(heap, scope, a) {
@@ -249,7 +259,8 @@ fn bound_value(
     bound: &Option<Arc<Expr, Global>>,
 ) -> Result<Val, Halt>
     requires { quiet_bound (is_free scope.now) (bound_tree bound.now) ≡ true }
-    ensures says { Does scope.now (λ env call here. ex.bound_value env call (bound_tree bound.now) here) (store_of heap.old) result (store_of heap.new) }
+    ensures says { Does scope.now (λ env call here. ex.bound_value env call (bound_tree bound.now)
+        here) (store_of heap.old) result (store_of heap.new) }
     ensures steps { IfOk result (λ _. heap.new.steps ≤ heap.old.steps) }
 {
     match bound {
@@ -279,7 +290,8 @@ fn of_function(
 ) -> Result<Val, Halt>
     requires plain { is_plain (is_free scope.now) (tree_of f.now) ≡ true }
     requires quiet { quiets (is_free scope.now) (trees_of es.now) ≡ true }
-    ensures says { Does scope.now (p.call_does (tree_of f.now) (trees_of es.now) names.now) (store_of heap.old) result (store_of heap.new) }
+    ensures says { Does scope.now (p.call_does (tree_of f.now) (trees_of es.now) names.now)
+        (store_of heap.old) result (store_of heap.new) }
     ensures steps { IfOk result (λ _. heap.new.steps ≤ heap.old.steps) }
 {
     if let Err(halt) = tick(heap) {
@@ -310,7 +322,9 @@ fn of_method(
     requires word { is_word_native (tree_of a.now) ≡ false }
     requires value { quiet (is_free scope.now) (tree_of a.now) ≡ true }
     requires quiet { quiets (is_free scope.now) (trees_of es.now) ≡ true }
-    ensures says { Does scope.now (p.method_does (tree_of a.now) name.now (trees_of es.now) names.now) (store_of heap.old) result (store_of heap.new) }
+    ensures says { Does scope.now
+        (p.method_does (tree_of a.now) name.now (trees_of es.now) names.now) (store_of heap.old)
+        result (store_of heap.new) }
     ensures steps { IfOk result (λ _. heap.new.steps ≤ heap.old.steps) }
 {
     let x = match value(heap, scope, a) {

@@ -18,7 +18,8 @@ use tree::Expr;
 
 /// Whether an expression is evaluated at once where it stands: its evaluation can wait for nothing, and makes few values.
 pub fn is_quiet_at(state: &State, at: &Standing, e: &Expr) -> bool
-    ensures { result ≡ (quiet (free_at at.now state.now) (tree_of e.now) && is_few (making (tree_of e.now))) }
+    ensures { result ≡ (quiet (free_at at.now state.now) (tree_of e.now) && is_few
+        (making (tree_of e.now))) }
 {
     let scope = Scope {
         blocks: state.blocks.as_slice(),
@@ -31,7 +32,10 @@ pub fn is_quiet_at(state: &State, at: &Standing, e: &Expr) -> bool
 /// The value of a quiet expression where it stands. The heap alone is changed.
 pub fn value_at(state: &mut State, at: &Standing, e: &Expr) -> Result<Val, Halt>
     requires { quiet (free_at at.now state.old) (tree_of e.now) ≡ true }
-    ensures says { (env : Env) (call : Call) (line : ℕ) (running : List (List ℕ × List ℕ)) → let here = here_of at.now line running in Ran here.site (ex.value env call (tree_of e.now) here (world_of state.old)) result (world_of state.new) }
+    ensures says { (env : Env) (call : Call) (line : ℕ) (running : List (List ℕ × List ℕ))
+        → let here = here_of at.now line running in
+        Ran here.site (ex.value env call (tree_of e.now) here (world_of state.old)) result
+        (world_of state.new) }
     ensures steps { IfOk result (λ _. state.new.heap.steps < state.old.heap.steps) }
     ensures kept { (state.new.blocks ≡ state.old.blocks) × (state.new.files ≡ state.old.files) }
 {
@@ -45,7 +49,8 @@ pub fn value_at(state: &mut State, at: &Standing, e: &Expr) -> Result<Val, Halt>
 
 /// Whether several expressions are evaluated at once where they stand: that can wait for nothing, and makes few values.
 pub fn are_quiet_at(state: &State, at: &Standing, es: &[Expr]) -> bool
-    ensures { result ≡ (quiets (free_at at.now state.now) (trees_of es.now) && is_few (makings (trees_of es.now))) }
+    ensures { result ≡ (quiets (free_at at.now state.now) (trees_of es.now) && is_few
+        (makings (trees_of es.now))) }
 {
     let scope = Scope {
         blocks: state.blocks.as_slice(),
@@ -58,7 +63,10 @@ pub fn are_quiet_at(state: &State, at: &Standing, es: &[Expr]) -> bool
 /// The values of several quiet expressions where they stand, in order. The heap alone is changed.
 pub fn values_at(state: &mut State, at: &Standing, es: &[Expr]) -> Result<Vec<Val>, Halt>
     requires { quiets (free_at at.now state.old) (trees_of es.now) ≡ true }
-    ensures says { (env : Env) (call : Call) (line : ℕ) (running : List (List ℕ × List ℕ)) → let here = here_of at.now line running in RanItems here.site (ex.values env call (trees_of es.now) here (world_of state.old)) result (world_of state.new) }
+    ensures says { (env : Env) (call : Call) (line : ℕ) (running : List (List ℕ × List ℕ))
+        → let here = here_of at.now line running in RanItems here.site
+        (ex.values env call (trees_of es.now) here (world_of state.old)) result
+        (world_of state.new) }
     ensures steps { IfOk result (λ _. state.new.heap.steps ≤ state.old.heap.steps) }
     ensures kept { (state.new.blocks ≡ state.old.blocks) × (state.new.files ≡ state.old.files) }
 {

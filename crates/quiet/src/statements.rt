@@ -23,7 +23,9 @@ use tree::{BinaryOp, Expr, Stmt};
 
 // What an augmented assignment makes of the present value and another.
 fn changed(heap: &mut Heap, op: BinaryOp, x: Val, y: Val) -> Result<Val, Halt>
-    ensures says { (here : Here) (w : World) → Ran here.site (s.changed op x y here (record w { store = store_of heap.old })) result (record w { store = store_of heap.new }) }
+    ensures says { (here : Here) (w : World)
+        → Ran here.site (s.changed op x y here (record w { store = store_of heap.old })) result
+        (record w { store = store_of heap.new }) }
     ensures steps { IfOk result (λ _. heap.new.steps ≤ heap.old.steps) }
 {
     match op {
@@ -34,9 +36,13 @@ fn changed(heap: &mut Heap, op: BinaryOp, x: Val, y: Val) -> Result<Val, Halt>
 
 // An expression whose value is left.
 fn evaluate(state: &mut State, at: &Standing, e: &Expr) -> Result<bool, Halt>
-    ensures says { (env : Env) (call : Call) (line : ℕ) (running : List (List ℕ × List ℕ)) → let here = here_of at.now line running in Done here.site (eval_does (tree_of e.now) env call here (world_of state.old)) result (world_of state.new) }
+    ensures says { (env : Env) (call : Call) (line : ℕ) (running : List (List ℕ × List ℕ))
+        → let here = here_of at.now line running in
+        Done here.site (eval_does (tree_of e.now) env call here (world_of state.old)) result
+        (world_of state.new) }
     ensures costs { Costs result state.old state.new }
-    ensures exact { IfOk result (λ done. done ≡ at_once (free_at at.now state.old) (tree_of e.now)) }
+    ensures exact { IfOk result (λ done. done ≡ at_once (free_at at.now state.old)
+        (tree_of e.now)) }
 {
     if !is_quiet_at(state, at, e) {
         return Ok(false);
@@ -58,9 +64,13 @@ fn assign_name(
     last: &AtomicUsize,
     e: &Expr,
 ) -> Result<bool, Halt>
-    ensures says { (env : Env) (call : Call) (line : ℕ) (running : List (List ℕ × List ℕ)) → let here = here_of at.now line running in Done here.site (assign_does (t.name x.now) (tree_of e.now) env call here (world_of state.old)) result (world_of state.new) }
+    ensures says { (env : Env) (call : Call) (line : ℕ) (running : List (List ℕ × List ℕ))
+        → let here = here_of at.now line running in
+        Done here.site (assign_does (t.name x.now) (tree_of e.now) env call here
+        (world_of state.old)) result (world_of state.new) }
     ensures costs { Costs result state.old state.new }
-    ensures exact { IfOk result (λ done. done ≡ at_once (free_at at.now state.old) (tree_of e.now)) }
+    ensures exact { IfOk result (λ done. done ≡ at_once (free_at at.now state.old)
+        (tree_of e.now)) }
 {
     if !is_quiet_at(state, at, e) {
         return Ok(false);
@@ -86,9 +96,15 @@ fn assign_member(
     i: &Expr,
     e: &Expr,
 ) -> Result<bool, Halt>
-    ensures says { (env : Env) (call : Call) (line : ℕ) (running : List (List ℕ × List ℕ)) → let here = here_of at.now line running in Done here.site (assign_does (t.index (tree_of a.now) (tree_of i.now)) (tree_of e.now) env call here (world_of state.old)) result (world_of state.new) }
+    ensures says { (env : Env) (call : Call) (line : ℕ) (running : List (List ℕ × List ℕ))
+        → let here = here_of at.now line running in
+        Done here.site (assign_does (t.index (tree_of a.now) (tree_of i.now)) (tree_of e.now) env
+        call here (world_of state.old)) result (world_of state.new) }
     ensures costs { Costs result state.old state.new }
-    ensures exact { IfOk result (λ done. done ≡ (at_once (free_at at.now state.old) (tree_of e.now) && (at_once (free_at at.now state.old) (tree_of a.now) && at_once (free_at at.now state.old) (tree_of i.now)))) }
+    ensures exact { IfOk result
+        (λ done. done ≡ (at_once (free_at at.now state.old) (tree_of e.now)
+        && (at_once (free_at at.now state.old) (tree_of a.now) && at_once (free_at at.now state.old)
+        (tree_of i.now)))) }
 {
     if !is_quiet_at(state, at, e) || !is_quiet_at(state, at, a) || !is_quiet_at(state, at, i) {
         return Ok(false);
@@ -123,9 +139,13 @@ fn augment_name(
     op: BinaryOp,
     e: &Expr,
 ) -> Result<bool, Halt>
-    ensures says { (env : Env) (call : Call) (line : ℕ) (running : List (List ℕ × List ℕ)) → let here = here_of at.now line running in Done here.site (augment_does (t.name x.now) op (tree_of e.now) env call here (world_of state.old)) result (world_of state.new) }
+    ensures says { (env : Env) (call : Call) (line : ℕ) (running : List (List ℕ × List ℕ))
+        → let here = here_of at.now line running in
+        Done here.site (augment_does (t.name x.now) op (tree_of e.now) env call here
+        (world_of state.old)) result (world_of state.new) }
     ensures costs { Costs result state.old state.new }
-    ensures exact { IfOk result (λ done. done ≡ at_once (free_at at.now state.old) (tree_of e.now)) }
+    ensures exact { IfOk result (λ done. done ≡ at_once (free_at at.now state.old)
+        (tree_of e.now)) }
 {
     if !is_quiet_at(state, at, e) {
         return Ok(false);
@@ -153,9 +173,13 @@ fn augment_name(
 
 // An assignment, where the target is a name or an index.
 fn assign(state: &mut State, at: &Standing, target: &Expr, e: &Expr) -> Result<bool, Halt>
-    ensures says { (env : Env) (call : Call) (line : ℕ) (running : List (List ℕ × List ℕ)) → let here = here_of at.now line running in Done here.site (assign_does (tree_of target.now) (tree_of e.now) env call here (world_of state.old)) result (world_of state.new) }
+    ensures says { (env : Env) (call : Call) (line : ℕ) (running : List (List ℕ × List ℕ))
+        → let here = here_of at.now line running in
+        Done here.site (assign_does (tree_of target.now) (tree_of e.now) env call here
+        (world_of state.old)) result (world_of state.new) }
     ensures costs { Costs result state.old state.new }
-    ensures exact { IfOk result (λ done. done ≡ assigned_at_once (free_at at.now state.old) (tree_of target.now) (tree_of e.now)) }
+    ensures exact { IfOk result (λ done. done ≡ assigned_at_once (free_at at.now state.old)
+        (tree_of target.now) (tree_of e.now)) }
 {
     match target {
         Expr::Name(x, last) => assign_name(state, at, x, last, e),
@@ -172,9 +196,13 @@ fn augment(
     op: BinaryOp,
     e: &Expr,
 ) -> Result<bool, Halt>
-    ensures says { (env : Env) (call : Call) (line : ℕ) (running : List (List ℕ × List ℕ)) → let here = here_of at.now line running in Done here.site (augment_does (tree_of target.now) op (tree_of e.now) env call here (world_of state.old)) result (world_of state.new) }
+    ensures says { (env : Env) (call : Call) (line : ℕ) (running : List (List ℕ × List ℕ))
+        → let here = here_of at.now line running in
+        Done here.site (augment_does (tree_of target.now) op (tree_of e.now) env call here
+        (world_of state.old)) result (world_of state.new) }
     ensures costs { Costs result state.old state.new }
-    ensures exact { IfOk result (λ done. done ≡ augmented_at_once (free_at at.now state.old) (tree_of target.now) (tree_of e.now)) }
+    ensures exact { IfOk result (λ done. done ≡ augmented_at_once (free_at at.now state.old)
+        (tree_of target.now) (tree_of e.now)) }
 {
     match target {
         Expr::Name(x, last) => augment_name(state, at, x, last, op, e),
@@ -186,14 +214,27 @@ fn augment(
 /// to a name. It is done, and the statement behind it is next; or it is another one, and nothing is done. The faults
 /// are those of the statement.
 pub fn run(state: &mut State, at: &Standing, stmt: &Stmt) -> Result<bool, Halt>
-    ensures says { (env : Env) (call : Call) (running : List (List ℕ × List ℕ)) → let here = here_of at.now at.now.line running in Done (at_line (stmt_line (stmt_of stmt.now)) here).site (s.exec env call (stmt_of stmt.now) here (world_of state.old)) result (world_of state.new) }
+    ensures says { (env : Env) (call : Call) (running : List (List ℕ × List ℕ))
+        → let here = here_of at.now at.now.line running in
+        Done (at_line (stmt_line (stmt_of stmt.now)) here).site
+        (s.exec env call (stmt_of stmt.now) here (world_of state.old)) result (world_of state.new) }
     ensures costs { Costs result state.old state.new }
-    ensures exact { IfOk result (λ done. done ≡ run_at_once (free_at at.now state.old) (stmt_of stmt.now)) }
+    ensures exact { IfOk result (λ done. done ≡ run_at_once (free_at at.now state.old)
+        (stmt_of stmt.now)) }
 {
     match stmt {
-        Stmt::Eval(_, e) => evaluate(state, at, e),
-        Stmt::Assign(_, target, e) => assign(state, at, target, e),
-        Stmt::Augment(_, target, op, e) => augment(state, at, target, *op, e),
+        Stmt::Eval { value: e, .. } => evaluate(state, at, e),
+        Stmt::Assign {
+            target,
+            value: e,
+            ..
+        } => assign(state, at, target, e),
+        Stmt::Augment {
+            target,
+            op,
+            value: e,
+            ..
+        } => augment(state, at, target, *op, e),
         _ => Ok(false),
     }
 }
@@ -201,9 +242,13 @@ pub fn run(state: &mut State, at: &Standing, stmt: &Stmt) -> Result<bool, Halt>
 /// Whether a condition holds, behind the step of its statement, where it is evaluated at once. With another condition
 /// nothing is done. The faults are those of the condition.
 pub fn holds(state: &mut State, at: &Standing, e: &Expr) -> Result<Option<bool>, Halt>
-    ensures says { (env : Env) (call : Call) (line : ℕ) (running : List (List ℕ × List ℕ)) → let here = here_of at.now line running in Tested here.site (test_does (tree_of e.now) env call here) (world_of state.old) result (world_of state.new) }
+    ensures says { (env : Env) (call : Call) (line : ℕ) (running : List (List ℕ × List ℕ))
+        → let here = here_of at.now line running in
+        Tested here.site (test_does (tree_of e.now) env call here) (world_of state.old) result
+        (world_of state.new) }
     ensures costs { TestCosts result state.old state.new }
-    ensures exact { IfOk result (λ tested. is_some tested ≡ at_once (free_at at.now state.old) (tree_of e.now)) }
+    ensures exact { IfOk result (λ tested. is_some tested ≡ at_once (free_at at.now state.old)
+        (tree_of e.now)) }
 {
     if !is_quiet_at(state, at, e) {
         return Ok(None);

@@ -47,14 +47,20 @@ pub fn hand<R: Rules>(
 ) -> Result<bool, Stop>
     requires { IsPlaying graph.now round.old turns.old.items }
     ensures playing { OnOk result (IsPlaying graph.now round.new turns.new.items) }
-    ensures plays { (read : Key → Option Value) → IfOk result (Plays R.next read (Hand key.now) graph.now graph.now round.old round.new) }
-    ensures budget { (read : Key → Option Value) → IsErrOf result Stop.Budget → (left ≡ 0) × IsPossibleNow R.next read (Hand key.now) graph.now round.old }
+    ensures plays { (read : Key → Option Value)
+        → IfOk result (Plays R.next read (Hand key.now) graph.now graph.now round.old round.new) }
+    ensures budget { (read : Key → Option Value) → IsErrOf result Stop.Budget → (left ≡ 0)
+        × IsPossibleNow R.next read (Hand key.now) graph.now round.old }
     ensures unspent { IsErrOf result Stop.Budget → R.turns rules.new ≡ R.turns rules.old }
     ensures left { IfOk result (λ went. IsTrue went → 1 ≤ left) }
-    ensures hands { IfOk result (λ went. IsTrue went → HandsMore 1 round.old round.new turns.old.items turns.new.items) }
-    ensures counted { IfOk result (λ went. CountsIf went 1 (R.turns rules.old) (R.turns rules.new)) }
-    ensures at_most { (R.turns rules.old ≤ R.turns rules.new) × (R.turns rules.new ≤ R.turns rules.old + left) }
-    ensures stopped { (read : Key → Option Value) → IfErr result (λ e. StopsAfter R.next read graph.now graph.now round.old) }
+    ensures hands { IfOk result
+        (λ went. IsTrue went → HandsMore 1 round.old round.new turns.old.items turns.new.items) }
+    ensures counted { IfOk result
+        (λ went. CountsIf went 1 (R.turns rules.old) (R.turns rules.new)) }
+    ensures at_most { (R.turns rules.old ≤ R.turns rules.new)
+        × (R.turns rules.new ≤ R.turns rules.old + left) }
+    ensures stopped { (read : Key → Option Value)
+        → IfErr result (λ e. StopsAfter R.next read graph.now graph.now round.old) }
 {
     match round.hand_out(graph, key)? {
         None => Ok(false),
@@ -82,9 +88,12 @@ pub fn back<R: Rules>(
 ) -> Result<bool, Memory>
     requires { IsPlaying graph.old round.old turns.old.items }
     ensures playing { OnOk result (IsPlaying graph.new round.new turns.new.items) }
-    ensures plays { IfOk result (Plays R.next (leaves.read tree.now) (Back key.now) graph.old graph.new round.old round.new) }
-    ensures hands { IfOk result (λ went. IsTrue went → HandsMore 0 round.old round.new turns.old.items turns.new.items) }
-    ensures stopped { IfErr result (λ e. StopsAfter R.next (leaves.read tree.now) graph.old graph.new round.old) }
+    ensures plays { IfOk result (Plays R.next (leaves.read tree.now) (Back key.now) graph.old
+        graph.new round.old round.new) }
+    ensures hands { IfOk result
+        (λ went. IsTrue went → HandsMore 0 round.old round.new turns.old.items turns.new.items) }
+    ensures stopped { IfErr result
+        (λ e. StopsAfter R.next (leaves.read tree.now) graph.old graph.new round.old) }
 {
     match place_of(turns.as_slice(), key) {
         None => Ok(false),
@@ -98,8 +107,11 @@ pub fn back<R: Rules>(
 
 /// The state of a key is dropped; false where that is not possible.
 pub fn drop_state<R: Rules>(round: &mut Round<R>, key: &Key) -> bool
-    ensures playing { (graph : Recorded) (turns : List Outcome) → IsPlaying graph round.old turns → IsPlaying graph round.new turns }
-    ensures plays { (read : Key → Option Value) (graph : Recorded) (turns : List Outcome) → IsPlaying graph round.old turns → Plays R.next read (Drop key.now) graph graph round.old round.new result }
+    ensures playing { (graph : Recorded) (turns : List Outcome) → IsPlaying graph round.old turns
+        → IsPlaying graph round.new turns }
+    ensures plays { (read : Key → Option Value) (graph : Recorded) (turns : List Outcome)
+        → IsPlaying graph round.old turns → Plays R.next read (Drop key.now) graph graph round.old
+        round.new result }
     ensures hands { (turns : List Outcome) → HandsMore 0 round.old round.new turns turns }
 {
     round.drop_state(key)

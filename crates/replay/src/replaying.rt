@@ -38,14 +38,21 @@ fn choose<R: Rules>(
 ) -> Result<bool, Stop>
     requires { IsPlaying graph.old round.old turns.old.items }
     ensures playing { OnOk result (IsPlaying graph.new round.new turns.new.items) }
-    ensures plays { IfOk result (Plays R.next (leaves.read tree.now) (chosen choice.now) graph.old graph.new round.old round.new) }
+    ensures plays { IfOk result (Plays R.next (leaves.read tree.now) (chosen choice.now) graph.old
+        graph.new round.old round.new) }
     ensures left { IfOk result (λ went. IsTrue went → hand_of choice.now ≤ left) }
-    ensures budget { IsErrOf result Stop.Budget → (left ≡ 0) × (hand_of choice.now ≡ 1) × IsPossibleNow R.next (leaves.read tree.now) (chosen choice.now) graph.old round.old }
-    ensures unspent { IsErrOf result Stop.Budget → (graph.new ≡ graph.old) × (R.turns rules.new ≡ R.turns rules.old) }
-    ensures hands { IfOk result (λ went. IsTrue went → HandsMore (hand_of choice.now) round.old round.new turns.old.items turns.new.items) }
-    ensures counted { IfOk result (λ went. CountsIf went (hand_of choice.now) (R.turns rules.old) (R.turns rules.new)) }
-    ensures at_most { (R.turns rules.old ≤ R.turns rules.new) × (R.turns rules.new ≤ R.turns rules.old + left) }
-    ensures stopped { IfErr result (λ e. StopsAfter R.next (leaves.read tree.now) graph.old graph.new round.old) }
+    ensures budget { IsErrOf result Stop.Budget → (left ≡ 0) × (hand_of choice.now ≡ 1)
+        × IsPossibleNow R.next (leaves.read tree.now) (chosen choice.now) graph.old round.old }
+    ensures unspent { IsErrOf result Stop.Budget → (graph.new ≡ graph.old)
+        × (R.turns rules.new ≡ R.turns rules.old) }
+    ensures hands { IfOk result (λ went. IsTrue went → HandsMore (hand_of choice.now) round.old
+        round.new turns.old.items turns.new.items) }
+    ensures counted { IfOk result (λ went. CountsIf went (hand_of choice.now) (R.turns rules.old)
+        (R.turns rules.new)) }
+    ensures at_most { (R.turns rules.old ≤ R.turns rules.new)
+        × (R.turns rules.new ≤ R.turns rules.old + left) }
+    ensures stopped { IfErr result
+        (λ e. StopsAfter R.next (leaves.read tree.now) graph.old graph.new round.old) }
 {
     match choice {
         Choice::Hand(key) => hand(round, turns, graph, rules, left, key),
@@ -72,12 +79,17 @@ pub fn replay<R: Rules>(
     budget: u64,
     choices: &[Choice],
 ) -> Result<Replayed, Stop>
-    ensures replays { IfOk result (Replays R.next (leaves.read tree.now) roots.items graph.old graph.new choices.now) }
-    ensures turns { IfOk result (λ told. R.turns rules.new ≡ R.turns rules.old + turns_told choices.now told) }
-    ensures budget { IsErrOf result Stop.Budget → SpendsBudget R.next (leaves.read tree.now) roots.items graph.old graph.new choices.now budget }
+    ensures replays { IfOk result (Replays R.next (leaves.read tree.now) roots.items graph.old
+        graph.new choices.now) }
+    ensures turns { IfOk result (λ told. R.turns rules.new ≡ R.turns rules.old
+        + turns_told choices.now told) }
+    ensures budget { IsErrOf result Stop.Budget → SpendsBudget R.next (leaves.read tree.now)
+        roots.items graph.old graph.new choices.now budget }
     ensures spent { IsErrOf result Stop.Budget → R.turns rules.new ≡ R.turns rules.old + budget }
-    ensures at_most { (R.turns rules.old ≤ R.turns rules.new) × (R.turns rules.new ≤ R.turns rules.old + budget) }
-    ensures stopped { IfErr result (λ e. Calls R.next (leaves.read tree.now) roots.items graph.old graph.new (Err e)) }
+    ensures at_most { (R.turns rules.old ≤ R.turns rules.new)
+        × (R.turns rules.new ≤ R.turns rules.old + budget) }
+    ensures stopped { IfErr result (λ e. Calls R.next (leaves.read tree.now) roots.items graph.old
+        graph.new (Err e)) }
 {
     let mut round: Round<R> = Round::open(alloc, graph, tree, roots)?;
     let mut turns = Vec::new(alloc);

@@ -4,7 +4,7 @@ use Rattle.std.specs.Arc.{arc_value}
 use Rattle.std.specs.declared.sync.Arc.{Arc}
 use Rattle.std.specs.declared.alloc.Global.{Global}
 use Rattle.std.specs.declared.vec.Vec.{Vec}
-use Rattle.keys.specs.Turns.{values}
+use Rattle.keys.specs.Turns.{values, NoCycle}
 use Rattle.node.specs.Kept.{items_of}
 use Rattle.std.proofs.Math.Seq.{take-suc}
 use Rattle.std.proofs.lemmas.List.{take-append-drop, drop_all}
@@ -12,7 +12,6 @@ use Rattle.std.specs.Option.{is_some}
 use Rattle.node.proofs.Reaching.{in_at_is}
 use Rattle.evaluation.specs.Graph.{Record}
 use Rattle.evaluation.specs.Value.{In, first, after, IsMember}
-use Rattle.keys.specs.Turns.{NoCycle}
 use Rattle.keys.specs.declared.key.Key.{Key}
 use Rattle.keys.specs.declared.value.Value.{Value}
 use Rattle.keys.specs.declared.value.Value.TheVariants as value

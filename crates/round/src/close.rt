@@ -22,7 +22,8 @@ pub fn close_cycles(alloc: Global, graph: &mut Graph, table: &mut Table) -> Resu
     ensures none { OnOk result ((k : Key) → node_at table.new.nodes k ≡ None) }
     ensures keeps { OnOk result (KeepsWanted graph.old graph.new table.old table.new) }
     ensures turns { OnOk result (MakesNone table.old table.new) }
-    ensures truth { (read : Key → Option Value) → Ends read graph.old graph.new table.old table.new result }
+    ensures truth { (read : Key → Option Value) → Ends read graph.old graph.new table.old table.new
+        result }
 {
     let stall = close_all(alloc, graph, table)?;
     let entries = entries_of(alloc, graph, stall)?;

@@ -42,7 +42,8 @@ pub struct Stall {
 
 // The groups of a key's record, up to the one at a place.
 fn groups_up_to(alloc: Global, graph: &Graph, key: &Key, at: usize) -> Result<Vec<Vec<Key>>, Memory>
-    ensures { IfOk result (λ groups. (r : Record Key Value) → record_at graph.now key.now ≡ Some r → items_of groups.items ≡ take (at + 1) r.groups) }
+    ensures { IfOk result (λ groups. (r : Record Key Value) → record_at graph.now key.now ≡ Some r
+        → items_of groups.items ≡ take (at + 1) r.groups) }
 {
     let Some(mut groups) = graph.groups(alloc, key)? else {
         return Ok(Vec::new(alloc));
@@ -61,7 +62,8 @@ fn groups_to_close(
     key: &Key,
     node: Node,
 ) -> Result<(Vec<Vec<Key>>, bool), Memory>
-    ensures groups { IfOk result (λ found. ClosesWith (record_at graph.now) key.now node (items_of found.0.items)) }
+    ensures groups { IfOk result (λ found. ClosesWith (record_at graph.now) key.now node
+        (items_of found.0.items)) }
     ensures turned { IfOk result (λ found. HasTurned node found.1) }
 {
     let Node {
@@ -104,7 +106,10 @@ fn note_turned(
     turned: bool,
     turns: u64,
 ) -> Result<(), Memory>
-    ensures yes { IsTrue turned → OnOk result (HasNoted table.old table.new (record { key = key.now; version = version; turns = turns })) }
+    ensures yes { IsTrue turned
+        → OnOk result
+        (HasNoted table.old table.new
+        (record { key = key.now; version = version; turns = turns })) }
     ensures no { turned ≡ false → OnOk result (table.new ≡ table.old) }
 {
     if turned {
@@ -130,7 +135,8 @@ fn put_closing(
     groups: Vec<Vec<Key>>,
     stop: Option<Key>,
 ) -> Result<(), Memory>
-    ensures closing { OnOk result (stall.new.closing.items ≡ stall.old.closing.items ++ record { key = key; groups = groups } ∷ []) }
+    ensures closing { OnOk result (stall.new.closing.items ≡ stall.old.closing.items
+        ++ record { key = key; groups = groups } ∷ []) }
     ensures stops { OnOk result (PutsStop stall.old.stops stall.new.stops key stop) }
 {
     put_stop(&mut stall.stops, &key, stop)?;
@@ -157,7 +163,8 @@ fn take_last(nodes: &mut Nodes) -> Option<(Key, Node)>
     ensures updates { IfSome result (λ p. Updates key_eq nodes.old nodes.new p.0 None) }
     ensures least { IfSome result (λ p. IsLeast nodes.old p.0) }
     ensures unchanged { IfNone result (nodes.new.entries ≡ nodes.old.entries) }
-    ensures len { index_map_len nodes.new + (if is_some result then 1 else 0) ≡ index_map_len nodes.old }
+    ensures len { index_map_len nodes.new + (if is_some result then 1 else 0)
+        ≡ index_map_len nodes.old }
 {
     nodes.pop()
 }
@@ -171,9 +178,13 @@ fn close_next(
 ) -> Result<bool, Memory>
     requires { Descends table.old.nodes.entries }
     ensures descends { OnOk result (Descends table.new.nodes.entries) }
-    ensures taken { OnOk result ((start : Table) → Holds (record_at graph.now) start.nodes → HasTaken (record_at graph.now) graph.now.version start table.old stall.old → HasTaken (record_at graph.now) graph.now.version start table.new stall.new) }
-    ensures none { IfOk result (λ more. more ≡ false → (k : Key) → node_at table.new.nodes k ≡ None) }
-    ensures fewer { IfOk result (λ more. more ≡ true → index_map_len table.new.nodes + 1 ≡ index_map_len table.old.nodes) }
+    ensures taken { OnOk result ((start : Table) → Holds (record_at graph.now) start.nodes
+        → HasTaken (record_at graph.now) graph.now.version start table.old stall.old
+        → HasTaken (record_at graph.now) graph.now.version start table.new stall.new) }
+    ensures none { IfOk result (λ more. more ≡ false → (k : Key) → node_at table.new.nodes k
+        ≡ None) }
+    ensures fewer { IfOk result (λ more. more ≡ true → index_map_len table.new.nodes + 1
+        ≡ index_map_len table.old.nodes) }
 {
     let Some((key, node)) = take_last(&mut table.nodes) else {
         return Ok(false);
@@ -187,7 +198,8 @@ fn close_next(
 
 /// Takes all open nodes out, in their order, and notes the runs of those that made turns.
 pub fn close_all(alloc: Global, graph: &Graph, table: &mut Table) -> Result<Stall, Memory>
-    ensures taken { IfOk result (λ stall. Holds (record_at graph.now) table.old.nodes → HasTaken (record_at graph.now) graph.now.version table.old table.new stall) }
+    ensures taken { IfOk result (λ stall. Holds (record_at graph.now) table.old.nodes
+        → HasTaken (record_at graph.now) graph.now.version table.old table.new stall) }
     ensures none { OnOk result ((k : Key) → node_at table.new.nodes k ≡ None) }
 {
     put_least_last(&mut table.nodes)?;

@@ -47,7 +47,8 @@ fn read(
     requires closed { node_at table.old.nodes key.now ≡ None }
     ensures wants { OnOk result (Wants graph.old graph.new table.old table.new) }
     ensures wanted { OnOk result (IsWanted graph.new table.new key.now) }
-    ensures truth { KeepsTrueOf (key.now ∷ []) (leaves.read tree.now) graph.old graph.new table.old table.new result }
+    ensures truth { KeepsTrueOf (key.now ∷ []) (leaves.read tree.now) graph.old graph.new table.old
+        table.new result }
     ensures looked { OnOk result (table.new.looked ≡ table.old.looked) }
 {
     let value = Arc::new(alloc, read_leaf(alloc, tree, key)?)?;
@@ -76,7 +77,8 @@ fn begin(alloc: Global, graph: &Graph, table: &mut Table, key: &Key) -> Result<(
     requires closed { node_at table.old.nodes key.now ≡ None }
     ensures wants { OnOk result (Wants graph.now graph.now table.old table.new) }
     ensures wanted { OnOk result (IsWanted graph.now table.new key.now) }
-    ensures truth { (files : Files) → leaves.read files key.now ≡ None → KeepsTrueOf (key.now ∷ []) (leaves.read files) graph.now graph.now table.old table.new result }
+    ensures truth { (files : Files) → leaves.read files key.now ≡ None → KeepsTrueOf (key.now ∷ [])
+        (leaves.read files) graph.now graph.now table.old table.new result }
     ensures looked { OnOk result (table.new.looked ≡ table.old.looked) }
 {
     if has_record(graph, key) {
@@ -97,7 +99,8 @@ pub fn want(
 ) -> Result<(), Memory>
     ensures wants { OnOk result (Wants graph.old graph.new table.old table.new) }
     ensures wanted { OnOk result (IsWanted graph.new table.new key.now) }
-    ensures truth { KeepsTrueOf (key.now ∷ []) (leaves.read tree.now) graph.old graph.new table.old table.new result }
+    ensures truth { KeepsTrueOf (key.now ∷ []) (leaves.read tree.now) graph.old graph.new table.old
+        table.new result }
     ensures looked { OnOk result (table.new.looked ≡ table.old.looked) }
 {
     if is_settled(graph, key) {
@@ -124,7 +127,8 @@ pub fn want_all(
 ) -> Result<(), Memory>
     ensures wants { OnOk result (Wants graph.old graph.new table.old table.new) }
     ensures wanted { OnOk result ((k : Key) → In k keys.now → IsWanted graph.new table.new k) }
-    ensures truth { KeepsTrueOf keys.now (leaves.read tree.now) graph.old graph.new table.old table.new result }
+    ensures truth { KeepsTrueOf keys.now (leaves.read tree.now) graph.old graph.new table.old
+        table.new result }
     ensures looked { OnOk result (table.new.looked ≡ table.old.looked) }
 {
     for key in keys {
@@ -142,7 +146,8 @@ pub fn confirm(alloc: Global, graph: &mut Graph, table: &mut Table, key: &Key) -
     ensures keeps { OnOk result (KeepsWanted graph.old graph.new table.old table.new) }
     ensures turns { OnOk result (MakesNone table.old table.new) }
     ensures frame { OnOk result (KeepsFrame graph.old graph.new table.old table.new) }
-    ensures truth { (read : Key → Option Value) → KeepsTrue read graph.old graph.new table.old table.new result }
+    ensures truth { (read : Key → Option Value) → KeepsTrue read graph.old graph.new table.old
+        table.new result }
     ensures looked { OnOk result (table.new.looked ≡ table.old.looked) }
 {
     let _groups = leave(alloc, table, key)?;
@@ -165,7 +170,10 @@ pub fn end(
     ensures settled { OnOk result (IsClean (record_at graph.new) key) }
     ensures keeps { OnOk result (KeepsWanted graph.old graph.new table.old table.new) }
     ensures frame { OnOk result (KeepsFrameBut key graph.old graph.new table.old table.new) }
-    ensures truth { (read : Key → Option Value) (next : Key → List Value → Reply Key Value) (answers : List Value) → IsOutWith graph.old table.old key answers → next key answers ≡ Done value → LeadsBy (Back key ∷ []) next read graph.old graph.new table.old table.new result }
+    ensures truth { (read : Key → Option Value) (next : Key → List Value → Reply Key Value)
+        (answers : List Value) → IsOutWith graph.old table.old key answers → next key answers
+        ≡ Done value → LeadsBy (Back key ∷ []) next read graph.old graph.new table.old table.new
+        result }
 {
     let shared = Arc::new(alloc, value)?;
     let groups = leave(alloc, table, &key)?;
@@ -190,7 +198,8 @@ fn wait_for(
     ensures keeps { OnOk result (KeepsWanted graph.old graph.new table.old table.new) }
     ensures turns { OnOk result (MakesNone table.old table.new) }
     ensures frame { OnOk result (KeepsFrame graph.old graph.new table.old table.new) }
-    ensures truth { KeepsTrue (leaves.read tree.now) graph.old graph.new table.old table.new result }
+    ensures truth { KeepsTrue (leaves.read tree.now) graph.old graph.new table.old table.new
+        result }
     ensures looked { OnOk result (table.new.looked ≡ table.old.looked) }
 {
     want_all(alloc, graph, tree, table, missing)?;
@@ -217,7 +226,8 @@ fn check(
     ensures keeps { OnOk result (KeepsWanted graph.old graph.new table.old table.new) }
     ensures turns { OnOk result (MakesNone table.old table.new) }
     ensures frame { OnOk result (KeepsFrame graph.old graph.new table.old table.new) }
-    ensures truth { KeepsTrue (leaves.read tree.now) graph.old graph.new table.old table.new result }
+    ensures truth { KeepsTrue (leaves.read tree.now) graph.old graph.new table.old table.new
+        result }
     ensures looked { OnOk result (table.new.looked ≡ table.old.looked) }
 {
     let found = graph.compare(alloc, key, passed)?;
@@ -232,7 +242,8 @@ fn check(
 
 // The last group that a node's turns asked.
 fn last_group<'a>(nodes: &'a Nodes, key: &Key) -> &'a [Key]
-    ensures { (n : Node) → node_at nodes.now key.now ≡ Some n → IsLastGroup (groups_of n) result.now }
+    ensures { (n : Node) → node_at nodes.now key.now ≡ Some n
+        → IsLastGroup (groups_of n) result.now }
 {
     match nodes.get(key) {
         None => &[],
@@ -258,7 +269,8 @@ fn look_running(
     ensures keeps { OnOk result (KeepsWanted graph.old graph.new table.old table.new) }
     ensures turns { OnOk result (MakesNone table.old table.new) }
     ensures frame { OnOk result (KeepsFrame graph.old graph.new table.old table.new) }
-    ensures truth { KeepsTrue (leaves.read tree.now) graph.old graph.new table.old table.new result }
+    ensures truth { KeepsTrue (leaves.read tree.now) graph.old graph.new table.old table.new
+        result }
     ensures looked { OnOk result (table.new.looked ≡ table.old.looked) }
 {
     let group = last_group(&table.nodes, key);
@@ -277,8 +289,10 @@ fn look_running(
 
 // How many groups a check passed, of a node whose record is checked.
 fn passed_of(nodes: &Nodes, key: &Key) -> Option<usize>
-    ensures some { IfSome result (λ at. (n : Node) × (node_at nodes.now key.now ≡ Some n) × (n.phase ≡ phase.Checking at)) }
-    ensures none { IfNone result ((n : Node) (at : ℕ) → node_at nodes.now key.now ≡ Some n → n.phase ≡ phase.Checking at → ⊥) }
+    ensures some { IfSome result (λ at. (n : Node) × (node_at nodes.now key.now ≡ Some n)
+        × (n.phase ≡ phase.Checking at)) }
+    ensures none { IfNone result ((n : Node) (at : ℕ) → node_at nodes.now key.now ≡ Some n → n.phase
+        ≡ phase.Checking at → ⊥) }
 {
     match nodes.get(key) {
         None => None,
@@ -291,8 +305,10 @@ fn passed_of(nodes: &Nodes, key: &Key) -> Option<usize>
 
 // Whether a node makes turns and its job is not out.
 fn is_running(nodes: &Nodes, key: &Key) -> bool
-    ensures yes { IsTrue result → (n : Node) × (node_at nodes.now key.now ≡ Some n) × (n.phase ≡ phase.Running) }
-    ensures no { (n : Node) → node_at nodes.now key.now ≡ Some n → n.phase ≡ phase.Running → IsTrue result }
+    ensures yes { IsTrue result → (n : Node) × (node_at nodes.now key.now ≡ Some n)
+        × (n.phase ≡ phase.Running) }
+    ensures no { (n : Node) → node_at nodes.now key.now ≡ Some n → n.phase ≡ phase.Running
+        → IsTrue result }
 {
     match nodes.get(key) {
         None => false,
@@ -317,7 +333,8 @@ fn look(
     ensures keeps { OnOk result (KeepsWanted graph.old graph.new table.old table.new) }
     ensures turns { OnOk result (MakesNone table.old table.new) }
     ensures frame { OnOk result (KeepsFrame graph.old graph.new table.old table.new) }
-    ensures truth { KeepsTrue (leaves.read tree.now) graph.old graph.new table.old table.new result }
+    ensures truth { KeepsTrue (leaves.read tree.now) graph.old graph.new table.old table.new
+        result }
     ensures looked { OnOk result (table.new.looked ≡ table.old.looked) }
 {
     if let Some(passed) = passed_of(&table.nodes, key) {
@@ -351,12 +368,14 @@ fn look_next(
     requires whole { IsWholeNow graph.old table.old }
     ensures whole { OnOk result (IsWholeNow graph.new table.new) }
     ensures none { IfOk result (λ more. more ≡ false → pending table.new ≡ []) }
-    ensures forward { IfOk result (λ more. more ≡ true → (table.new.looked ≡ table.old.looked + 1) × (table.old.looked < 2 ^ 64)) }
+    ensures forward { IfOk result (λ more. more ≡ true → (table.new.looked ≡ table.old.looked + 1)
+        × (table.old.looked < 2 ^ 64)) }
     ensures out { OnOk result (KeepsOut table.old table.new) }
     ensures keeps { OnOk result (KeepsWanted graph.old graph.new table.old table.new) }
     ensures turns { OnOk result (MakesNone table.old table.new) }
     ensures frame { OnOk result (KeepsFrame graph.old graph.new table.old table.new) }
-    ensures truth { KeepsTrue (leaves.read tree.now) graph.old graph.new table.old table.new result }
+    ensures truth { KeepsTrue (leaves.read tree.now) graph.old graph.new table.old table.new
+        result }
 {
     let Some(key) = next_key(table)? else {
         return Ok(false);
@@ -383,7 +402,8 @@ pub fn look_at_all(
     ensures keeps { OnOk result (KeepsWanted graph.old graph.new table.old table.new) }
     ensures turns { OnOk result (MakesNone table.old table.new) }
     ensures frame { OnOk result (KeepsFrame graph.old graph.new table.old table.new) }
-    ensures truth { KeepsTrue (leaves.read tree.now) graph.old graph.new table.old table.new result }
+    ensures truth { KeepsTrue (leaves.read tree.now) graph.old graph.new table.old table.new
+        result }
 {
     'looks: loop {
         match look_next(alloc, graph, tree, table) {

@@ -26,7 +26,8 @@ fn walk(
     stops: &mut BTreeMap<Key, Key>,
     start: &Key,
 ) -> Result<(Vec<Key>, Key), Memory>
-    ensures { IfOk result (λ walked. HasWalked stops.old stops.new start.now walked.0.items walked.1) }
+    ensures { IfOk result (λ walked. HasWalked stops.old stops.new start.now walked.0.items
+        walked.1) }
 {
     let mut path = Vec::new(alloc);
     let mut at = start.share()?;
@@ -131,7 +132,9 @@ fn end_value(
     path: &[Key],
     end: &Key,
 ) -> Result<Arc<Value>, Memory>
-    ensures { IfOk result (λ v. EndsWith (shown_at shown.now end.now) (value_in (record_at graph.now end.now)) path.now end.now (arc_value v)) }
+    ensures { IfOk result
+        (λ v. EndsWith (shown_at shown.now end.now) (value_in (record_at graph.now end.now))
+        path.now end.now (arc_value v)) }
 {
     if let Some(value) = shown.get(end) {
         return Ok(Arc::try_clone(value)?);
@@ -165,8 +168,10 @@ fn value_of(
     shown: &mut BTreeMap<Key, Arc<Value>>,
     key: &Key,
 ) -> Result<Arc<Value>, Memory>
-    ensures { IfOk result (λ v. (all : Key → Option Key) → IsStall all (record_at graph.now) → IsShowing all (record_at graph.now) stops.old shown.old
-        → ((j : Key) × (all key.now ≡ Some j)) → IsShowing all (record_at graph.now) stops.new shown.new × Shows all (record_at graph.now) key.now (arc_value v)) }
+    ensures { IfOk result (λ v. (all : Key → Option Key) → IsStall all (record_at graph.now)
+        → IsShowing all (record_at graph.now) stops.old shown.old
+        → ((j : Key) × (all key.now ≡ Some j)) → IsShowing all (record_at graph.now) stops.new
+        shown.new × Shows all (record_at graph.now) key.now (arc_value v)) }
 {
     let (path, end) = walk(alloc, stops, key)?;
     let value = end_value(alloc, graph, shown, path.as_slice(), &end)?;
@@ -176,8 +181,11 @@ fn value_of(
 
 /// The entries of closed nodes, each with the value that it shows.
 pub fn entries_of(alloc: Global, graph: &Graph, stall: Stall) -> Result<Vec<Entry>, Memory>
-    ensures { IfOk result (λ entries. IsStall (stop_at stall.stops) (record_at graph.now) → ((c : Closing) → In c stall.closing.items → (j : Key) × (stop_at stall.stops c.key ≡ Some j)) → AllDiffer (closing_keys stall.closing.items)
-        → AreEntries (stop_at stall.stops) (record_at graph.now) stall.closing.items entries.items) }
+    ensures { IfOk result (λ entries. IsStall (stop_at stall.stops) (record_at graph.now)
+        → ((c : Closing) → In c stall.closing.items → (j : Key)
+        × (stop_at stall.stops c.key ≡ Some j)) → AllDiffer (closing_keys stall.closing.items)
+        → AreEntries (stop_at stall.stops) (record_at graph.now) stall.closing.items
+        entries.items) }
 {
     let Stall {
         mut closing,

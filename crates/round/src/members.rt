@@ -33,7 +33,8 @@ pub fn is_settled(graph: &Graph, key: &Key) -> bool
 
 /// The members of a group that are not settled.
 pub fn unsettled(alloc: Global, graph: &Graph, group: &[Key]) -> Result<Vec<Key>, Memory>
-    ensures { IfOk result (λ missing. specs.IsMissing (record_at graph.now) group.now missing.items) }
+    ensures { IfOk result (λ missing. specs.IsMissing (record_at graph.now) group.now
+        missing.items) }
 {
     let mut missing = Vec::new(alloc);
     for key in group {
@@ -71,7 +72,8 @@ fn is_cycle(value: &Value) -> bool
 
 // The value of a key that is settled, and not as a cycle.
 fn plain_value<'a>(graph: &'a Graph, key: &Key) -> Option<&'a Arc<Value>>
-    ensures { option_map (λ v. arc_value v.now) result ≡ specs.plain_value (record_at graph.now key.now) }
+    ensures { option_map (λ v. arc_value v.now) result ≡ specs.plain_value
+        (record_at graph.now key.now) }
 {
     match graph.get(key) {
         None => None,
@@ -100,7 +102,8 @@ pub fn first_stop<'a>(graph: &Graph, group: &'a [Key]) -> Option<&'a Key>
 
 // The values of the members of a group are put behind the answers; false where one has none.
 fn answer_group(graph: &Graph, group: &[Key], answers: &mut Vec<Arc<Value>>) -> Result<bool, Memory>
-    ensures { IfOk result (specs.AnswersGroup (record_at graph.now) group.now (values answers.old.items) (values answers.new.items)) }
+    ensures { IfOk result (specs.AnswersGroup (record_at graph.now) group.now
+        (values answers.old.items) (values answers.new.items)) }
 {
     for key in group {
         let Some(value) = plain_value(graph, key) else {
@@ -117,7 +120,8 @@ pub fn answers_to(
     graph: &Graph,
     groups: &[Vec<Key>],
 ) -> Result<Option<Vec<Arc<Value>>>, Memory>
-    ensures { IfOk result (λ found. specs.Answers (record_at graph.now) (items_of groups.now) (option_map (λ v. values v.items) found)) }
+    ensures { IfOk result (λ found. specs.Answers (record_at graph.now) (items_of groups.now)
+        (option_map (λ v. values v.items) found)) }
 {
     let mut answers = Vec::new(alloc);
     for group in groups {

@@ -135,11 +135,15 @@ impl<R: Rules> Round<R> {
         roots: Vec<Key>,
     ) -> Result<Round<R>, Memory>
         ensures beside { IfOk result (λ round. StandsBeside graph.new round) }
-        ensures begins { IfOk result (λ round. ((standing round).roots ≡ roots.items) × ((standing round).out ≡ [])) }
+        ensures begins { IfOk result (λ round. ((standing round).roots ≡ roots.items)
+            × ((standing round).out ≡ [])) }
         ensures made { IfOk result (λ round. HasMade round.table 0) }
         ensures follows { IfOk result (λ round. Follows [] (standing round) round.kept) }
-        ensures truth { IfOk result (λ round. (next : Key → List Value → Reply Key Value) → IsTrueSince [] next (leaves.read tree.now) roots.items graph.old graph.new round.table) }
-        ensures stopped { OnErr result ((next : Key → List Value → Reply Key Value) → IsAfterSince next (leaves.read tree.now) roots.items graph.old graph.new) }
+        ensures truth { IfOk result (λ round. (next : Key → List Value → Reply Key Value)
+            → IsTrueSince [] next (leaves.read tree.now) roots.items graph.old graph.new
+            round.table) }
+        ensures stopped { OnErr result ((next : Key → List Value → Reply Key Value)
+            → IsAfterSince next (leaves.read tree.now) roots.items graph.old graph.new) }
     {
         let mut table = Table::new(alloc);
         want_all(alloc, graph, tree, &mut table, roots.as_slice())?;
@@ -157,7 +161,8 @@ impl<R: Rules> Round<R> {
     pub fn ready(&self) -> Option<&Key>
         ensures some { IfSome result (λ k. In k.now (standing self.now).table.ready.keys) }
         ensures none { IfNone result ((standing self.now).table.ready.keys ≡ []) }
-        ensures least { IfSome result (λ k. All (IsLeBy key_cmp k.now) (standing self.now).table.ready.keys) }
+        ensures least { IfSome result
+            (λ k. All (IsLeBy key_cmp k.now) (standing self.now).table.ready.keys) }
     {
         match self.table.ready.first() {
             None => None,
@@ -178,12 +183,19 @@ impl<R: Rules> Round<R> {
     pub fn hand_out(&mut self, graph: &Graph, key: &Key) -> Result<Option<Job<R>>, Memory>
         requires { StandsBeside graph.now self.old }
         ensures beside { StandsBeside graph.now self.new }
-        ensures hands { IfOk result (HandsOut graph.now key.now (standing self.old) (standing self.new)) }
-        ensures truth { (read : Key → Option Value) → IfOk result (λ job. IfSome job (λ j. StaysTrueBy (Hand key.now ∷ []) read graph.now graph.now self.old.table self.new.table)) }
-        ensures follows { IfOk result (FollowsHand key.now (standing self.old) self.old.kept (standing self.new) self.new.kept) }
-        ensures possible { (read : Key → Option Value) → IfOk result (HandsWherePossible read graph.now (standing self.old) key.now) }
+        ensures hands { IfOk result (HandsOut graph.now key.now (standing self.old)
+            (standing self.new)) }
+        ensures truth { (read : Key → Option Value)
+            → IfOk result
+            (λ job. IfSome job (λ j. StaysTrueBy (Hand key.now ∷ []) read graph.now graph.now
+            self.old.table self.new.table)) }
+        ensures follows { IfOk result (FollowsHand key.now (standing self.old) self.old.kept
+            (standing self.new) self.new.kept) }
+        ensures possible { (read : Key → Option Value)
+            → IfOk result (HandsWherePossible read graph.now (standing self.old) key.now) }
         ensures refused { OnErr result (standing self.new ≡ standing self.old) }
-        ensures others { OnOk result (KeepsAllJobs graph.now (standing self.old) (standing self.new)) }
+        ensures others { OnOk result
+            (KeepsAllJobs graph.now (standing self.old) (standing self.new)) }
     {
         let name = key.share()?;
         let Some(job) = next_job(self.alloc, graph, &self.table, &mut self.kept, key)? else {
@@ -205,12 +217,19 @@ impl<R: Rules> Round<R> {
     ) -> Result<(), NotTaken<R>>
         requires { StandsBeside graph.old self.old }
         ensures beside { OnOk result (StandsBeside graph.new self.new) }
-        ensures back { OnOk result (IsOfJobOut graph.old (standing self.old) turned.asked × TakesBack (standing self.old) (standing self.new) turned.asked.key × (turned.ending ≡ Made)) }
-        ensures truth { LeadsBy (Back turned.asked.key ∷ []) R.next (leaves.read tree.now) graph.old graph.new self.old.table self.new.table result }
-        ensures others { OnOk result (KeepsJobs turned.asked.key graph.old graph.new (standing self.old) (standing self.new)) }
-        ensures possible { (read : Key → Option Value) → OnOk result (TakesJobOut read graph.old (standing self.old) turned.asked) }
-        ensures strange { (read : Key → Option Value) → IfErr result (StrangerWhereNotOut read graph.old (standing self.old) turned.asked) }
-        ensures refused { IfErr result (Refuses graph.old graph.new (standing self.old) (standing self.new) turned) }
+        ensures back { OnOk result (IsOfJobOut graph.old (standing self.old) turned.asked
+            × TakesBack (standing self.old) (standing self.new) turned.asked.key
+            × (turned.ending ≡ Made)) }
+        ensures truth { LeadsBy (Back turned.asked.key ∷ []) R.next (leaves.read tree.now) graph.old
+            graph.new self.old.table self.new.table result }
+        ensures others { OnOk result (KeepsJobs turned.asked.key graph.old graph.new
+            (standing self.old) (standing self.new)) }
+        ensures possible { (read : Key → Option Value)
+            → OnOk result (TakesJobOut read graph.old (standing self.old) turned.asked) }
+        ensures strange { (read : Key → Option Value)
+            → IfErr result (StrangerWhereNotOut read graph.old (standing self.old) turned.asked) }
+        ensures refused { IfErr result (Refuses graph.old graph.new (standing self.old)
+            (standing self.new) turned) }
     {
         if !is_out_with(self.alloc, graph, &self.table, &turned)? {
             return Err(NotTaken::Stranger(turned));
@@ -230,11 +249,17 @@ impl<R: Rules> Round<R> {
         requires beside { StandsBeside graph.old self.old }
         requires out { IsOfJobOut graph.old (standing self.old) turned.asked }
         ensures beside { OnOk result (StandsBeside graph.new self.new) }
-        ensures back { OnOk result (TakesBack (standing self.old) (standing self.new) turned.asked.key) }
+        ensures back { OnOk result
+            (TakesBack (standing self.old) (standing self.new) turned.asked.key) }
         ensures made { OnOk result (turned.ending ≡ Made) }
-        ensures follows { (read : Key → Option Value) → OnOk result (ForChoices read graph.old (standing self.old) (λ next past cs. Follows cs (standing self.old) self.old.kept → Follows (Back turned.asked.key ∷ cs) (standing self.new) self.new.kept)) }
-        ensures others { OnOk result (KeepsJobs turned.asked.key graph.old graph.new (standing self.old) (standing self.new)) }
-        ensures truth { LeadsBy (Back turned.asked.key ∷ []) R.next (leaves.read tree.now) graph.old graph.new self.old.table self.new.table result }
+        ensures follows { (read : Key → Option Value)
+            → OnOk result (ForChoices read graph.old (standing self.old)
+            (λ next past cs. Follows cs (standing self.old) self.old.kept
+            → Follows (Back turned.asked.key ∷ cs) (standing self.new) self.new.kept)) }
+        ensures others { OnOk result (KeepsJobs turned.asked.key graph.old graph.new
+            (standing self.old) (standing self.new)) }
+        ensures truth { LeadsBy (Back turned.asked.key ∷ []) R.next (leaves.read tree.now) graph.old
+            graph.new self.old.table self.new.table result }
     {
         let key = turned.key().share()?;
         let paused = take(self.alloc, graph, &mut self.table, turned)?;
@@ -248,13 +273,20 @@ impl<R: Rules> Round<R> {
     /// exactly where a state is kept and the round is not at a stall. Else nothing changes. It takes no memory.
     pub fn drop_state(&mut self, key: &Key) -> bool
         ensures dropped { Decides result (CanDrop (standing self.old) self.old.kept key.now) }
-        ensures not_out { (graph : Recorded) → StandsBeside graph self.old → IsTrue result → IsOutAt self.old.table key.now → ⊥ }
+        ensures not_out { (graph : Recorded) → StandsBeside graph self.old → IsTrue result
+            → IsOutAt self.old.table key.now → ⊥ }
         ensures kept { DropsState self.old.kept self.new.kept key.now result }
-        ensures possible { (read : Key → Option Value) (graph : Recorded) → StandsBeside graph self.old → ForChoices read graph (standing self.old) (λ next past cs. Follows cs (standing self.old) self.old.kept → Decides result (IsPossibleAfter next read past cs (Drop key.now))) }
-        ensures follows { IsTrue result → (cs : List (Choice Key)) → Follows cs (standing self.old) self.old.kept → Follows (Drop key.now ∷ cs) (standing self.new) self.new.kept }
-        ensures truth { (read : Key → Option Value) (graph : Recorded) → StaysTrueBy (Drop key.now ∷ []) read graph graph self.old.table self.new.table }
+        ensures possible { (read : Key → Option Value) (graph : Recorded)
+            → StandsBeside graph self.old → ForChoices read graph (standing self.old)
+            (λ next past cs. Follows cs (standing self.old) self.old.kept
+            → Decides result (IsPossibleAfter next read past cs (Drop key.now))) }
+        ensures follows { IsTrue result → (cs : List (Choice Key)) → Follows cs (standing self.old)
+            self.old.kept → Follows (Drop key.now ∷ cs) (standing self.new) self.new.kept }
+        ensures truth { (read : Key → Option Value) (graph : Recorded)
+            → StaysTrueBy (Drop key.now ∷ []) read graph graph self.old.table self.new.table }
         ensures same { standing self.new ≡ standing self.old }
-        ensures beside { (graph : Recorded) → StandsBeside graph self.old → StandsBeside graph self.new }
+        ensures beside { (graph : Recorded) → StandsBeside graph self.old
+            → StandsBeside graph self.new }
     {
         if self.stalled() {
             return false;
@@ -276,10 +308,13 @@ impl<R: Rules> Round<R> {
         requires beside { StandsBeside graph.old self.old }
         requires stalled { IsStalled (standing self.old) }
         ensures none { OnOk result (NoneOpen (standing self.new)) }
-        ensures wanted { OnOk result ((k : Key) → In k (standing self.new).roots → IsWanted graph.new self.new.table k) }
-        ensures same { ((standing self.new).roots ≡ (standing self.old).roots) × ((standing self.new).out ≡ (standing self.old).out) }
+        ensures wanted { OnOk result ((k : Key) → In k (standing self.new).roots
+            → IsWanted graph.new self.new.table k) }
+        ensures same { ((standing self.new).roots ≡ (standing self.old).roots)
+            × ((standing self.new).out ≡ (standing self.old).out) }
         ensures turns { OnOk result (MakesNone self.old.table self.new.table) }
-        ensures truth { (read : Key → Option Value) → Ends read graph.old graph.new self.old.table self.new.table result }
+        ensures truth { (read : Key → Option Value) → Ends read graph.old graph.new self.old.table
+            self.new.table result }
     {
         close_cycles(self.alloc, graph, &mut self.table)?;
         self.kept = IndexMap::new(self.alloc);
@@ -322,9 +357,11 @@ fn runs_of(table: Table) -> Vec<Run>
 /// The least key whose next turn can be handed out, as one of its own; None where there is none. `Memory` where a growth was
 /// refused.
 pub fn next_key<R: Rules>(round: &Round<R>) -> Result<Option<Key>, Memory>
-    ensures some { IfOk result (λ k. IfSome k (λ key. In key (standing round.now).table.ready.keys)) }
+    ensures some { IfOk result
+        (λ k. IfSome k (λ key. In key (standing round.now).table.ready.keys)) }
     ensures none { IfOk result (λ k. IfNone k ((standing round.now).table.ready.keys ≡ [])) }
-    ensures least { IfOk result (λ k. IfSome k (λ key. All (IsLeBy key_cmp key) (standing round.now).table.ready.keys)) }
+    ensures least { IfOk result
+        (λ k. IfSome k (λ key. All (IsLeBy key_cmp key) (standing round.now).table.ready.keys)) }
 {
     match round.ready() {
         None => Ok(None),
@@ -354,8 +391,10 @@ pub fn turn<R: Rules>(
     requires ready { In key.now (standing round.old).table.ready.keys }
     ensures turns { OnOk result (TurnsOnce graph.old graph.new round.old round.new) }
     ensures counted { OnOk result (R.turns rules.new ≡ R.turns rules.old + 1) }
-    ensures at_most { (R.turns rules.old ≤ R.turns rules.new) × (R.turns rules.new ≤ R.turns rules.old + 1) }
-    ensures truth { LeadsBy (Back key.now ∷ Hand key.now ∷ []) R.next (leaves.read tree.now) graph.old graph.new round.old.table round.new.table result }
+    ensures at_most { (R.turns rules.old ≤ R.turns rules.new)
+        × (R.turns rules.new ≤ R.turns rules.old + 1) }
+    ensures truth { LeadsBy (Back key.now ∷ Hand key.now ∷ []) R.next (leaves.read tree.now)
+        graph.old graph.new round.old.table round.new.table result }
 {
     match round.hand_out(graph, key)? {
         None => unreachable!(),
@@ -372,9 +411,14 @@ pub fn turn<R: Rules>(
 pub fn close_stall<R: Rules>(mut round: Round<R>, graph: &mut Graph) -> Result<Vec<Run>, Memory>
     requires beside { StandsBeside graph.old round }
     requires stalled { IsStalled (standing round) }
-    ensures made { IfOk result (λ runs. (made : ℕ) → HasMade round.table made → made ≡ turns_of runs.items) }
-    ensures law { IfOk result (λ runs. (read : Key → Option Value) (next : Key → List Value → Reply Key Value) → Finishes {E = Stop} next read graph.old graph.new (standing round) (Ok runs.items)) }
-    ensures stopped { IfErr result (λ e. (read : Key → Option Value) (next : Key → List Value → Reply Key Value) → Finishes {E = Memory} next read graph.old graph.new (standing round) (Err e)) }
+    ensures made { IfOk result (λ runs. (made : ℕ) → HasMade round.table made
+        → made ≡ turns_of runs.items) }
+    ensures law { IfOk result
+        (λ runs. (read : Key → Option Value) (next : Key → List Value → Reply Key Value)
+        → Finishes {E = Stop} next read graph.old graph.new (standing round) (Ok runs.items)) }
+    ensures stopped { IfErr result
+        (λ e. (read : Key → Option Value) (next : Key → List Value → Reply Key Value)
+        → Finishes {E = Memory} next read graph.old graph.new (standing round) (Err e)) }
 {
     round.close_cycles(graph)?;
     match round.finish() {
@@ -401,12 +445,18 @@ pub fn evaluate_here<R: Rules>(
     rules: &mut R,
     budget: u64,
 ) -> Result<Vec<Run>, Stop>
-    ensures law { IfOk result (λ runs. Calls R.next (leaves.read tree.now) roots.now graph.old graph.new (Ok runs.items)) }
-    ensures stopped { IfErr result (λ e. Calls R.next (leaves.read tree.now) roots.now graph.old graph.new (Err e)) }
-    ensures turns { IfOk result (λ runs. R.turns rules.new ≡ R.turns rules.old + turns_of runs.items) }
-    ensures budget { IsErrOf result Stop.Budget → (R.turns rules.new ≡ R.turns rules.old + budget) × HasOpenRoot R.next (leaves.read tree.now) roots.now graph.old graph.new }
-    ensures spent { IsErrOf result Stop.Budget → HasTurnToMake R.next (leaves.read tree.now) roots.now graph.old graph.new }
-    ensures at_most { (R.turns rules.old ≤ R.turns rules.new) × (R.turns rules.new ≤ R.turns rules.old + budget) }
+    ensures law { IfOk result (λ runs. Calls R.next (leaves.read tree.now) roots.now graph.old
+        graph.new (Ok runs.items)) }
+    ensures stopped { IfErr result (λ e. Calls R.next (leaves.read tree.now) roots.now graph.old
+        graph.new (Err e)) }
+    ensures turns { IfOk result (λ runs. R.turns rules.new ≡ R.turns rules.old
+        + turns_of runs.items) }
+    ensures budget { IsErrOf result Stop.Budget → (R.turns rules.new ≡ R.turns rules.old + budget)
+        × HasOpenRoot R.next (leaves.read tree.now) roots.now graph.old graph.new }
+    ensures spent { IsErrOf result Stop.Budget → HasTurnToMake R.next (leaves.read tree.now)
+        roots.now graph.old graph.new }
+    ensures at_most { (R.turns rules.old ≤ R.turns rules.new)
+        × (R.turns rules.new ≤ R.turns rules.old + budget) }
 {
     let roots = share_all(alloc, roots)?;
     let mut round: Round<R> = Round::open(alloc, graph, tree, roots)?;

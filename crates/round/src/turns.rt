@@ -78,7 +78,9 @@ fn last_answers(
     table: &Table,
     key: &Key,
 ) -> Result<Option<Vec<Arc<Value>>>, Memory>
-    ensures { IfOk result (λ found. (n : Node) (passed : List (List Key)) (group : List Key) → node_at table.now.nodes key.now ≡ Some n → groups_of n ≡ passed ++ group ∷ [] → Answers (record_at graph.now) (group ∷ []) (option_map (λ v. values v.items) found)) }
+    ensures { IfOk result (λ found. (n : Node) (passed : List (List Key)) (group : List Key)
+        → node_at table.now.nodes key.now ≡ Some n → groups_of n ≡ passed ++ group ∷ []
+        → Answers (record_at graph.now) (group ∷ []) (option_map (λ v. values v.items) found)) }
 {
     let groups = asked_groups(&table.nodes, key);
     let last = groups.len().saturating_sub(1);
@@ -138,8 +140,10 @@ fn same_values(a: &[Arc<Value>], b: &[Arc<Value>]) -> bool
 
 // Whether a node's job is out.
 fn is_out(nodes: &Nodes, key: &Key) -> bool
-    ensures yes { IsTrue result → (n : Node) × (node_at nodes.now key.now ≡ Some n) × (n.phase ≡ phase.Out) }
-    ensures no { (n : Node) → node_at nodes.now key.now ≡ Some n → n.phase ≡ phase.Out → IsTrue result }
+    ensures yes { IsTrue result → (n : Node) × (node_at nodes.now key.now ≡ Some n)
+        × (n.phase ≡ phase.Out) }
+    ensures no { (n : Node) → node_at nodes.now key.now ≡ Some n → n.phase ≡ phase.Out
+        → IsTrue result }
 {
     match nodes.get(key) {
         None => false,
@@ -158,7 +162,9 @@ pub fn is_out_with<R: Rules>(
     turned: &Turned<R>,
 ) -> Result<bool, Memory>
     requires whole { IsWholeNow graph.now table.now }
-    ensures { IfOk result (λ b. Decides b (IsOutWith graph.now table.now turned.now.asked.key turned.now.asked.answers)) }
+    ensures { IfOk result
+        (λ b. Decides b
+        (IsOutWith graph.now table.now turned.now.asked.key turned.now.asked.answers)) }
 {
     if !is_out(&table.nodes, turned.key()) {
         return Ok(false);
@@ -181,11 +187,15 @@ pub fn take<R: Rules>(
     ensures whole { OnOk result (IsWholeNow graph.new table.new) }
     ensures back { OnOk result (ComesBack table.old table.new turned.asked.key) }
     ensures keeps { OnOk result (KeepsWanted graph.old graph.new table.old table.new) }
-    ensures frame { OnOk result (KeepsFrameBut turned.asked.key graph.old graph.new table.old table.new) }
-    ensures truth { (read : Key → Option Value) → LeadsBy (Back turned.asked.key ∷ []) R.next read graph.old graph.new table.old table.new result }
+    ensures frame { OnOk result (KeepsFrameBut turned.asked.key graph.old graph.new table.old
+        table.new) }
+    ensures truth { (read : Key → Option Value) → LeadsBy (Back turned.asked.key ∷ []) R.next read
+        graph.old graph.new table.old table.new result }
     ensures made { OnOk result (turned.ending ≡ Made) }
-    ensures paused { IfOk result (λ paused. IfSome paused (λ w. IsPaused graph.new table.new turned.asked.key w)) }
-    ensures ended { IfOk result (λ paused. IfNone paused (IsClean (record_at graph.new) turned.asked.key)) }
+    ensures paused { IfOk result
+        (λ paused. IfSome paused (λ w. IsPaused graph.new table.new turned.asked.key w)) }
+    ensures ended { IfOk result
+        (λ paused. IfNone paused (IsClean (record_at graph.new) turned.asked.key)) }
 {
     match turned.settle()? {
         Step::End(key, value) => {

@@ -7,7 +7,7 @@ use Rattle.tree.specs.declared.expr.Expr.{Expr}
 use Rattle.tree.specs.declared.expr.Clause.{Clause}
 use Rattle.tree.specs.declared.stmt.Stmt.{Stmt}
 use Rattle.tree.specs.declared.stmt.Branch.{Branch}
-use Rattle.tree.specs.declared.stmt.Param.{Param}
+use Rattle.tree.specs.declared.def.Param.{Param}
 use Rattle.same_trees.specs.Same.{same_ex, same_exs, same_clause, same_clauses, same_st, same_suite, same_branch, same_branches, same_param}
 
 either : (b : Bool) → b && false ≡ false

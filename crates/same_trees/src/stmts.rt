@@ -50,22 +50,74 @@ fn same_stmt(a: &Stmt, b: &Stmt) -> bool
         (Stmt::Pass(l), Stmt::Pass(m)) => *l == *m,
         (Stmt::Break(l), Stmt::Break(m)) => *l == *m,
         (Stmt::Continue(l), Stmt::Continue(m)) => *l == *m,
-        (Stmt::Return(l, x), Stmt::Return(m, y)) => *l == *m && same_bound(x, y),
-        (Stmt::Eval(l, x), Stmt::Eval(m, y)) => *l == *m && same_expr(x, y),
-        (Stmt::Assign(l, t, x), Stmt::Assign(m, u, y)) => {
-            *l == *m && same_expr(t, u) && same_expr(x, y)
-        }
-        (Stmt::Augment(l, t, o, x), Stmt::Augment(m, u, p, y)) => {
+        (Stmt::Return { line: l, value: x }, Stmt::Return { line: m, value: y }) => *l == *m
+            && same_bound(x, y),
+        (Stmt::Eval { line: l, value: x }, Stmt::Eval { line: m, value: y }) => *l == *m
+            && same_expr(x, y),
+        (
+            Stmt::Assign {
+                line: l,
+                target: t,
+                value: x,
+            },
+            Stmt::Assign {
+                line: m,
+                target: u,
+                value: y,
+            },
+        ) => { *l == *m && same_expr(t, u) && same_expr(x, y) }
+        (
+            Stmt::Augment {
+                line: l,
+                target: t,
+                op: o,
+                value: x,
+            },
+            Stmt::Augment {
+                line: m,
+                target: u,
+                op: p,
+                value: y,
+            },
+        ) => {
             *l == *m && same_expr(t, u) && binary_number(*o) == binary_number(*p) && same_expr(x, y)
         }
-        (Stmt::If(l, x, xs, bs, ss), Stmt::If(m, y, ys, cs, ts)) => {
+        (
+            Stmt::If {
+                line: l,
+                condition: x,
+                body: xs,
+                branches: bs,
+                other: ss,
+            },
+            Stmt::If {
+                line: m,
+                condition: y,
+                body: ys,
+                branches: cs,
+                other: ts,
+            },
+        ) => {
             *l == *m
                 && same_expr(x, y)
                 && same_stmts(xs.as_slice(), ys.as_slice())
                 && same_branches(bs.as_slice(), cs.as_slice())
                 && same_stmts(ss.as_slice(), ts.as_slice())
         }
-        (Stmt::For(l, t, x, ss), Stmt::For(m, u, y, ts)) => {
+        (
+            Stmt::For {
+                line: l,
+                target: t,
+                sequence: x,
+                body: ss,
+            },
+            Stmt::For {
+                line: m,
+                target: u,
+                sequence: y,
+                body: ts,
+            },
+        ) => {
             *l == *m
                 && same_expr(t, u)
                 && same_expr(x, y)

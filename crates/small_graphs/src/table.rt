@@ -16,7 +16,8 @@ fn one(alloc: Global, name: &str) -> Result<Vec<Key>, Memory>
 
 // A group of two look-ups.
 fn two(alloc: Global, first: &str, second: &str) -> Result<Vec<Key>, Memory>
-    ensures { IfOk result (λ group. group.items ≡ key.Lookup first.now ∷ key.Lookup second.now ∷ []) }
+    ensures { IfOk result (λ group. group.items ≡ key.Lookup first.now ∷ key.Lookup second.now
+        ∷ []) }
 {
     Ok(vec![in alloc;
         Key::Lookup(Text::new(alloc, first)?),

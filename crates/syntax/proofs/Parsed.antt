@@ -2,7 +2,7 @@
 use Rattle.std.proofs.Common.{◌≡◌, ℕ, List, Result, Ok, Err}
 use Rattle.tokens.specs.declared.refused.Refused.{Refused}
 use Rattle.tokens.specs.declared.refused.Refused.TheVariants as r
-use Rattle.tree.specs.declared.stmt.File.{File}
+use Rattle.tree.specs.declared.def.File.{File}
 use Rattle.tree.specs.Statements.{file_of}
 use Rattle.grammar.specs.declared.kind.FileKind.{FileKind}
 use Rattle.grammar.specs.Files.{parse_of}

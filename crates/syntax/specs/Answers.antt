@@ -4,7 +4,7 @@ use Rattle.tokens.specs.declared.refused.Refused.{Refused}
 use Rattle.tokens.specs.declared.refused.Refused.TheVariants as r
 use Rattle.tokens.specs.Reading.{Fault, Refuses}
 use Rattle.tree.specs.Tree.{Fi}
-use Rattle.tree.specs.declared.stmt.File.{File}
+use Rattle.tree.specs.declared.def.File.{File}
 use Rattle.tree.specs.Statements.{file_of}
 use Rattle.grammar.specs.declared.kind.FileKind.{FileKind}
 use Rattle.grammar.specs.Texts.{IsTree, IsRefused}

@@ -8,6 +8,7 @@ ghost use Rattle.tree.specs.Statements.{stmt_of, param_of, fn_of};
 ghost use Rattle.tokens.specs.declared.symbol.Symbol.TheVariants as s;
 
 use crate::statement::{LEVELS, Suites, stmt, test};
+use bindings::new_function;
 use expressions::{Stop, Tokens};
 use grammar::Within;
 use std::alloc::Global;
@@ -48,7 +49,8 @@ fn param_rest(
     params: &[Param],
     name: Text,
 ) -> Result<Param, Stop>
-    ensures { Reads param_of (spec.param_rest (map param_of params.now) name (left t.old)) result (left t.new) }
+    ensures { Reads param_of (spec.param_rest (map param_of params.now) name (left t.old)) result
+        (left t.new) }
 {
     if t.eat(Symbol::Equal) {
         let value = test(alloc, t)?;
@@ -70,7 +72,8 @@ fn param_rest(
 /// Reads a parameter.
 #[tactic(auto, unfolding(grammar::specs::Files::param))]
 fn param(alloc: Global, t: &mut Tokens<'_, '_>, params: &[Param]) -> Result<Param, Stop>
-    ensures { Reads param_of (spec.param (map param_of params.now) (left t.old)) result (left t.new) }
+    ensures { Reads param_of (spec.param (map param_of params.now) (left t.old)) result
+        (left t.new) }
 {
     let name = t.take_name(alloc)?;
     if has_name(params, &name) {
@@ -117,7 +120,10 @@ fn body(alloc: Global, t: &mut Tokens<'_, '_>) -> Result<Vec<Stmt>, Stop>
 
 /// Reads parameters with both brackets.
 fn params_in_brackets(alloc: Global, t: &mut Tokens<'_, '_>) -> Result<Vec<Param>, Stop>
-    ensures { Reads (λ v. map param_of v.items) (and_then (expect s.LeftParen (left t.old)) (λ _ us. and_then (spec.params us) (λ ps vs. and_then (expect s.RightParen vs) (λ _. gives ps)))) result (left t.new) }
+    ensures { Reads (λ v. map param_of v.items)
+        (and_then (expect s.LeftParen (left t.old))
+        (λ _ us. and_then (spec.params us)
+        (λ ps vs. and_then (expect s.RightParen vs) (λ _. gives ps)))) result (left t.new) }
 {
     t.expect(Symbol::LeftParen)?;
     let found = params(alloc, t)?;
@@ -127,7 +133,8 @@ fn params_in_brackets(alloc: Global, t: &mut Tokens<'_, '_>) -> Result<Vec<Param
 
 /// Reads the suite of a function with its colon.
 fn body_behind(alloc: Global, t: &mut Tokens<'_, '_>) -> Result<Vec<Stmt>, Stop>
-    ensures { Reads (λ v. map stmt_of v.items) (and_then (expect s.Colon (left t.old)) (λ _. spec.body)) result (left t.new) }
+    ensures { Reads (λ v. map stmt_of v.items)
+        (and_then (expect s.Colon (left t.old)) (λ _. spec.body)) result (left t.new) }
 {
     t.expect(Symbol::Colon)?;
     body(alloc, t)
@@ -140,11 +147,6 @@ pub(crate) fn def_rest(alloc: Global, t: &mut Tokens<'_, '_>, line: usize) -> Re
 {
     let name = t.take_name(alloc)?;
     let params = params_in_brackets(alloc, t)?;
-    let body = Arc::new(alloc, body_behind(alloc, t)?)?;
-    Ok(Def {
-        line,
-        name,
-        params,
-        body,
-    })
+    let body = body_behind(alloc, t)?;
+    Ok(new_function(alloc, line, name, params, body)?)
 }

@@ -64,7 +64,8 @@ fn item(alloc: Global, t: &mut Tokens<'_, '_>) -> Result<LoadItem, Stop>
 /// Reads the rest of the items of a load.
 #[tactic(auto, unfolding(grammar::specs::Files::more_items))]
 fn more_items(alloc: Global, t: &mut Tokens<'_, '_>, first: LoadItem) -> Result<Vec<LoadItem>, Stop>
-    ensures { Reads (λ v. map item_of v.items) (spec.more_items (item_of first) (left t.old)) result (left t.new) }
+    ensures { Reads (λ v. map item_of v.items) (spec.more_items (item_of first) (left t.old)) result
+        (left t.new) }
 {
     let mut found = Vec::new(alloc);
     found.push(first)?;
@@ -83,7 +84,12 @@ fn more_items(alloc: Global, t: &mut Tokens<'_, '_>, first: LoadItem) -> Result<
 
 /// Reads the items of a load behind its label, and the end of its line.
 fn items_behind(alloc: Global, t: &mut Tokens<'_, '_>) -> Result<Vec<LoadItem>, Stop>
-    ensures { Reads (λ v. map item_of v.items) (and_then (expect s.Comma (left t.old)) (λ _ us. and_then (spec.item us) (λ x vs. and_then (spec.more_items x vs) (λ xs ws. and_then (expect s.RightParen ws) (λ _ zs. and_then (expect s.NewLine zs) (λ _. gives xs)))))) result (left t.new) }
+    ensures { Reads (λ v. map item_of v.items)
+        (and_then (expect s.Comma (left t.old))
+        (λ _ us. and_then (spec.item us)
+        (λ x vs. and_then (spec.more_items x vs)
+        (λ xs ws. and_then (expect s.RightParen ws)
+        (λ _ zs. and_then (expect s.NewLine zs) (λ _. gives xs)))))) result (left t.new) }
 {
     t.expect(Symbol::Comma)?;
     let first = item(alloc, t)?;

@@ -18,6 +18,7 @@ use crate::function::def_rest;
 use crate::load::loads;
 use expressions::{Stop, Tokens, expr, is_target, targets};
 use grammar::{FileKind, Kind, Within};
+use meaning::faults;
 use std::alloc::Global;
 use std::sync::Arc;
 use texts::beside;
@@ -46,7 +47,8 @@ fn loop_targets(alloc: Global, t: &mut Tokens<'_, '_>) -> Result<Expr, Stop>
 /// Reads the rest of several expressions.
 #[tactic(auto, unfolding(grammar::specs::Statements::more_exprs))]
 fn more_exprs(alloc: Global, t: &mut Tokens<'_, '_>, first: Expr) -> Result<Vec<Expr>, Stop>
-    ensures { Reads (λ v. map tree_of v.items) (spec.more_exprs (tree_of first) (left t.old)) result (left t.new) }
+    ensures { Reads (λ v. map tree_of v.items) (spec.more_exprs (tree_of first) (left t.old)) result
+        (left t.new) }
 {
     let mut found = Vec::new(alloc);
     found.push(first)?;
@@ -75,7 +77,8 @@ fn exprs(alloc: Global, t: &mut Tokens<'_, '_>) -> Result<Expr, Stop>
 
 /// Reads what a `for` goes over, with its word.
 fn gone_over(alloc: Global, t: &mut Tokens<'_, '_>) -> Result<Expr, Stop>
-    ensures { Reads tree_of (and_then (expect s.In (left t.old)) (λ _. spec.exprs)) result (left t.new) }
+    ensures { Reads tree_of (and_then (expect s.In (left t.old)) (λ _. spec.exprs)) result
+        (left t.new) }
 {
     t.expect(Symbol::In)?;
     exprs(alloc, t)
@@ -155,7 +158,8 @@ fn assign_rest(
     line: usize,
     first: Expr,
 ) -> Result<Stmt, Stop>
-    ensures { Reads stmt_of (if is_target (tree_of first) then and_then (spec.exprs (left t.old)) (λ value. gives (tree.assign line (tree_of first) value)) else None) result (left t.new) }
+    ensures { Reads stmt_of (if is_target (tree_of first) then and_then (spec.exprs (left t.old))
+        (λ value. gives (tree.assign line (tree_of first) value)) else None) result (left t.new) }
 {
     let is_fit = is_target(&first);
     let (first, value) = beside(first, assigned(alloc, t, is_fit))?;
@@ -171,7 +175,8 @@ fn augment_rest(
     first: Expr,
     op: BinaryOp,
 ) -> Result<Stmt, Stop>
-    ensures { Reads stmt_of (spec.augment_rest within line (tree_of first) (Some op) (left t.old)) result (left t.new) }
+    ensures { Reads stmt_of (spec.augment_rest within line (tree_of first) (Some op) (left t.old))
+        result (left t.new) }
 {
     let is_fit = can_augment(&first, within.in_def);
     t.skip();
@@ -188,7 +193,8 @@ fn expr_rest(
     line: usize,
     first: Expr,
 ) -> Result<Stmt, Stop>
-    ensures { Reads stmt_of (spec.expr_rest within line (tree_of first) (left t.old)) result (left t.new) }
+    ensures { Reads stmt_of (spec.expr_rest within line (tree_of first) (left t.old)) result
+        (left t.new) }
 {
     if t.eat(Symbol::Equal) {
         return assign_rest(alloc, t, line, first);
@@ -262,7 +268,8 @@ impl<F: Fn(Global, &mut Tokens<'_, '_>, usize, Within) -> Result<Stmt, Stop>> Su
     #[tactic(auto, unfolding(grammar::specs::Statements::stmts))]
     fn stmts(&self, t: &mut Tokens<'_, '_>, within: Within) -> Result<Vec<Stmt>, Stop>
         requires { Holds self.now.depth (F.pre self.now.stmt) (F.post self.now.stmt) }
-        ensures { Reads (λ v. map stmt_of v.items) (spec.stmts (spec.stmt self.now.depth) within (left t.old)) result (left t.new) }
+        ensures { Reads (λ v. map stmt_of v.items) (spec.stmts (spec.stmt self.now.depth) within
+            (left t.old)) result (left t.new) }
     {
         let mut found = Vec::new(self.alloc);
         for _turn in 0..t.len() {
@@ -279,7 +286,8 @@ impl<F: Fn(Global, &mut Tokens<'_, '_>, usize, Within) -> Result<Stmt, Stop>> Su
     #[tactic(auto, unfolding(grammar::specs::Statements::block))]
     fn block(&self, t: &mut Tokens<'_, '_>, within: Within) -> Result<Vec<Stmt>, Stop>
         requires { Holds self.now.depth (F.pre self.now.stmt) (F.post self.now.stmt) }
-        ensures { Reads (λ v. map stmt_of v.items) (spec.block (spec.stmt self.now.depth) within (left t.old)) result (left t.new) }
+        ensures { Reads (λ v. map stmt_of v.items) (spec.block (spec.stmt self.now.depth) within
+            (left t.old)) result (left t.new) }
     {
         t.expect(Symbol::Indent)?;
         let found = self.stmts(t, within)?;
@@ -294,7 +302,8 @@ impl<F: Fn(Global, &mut Tokens<'_, '_>, usize, Within) -> Result<Stmt, Stop>> Su
     #[tactic(auto, unfolding(grammar::specs::Statements::suite))]
     pub(crate) fn suite(&self, t: &mut Tokens<'_, '_>, within: Within) -> Result<Vec<Stmt>, Stop>
         requires { Holds self.now.depth (F.pre self.now.stmt) (F.post self.now.stmt) }
-        ensures { Reads (λ v. map stmt_of v.items) (spec.suite (spec.stmt self.now.depth) within (left t.old)) result (left t.new) }
+        ensures { Reads (λ v. map stmt_of v.items) (spec.suite (spec.stmt self.now.depth) within
+            (left t.old)) result (left t.new) }
     {
         if t.eat(Symbol::NewLine) {
             return self.block(t, within);
@@ -308,7 +317,9 @@ impl<F: Fn(Global, &mut Tokens<'_, '_>, usize, Within) -> Result<Stmt, Stop>> Su
     /// Reads a suite with its colon.
     fn suite_behind(&self, t: &mut Tokens<'_, '_>, within: Within) -> Result<Vec<Stmt>, Stop>
         requires { Holds self.now.depth (F.pre self.now.stmt) (F.post self.now.stmt) }
-        ensures { Reads (λ v. map stmt_of v.items) (and_then (expect s.Colon (left t.old)) (λ _. spec.suite (spec.stmt self.now.depth) within)) result (left t.new) }
+        ensures { Reads (λ v. map stmt_of v.items)
+            (and_then (expect s.Colon (left t.old))
+            (λ _. spec.suite (spec.stmt self.now.depth) within)) result (left t.new) }
     {
         t.expect(Symbol::Colon)?;
         self.suite(t, within)
@@ -318,7 +329,8 @@ impl<F: Fn(Global, &mut Tokens<'_, '_>, usize, Within) -> Result<Stmt, Stop>> Su
     #[tactic(auto, unfolding(grammar::specs::Statements::branch))]
     fn branch(&self, t: &mut Tokens<'_, '_>, within: Within, line: usize) -> Result<Branch, Stop>
         requires { Holds self.now.depth (F.pre self.now.stmt) (F.post self.now.stmt) }
-        ensures { Reads branch_of (spec.branch (spec.stmt self.now.depth) within line (left t.old)) result (left t.new) }
+        ensures { Reads branch_of (spec.branch (spec.stmt self.now.depth) within line (left t.old))
+            result (left t.new) }
     {
         let condition = test(self.alloc, t)?;
         let (condition, body) = beside(condition, self.suite_behind(t, within))?;
@@ -334,7 +346,9 @@ impl<F: Fn(Global, &mut Tokens<'_, '_>, usize, Within) -> Result<Stmt, Stop>> Su
         first: &Branch,
     ) -> Result<Vec<Branch>, Stop>
         requires { Holds self.now.depth (F.pre self.now.stmt) (F.post self.now.stmt) }
-        ensures { Reads (λ v. branch_of first.now ∷ map branch_of v.items) (spec.more_branches (spec.stmt self.now.depth) within (branch_of first.now) (left t.old)) result (left t.new) }
+        ensures { Reads (λ v. branch_of first.now ∷ map branch_of v.items)
+            (spec.more_branches (spec.stmt self.now.depth) within (branch_of first.now)
+            (left t.old)) result (left t.new) }
     {
         let mut found = Vec::new(self.alloc);
         for _turn in 0..t.len() {
@@ -352,7 +366,8 @@ impl<F: Fn(Global, &mut Tokens<'_, '_>, usize, Within) -> Result<Stmt, Stop>> Su
     #[tactic(auto, unfolding(grammar::specs::Statements::other))]
     fn other(&self, t: &mut Tokens<'_, '_>, within: Within) -> Result<Vec<Stmt>, Stop>
         requires { Holds self.now.depth (F.pre self.now.stmt) (F.post self.now.stmt) }
-        ensures { Reads (λ v. map stmt_of v.items) (spec.other (spec.stmt self.now.depth) within (left t.old)) result (left t.new) }
+        ensures { Reads (λ v. map stmt_of v.items) (spec.other (spec.stmt self.now.depth) within
+            (left t.old)) result (left t.new) }
     {
         if !t.eat(Symbol::Else) {
             return Ok(Vec::new(self.alloc));
@@ -364,7 +379,8 @@ impl<F: Fn(Global, &mut Tokens<'_, '_>, usize, Within) -> Result<Stmt, Stop>> Su
     #[tactic(auto, unfolding(grammar::specs::Statements::if_rest))]
     fn if_rest(&self, t: &mut Tokens<'_, '_>, within: Within, line: usize) -> Result<Stmt, Stop>
         requires { Holds self.now.depth (F.pre self.now.stmt) (F.post self.now.stmt) }
-        ensures { Reads stmt_of (spec.if_rest (spec.stmt self.now.depth) within line (left t.old)) result (left t.new) }
+        ensures { Reads stmt_of (spec.if_rest (spec.stmt self.now.depth) within line (left t.old))
+            result (left t.new) }
     {
         let first = self.branch(t, within, line)?;
         let branches = self.more_branches(t, within, &first)?;
@@ -376,7 +392,8 @@ impl<F: Fn(Global, &mut Tokens<'_, '_>, usize, Within) -> Result<Stmt, Stop>> Su
     #[tactic(auto, unfolding(grammar::specs::Statements::for_rest))]
     fn for_rest(&self, t: &mut Tokens<'_, '_>, within: Within, line: usize) -> Result<Stmt, Stop>
         requires { Holds self.now.depth (F.pre self.now.stmt) (F.post self.now.stmt) }
-        ensures { Reads stmt_of (spec.for_rest (spec.stmt self.now.depth) within line (left t.old)) result (left t.new) }
+        ensures { Reads stmt_of (spec.for_rest (spec.stmt self.now.depth) within line (left t.old))
+            result (left t.new) }
     {
         let inside = Within {
             in_def: within.in_def,
@@ -392,7 +409,8 @@ impl<F: Fn(Global, &mut Tokens<'_, '_>, usize, Within) -> Result<Stmt, Stop>> Su
     #[tactic(auto, unfolding(grammar::specs::Statements::statement))]
     pub(crate) fn statement(&self, t: &mut Tokens<'_, '_>, within: Within) -> Result<Stmt, Stop>
         requires { Holds self.now.depth (F.pre self.now.stmt) (F.post self.now.stmt) }
-        ensures { Reads stmt_of (spec.statement (spec.stmt self.now.depth) within (left t.old)) result (left t.new) }
+        ensures { Reads stmt_of (spec.statement (spec.stmt self.now.depth) within (left t.old))
+            result (left t.new) }
     {
         let line = t.line();
         if t.eat(Symbol::If) {
@@ -516,7 +534,10 @@ fn parsed(alloc: Global, text: &[u8], kind: FileKind) -> Result<File, Refused>
             };
             match file(alloc, &mut t, kind) {
                 Ok(whole) => Ok(whole),
-                Err(Stop::Malformed) => Err(Refused::Syntax { code: 3, line: 0 }),
+                Err(Stop::Malformed) => Err(Refused::Syntax {
+                    code: faults::SYNTAX,
+                    line: 0,
+                }),
                 Err(Stop::Memory) => Err(Refused::Memory),
             }
         }

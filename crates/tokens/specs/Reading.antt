@@ -1,5 +1,6 @@
 -- The tokens of a text, or its first fault.
 use Rattle.std.specs.Prelude.{◌≡◌, ℕ, ◌+◌, List, [], ◌∷◌, ◌==◌, nat_lt, if◌then◌else◌, Option, Some, None, Result, Ok, Err, map}
+use Rattle.meaning.specs.declared.faults.TheConstants.{NOT_ASCII, SYNTAX, TOO_DEEP}
 use Rattle.std.specs.declared.alloc.Global.{Global}
 use Rattle.std.specs.declared.vec.Vec.{Vec}
 use Rattle.tokens.specs.declared.refused.Refused.{Refused}
@@ -22,11 +23,11 @@ foreign line [] = None
 foreign line (b ∷ bs) = if nat_lt 127 b then Some line else foreign (if b == 10 then line + 1 else line) bs
 
 abbrev pub not_too_deep : Option (List Lex) → Result (List Lex) Fault
-not_too_deep None = fault 3 0
-not_too_deep (Some ts) = if too_deep outermost ts then fault 12 0 else Ok ts
+not_too_deep None = fault SYNTAX 0
+not_too_deep (Some ts) = if too_deep outermost ts then fault TOO_DEEP 0 else Ok ts
 
 abbrev pub of_ascii : Option ℕ → List ℕ → Result (List Lex) Fault
-of_ascii (Some line) bytes = fault 2 line
+of_ascii (Some line) bytes = fault NOT_ASCII line
 of_ascii None bytes = not_too_deep (scan start 0 bytes)
 
 -- The first that applies: a byte over 127, 2 with its line; malformed tokens, 3; a nesting over 64, 12; the tokens.

@@ -75,7 +75,8 @@ impl Depth {
         requires room { self.old.total + 1 < 2 ^ 64 }
         ensures ordered { IsOrdered self.new }
         ensures counts { nesting_of self.new ≡ with_role Counts (nesting_of self.old) }
-        ensures few { (self.new.indents ≡ self.old.indents) × (self.new.total ≤ self.old.total + 1) }
+        ensures few { (self.new.indents ≡ self.old.indents)
+            × (self.new.total ≤ self.old.total + 1) }
     {
         if let Some(_around) = self.around.last() {
             self.total += 1;
@@ -88,7 +89,8 @@ impl Depth {
         requires room { self.old.total + 1 < 2 ^ 64 }
         ensures ordered { OnOk result (IsOrdered self.new) }
         ensures counts { OnOk result (nesting_of self.new ≡ with_role Opens (nesting_of self.old)) }
-        ensures few { (self.new.indents ≡ self.old.indents) × (self.new.total ≤ self.old.total + 1) }
+        ensures few { (self.new.indents ≡ self.old.indents)
+            × (self.new.total ≤ self.old.total + 1) }
     {
         self.count();
         self.around.push(self.total)?;
@@ -122,7 +124,8 @@ impl Depth {
     /// Begins the level of the next line.
     fn end_line(&mut self) -> Result<(), AllocError>
         ensures ordered { OnOk result (IsOrdered self.new) }
-        ensures counts { OnOk result (nesting_of self.new ≡ with_role EndsLine (nesting_of self.old)) }
+        ensures counts { OnOk result
+            (nesting_of self.new ≡ with_role EndsLine (nesting_of self.old)) }
         ensures few { (self.new.indents ≡ self.old.indents) × (self.new.total ≡ 0) }
     {
         self.total = 0;
@@ -155,7 +158,8 @@ impl Depth {
 
 /// At the start of a text.
 fn outermost(alloc: Global) -> Result<Depth, AllocError>
-    ensures { IfOk result (λ d. (nesting_of d ≡ outermost) × IsOrdered d × (d.total ≡ 0) × (d.indents ≡ 0)) }
+    ensures { IfOk result (λ d. (nesting_of d ≡ outermost) × IsOrdered d × (d.total ≡ 0)
+        × (d.indents ≡ 0)) }
 {
     let mut around = Vec::new(alloc);
     around.push(0)?;

@@ -36,7 +36,8 @@ fn word_at(bytes: &[u8]) -> Option<Piece<'_>>
     requires ascii { IsAscii bytes.now }
     requires some { 0 < run is_name_byte bytes.now }
     ensures exact { option_map piece_of result ≡ word_at bytes.now }
-    ensures within { IfSome result (λ p. (0 < p.len) × (p.len ≤ length bytes.now) × (p.line_ends ≤ p.len)) }
+    ensures within { IfSome result (λ p. (0 < p.len) × (p.len ≤ length bytes.now)
+        × (p.line_ends ≤ p.len)) }
 {
     let len = name_run(bytes);
     let (word, _rest) = bytes.split_at(len);
@@ -55,7 +56,8 @@ fn word_at(bytes: &[u8]) -> Option<Piece<'_>>
 fn number_at(bytes: &[u8]) -> Option<Piece<'_>>
     requires { 0 < run is_digit bytes.now }
     ensures exact { option_map piece_of result ≡ number_at bytes.now }
-    ensures within { IfSome result (λ p. (0 < p.len) × (p.len ≤ length bytes.now) × (p.line_ends ≤ p.len)) }
+    ensures within { IfSome result (λ p. (0 < p.len) × (p.len ≤ length bytes.now)
+        × (p.line_ends ≤ p.len)) }
 {
     let len = digit_run(bytes);
     let (digits, rest) = bytes.split_at(len);
@@ -77,7 +79,8 @@ fn number_at(bytes: &[u8]) -> Option<Piece<'_>>
 fn string_at(quote: u8, rest: &[u8]) -> Option<Piece<'_>>
     requires { IsAscii rest.now }
     ensures exact { option_map piece_of result ≡ string_at quote rest.now }
-    ensures within { IfSome result (λ p. (0 < p.len) × (p.len ≤ 1 + length rest.now) × (p.line_ends ≤ p.len)) }
+    ensures within { IfSome result (λ p. (0 < p.len) × (p.len ≤ 1 + length rest.now)
+        × (p.line_ends ≤ p.len)) }
 {
     if begins_with_two(rest, quote) {
         let (_quotes, body) = rest.split_at(2);
@@ -112,7 +115,8 @@ fn string_at(quote: u8, rest: &[u8]) -> Option<Piece<'_>>
 pub(crate) fn piece_at(bytes: &[u8]) -> Option<Piece<'_>>
     requires { IsAscii bytes.now }
     ensures exact { option_map piece_of result ≡ piece_at bytes.now }
-    ensures within { IfSome result (λ p. (0 < p.len) × (p.len ≤ length bytes.now) × (p.line_ends ≤ p.len)) }
+    ensures within { IfSome result (λ p. (0 < p.len) × (p.len ≤ length bytes.now)
+        × (p.line_ends ≤ p.len)) }
 {
     let (first, rest) = bytes.split_first()?;
     let first = *first;

@@ -10,6 +10,7 @@ use crate::piece::piece_at;
 use crate::refused::Refused;
 use crate::scanner::{Scanner, Stop};
 use crate::token::Lexed;
+use meaning::faults;
 use std::alloc::Global;
 
 /// The line of the first byte over 127.
@@ -70,15 +71,24 @@ pub fn read_tokens(alloc: Global, text: &[u8]) -> Result<Vec<Lexed<'_>>, Refused
     ensures { Reads (tokens_of text.now) result }
 {
     if let Some(line) = foreign(text) {
-        return Err(Refused::Syntax { code: 2, line });
+        return Err(Refused::Syntax {
+            code: faults::NOT_ASCII,
+            line,
+        });
     }
     match scan(alloc, text) {
         Ok(found) => match too_deep(alloc, found.as_slice()) {
-            Ok(true) => Err(Refused::Syntax { code: 12, line: 0 }),
+            Ok(true) => Err(Refused::Syntax {
+                code: faults::TOO_DEEP,
+                line: 0,
+            }),
             Ok(false) => Ok(found),
             Err(_) => Err(Refused::Memory),
         },
-        Err(Stop::Malformed) => Err(Refused::Syntax { code: 3, line: 0 }),
+        Err(Stop::Malformed) => Err(Refused::Syntax {
+            code: faults::SYNTAX,
+            line: 0,
+        }),
         Err(Stop::Memory) => Err(Refused::Memory),
     }
 }

@@ -83,7 +83,8 @@ impl<'a> Scanner<'a> {
     /// Adds a token.
     fn say(&mut self, token: Token<'a>) -> Result<(), Stop>
         ensures state { state_of self.new ≡ state_of self.old }
-        ensures said { OnOk result (said_by self.new ≡ said_by self.old ++ lex (tok_of token.entry) self.old.line ∷ []) }
+        ensures said { OnOk result (said_by self.new ≡ said_by self.old ++ lex (tok_of token.entry)
+            self.old.line ∷ []) }
         ensures err { IsOkUnless result Memory }
     {
         self.out.push(Lexed {
@@ -106,7 +107,8 @@ impl<'a> Scanner<'a> {
     /// Closes the deepest level.
     fn pop_level(&mut self)
         requires { 0 < top (state_of self.old).levels }
-        ensures state { state_of self.old ≡ record (state_of self.new) { levels = top (state_of self.old).levels ∷ (state_of self.new).levels } }
+        ensures state { state_of self.old ≡ record (state_of self.new)
+            { levels = top (state_of self.old).levels ∷ (state_of self.new).levels } }
         ensures said { said_by self.new ≡ said_by self.old }
         ensures len { vec_len self.new.levels + 1 ≡ vec_len self.old.levels }
     {
@@ -117,8 +119,11 @@ impl<'a> Scanner<'a> {
     fn close_levels(&mut self, spaces: usize) -> Result<(), Stop>
         ensures line { self.new.line ≡ self.old.line }
         ensures spaces { self.new.spaces ≡ self.old.spaces }
-        ensures state { OnOk result (state_of self.new ≡ record (state_of self.old) { levels = kept spaces (state_of self.old).levels }) }
-        ensures said { OnOk result (said_by self.new ≡ said_by self.old ++ dedents self.old.line spaces (state_of self.old).levels) }
+        ensures state { OnOk result
+            (state_of self.new ≡ record (state_of self.old)
+            { levels = kept spaces (state_of self.old).levels }) }
+        ensures said { OnOk result (said_by self.new ≡ said_by self.old ++ dedents self.old.line
+            spaces (state_of self.old).levels) }
         ensures err { IsOkUnless result Memory }
     {
         'levels: while spaces < self.top() {
@@ -131,7 +136,8 @@ impl<'a> Scanner<'a> {
     /// Begins a statement on a later line.
     fn begin_line(&mut self) -> Result<(), Stop>
         ensures state { Goes (begun_at Between (state_of self.old)) (state_of self.new) result }
-        ensures said { OnOk result (said_by self.new ≡ said_by self.old ++ layout_at Between (state_of self.old)) }
+        ensures said { OnOk result (said_by self.new ≡ said_by self.old ++ layout_at Between
+            (state_of self.old)) }
         ensures line { self.new.line ≡ self.old.line }
         ensures spaces { self.new.spaces ≡ self.old.spaces }
     {
@@ -155,7 +161,9 @@ impl<'a> Scanner<'a> {
     fn open_level(&mut self) -> Result<(), Stop>
         ensures line { self.new.line ≡ self.old.line }
         ensures spaces { self.new.spaces ≡ self.old.spaces }
-        ensures state { OnOk result (state_of self.new ≡ record (state_of self.old) { place = Within; levels = self.old.spaces ∷ (state_of self.old).levels }) }
+        ensures state { OnOk result
+            (state_of self.new ≡ record (state_of self.old)
+            { place = Within; levels = self.old.spaces ∷ (state_of self.old).levels }) }
         ensures said { said_by self.new ≡ said_by self.old }
         ensures err { IsOkUnless result Memory }
     {
@@ -168,7 +176,8 @@ impl<'a> Scanner<'a> {
     #[tactic(auto, unfolding(crate::specs::Lines::begun, crate::specs::Lines::layout))]
     fn begin(&mut self) -> Result<(), Stop>
         ensures state { Goes (begun (state_of self.old)) (state_of self.new) result }
-        ensures said { OnOk result (said_by self.new ≡ said_by self.old ++ layout (state_of self.old)) }
+        ensures said { OnOk result (said_by self.new ≡ said_by self.old ++ layout
+            (state_of self.old)) }
         ensures line { self.new.line ≡ self.old.line }
         ensures spaces { self.new.spaces ≡ self.old.spaces }
     {
@@ -193,7 +202,9 @@ impl<'a> Scanner<'a> {
     fn shut(&mut self, bracket: Bracket) -> Result<(), Stop>
         ensures line { self.new.line ≡ self.old.line }
         ensures spaces { self.new.spaces ≡ self.old.spaces }
-        ensures state { Goes (with_brackets (state_of self.old) (shut bracket (state_of self.old).brackets)) (state_of self.new) result }
+        ensures state { Goes
+            (with_brackets (state_of self.old) (shut bracket (state_of self.old).brackets))
+            (state_of self.new) result }
         ensures said { said_by self.new ≡ said_by self.old }
     {
         match (bracket, self.brackets.pop()) {
@@ -207,7 +218,9 @@ impl<'a> Scanner<'a> {
     fn open_bracket(&mut self, bracket: Bracket) -> Result<(), Stop>
         ensures line { self.new.line ≡ self.old.line }
         ensures spaces { self.new.spaces ≡ self.old.spaces }
-        ensures state { OnOk result (state_of self.new ≡ record (state_of self.old) { brackets = bracket ∷ (state_of self.old).brackets }) }
+        ensures state { OnOk result
+            (state_of self.new ≡ record (state_of self.old)
+            { brackets = bracket ∷ (state_of self.old).brackets }) }
         ensures said { said_by self.new ≡ said_by self.old }
         ensures err { IsOkUnless result Memory }
     {
@@ -220,7 +233,10 @@ impl<'a> Scanner<'a> {
     fn bracket(&mut self, mark: Symbol) -> Result<(), Stop>
         ensures line { self.new.line ≡ self.old.line }
         ensures spaces { self.new.spaces ≡ self.old.spaces }
-        ensures state { Goes (with_brackets (state_of self.old) (brackets_after (symbol mark) (state_of self.old).brackets)) (state_of self.new) result }
+        ensures state { Goes
+            (with_brackets (state_of self.old)
+            (brackets_after (symbol mark) (state_of self.old).brackets)) (state_of self.new)
+            result }
         ensures said { said_by self.new ≡ said_by self.old }
     {
         match mark {
@@ -257,8 +273,11 @@ impl<'a> Scanner<'a> {
     fn take(&mut self, token: Token<'a>) -> Result<(), Stop>
         ensures line { self.new.line ≡ self.old.line }
         ensures spaces { self.new.spaces ≡ self.old.spaces }
-        ensures state { Goes (taken (tok_of token.entry) (state_of self.old)) (state_of self.new) result }
-        ensures said { OnOk result (said_by self.new ≡ said_by self.old ++ (layout (state_of self.old) ++ lex (tok_of token.entry) self.old.line ∷ [])) }
+        ensures state { Goes (taken (tok_of token.entry) (state_of self.old)) (state_of self.new)
+            result }
+        ensures said { OnOk result
+            (said_by self.new ≡ said_by self.old
+            ++ (layout (state_of self.old) ++ lex (tok_of token.entry) self.old.line ∷ [])) }
     {
         self.begin()?;
         self.say(token)?;
@@ -288,7 +307,8 @@ impl<'a> Scanner<'a> {
     /// Ends a statement, if one has begun.
     fn end_statement(&mut self) -> Result<(), Stop>
         ensures state { state_of self.new ≡ state_of self.old }
-        ensures said { OnOk result (said_by self.new ≡ said_by self.old ++ end_token self.old.place [] self.old.line) }
+        ensures said { OnOk result (said_by self.new ≡ said_by self.old ++ end_token self.old.place
+            [] self.old.line) }
         ensures err { IsOkUnless result Memory }
     {
         match self.place {
@@ -304,8 +324,10 @@ impl<'a> Scanner<'a> {
     fn end_line(&mut self) -> Result<(), Stop>
         ensures line { self.new.line ≡ self.old.line }
         ensures spaces { self.new.spaces ≤ self.old.spaces }
-        ensures state { OnOk result (state_of self.new ≡ ended_at (state_of self.old).brackets (state_of self.old)) }
-        ensures said { OnOk result (said_by self.new ≡ said_by self.old ++ end_token self.old.place (state_of self.old).brackets self.old.line) }
+        ensures state { OnOk result (state_of self.new ≡ ended_at (state_of self.old).brackets
+            (state_of self.old)) }
+        ensures said { OnOk result (said_by self.new ≡ said_by self.old ++ end_token self.old.place
+            (state_of self.old).brackets self.old.line) }
         ensures err { IsOkUnless result Memory }
     {
         if !self.brackets.is_empty() {
@@ -326,8 +348,10 @@ impl<'a> Scanner<'a> {
         requires { self.old.spaces + 1 < 2 ^ 64 }
         ensures line { self.new.line ≡ self.old.line }
         ensures spaces { self.new.spaces ≤ self.old.spaces + 1 }
-        ensures state { Goes (part_after (state_of self.old) (part_of part.entry)) (state_of self.new) result }
-        ensures said { OnOk result (said_by self.new ≡ said_by self.old ++ said (state_of self.old) (part_of part.entry)) }
+        ensures state { Goes (part_after (state_of self.old) (part_of part.entry))
+            (state_of self.new) result }
+        ensures said { OnOk result (said_by self.new ≡ said_by self.old ++ said (state_of self.old)
+            (part_of part.entry)) }
     {
         match part {
             Part::Space => {
@@ -352,8 +376,10 @@ impl<'a> Scanner<'a> {
         requires line { self.old.line + piece.line_ends < 2 ^ 64 }
         ensures line { OnOk result (self.new.line ≡ self.old.line + piece.entry.line_ends) }
         ensures spaces { self.new.spaces ≤ self.old.spaces + 1 }
-        ensures state { Goes (after (state_of self.old) (piece_of piece.entry)) (state_of self.new) result }
-        ensures said { OnOk result (said_by self.new ≡ said_by self.old ++ said (state_of self.old) (part_of piece.entry.part)) }
+        ensures state { Goes (after (state_of self.old) (piece_of piece.entry)) (state_of self.new)
+            result }
+        ensures said { OnOk result (said_by self.new ≡ said_by self.old ++ said (state_of self.old)
+            (part_of piece.entry.part)) }
     {
         self.part(piece.part)?;
         self.line += piece.line_ends;

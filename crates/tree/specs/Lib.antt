@@ -1,3 +1,5 @@
 pub mod Tree
 pub mod View
 pub mod Statements
+pub mod Suites
+pub mod Bound

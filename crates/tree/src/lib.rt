@@ -1,10 +1,12 @@
 //! Syntax trees.
 #![tactic(auto)]
 
+mod def;
 mod expr;
 mod make;
 mod make_stmt;
 mod stmt;
 
+pub use def::{Def, File, LoadItem, LoadStmt, Param, Top};
 pub use expr::{BinaryOp, Clause, Expr, Literal, UnaryOp};
-pub use stmt::{Branch, Def, File, LoadItem, LoadStmt, Param, Stmt, Top};
+pub use stmt::{Branch, Stmt};

@@ -15,7 +15,8 @@ pub(crate) fn both(
     first: Expr,
     second: Expr,
 ) -> Result<(Arc<Expr, Global>, Arc<Expr, Global>), Memory>
-    ensures { IfOk result (λ p. (shared_tree p.0 ≡ tree_of first) × (shared_tree p.1 ≡ tree_of second)) }
+    ensures { IfOk result (λ p. (shared_tree p.0 ≡ tree_of first)
+        × (shared_tree p.1 ≡ tree_of second)) }
 {
     Ok((Arc::new(alloc, first)?, Arc::new(alloc, second)?))
 }
@@ -65,14 +66,16 @@ impl Expr {
 
     /// A dictionary of keys and as many values.
     pub fn dict(alloc: Global, keys: Vec<Expr>, values: Vec<Expr>) -> Result<Expr, Memory>
-        ensures { IfOk result (λ e. tree_of e ≡ dict (trees_of keys.items) (trees_of values.items)) }
+        ensures { IfOk result
+            (λ e. tree_of e ≡ dict (trees_of keys.items) (trees_of values.items)) }
     {
         Ok(Expr::Dict(Arc::new(alloc, keys)?, Arc::new(alloc, values)?))
     }
 
     /// A list of an item for each turn of the clauses.
     pub fn list_of(alloc: Global, item: Expr, clauses: Vec<Clause>) -> Result<Expr, Memory>
-        ensures { IfOk result (λ e. tree_of e ≡ list_of (tree_of item) (clause_trees clauses.items)) }
+        ensures { IfOk result
+            (λ e. tree_of e ≡ list_of (tree_of item) (clause_trees clauses.items)) }
     {
         Ok(Expr::ListOf(Arc::new(alloc, item)?, Arc::new(alloc, clauses)?))
     }
@@ -84,7 +87,8 @@ impl Expr {
         value: Expr,
         clauses: Vec<Clause>,
     ) -> Result<Expr, Memory>
-        ensures { IfOk result (λ e. tree_of e ≡ dict_of (tree_of key) (tree_of value) (clause_trees clauses.items)) }
+        ensures { IfOk result (λ e. tree_of e ≡ dict_of (tree_of key) (tree_of value)
+            (clause_trees clauses.items)) }
     {
         let (key, value) = both(alloc, key, value)?;
         Ok(Expr::DictOf(key, value, Arc::new(alloc, clauses)?))
@@ -107,7 +111,8 @@ impl Expr {
 
     /// What it is if the condition holds, and what it is else.
     pub fn choice(alloc: Global, then: Expr, condition: Expr, other: Expr) -> Result<Expr, Memory>
-        ensures { IfOk result (λ e. tree_of e ≡ choice (tree_of «then») (tree_of condition) (tree_of other)) }
+        ensures { IfOk result (λ e. tree_of e ≡ choice (tree_of «then») (tree_of condition)
+            (tree_of other)) }
     {
         let (then, condition) = both(alloc, then, condition)?;
         Ok(Expr::Choice(then, condition, Arc::new(alloc, other)?))
@@ -128,7 +133,8 @@ impl Expr {
         from: Option<Arc<Expr, Global>>,
         to: Option<Arc<Expr, Global>>,
     ) -> Result<Expr, Memory>
-        ensures { IfOk result (λ e. tree_of e ≡ slice (tree_of value) (bound_tree from) (bound_tree to)) }
+        ensures { IfOk result (λ e. tree_of e ≡ slice (tree_of value) (bound_tree from)
+            (bound_tree to)) }
     {
         Ok(Expr::Slice(Arc::new(alloc, value)?, from, to))
     }
@@ -140,7 +146,8 @@ impl Expr {
         arguments: Vec<Expr>,
         names: Vec<Text>,
     ) -> Result<Expr, Memory>
-        ensures { IfOk result (λ e. tree_of e ≡ call (tree_of function) (trees_of arguments.items) names.items) }
+        ensures { IfOk result (λ e. tree_of e ≡ call (tree_of function) (trees_of arguments.items)
+            names.items) }
     {
         Ok(Expr::Call(
             Arc::new(alloc, function)?,
@@ -157,7 +164,8 @@ impl Expr {
         arguments: Vec<Expr>,
         names: Vec<Text>,
     ) -> Result<Expr, Memory>
-        ensures { IfOk result (λ e. tree_of e ≡ method (tree_of receiver) name (trees_of arguments.items) names.items) }
+        ensures { IfOk result (λ e. tree_of e ≡ method (tree_of receiver) name
+            (trees_of arguments.items) names.items) }
     {
         Ok(Expr::Method(
             Arc::new(alloc, receiver)?,

@@ -4,9 +4,10 @@ ghost use Rattle.tree.specs.Tree.{pass, break, continue, return, eval, assign, a
 ghost use Rattle.tree.specs.View.{tree_of, bound_tree};
 ghost use Rattle.tree.specs.Statements.{stmt_of, stmts_of, branch_of, branch_trees, fn_of, top_of, load_of, file_of};
 
+use crate::def::{Def, File, LoadStmt, Top};
 use crate::expr::{BinaryOp, Expr};
 use crate::make::both;
-use crate::stmt::{Branch, Def, File, LoadStmt, Stmt, Top};
+use crate::stmt::{Branch, Stmt};
 use std::alloc::Global;
 use std::sync::Arc;
 use texts::Memory;
@@ -37,14 +38,15 @@ impl Stmt {
     pub fn give(line: usize, value: Option<Arc<Expr, Global>>) -> Stmt
         ensures { stmt_of result ≡ return line (bound_tree value) }
     {
-        Stmt::Return(line, value)
+        Stmt::Return { line, value }
     }
 
     /// An expression that is evaluated.
     pub fn eval(alloc: Global, line: usize, value: Expr) -> Result<Stmt, Memory>
         ensures { IfOk result (λ s. stmt_of s ≡ eval line (tree_of value)) }
     {
-        Ok(Stmt::Eval(line, Arc::new(alloc, value)?))
+        let value = Arc::new(alloc, value)?;
+        Ok(Stmt::Eval { line, value })
     }
 
     /// An assignment.
@@ -52,7 +54,11 @@ impl Stmt {
         ensures { IfOk result (λ s. stmt_of s ≡ assign line (tree_of target) (tree_of value)) }
     {
         let (target, value) = both(alloc, target, value)?;
-        Ok(Stmt::Assign(line, target, value))
+        Ok(Stmt::Assign {
+            line,
+            target,
+            value,
+        })
     }
 
     /// An assignment of what an operator makes of the present value.
@@ -65,8 +71,13 @@ impl Stmt {
     ) -> Result<Stmt, Memory>
         ensures { IfOk result (λ s. stmt_of s ≡ augment line (tree_of target) op (tree_of value)) }
     {
-        let (target, value) = both(alloc, target, value)?;
-        Ok(Stmt::Augment(line, target, op, value))
+        let (target, operand) = both(alloc, target, value)?;
+        Ok(Stmt::Augment {
+            line,
+            target,
+            op,
+            value: operand,
+        })
     }
 
     /// The branch `if`, the branches `elif`, and the statements where no condition holds.
@@ -76,7 +87,10 @@ impl Stmt {
         branches: Vec<Branch>,
         other: Vec<Stmt>,
     ) -> Result<Stmt, Memory>
-        ensures { IfOk result (λ s. stmt_of s ≡ if_else (more_branches (branch_of first) (branch_trees branches.items)) (stmts_of other.items)) }
+        ensures { IfOk result
+            (λ s. stmt_of s ≡ if_else
+            (more_branches (branch_of first) (branch_trees branches.items))
+            (stmts_of other.items)) }
     {
         let Branch {
             line,
@@ -85,7 +99,13 @@ impl Stmt {
         } = first;
         let branches = Arc::new(alloc, branches)?;
         let other = Arc::new(alloc, other)?;
-        Ok(Stmt::If(line, condition, body, branches, other))
+        Ok(Stmt::If {
+            line,
+            condition,
+            body,
+            branches,
+            other,
+        })
     }
 
     /// The statements for each item of a sequence.
@@ -96,10 +116,17 @@ impl Stmt {
         sequence: Expr,
         body: Vec<Stmt>,
     ) -> Result<Stmt, Memory>
-        ensures { IfOk result (λ s. stmt_of s ≡ for_each line (tree_of target) (tree_of sequence) (stmts_of body.items)) }
+        ensures { IfOk result (λ s. stmt_of s ≡ for_each line (tree_of target) (tree_of sequence)
+            (stmts_of body.items)) }
     {
         let (target, sequence) = both(alloc, target, sequence)?;
-        Ok(Stmt::For(line, target, sequence, Arc::new(alloc, body)?))
+        let body = Arc::new(alloc, body)?;
+        Ok(Stmt::For {
+            line,
+            target,
+            sequence,
+            body,
+        })
     }
 }
 
@@ -111,7 +138,8 @@ impl Branch {
         condition: Expr,
         body: Vec<Stmt>,
     ) -> Result<Branch, Memory>
-        ensures { IfOk result (λ b. branch_of b ≡ branch line (tree_of condition) (stmts_of body.items)) }
+        ensures { IfOk result (λ b. branch_of b ≡ branch line (tree_of condition)
+            (stmts_of body.items)) }
     {
         let condition = Arc::new(alloc, condition)?;
         let body = Arc::new(alloc, body)?;

@@ -12,22 +12,41 @@ pub enum Stmt {
     Pass(usize),
     Break(usize),
     Continue(usize),
-    Return(usize, Option<Arc<Expr, Global>>),
-    Eval(usize, Arc<Expr, Global>),
-    /// The target, which is a name, an index, or a tuple or list of targets, and the value.
-    Assign(usize, Arc<Expr, Global>, Arc<Expr, Global>),
-    /// The target, which is a name or an index, the operator and the value.
-    Augment(usize, Arc<Expr, Global>, BinaryOp, Arc<Expr, Global>),
-    /// The condition and the statements of `if`, the branches `elif`, and the statements of `else`.
-    If(
-        usize,
-        Arc<Expr, Global>,
-        Arc<Vec<Stmt>, Global>,
-        Arc<Vec<Branch>, Global>,
-        Arc<Vec<Stmt>, Global>,
-    ),
-    /// The target, the sequence and the body.
-    For(usize, Arc<Expr, Global>, Arc<Expr, Global>, Arc<Vec<Stmt>, Global>),
+    Return {
+        line: usize,
+        value: Option<Arc<Expr, Global>>,
+    },
+    Eval {
+        line: usize,
+        value: Arc<Expr, Global>,
+    },
+    /// The target is a name, an index, or a tuple or list of targets.
+    Assign {
+        line: usize,
+        target: Arc<Expr, Global>,
+        value: Arc<Expr, Global>,
+    },
+    /// The target is a name or an index.
+    Augment {
+        line: usize,
+        target: Arc<Expr, Global>,
+        op: BinaryOp,
+        value: Arc<Expr, Global>,
+    },
+    /// The body stands behind `if`, the branches behind each `elif`, and the other statements behind `else`.
+    If {
+        line: usize,
+        condition: Arc<Expr, Global>,
+        body: Arc<Vec<Stmt>, Global>,
+        branches: Arc<Vec<Branch>, Global>,
+        other: Arc<Vec<Stmt>, Global>,
+    },
+    For {
+        line: usize,
+        target: Arc<Expr, Global>,
+        sequence: Arc<Expr, Global>,
+        body: Arc<Vec<Stmt>, Global>,
+    },
 }
 
 /// A branch `elif` with its line: the condition and the statements.
@@ -37,51 +56,4 @@ pub struct Branch {
     pub line: usize,
     pub condition: Arc<Expr, Global>,
     pub body: Arc<Vec<Stmt>, Global>,
-}
-
-/// A parameter, and its default.
-#[derive(Drop)]
-pub struct Param {
-    pub name: Text,
-    pub default: Option<Arc<Expr, Global>>,
-}
-
-/// A function with its line.
-#[derive(Drop)]
-pub struct Def {
-    pub line: usize,
-    pub name: Text,
-    pub params: Vec<Param>,
-    pub body: Arc<Vec<Stmt>, Global>,
-}
-
-/// A statement of a file.
-#[derive(Drop)]
-pub enum Top {
-    Stmt(Stmt),
-    Def(Arc<Def, Global>),
-}
-
-/// A name that a load binds, and the name that the other file exports.
-#[derive(Drop)]
-pub struct LoadItem {
-    pub local: Text,
-    pub exported: Text,
-}
-
-/// A load statement with its line: the text of the label, and what it binds, in order.
-#[derive(Drop)]
-pub struct LoadStmt {
-    pub line: usize,
-    pub label: Text,
-    pub items: Vec<LoadItem>,
-}
-
-/// The tree of a file.
-#[derive(Drop)]
-pub struct File {
-    /// The line of a first statement that is one string alone.
-    pub leading: Option<usize>,
-    pub loads: Vec<LoadStmt>,
-    pub tops: Vec<Top>,
 }

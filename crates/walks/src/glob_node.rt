@@ -91,7 +91,8 @@ fn add_globs(
     question: &str,
     names: &[Text],
 ) -> Result<(), Memory>
-    ensures { OnOk result (group.new.items ≡ group.old.items ++ specs.globs_below directory.now question.now names.now) }
+    ensures { OnOk result (group.new.items ≡ group.old.items ++ specs.globs_below directory.now
+        question.now names.now) }
 {
     for name in names {
         let path = path_in(alloc, directory, name.as_str())?;
@@ -102,7 +103,9 @@ fn add_globs(
 
 // The globs that a glob asks.
 fn globs(alloc: Global, search: Search<'_>, names: &[Text]) -> Result<Vec<Key>, Memory>
-    ensures { IfOk result (λ g. g.items ≡ specs.globs search.entry.directory.now search.entry.directories search.entry.pattern.now names.now) }
+    ensures { IfOk result
+        (λ g. g.items ≡ specs.globs search.entry.directory.now search.entry.directories
+        search.entry.pattern.now names.now) }
 {
     let mut group = Vec::new(alloc);
     if asks_here(search.pattern) {
@@ -116,7 +119,8 @@ fn globs(alloc: Global, search: Search<'_>, names: &[Text]) -> Result<Vec<Key>, 
 
 // Adds the paths in a subdirectory.
 fn add_under(alloc: Global, all: &mut Vec<Text>, name: &Text, paths: &[Text]) -> Result<(), Memory>
-    ensures { OnOk result (all.new.items ≡ all.old.items ++ map (λ path. name.now ++ 47 ∷ path) paths.now) }
+    ensures { OnOk result (all.new.items ≡ all.old.items ++ map (λ path. name.now ++ 47 ∷ path)
+        paths.now) }
 {
     for path in paths {
         let text = format!(in alloc; "{}/{}", name.as_str(), path.as_str())?;
@@ -132,7 +136,8 @@ fn add_below(
     names: &[Text],
     answers: &[Arc<Value>],
 ) -> Result<(), Memory>
-    ensures { OnOk result (all.new.items ≡ all.old.items ++ specs.found_below names.now (values answers.now)) }
+    ensures { OnOk result (all.new.items ≡ all.old.items ++ specs.found_below names.now
+        (values answers.now)) }
 {
     for (i, name) in names.iter().enumerate() {
         if i >= answers.len() {
@@ -151,7 +156,8 @@ fn add_found(
     names: &[Text],
     answers: &[Arc<Value>],
 ) -> Result<(), Memory>
-    ensures { OnOk result (all.new.items ≡ all.old.items ++ specs.found_by pattern.now names.now (values answers.now)) }
+    ensures { OnOk result (all.new.items ≡ all.old.items ++ specs.found_by pattern.now names.now
+        (values answers.now)) }
 {
     if !asks_here(pattern) {
         return add_below(alloc, all, names, answers);
@@ -174,7 +180,9 @@ fn after_lookups(
     names: &[Text],
     answers: &[Arc<Value>],
 ) -> Result<Reply, Memory>
-    ensures { IfOk result (IsReply (specs.after_lookups search.entry.directory.now search.entry.directories search.entry.pattern.now files.now free.now names.now (values answers.now))) }
+    ensures { IfOk result
+        (IsReply (specs.after_lookups search.entry.directory.now search.entry.directories
+        search.entry.pattern.now files.now free.now names.now (values answers.now))) }
 {
     let group = globs(alloc, search, names)?;
     if answers.len() < group.len() {
@@ -194,7 +202,9 @@ fn by_open(
     free: &[Text],
     answers: &[Arc<Value>],
 ) -> Result<Reply, Memory>
-    ensures { IfOk result (IsReply (specs.by_open search.entry.directory.now search.entry.directories search.entry.pattern.now files.now free.now (values answers.now))) }
+    ensures { IfOk result
+        (IsReply (specs.by_open search.entry.directory.now search.entry.directories
+        search.entry.pattern.now files.now free.now (values answers.now))) }
 {
     if !search.directories {
         return after_lookups(alloc, search, files, free, free, answers);
@@ -211,7 +221,9 @@ fn after_listing(
     names: &[Text],
     answers: &[Arc<Value>],
 ) -> Result<Reply, Memory>
-    ensures { IfOk result (IsReply (specs.after_listing search.entry.directory.now search.entry.directories search.entry.pattern.now files.now names.now (values answers.now))) }
+    ensures { IfOk result
+        (IsReply (specs.after_listing search.entry.directory.now search.entry.directories
+        search.entry.pattern.now files.now names.now (values answers.now))) }
 {
     if answers.len() < names.len() {
         return Ok(Reply::Ask(lookups(alloc, search.directory, names)?));

@@ -118,7 +118,8 @@ pub fn add_all(all: &mut Vec<Text>, names: &[Text]) -> Result<(), Memory>
 
 // Adds the names that the first segment takes, shared.
 fn add_taken(all: &mut Vec<Text>, pattern: &str, names: &[Text]) -> Result<(), Memory>
-    ensures { OnOk result (all.new.items ≡ all.old.items ++ filter (specs.takes pattern.now) names.now) }
+    ensures { OnOk result (all.new.items ≡ all.old.items ++ filter (specs.takes pattern.now)
+        names.now) }
 {
     for name in names {
         if takes(pattern, name.as_str()) {
@@ -148,7 +149,9 @@ pub fn own_found(
     files: &[Text],
     free: &[Text],
 ) -> Result<Vec<Text>, Memory>
-    ensures { IfOk result (λ v. v.items ≡ specs.own_found search.entry.directories search.entry.pattern.now files.now free.now) }
+    ensures { IfOk result
+        (λ v. v.items ≡ specs.own_found search.entry.directories search.entry.pattern.now files.now
+        free.now) }
 {
     let mut all = Vec::new(alloc);
     add_own(&mut all, search.pattern, files)?;
@@ -173,14 +176,17 @@ pub fn all_entered(alloc: Global, pattern: &str, names: &[Text]) -> Result<Vec<T
 
 // Whether a search has to know of a subdirectory whether it is a package.
 fn asks(search: Search<'_>, name: &str) -> bool
-    ensures { result ≡ specs.enters search.entry.pattern.now name.now || search.entry.directories && specs.takes search.entry.pattern.now name.now }
+    ensures { result ≡ specs.enters search.entry.pattern.now name.now || search.entry.directories
+        && specs.takes search.entry.pattern.now name.now }
 {
     enters(search.pattern, name) || (search.directories && takes(search.pattern, name))
 }
 
 // The names of these subdirectories.
 fn all_asked(alloc: Global, search: Search<'_>, names: &[Text]) -> Result<Vec<Text>, Memory>
-    ensures { IfOk result (λ v. v.items ≡ filter (λ name. specs.enters search.entry.pattern.now name || search.entry.directories && specs.takes search.entry.pattern.now name) names.now) }
+    ensures { IfOk result
+        (λ v. v.items ≡ filter (λ name. specs.enters search.entry.pattern.now name
+        || search.entry.directories && specs.takes search.entry.pattern.now name) names.now) }
 {
     let mut all = Vec::new(alloc);
     for name in names {
@@ -193,7 +199,9 @@ fn all_asked(alloc: Global, search: Search<'_>, names: &[Text]) -> Result<Vec<Te
 
 /// The subdirectories of which a search has to know whether they are packages, in byte order.
 pub fn asked_names(alloc: Global, search: Search<'_>, names: &[Text]) -> Result<Vec<Text>, Memory>
-    ensures { IfOk result (λ v. v.items ≡ specs.asked_names search.entry.directories search.entry.pattern.now names.now) }
+    ensures { IfOk result
+        (λ v. v.items ≡ specs.asked_names search.entry.directories search.entry.pattern.now
+        names.now) }
 {
     let all = all_asked(alloc, search, names)?;
     in_order(alloc, all.as_slice())

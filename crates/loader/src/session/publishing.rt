@@ -34,17 +34,27 @@ impl Session {
         budget: u64,
     ) -> Result<(Reply, Option<Told>), Stop>
         requires { version_of (published_by keeper.old) ≤ self.old.graph.version }
-        ensures text { IfOk result (λ r. answers.Tells (answers.IsRequestAnswer (request_seen request.now) (files_of self.old)) (string_bytes r.0.text)) }
-        ensures moves { IfOk result (λ r. Moves (request_effect (request_seen request.now) (state_of self.old)) self.old self.new r.0.runs.items) }
+        ensures text { IfOk result
+            (λ r. answers.Tells (answers.IsRequestAnswer (request_seen request.now)
+            (files_of self.old)) (string_bytes r.0.text)) }
+        ensures moves { IfOk result
+            (λ r. Moves (request_effect (request_seen request.now) (state_of self.old)) self.old
+            self.new r.0.runs.items) }
         ensures turns { IfOk result (λ r. turns_of r.0.runs.items ≤ budget) }
         ensures stopped { OnErr result (StopsRequest (request_seen request.now) self.old self.new) }
         ensures history { (self.new.began ≡ self.old.began) × (self.new.edits ≡ self.old.edits) }
         ensures version { self.new.graph.version ≡ self.old.graph.version }
         ensures lawful { IsLawful self.new }
         ensures shelf { shelf_of keeper.new ≡ shelf_of keeper.old }
-        ensures published { OnOk result (Publishes (files_of self.old) self.old.graph.version (names_to_publish (request_seen request.now)) (published_by keeper.old) (published_by keeper.new)) }
-        ensures told { IfOk result (λ r. Shows (names_to_publish (request_seen request.now)) r.1 keeper.old keeper.new) }
-        ensures refused { OnErr result ((published_by keeper.new ≡ published_by keeper.old) ⊎ Publishes (files_of self.old) self.old.graph.version (names_to_publish (request_seen request.now)) (published_by keeper.old) (published_by keeper.new)) }
+        ensures published { OnOk result (Publishes (files_of self.old) self.old.graph.version
+            (names_to_publish (request_seen request.now)) (published_by keeper.old)
+            (published_by keeper.new)) }
+        ensures told { IfOk result (λ r. Shows (names_to_publish (request_seen request.now)) r.1
+            keeper.old keeper.new) }
+        ensures refused { OnErr result ((published_by keeper.new ≡ published_by keeper.old)
+            ⊎ Publishes (files_of self.old) self.old.graph.version
+            (names_to_publish (request_seen request.now)) (published_by keeper.old)
+            (published_by keeper.new)) }
         ensures hidden { OnErr result (shown_by keeper.new ≡ shown_by keeper.old) }
     {
         let Request::Load(names) = request else {
@@ -61,11 +71,17 @@ impl Session {
     // Answers a load that is not refused, with the entries that it publishes.
     fn load(&mut self, names: &[&str], budget: u64) -> Result<(Reply, Vec<(Text, Text)>), Stop>
         requires { request_refusal (load (texts_seen names.now)) ≡ None }
-        ensures text { IfOk result (λ r. answers.Tells (answers.IsRequestAnswer (load (texts_seen names.now)) (files_of self.old)) (string_bytes r.0.text)) }
-        ensures entries { IfOk result (λ r. AreEntries (files_of self.old) (texts_seen names.now) r.1.items) }
-        ensures moves { IfOk result (λ r. Moves (request_effect (load (texts_seen names.now)) (state_of self.old)) self.old self.new r.0.runs.items) }
+        ensures text { IfOk result
+            (λ r. answers.Tells (answers.IsRequestAnswer (load (texts_seen names.now))
+            (files_of self.old)) (string_bytes r.0.text)) }
+        ensures entries { IfOk result (λ r. AreEntries (files_of self.old) (texts_seen names.now)
+            r.1.items) }
+        ensures moves { IfOk result
+            (λ r. Moves (request_effect (load (texts_seen names.now)) (state_of self.old)) self.old
+            self.new r.0.runs.items) }
         ensures turns { IfOk result (λ r. turns_of r.0.runs.items ≤ budget) }
-        ensures stopped { OnErr result (StopsAfter (request_roots (load (texts_seen names.now))) self.old self.new) }
+        ensures stopped { OnErr result
+            (StopsAfter (request_roots (load (texts_seen names.now))) self.old self.new) }
         ensures history { (self.new.began ≡ self.old.began) × (self.new.edits ≡ self.old.edits) }
         ensures version { self.new.graph.version ≡ self.old.graph.version }
         ensures lawful { IsLawful self.new }

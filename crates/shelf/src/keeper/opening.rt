@@ -109,7 +109,8 @@ impl<R: Wait + Drop> Keeper<R> {
     fn readers(&mut self, alloc: Global, count: usize) -> Result<Vec<Reader>, OpenError>
         ensures list { self.new.list ≡ self.old.list }
         ensures shown { shown_by self.new ≡ shown_by self.old }
-        ensures readers { IfOk result (λ all. (vec_len all ≡ count) × All (λ reader. reader.list ≡ self.old.list) all.items) }
+        ensures readers { IfOk result
+            (λ all. (vec_len all ≡ count) × All (λ reader. reader.list ≡ self.old.list) all.items) }
         ensures range { IsErrOf result Range → ⊥ }
     {
         let Ok(mut all) = Vec::with_capacity(alloc, count) else {
@@ -130,9 +131,12 @@ impl<R: Wait + Drop> Keeper<R> {
 // Publishes nothing, by which the keeper knows its own shelf.
 fn begin<R: Wait>(writer: Publisher, rt: &R) -> (Publisher, Result<(), AllocError>)
     requires { IsReady writer.desk.shown.value (drop writer.behind writer.log.items) }
-    ensures view { OnOk result.1 (view result.0.desk.place ≡ Some (id_of result.0.desk.shown.value)) }
+    ensures view { OnOk result.1
+        (view result.0.desk.place ≡ Some (id_of result.0.desk.shown.value)) }
     ensures shelf { id_of result.0.desk.shown.value ≡ id_of writer.desk.shown.value }
-    ensures reaches { fold after (state_of result.0.desk.shown.value) (drop result.0.behind result.0.log.items) ≡ fold after (state_of writer.desk.shown.value) (drop writer.behind writer.log.items) }
+    ensures reaches { fold after (state_of result.0.desk.shown.value)
+        (drop result.0.behind result.0.log.items) ≡ fold after (state_of writer.desk.shown.value)
+        (drop writer.behind writer.log.items) }
     ensures all { OnOk result.1 (drop result.0.behind result.0.log.items ≡ []) }
 {
     let (shown, published) = writer.publish_as::<Begins, R>(rt);

@@ -31,10 +31,14 @@ impl<R: Wait + Drop> Keeper<R> {
     pub fn publish(&mut self, version: u64, entries: Vec<(Text, Text)>) -> Result<Told, Memory>
         requires { version_of (published_by self.old) ≤ version }
         ensures shelf { shelf_of self.new ≡ shelf_of self.old }
-        ensures list { OnOk result (published_by self.new ≡ then_published (published_by self.old) version entries.items) }
-        ensures told { IfOk result (λ told. (told_in told ≡ published_by self.new) × (shelf_told_of told ≡ shelf_of self.new)) }
+        ensures list { OnOk result (published_by self.new ≡ then_published (published_by self.old)
+            version entries.items) }
+        ensures told { IfOk result (λ told. (told_in told ≡ published_by self.new)
+            × (shelf_told_of told ≡ shelf_of self.new)) }
         ensures shown { OnOk result (shown_by self.new ≡ published_by self.new) }
-        ensures err { OnErr result ((published_by self.new ≡ published_by self.old) ⊎ (published_by self.new ≡ then_published (published_by self.old) version entries.items)) }
+        ensures err { OnErr result ((published_by self.new ≡ published_by self.old)
+            ⊎ (published_by self.new ≡ then_published (published_by self.old) version
+            entries.items)) }
         ensures hidden { OnErr result (shown_by self.new ≡ shown_by self.old) }
     {
         send(&mut self.writer, &mut self.waiting)?;
@@ -60,7 +64,8 @@ impl<R: Wait + Drop> Keeper<R> {
 // Hands to `left_right` what waits.
 fn send(writer: &mut Publisher, waiting: &mut Option<Operation>) -> Result<(), Memory>
     ensures desk { writer.new.desk ≡ writer.old.desk }
-    ensures all { drop writer.new.behind writer.new.log.items ++ waits waiting.new ≡ drop writer.old.behind writer.old.log.items ++ waits waiting.old }
+    ensures all { drop writer.new.behind writer.new.log.items ++ waits waiting.new
+        ≡ drop writer.old.behind writer.old.log.items ++ waits waiting.old }
     ensures none { OnOk result (waiting.new ≡ None) }
 {
     let Some(operation) = waiting.take() else {
@@ -80,7 +85,9 @@ fn publish_all<R: Wait>(writer: Publisher, rt: &R) -> (Publisher, Result<(), All
     requires { IsReady writer.desk.shown.value (drop writer.behind writer.log.items) }
     ensures view { view result.0.desk.place ≡ view writer.desk.place }
     ensures shelf { id_of result.0.desk.shown.value ≡ id_of writer.desk.shown.value }
-    ensures reaches { fold after (state_of result.0.desk.shown.value) (drop result.0.behind result.0.log.items) ≡ fold after (state_of writer.desk.shown.value) (drop writer.behind writer.log.items) }
+    ensures reaches { fold after (state_of result.0.desk.shown.value)
+        (drop result.0.behind result.0.log.items) ≡ fold after (state_of writer.desk.shown.value)
+        (drop writer.behind writer.log.items) }
     ensures all { OnOk result.1 (drop result.0.behind result.0.log.items ≡ []) }
     ensures hidden { OnErr result.1 (result.0.desk.shown.value ≡ writer.desk.shown.value) }
 {

@@ -31,7 +31,8 @@ impl Reader {
         ensures shelf { shelf_read_by self.new ≡ shelf_read_by self.old }
         ensures later { IfOk result (λ _. IsPrefix (known_to self.old) (known_to self.new)) }
         ensures entry { IfOk result (λ found. found ≡ entry (known_to self.new) name.now) }
-        ensures rises { IfOk result (λ found. NotBefore (entry (known_to self.old) name.now) found) }
+        ensures rises { IfOk result
+            (λ found. NotBefore (entry (known_to self.old) name.now) found) }
         ensures err { OnErr result (known_to self.new ≡ known_to self.old) }
     {
         let least = self.list.len();
@@ -47,7 +48,8 @@ impl Reader {
         ensures shelf { shelf_read_by self.new ≡ shelf_read_by self.old }
         ensures known { IsPrefix (known_to self.old) (known_to self.new) }
         ensures told { IsPrefix (told_in told.now) (known_to self.new) }
-        ensures one { (known_to self.new ≡ known_to self.old) ⊎ (known_to self.new ≡ told_in told.now) }
+        ensures one { (known_to self.new ≡ known_to self.old)
+            ⊎ (known_to self.new ≡ told_in told.now) }
     {
         self.list = self.list.longer(&told.list);
     }
@@ -62,7 +64,8 @@ fn look(
     Result<(Beginning, Option<(u64, Text)>), ReadError>,
 )
     ensures view { view result.0.place ≡ view entrance.place }
-    ensures list { IfOk result.1 (λ r. (t : BookId) → view entrance.place ≡ Some t → t ≡ book_id r.0.known.book) }
+    ensures list { IfOk result.1 (λ r. (t : BookId) → view entrance.place ≡ Some t
+        → t ≡ book_id r.0.known.book) }
     ensures entry { IfOk result.1 (λ r. r.1 ≡ entry r.0.known.log asked.entry.0.now) }
     ensures long { IfOk result.1 (λ r. asked.entry.1 ≤ length r.0.known.log) }
 {
@@ -83,7 +86,8 @@ fn look_in(
     least: u64,
 ) -> Result<(Beginning, Option<(u64, Text)>), ReadError>
     ensures list { IfOk result (λ r. r.0 ≡ store.now.list) }
-    ensures entry { IfOk result (λ r. r.1 ≡ entry (publishes_of store.now.contents.log.items) name.now) }
+    ensures entry { IfOk result (λ r. r.1 ≡ entry (publishes_of store.now.contents.log.items)
+        name.now) }
     ensures long { IfOk result (λ r. least ≤ length store.now.list.known.log) }
 {
     // The keeper tells of nothing that readers do not get.

@@ -5,7 +5,7 @@ use Rattle.meaning.specs.Outcome.{Checked}
 use Rattle.language.specs.World.{Block}
 use Rattle.language.specs.Arguments.{plain_part, named_part, are_parameters, given, arguments}
 use Rattle.tree.specs.Statements.{fn_of, param_of}
-use Rattle.tree.specs.declared.stmt.Param.{Param}
+use Rattle.tree.specs.declared.def.Param.{Param}
 use Rattle.calls.specs.View.{Blocks}
 use Rattle.calls.proofs.Accepts.{arguments_twice, arguments_unknown, arguments_known}
 use Rattle.calls.proofs.accepting.arguments.Goals as goal

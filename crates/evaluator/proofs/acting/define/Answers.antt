@@ -2,7 +2,7 @@ use Rattle.std.proofs.Common.{◌≡◌, ℕ, List, Err, sym, subst, ap, ◌∙�
 use Rattle.heap.specs.View.{store_of}
 use Rattle.meaning.specs.Outcome as o
 use Rattle.meaning.specs.Heap.{makes, function}
-use Rattle.tree.specs.declared.stmt.Def.{Def}
+use Rattle.tree.specs.declared.def.Def.{Def}
 use Rattle.tree.specs.Statements.{fn_of}
 use Rattle.names.specs.View.{world_of, here_of}
 use Rattle.frames.specs.declared.frame.Control.{Control}

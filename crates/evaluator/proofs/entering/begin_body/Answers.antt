@@ -9,16 +9,16 @@ use Rattle.language.specs.World.{World, Block, Here, ended, Runs, then_runs, wit
 use Rattle.language.specs.Statements.{suite}
 use Rattle.language.specs.Calls.{call, inside, function_block, given}
 use Rattle.names.specs.declared.state.Standing.{Standing}
-use Rattle.names.specs.View.{world_of, here_of, block_of, held}
+use Rattle.names.specs.View.{world_of, here_of, held}
 use Rattle.calls.specs.View.{running_of}
 use Rattle.frames.specs.declared.frame.Caller.{Caller}
 use Rattle.frames.specs.Frames.{Sig, a_value, on, on_exit, valued, exited, above, stack_does}
 use Rattle.evaluator.specs.Machines.{here_in}
-use Rattle.evaluator.proofs.Entered.{body_above, body_goes, one_opened, same_body, good_is}
+use Rattle.evaluator.proofs.Entered.{body_above, body_goes, one_opened, same_body}
 use Rattle.evaluator.proofs.entering.begin_body.Goals as goal
 
 pub returns-clause-goes : goal.returns-clause-goes
-returns-clause-goes c = λ env line path.
+returns-clause-goes c = λ env line parameters holds path.
     let m = c.args.m.now in
     let left = m.left in
     let n = left - 1 in
@@ -29,7 +29,7 @@ returns-clause-goes c = λ env line path.
     let h = on env left here line in
     let frames = m.frames.items in
     let within = inside env c.args.label f h in
-    let block = function_block f (block_of c.args.parameters) in
+    let block = function_block f parameters in
     let e = suite env (call env n) f.body within (with_blocks (block ∷ []) w) in
     let opened : running_of c.push-2.new.self.items ≡ (c.args.label, f.name) ∷ running_of m.running.items =
     ap running_of c.in_ok-push-2.ensures.items
@@ -41,8 +41,8 @@ returns-clause-goes c = λ env line path.
     ap (λ (p : List ℕ). here_of (record { label = c.args.label; path = p; kind = k.Bzl; line = c.args.def.now.line }) c.args.def.now.line ((c.args.label, f.name) ∷ running_of m.running.items)) (sym path)
     ∙ ap (λ (r : List (List ℕ × List ℕ)). here_of (record { label = c.args.label; path = c.args.path; kind = k.Bzl; line = c.args.def.now.line }) c.args.def.now.line r) (sym opened) in
     let blocks : block ∷ [] ≡ map held c.replace-callers.new.dest.items =
-    ap (λ (b : Block). b ∷ []) (good_is block (block_of c.in_ok-slots.slots) c.in_ok-slots.ensures ∙ sym c.in_ok-block.ensures)
-    ∙ ap (λ (l : List state.Block). map held (l ++ c.in_ok-block.block ∷ [])) (sym c.new-blocks.ensures.items)
+    ap (λ (b : Block). b ∷ []) (sym holds)
+    ∙ ap (λ (l : List state.Block). map held (l ++ c.args.block ∷ [])) (sym c.new-blocks.ensures.items)
     ∙ ap (λ (l : List state.Block). map held l) (sym c.in_ok-push.ensures.items)
     ∙ ap (λ (v : Vec state.Block Global). map held v.items) (sym c.replace-callers.ensures.after) in
     let u : World = record w { blocks = map held c.replace-callers.new.dest.items } in
@@ -55,7 +55,7 @@ returns-clause-goes c = λ env line path.
     ∙ ap (λ (b : Vec state.Block Global). ends b (caller c.in_ok-caller.caller stands.running)) c.replace-callers.ensures.value
     ∙ ap (λ (at : Standing). ends m.state.blocks (caller at stands.running)) c.in_ok-caller.ensures.ok
     ∙ ap (λ (r : List (List ℕ × List ℕ)). ends m.state.blocks (caller m.at r)) opened in
-    ap (λ (r : Runs Val). above env left here (valued r) frames w) (body_goes env left n f (block_of c.args.parameters) within h succ)
+    ap (λ (r : Runs Val). above env left here (valued r) frames w) (body_goes env left n f parameters within h succ)
     ∙ body_above e w.blocks within (stack_does env left here frames)
     ∙ same_body env n f.body within stands (with_blocks (block ∷ []) w) u w.blocks (stack_does env left here frames) (stack_does env n stands c.push-3.new.frames.items) place world above_frame
     ∙ ap (λ (ss : Vec Stmt Global). then_runs (exited (suite env (call env n) (stmts_of ss.items) stands) u) (stack_does env n stands c.push-3.new.frames.items)) (sym c.in_ok-body.ensures)

@@ -2,7 +2,7 @@ use Rattle.std.proofs.Common.{◌≡◌, ℕ, List, Option, None, Err, sym, ap, 
 use Rattle.std.specs.Arc.{arc_value}
 use Rattle.meaning.specs.declared.val.Val.{Val}
 use Rattle.meaning.specs.Heap.{Obj}
-use Rattle.tree.specs.declared.stmt.Def.{Def}
+use Rattle.tree.specs.declared.def.Def.{Def}
 use Rattle.tree.specs.Statements.{fn_of}
 use Rattle.language.specs.World.{Ends, then_runs, pure}
 use Rattle.language.specs.Arguments.{plain_part, named_part}

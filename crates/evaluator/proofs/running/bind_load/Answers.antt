@@ -1,5 +1,5 @@
 use Rattle.std.proofs.Common.{List, map, sym, subst}
-use Rattle.tree.specs.declared.stmt.LoadItem.{LoadItem}
+use Rattle.tree.specs.declared.def.LoadItem.{LoadItem}
 use Rattle.tree.specs.Statements.{item_of}
 use Rattle.heap.specs.View.{store_of}
 use Rattle.language.specs.World.{World, Ends, at_line}

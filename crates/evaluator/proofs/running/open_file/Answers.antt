@@ -1,7 +1,7 @@
 use Rattle.std.proofs.Common.{◌≡◌, ℕ, List, Option, map, Err, ap, sym, subst, ◌∙◌}
 use Rattle.heap.specs.View.{store_of}
 use Rattle.tree.specs.Statements.{load_of}
-use Rattle.tree.specs.declared.stmt.LoadStmt.{LoadStmt}
+use Rattle.tree.specs.declared.def.LoadStmt.{LoadStmt}
 use Rattle.names.specs.declared.state.State.{State}
 use Rattle.language.specs.World.{World, Ends, at_line, then_runs}
 use Rattle.language.specs.Files.{leading, loads}

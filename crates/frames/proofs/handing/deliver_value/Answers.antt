@@ -31,7 +31,7 @@ returns-in-Unary-clause-goes c = λ env n running.
     let w = world_of c.args.state.now in
     let frames = c.args.frames.now.items in
     let after = λ (control : Control). machine_does env n here control frames (world_of c.unary_done.new.state) in
-    subst (λ (fr : Frame). Goes (on env n here (frame_line c.args.at.now.line fr)).site (above env n here (frame_does env n here fr (a_value c.args.x)) frames w) c.unary_done.result after) (sym c.in-Unary.is) (c.unary_done.ensures.goes env n here c.in-Unary.field-0 frames)
+    subst (λ (fr : Frame). Goes (on env n here (frame_line c.args.at.now.line fr)).site (above env n here (frame_does env n here fr (a_value c.args.x)) frames w) c.unary_done.result after) (sym c.in-Unary.is) (c.unary_done.ensures.goes env n here c.in-Unary.line frames)
 
 pub returns-in-Right-clause-goes : goal.returns-in-Right-clause-goes
 returns-in-Right-clause-goes c = λ env n running.
@@ -164,7 +164,7 @@ returns-in-Both-clause-goes c = λ env n running.
     let w = world_of c.args.state.now in
     let frames = c.args.frames.now.items in
     let after = λ (control : Control). machine_does env n here control frames (world_of c.both_done.new.state) in
-    subst (λ (fr : Frame). Goes (on env n here (frame_line c.args.at.now.line fr)).site (above env n here (frame_does env n here fr (a_value c.args.x)) frames w) c.both_done.result after) (sym c.in-Both.is) (c.both_done.ensures.goes env n c.in-Both.field-0 here frames)
+    subst (λ (fr : Frame). Goes (on env n here (frame_line c.args.at.now.line fr)).site (above env n here (frame_does env n here fr (a_value c.args.x)) frames w) c.both_done.result after) (sym c.in-Both.is) (c.both_done.ensures.goes env n c.in-Both.line here frames)
 
 pub returns-in-Index-clause-goes : goal.returns-in-Index-clause-goes
 returns-in-Index-clause-goes c = λ env n running.

@@ -28,8 +28,8 @@ returns-in_ok-right-in-Augment-clause-goes c = λ env n running.
     let frames = c.args.frames.now.items in
     let op = c.in-Augment.op in
     let target = shared_tree c.in-Augment.target in
-    let tree : stmt_of c.args.stmt.now ≡ t.augment c.in-Augment.field-0 target op (shared_tree c.in-Augment.e) = ap stmt_of c.in-Augment.is ∙ stmt-Augment c.in-Augment.field-0 c.in-Augment.target op c.in-Augment.e in
-    let at : line ≡ c.in-Augment.field-0 = c.requires ∙ ap stmt_line tree in
+    let tree : stmt_of c.args.stmt.now ≡ t.augment c.in-Augment.line target op (shared_tree c.in-Augment.e) = ap stmt_of c.in-Augment.is ∙ stmt-Augment c.in-Augment.line c.in-Augment.target op c.in-Augment.e in
+    let at : line ≡ c.in-Augment.line = c.requires ∙ ap stmt_line tree in
     let behind = λ (d : Ex) (a : ta.Aim). present a h >>= λ v. ex env n here d line >>= λ y. changed op v y h >>= λ z. store a z h >>= λ _. pure goes_on in
     let p = λ (x : s.Exit). pure (an_exit x) in
     let j = stack_does env n here frames in

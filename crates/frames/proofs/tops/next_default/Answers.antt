@@ -3,8 +3,8 @@ use Rattle.std.specs.Arc.{arc_value}
 use Rattle.meaning.specs.declared.val.Val.{Val}
 use Rattle.tree.specs.Tree.{Bound}
 use Rattle.tree.specs.declared.expr.Expr.{Expr}
-use Rattle.tree.specs.declared.stmt.Param.{Param}
-use Rattle.tree.specs.declared.stmt.Def.{Def}
+use Rattle.tree.specs.declared.def.Param.{Param}
+use Rattle.tree.specs.declared.def.Def.{Def}
 use Rattle.tree.specs.View.{tree_of, shared_tree, bound_tree}
 use Rattle.tree.specs.Statements.{fn_of, param_of}
 use Rattle.language.specs.World.{Ends, then_runs, pure, ◌>>=◌}

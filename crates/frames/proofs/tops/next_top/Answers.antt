@@ -2,8 +2,8 @@ use Rattle.std.proofs.Common.{◌≡◌, ℕ, ◌<◌, ◌+◌, ◌∷◌, List,
 use Rattle.std.specs.Arc.{arc_value}
 use Rattle.tree.specs.Tree as t
 use Rattle.tree.specs.Tree.{Tp}
-use Rattle.tree.specs.declared.stmt.Top.{Top}
-use Rattle.tree.specs.declared.stmt.File.{File}
+use Rattle.tree.specs.declared.def.Top.{Top}
+use Rattle.tree.specs.declared.def.File.{File}
 use Rattle.tree.specs.Statements.{stmt_of, top_of}
 use Rattle.language.specs.World.{Ends}
 use Rattle.names.specs.View.{world_of, here_of}

@@ -4,7 +4,7 @@ use Rattle.std.specs.List.{list_any}
 use Rattle.std.specs.Cmp.Lexicographic.{pointwise}
 use Rattle.indexmap.specs.IndexSet.{insert_key}
 use Rattle.tree.specs.Tree.{Fn}
-use Rattle.tree.specs.declared.stmt.Def.{Def}
+use Rattle.tree.specs.declared.def.Def.{Def}
 use Rattle.module_values.specs.Named.{names_of}
 use Rattle.module_values.proofs.Listed.{names_next, added, not_there}
 use Rattle.module_values.proofs.functions.index_of.Goals as goal

@@ -3,7 +3,7 @@ use Rattle.heap.specs.View.{store_of}
 use Rattle.module_values.specs.Values.{Loaded}
 use Rattle.tree.specs.Tree.{Fi}
 use Rattle.tree.specs.Statements.{top_of, file_of}
-use Rattle.tree.specs.declared.stmt.Top.{Top}
+use Rattle.tree.specs.declared.def.Top.{Top}
 use Rattle.language.specs.World.{ended}
 use Rattle.language.specs.Names.{top_names, names_once}
 use Rattle.names.specs.View.{world_of, here_of}

@@ -1,5 +1,5 @@
 use Rattle.std.proofs.Common.{◌≡◌, ◌∷◌, suc, List, Err, map, drop, drop-cons, ap, sym, subst, ◌∙◌}
-use Rattle.tree.specs.declared.stmt.LoadItem.{LoadItem}
+use Rattle.tree.specs.declared.def.LoadItem.{LoadItem}
 use Rattle.tree.specs.Statements.{item_of}
 use Rattle.language.specs.World.{Ends}
 use Rattle.language.specs.Files.{load_items}

@@ -1,6 +1,6 @@
-use Rattle.std.proofs.Common.{◌∙◌, sym, ap, subst}
+use Rattle.std.proofs.Common.{◌∙◌, sym, ap, subst, ◌<◌, All, List, ℕ, length}
 use Rattle.std.specs.Option.{IsSome, is_some}
-use Rattle.evaluation.specs.Value.{IsMember}
+use Rattle.evaluation.specs.Value.{IsMember, In}
 use Rattle.numbered.specs.Tables.{AreDistinct}
 use Rattle.numbered.proofs.Numbers.{number_iff}
 use Rattle.node.specs.Kept.{Users, kept_at, items_of, numbers_of, users_in, users_of}
@@ -10,9 +10,7 @@ use Rattle.node.proofs.Batching.{all_entries, entries_linked, entries_each}
 use Rattle.node.proofs.Joining.{is_in}
 use Rattle.node.proofs.Numbering.{key_same, key_within, numbered_key}
 use Rattle.node.proofs.Relating.{distinct_kept, has_number, keys_linked_some, keys_linked_all, numbers_linked, numbers_same, users_same}
-use Rattle.std.proofs.Common.{◌<◌, All, List, ℕ, length}
 use Rattle.std.specs.Map.{keys_of}
-use Rattle.evaluation.specs.Value.{In}
 use Rattle.numbered.specs.Flats.{members_in}
 use Rattle.node.proofs.Showing.{asked_below, asked_member, keeps_asks, keeps_keys, keeps_seen, some_kept}
 use Rattle.node.proofs.batch.link_all.Goals as goal

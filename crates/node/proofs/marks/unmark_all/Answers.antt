@@ -5,8 +5,7 @@ use Rattle.numbered.specs.Tables.{AreDistinct}
 use Rattle.numbered.specs.Flats.{members_in}
 use Rattle.node.specs.Marks.{SetsMarks}
 use Rattle.node.proofs.Collecting.{one_set}
-use Rattle.node.proofs.Numbering.{one_more}
-use Rattle.node.proofs.Numbering.{key_there, key_same, has_value, members_pushed, same_length, within_at}
+use Rattle.node.proofs.Numbering.{one_more, key_there, key_same, has_value, members_pushed, same_length, within_at}
 use Rattle.node.proofs.marks.unmark_all.Goals as goal
 
 pub loop-number-preserved : goal.loop-number-preserved

@@ -1,8 +1,7 @@
 use Rattle.round.proofs.Framing.{frame_left, out_no_turn}
-use Rattle.std.proofs.Common.{◌∙◌, sym, ap}
+use Rattle.std.proofs.Common.{◌∙◌, sym, ap, ◌+◌}
 use Rattle.std.specs.Arc.{arc_value}
 use Rattle.evaluation.specs.Reply.{Done}
-use Rattle.std.proofs.Common.{◌+◌}
 use Rattle.open_nodes.specs.Nodes.{groups_of}
 use Rattle.round.proofs.Ending.{ended_whole, ended_keeps, ended_back, ended_turns, ended_true, end_sets, end_keeps, end_ready, count_is}
 use Rattle.round.proofs.look.end.Goals as goal

@@ -1,10 +1,9 @@
 use Rattle.std.proofs.Common.{◌∙◌, refl, sym, subst, List}
 use Rattle.keys.specs.declared.key.Key.{Key}
-use Rattle.round.specs.Rounds.{IsBeside}
+use Rattle.round.specs.Rounds.{IsBeside, standing}
 use Rattle.node.specs.Edges.{IsAdded}
 use Rattle.round.proofs.Handing.{handed_whole, handed_keeps, handed_with, handed_more, handed_turns, handed_true}
 use Rattle.round.proofs.Pausing.{fewer_paused, handed_paused, jobs_beside}
-use Rattle.round.specs.Rounds.{standing}
 use Rattle.round.proofs.Choosing.{ready_can, can_ready}
 use Rattle.round.proofs.Following.{follows_hand, follows_still}
 use Rattle.round.proofs.Rounding.{out_added}

@@ -1,0 +1,16 @@
+use Rattle.std.proofs.Common.{◌≡◌, ◌∷◌, ◌++◌, List, suc, drop, drop-cons, add-one, ap, sym, subst, ◌∙◌}
+use Rattle.tree.specs.declared.def.Param.{Param}
+use Rattle.bindings.specs.Found.{seen, SameNames, names_of_params}
+use Rattle.bindings.proofs.Finds.{params_more}
+use Rattle.bindings.proofs.names.note_params.Goals as goal
+
+pub loop-param-preserved : goal.loop-param-preserved
+loop-param-preserved c =
+    let ps = c.args.params.now in let i = c.loop-param.param-index in let p = c.param-item.result in
+    let first : drop i ps ≡ p ∷ drop (suc i) ps = drop-cons ps i p c.loop-param-test.true ∙ ap (λ (q : Param). q ∷ drop (suc i) ps) (sym c.param-item.is) in
+    let all = names_of_params ps ++ seen c.args.found.now in
+    record {
+      names = rw add-one (params_more p.name (names_of_params (drop (suc i) ps)) (seen c.loop-param.found) (seen c.note.new.found) all
+          (subst (λ (l : List Param). SameNames (names_of_params l ++ seen c.loop-param.found) all) first c.loop-param.invariant.names) c.in_ok-note.ensures.names);
+      kept = c.note.ensures.kept ∙ c.loop-param.invariant.kept;
+    }

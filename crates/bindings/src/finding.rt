@@ -1,0 +1,86 @@
+//! Names found one after another, each of which is in a block once.
+ghost use Rattle.std.specs.Prelude.{◌≡◌, ◌∷◌, [], OnOk};
+ghost use Rattle.tree.specs.Bound.{has_name};
+ghost use Rattle.bindings.specs.Found.{seen, SameNames, Finds};
+
+use indexmap::IndexSet;
+use std::alloc::Global;
+use texts::{Memory, Text};
+
+/// So many names are looked through before a set is made.
+pub const FEW: usize = 16;
+
+/// The names that were found, and those of them that are kept.
+#[derive(Drop)]
+pub struct Found {
+    // The first names, and those behind them.
+    few: Vec<Text>,
+    more: IndexSet<Text>,
+    kept: Vec<Text>,
+}
+
+impl Found {
+    /// The names that are kept.
+    pub fn into_kept(self) -> Vec<Text>
+        ensures { result ≡ self.kept }
+    {
+        self.kept
+    }
+}
+
+/// No names were found, and these are kept already.
+pub fn nothing_found(alloc: Global, kept: Vec<Text>) -> Found
+    ensures names { seen result ≡ [] }
+    ensures kept { result.kept ≡ kept }
+{
+    Found {
+        few: Vec::new(alloc),
+        more: IndexSet::new(alloc),
+        kept,
+    }
+}
+
+/// Whether a name is one of these.
+pub fn is_among(names: &[Text], x: &Text) -> bool
+    ensures { result ≡ has_name x.now names.now }
+{
+    for name in names.iter() {
+        if *x == *name {
+            return true;
+        }
+    }
+    false
+}
+
+// Whether a name was found.
+fn is_found(found: &Found, x: &Text) -> bool
+    ensures { result ≡ has_name x.now (seen found.now) }
+{
+    is_among(found.few.as_slice(), x) || found.more.contains(x)
+}
+
+/// From here on a name is found, which is not kept by that.
+pub fn note(found: &mut Found, x: &Text) -> Result<(), Memory>
+    ensures names { OnOk result (SameNames (seen found.new) (x.now ∷ seen found.old)) }
+    ensures kept { found.new.kept ≡ found.old.kept }
+{
+    let x = x.share()?;
+    if found.few.len() < FEW {
+        found.few.push(x)?;
+    } else {
+        found.more.insert(x)?;
+    }
+    Ok(())
+}
+
+/// Finds a name, which is kept where it is found for the first time.
+pub fn find(found: &mut Found, x: &Text) -> Result<(), Memory>
+    ensures { OnOk result (Finds found.old (x.now ∷ []) found.new) }
+{
+    if is_found(found, x) {
+        return Ok(());
+    }
+    note(found, x)?;
+    found.kept.push(x.share()?)?;
+    Ok(())
+}

@@ -1,0 +1,112 @@
+//! The names of functions, comprehensions and files.
+ghost use Rattle.std.specs.Prelude.{◌≡◌, ◌++◌, [], true, IfOk, OnOk, map};
+ghost use Rattle.tree.specs.View.{clause_trees};
+ghost use Rattle.tree.specs.Statements.{stmts_of, param_of, top_of, file_of};
+ghost use Rattle.tree.specs.Bound.{names_once, differ};
+ghost use Rattle.tree.specs.Bound as bound;
+ghost use Rattle.bindings.specs.Found.{seen, SameNames, names_of_params};
+
+use crate::finding::{FEW, Found, is_among, note, nothing_found};
+use crate::gathering::{find_clauses, find_loads, find_suite, find_tops};
+use std::alloc::Global;
+use texts::{Memory, Text};
+use tree::{Clause, File, Param, Stmt, Top};
+
+// The names of parameters, in their order.
+fn names_of(alloc: Global, params: &[Param]) -> Result<Vec<Text>, Memory>
+    ensures { IfOk result (λ names. names.items ≡ names_of_params params.now) }
+{
+    let mut names = Vec::new(alloc);
+    for param in params.iter() {
+        names.push(param.name.share()?)?;
+    }
+    Ok(names)
+}
+
+// From here on the names of these parameters are found.
+fn note_params(found: &mut Found, params: &[Param]) -> Result<(), Memory>
+    ensures names { OnOk result
+        (SameNames (seen found.new) (names_of_params params.now ++ seen found.old)) }
+    ensures kept { found.new.kept ≡ found.old.kept }
+{
+    for param in params.iter() {
+        note(found, &param.name)?;
+    }
+    Ok(())
+}
+
+/// Returns the names that a call of a function has, by its parameters and its body: the names of the parameters, and
+/// behind them those that the body binds besides, each once, in the order in which they are bound first.
+///
+/// # Errors
+///
+/// `Memory` where memory is refused.
+pub fn function_names(alloc: Global, params: &[Param], body: &[Stmt]) -> Result<Vec<Text>, Memory>
+    ensures { IfOk result (λ names. names.items
+        ≡ bound.function_names (map param_of params.now) (stmts_of body.now)) }
+{
+    let mut found = nothing_found(alloc, names_of(alloc, params)?);
+    note_params(&mut found, params)?;
+    find_suite(&mut found, body)?;
+    Ok(found.into_kept())
+}
+
+/// Returns the names of a comprehension, each once: those that its `for` clauses bind.
+///
+/// # Errors
+///
+/// `Memory` where memory is refused.
+pub fn clause_names(alloc: Global, clauses: &[Clause]) -> Result<Vec<Text>, Memory>
+    ensures { IfOk result
+        (λ names. names.items ≡ names_once [] (bound.clause_names (clause_trees clauses.now))) }
+{
+    let mut found = nothing_found(alloc, Vec::new(alloc));
+    find_clauses(&mut found, clauses)?;
+    Ok(found.into_kept())
+}
+
+/// Returns the names of a file, each once: those that its loads bind, and those that its statements bind.
+///
+/// # Errors
+///
+/// `Memory` where memory is refused.
+pub fn file_names(alloc: Global, file: &File) -> Result<Vec<Text>, Memory>
+    ensures { let f = file_of file.now in
+        IfOk result
+        (λ names. names.items ≡ names_once []
+        (bound.load_names f.loads ++ bound.top_names f.tops)) }
+{
+    let mut found = nothing_found(alloc, Vec::new(alloc));
+    find_loads(&mut found, file.loads.as_slice())?;
+    find_tops(&mut found, file.tops.as_slice())?;
+    Ok(found.into_kept())
+}
+
+/// Returns the names that a file's own statements bind, each once, in the order in which they are bound first.
+///
+/// # Errors
+///
+/// `Memory` where memory is refused.
+pub fn top_names(alloc: Global, tops: &[Top]) -> Result<Vec<Text>, Memory>
+    ensures { IfOk result
+        (λ names. names.items ≡ names_once [] (bound.top_names (map top_of tops.now))) }
+{
+    let mut found = nothing_found(alloc, Vec::new(alloc));
+    find_tops(&mut found, tops)?;
+    Ok(found.into_kept())
+}
+
+/// Returns whether these names are known to differ. More than a few are not compared.
+pub fn are_known_to_differ(names: &[Text]) -> bool
+    ensures { result ≡ true → differ names.now ≡ true }
+{
+    if names.len() > FEW {
+        return false;
+    }
+    for i in 0..names.len() {
+        if is_among(&names[i + 1..], &names[i]) {
+            return false;
+        }
+    }
+    true
+}

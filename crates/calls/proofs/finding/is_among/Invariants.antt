@@ -1,6 +1,0 @@
-use Rattle.std.proofs.Common.{◌≡◌, drop}
-use Rattle.language.specs.Names.{has_name}
-use Rattle.calls.proofs.finding.is_among.Given as goal
-
-abbrev pub invariant-loop-name : goal.invariant-loop-name
-invariant-loop-name l = has_name l.x (drop l.name-index l.names) ≡ has_name l.x l.names

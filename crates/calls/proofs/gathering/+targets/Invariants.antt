@@ -1,8 +1,0 @@
-use Rattle.std.proofs.Common.{drop}
-use Rattle.language.specs.Names.{targets_names}
-use Rattle.tree.specs.View.{trees_of}
-use Rattle.calls.proofs.Finds.{Left}
-use Rattle.calls.proofs.gathering.+targets.Given as goal
-
-abbrev pub invariant-find_targets-loop-target : goal.invariant-find_targets-loop-target
-invariant-find_targets-loop-target l = Left l.fn.found (targets_names (trees_of l.targets)) l.found (targets_names (trees_of (drop l.target-index l.targets)))
