@@ -7,7 +7,7 @@
 - Sources: no function of over 60 lines. Fields that the layout puts on lines of their own do not count.
 - Programs beside the gate (`.rattle`, `.proof`): no sentence of over 25 words in a comment.
 - What is still to be put in order is counted, and may only become less: long clauses, double imports, fields that have
-  no name. The numbers stand in `LEFT`. Who makes one smaller writes the new number there.
+  no name, definitions that are imported for nothing. The numbers stand in `LEFT`. Who makes one smaller writes the new number there.
 
 It prints one line for each fault, as `path:line: what`, and fails where there is one.
 """
@@ -24,7 +24,8 @@ MOST_WORDS, MOST_LINES, MOST_FUNCTION = 25, 800, 60
 LEFT = {
     "lines of clauses of over 100 columns": 0,
     "modules that a file imports from twice": 0,
-    "variants with a number or flag that has no name": 4,
+    "variants with a number or flag that has no name": 0,
+    "definitions that a file imports and does not name": 113,
 }
 
 # Words and phrases that say less than plain ones.
@@ -184,6 +185,20 @@ def unnamed_fields(path, text):
     return found
 
 
+def idle_imports(path, text):
+    """The definitions that a source imports for its contracts and names nowhere."""
+    lines = text.split("\n")
+    rest = "\n".join(line for line in lines if not re.match(r"\s*(ghost )?(pub )?use .*;$", line))
+    found = []
+    for names in re.findall(r"^ghost use .*\{(.*)\};$", text, re.M):
+        for name in [at.strip().split(" as ")[-1] for at in names.split(",")]:
+            parts = [part for part in name.split("◌") if part]
+            one = rf"(?<![\w.]){re.escape(name)}(?!\w)"
+            if not all(part in rest for part in parts) or "◌" not in name and not re.search(one, rest):
+                found.append(name)
+    return found
+
+
 def check_left():
     """Counts what is still to be put in order."""
     counts = dict.fromkeys(LEFT, 0)
@@ -191,9 +206,9 @@ def check_left():
         if path.startswith("crates/") and path.endswith((".rt", ".antt")):
             with open(path) as file:
                 text = file.read()
-            finders = [long_clauses, double_imports, unnamed_fields] if path.endswith(".rt") else [double_imports]
-            for finder in finders:
-                kind = list(LEFT)[[long_clauses, double_imports, unnamed_fields].index(finder)]
+            every = [long_clauses, double_imports, unnamed_fields, idle_imports]
+            for finder in every if path.endswith(".rt") else [double_imports]:
+                kind = list(LEFT)[every.index(finder)]
                 counts[kind] += len(finder(path, text))
     for kind, count in counts.items():
         if count != LEFT[kind]:

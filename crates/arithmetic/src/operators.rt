@@ -36,8 +36,8 @@ fn join(heap: &mut Heap, a: usize, b: usize) -> Result<Val, Halt>
             }
             _ => Err(Halt::Code(faults::WRONG_TYPE)),
         },
-        Some(Object::List(x, _)) => match heap.object(b)? {
-            Some(Object::List(y, _)) => {
+        Some(Object::List { members: x, .. }) => match heap.object(b)? {
+            Some(Object::List { members: y, .. }) => {
                 let members = joined(heap.alloc, x.as_slice(), y.as_slice())?;
                 heap.make_list(members)
             }
@@ -92,7 +92,7 @@ fn repeat(heap: &mut Heap, a: usize, n: i64) -> Result<Val, Halt>
             let bytes = repeated(heap.alloc, x.as_slice(), n)?;
             heap.make_text(bytes)
         }
-        Some(Object::List(x, _)) => {
+        Some(Object::List { members: x, .. }) => {
             let members = repeated(heap.alloc, x.as_slice(), n)?;
             heap.make_list(members)
         }
@@ -100,7 +100,7 @@ fn repeat(heap: &mut Heap, a: usize, n: i64) -> Result<Val, Halt>
             let members = repeated(heap.alloc, x.as_slice(), n)?;
             heap.make_tuple(members)
         }
-        Some(Object::Dict(_, _)) => Err(Halt::Code(faults::WRONG_TYPE)),
+        Some(Object::Dict { .. }) => Err(Halt::Code(faults::WRONG_TYPE)),
         Some(Object::Function(_, _)) => Err(Halt::Code(faults::WRONG_TYPE)),
         None => Err(Halt::Code(faults::WRONG_TYPE)),
     }
@@ -168,9 +168,9 @@ fn is_object_true(heap: &Heap, place: usize) -> Result<bool, Memory>
 {
     match heap.object(place)? {
         Some(Object::Text(bytes)) => Ok(!bytes.as_slice().is_empty()),
-        Some(Object::List(members, _)) => Ok(!members.is_empty()),
+        Some(Object::List { members, .. }) => Ok(!members.is_empty()),
         Some(Object::Tuple(members)) => Ok(!members.is_empty()),
-        Some(Object::Dict(entries, _)) => Ok(!entries.is_empty()),
+        Some(Object::Dict { entries, .. }) => Ok(!entries.is_empty()),
         Some(Object::Function(_, _)) => Ok(true),
         None => Ok(false),
     }

@@ -1,5 +1,5 @@
 -- Names that were found: each of them is kept once.
-use Rattle.std.proofs.Common.{◌≡◌, ◌++◌, ℕ, Bool, ◌||◌, true, false, cond, List, [], ◌∷◌, None, refl, ap, sym, ◌∙◌, append_assoc}
+use Rattle.std.proofs.Common.{◌≡◌, ◌++◌, ℕ, Bool, ◌||◌, true, false, cond, List, [], ◌∷◌, refl, ap, sym, ◌∙◌, append_assoc}
 use Rattle.std.proofs.lemmas.List.{append-nil}
 use Rattle.std.specs.Prelude.{nat_eq}
 use Rattle.std.specs.List.{list_any}

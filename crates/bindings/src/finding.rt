@@ -1,4 +1,4 @@
-//! Names found one after another, each of which is in a block once.
+//! Names found one after another, each of which is kept once.
 ghost use Rattle.std.specs.Prelude.{◌≡◌, ◌∷◌, [], OnOk};
 ghost use Rattle.tree.specs.Bound.{has_name};
 ghost use Rattle.bindings.specs.Found.{seen, SameNames, Finds};

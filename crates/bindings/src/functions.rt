@@ -1,6 +1,8 @@
 //! Functions with the names of a call.
-ghost use Rattle.std.specs.Prelude.{◌≡◌, IfOk, map};
+ghost use Rattle.std.specs.Prelude.{◌≡◌, ◌<◌, length, IfOk, map};
+ghost use Rattle.tree.specs.Bound.{differ};
 ghost use Rattle.tree.specs.Statements.{stmts_of, param_of, fn_of};
+ghost use Rattle.bindings.specs.Functions.{function};
 
 use crate::names::{are_known_to_differ, function_names};
 use std::alloc::Global;
@@ -8,7 +10,8 @@ use std::sync::Arc;
 use texts::{Memory, Text};
 use tree::{Def, Param, Stmt};
 
-/// Makes a function of its line, its name, its parameters and its body, and finds the names of a call.
+/// Makes a function of its line, its name, its parameters and its body, and finds the names of a call. Whether they
+/// differ is looked at where they are sixteen or fewer.
 ///
 /// # Errors
 ///
@@ -20,14 +23,10 @@ pub fn new_function(
     params: Vec<Param>,
     body: Vec<Stmt>,
 ) -> Result<Def, Memory>
-    ensures { IfOk result
-        (λ d. fn_of d ≡ record {
-          line = line;
-          name = name;
-          params = map param_of params.items;
-          body
-              = stmts_of body.items;
-        }) }
+    ensures function { IfOk result
+        (λ d. fn_of d ≡ function line name (map param_of params.items) (stmts_of body.items)) }
+    ensures once { IfOk result
+        (λ d. length d.names.items < 17 → d.once ≡ differ d.names.items) }
 {
     let names = function_names(alloc, params.as_slice(), body.as_slice())?;
     let once = are_known_to_differ(names.as_slice());

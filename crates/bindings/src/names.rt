@@ -1,5 +1,5 @@
 //! The names of functions, comprehensions and files.
-ghost use Rattle.std.specs.Prelude.{◌≡◌, ◌++◌, [], true, IfOk, OnOk, map};
+ghost use Rattle.std.specs.Prelude.{◌≡◌, ◌<◌, ◌++◌, [], length, true, IfOk, OnOk, map};
 ghost use Rattle.tree.specs.View.{clause_trees};
 ghost use Rattle.tree.specs.Statements.{stmts_of, param_of, top_of, file_of};
 ghost use Rattle.tree.specs.Bound.{names_once, differ};
@@ -96,9 +96,10 @@ pub fn top_names(alloc: Global, tops: &[Top]) -> Result<Vec<Text>, Memory>
     Ok(found.into_kept())
 }
 
-/// Returns whether these names are known to differ. More than a few are not compared.
+/// Returns whether these names are known to differ. More than sixteen are not compared.
 pub fn are_known_to_differ(names: &[Text]) -> bool
-    ensures { result ≡ true → differ names.now ≡ true }
+    ensures some { result ≡ true → differ names.now ≡ true }
+    ensures few { length names.now < 17 → result ≡ differ names.now }
 {
     if names.len() > FEW {
         return false;

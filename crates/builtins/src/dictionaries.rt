@@ -47,7 +47,13 @@ fn add_object(heap: &mut Heap, entries: &mut IndexMap<Key, Entry>, place: usize)
     ensures { SaysEntries (entries_of (at place (store_of heap.old)) (At place) (store_of heap.old))
         result entries.new.entries (store_of heap.new) }
 {
-    if let Some(Object::Dict(others, _)) = heap.object(place)? {
+    if let Some(
+        Object::Dict {
+            entries: others,
+            ..
+        },
+    ) = heap.object(place)?
+    {
         let pairs = pairs(heap.alloc, others)?;
         return add_all(heap, entries, pairs.as_slice());
     }
@@ -146,10 +152,10 @@ fn object_pair(heap: &Heap, place: usize) -> Result<(Val, Val), Halt>
     ensures { Checks (object_pair (at place (store_of heap.now))) result }
 {
     match heap.object(place)? {
-        Some(Object::List(members, _)) => two_of(members.as_slice()),
+        Some(Object::List { members, .. }) => two_of(members.as_slice()),
         Some(Object::Tuple(members)) => two_of(members.as_slice()),
         Some(Object::Text(_)) => Err(Halt::Code(faults::WRONG_TYPE)),
-        Some(Object::Dict(_, _)) => Err(Halt::Code(faults::WRONG_TYPE)),
+        Some(Object::Dict { .. }) => Err(Halt::Code(faults::WRONG_TYPE)),
         Some(Object::Function(_, _)) => Err(Halt::Code(faults::WRONG_TYPE)),
         None => Err(Halt::Code(faults::WRONG_TYPE)),
     }

@@ -33,9 +33,9 @@ fn object_length(heap: &Heap, place: usize) -> Result<usize, Halt>
 {
     match heap.object(place)? {
         Some(Object::Text(bytes)) => Ok(bytes.as_slice().len()),
-        Some(Object::List(members, _)) => Ok(members.len()),
+        Some(Object::List { members, .. }) => Ok(members.len()),
         Some(Object::Tuple(members)) => Ok(members.len()),
-        Some(Object::Dict(entries, _)) => Ok(entries.len()),
+        Some(Object::Dict { entries, .. }) => Ok(entries.len()),
         Some(Object::Function(_, _)) => Err(Halt::Code(faults::WRONG_TYPE)),
         None => Err(Halt::Code(faults::WRONG_TYPE)),
     }
@@ -69,9 +69,9 @@ fn object_type(heap: &Heap, place: usize) -> Result<&'static [u8], Halt>
 {
     match heap.object(place)? {
         Some(Object::Text(_)) => Ok(b"string"),
-        Some(Object::List(_, _)) => Ok(b"list"),
+        Some(Object::List { .. }) => Ok(b"list"),
         Some(Object::Tuple(_)) => Ok(b"tuple"),
-        Some(Object::Dict(_, _)) => Ok(b"dict"),
+        Some(Object::Dict { .. }) => Ok(b"dict"),
         Some(Object::Function(_, _)) => Ok(b"function"),
         None => Err(Halt::Code(faults::WRONG_TYPE)),
     }

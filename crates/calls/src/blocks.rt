@@ -71,7 +71,8 @@ pub fn call_block(
     };
     let params = def.params.as_slice();
     push_unbound(&mut slots, &def.names[params.len()..])?;
-    if def.once {
+    let once = def.once;
+    if once {
         Ok(Block::of_few(slots))
     } else {
         Ok(Block::new(slots)?)

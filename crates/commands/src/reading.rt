@@ -5,10 +5,12 @@ ghost use Rattle.labels.specs.Paths.{is_package_name};
 ghost use Rattle.commands.specs.Commands as commands;
 ghost use Rattle.commands.specs.Seen.{command_seen, texts_seen, request_seen};
 ghost use Rattle.commands.specs.Refusals as refusals;
+ghost use Rattle.filetree.specs.declared.refusals.TheConstants.{BAD_NAME};
 ghost use Rattle.filetree.specs.Shown.{change_seen, changes_seen};
 
 use crate::command::{Command, Edit, Request};
 use filetree::Change;
+use filetree::refusals::{BAD_NAME, NAMES_COUNT};
 use labels::{BadLabel, Label, is_package_name};
 use serde_json::Value;
 use std::alloc::Global;
@@ -208,9 +210,13 @@ const MOST_NAMES: usize = 256;
 
 // 5 for a text that is no package name.
 fn name_refusal(name: &str) -> Option<u64>
-    ensures { result ≡ (if is_package_name name.now then None else Some 5) }
+    ensures { result ≡ (if is_package_name name.now then None else Some BAD_NAME) }
 {
-    if is_package_name(name) { None } else { Some(5) }
+    if is_package_name(name) {
+        None
+    } else {
+        Some(BAD_NAME)
+    }
 }
 
 // Why packages of these names are not loaded: 9 where there are not 1 to 256, then 5 for one that is no package name.
@@ -218,11 +224,11 @@ fn load_refusal(names: &[&str]) -> Option<u64>
     ensures { result ≡ refusals.load_refusal (texts_seen names.now) }
 {
     if names.is_empty() || names.len() > MOST_NAMES {
-        return Some(9);
+        return Some(NAMES_COUNT);
     }
     for name in names {
         if !is_package_name(name) {
-            return Some(5);
+            return Some(BAD_NAME);
         }
     }
     None
@@ -258,7 +264,7 @@ pub fn refusal(alloc: Global, request: &Request<'_>) -> Result<Option<u64>, Memo
         Request::Load(names) => Ok(load_refusal(names.as_slice())),
         Request::Module(text) => match module_label(alloc, text)? {
             Some(_) => Ok(None),
-            None => Ok(Some(5)),
+            None => Ok(Some(BAD_NAME)),
         },
         Request::Under(directory) => Ok(name_refusal(directory)),
     }

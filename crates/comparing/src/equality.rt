@@ -40,7 +40,7 @@ fn pair_objects<'a>(objects: &'a [HeapObject], a: usize, b: usize) -> Result<Pai
 {
     match (object_at(objects, a)?, object_at(objects, b)?) {
         (Some(Object::Text(x)), Some(Object::Text(y))) => Ok(Pair::Settled(x == y)),
-        (Some(Object::List(x, _)), Some(Object::List(y, _))) => {
+        (Some(Object::List { members: x, .. }), Some(Object::List { members: y, .. })) => {
             if x.len() == y.len() {
                 Ok(Pair::Members(x.as_slice(), y.as_slice()))
             } else {
@@ -54,7 +54,7 @@ fn pair_objects<'a>(objects: &'a [HeapObject], a: usize, b: usize) -> Result<Pai
                 Ok(Pair::Settled(false))
             }
         }
-        (Some(Object::Dict(x, _)), Some(Object::Dict(y, _))) => {
+        (Some(Object::Dict { entries: x, .. }), Some(Object::Dict { entries: y, .. })) => {
             if x.len() == y.len() {
                 Ok(Pair::Entries(x, y))
             } else {

@@ -62,7 +62,7 @@ fn object_has(heap: &mut Heap, a: usize, x: Val) -> Result<bool, Halt>
 {
     match object_at(heap.objects.as_slice(), a)? {
         Some(Object::Text(whole)) => text_has(heap.objects.as_slice(), whole.as_slice(), x),
-        Some(Object::List(members, _)) => {
+        Some(Object::List { members, .. }) => {
             any_equal(
                 heap.objects.as_slice(),
                 &mut heap.steps,
@@ -80,7 +80,7 @@ fn object_has(heap: &mut Heap, a: usize, x: Val) -> Result<bool, Halt>
                 DEEPEST,
             )
         }
-        Some(Object::Dict(_, _)) => hashed_has(heap, a, x),
+        Some(Object::Dict { .. }) => hashed_has(heap, a, x),
         Some(Object::Function(_, _)) => Err(Halt::Code(faults::WRONG_TYPE)),
         None => Err(Halt::Code(faults::WRONG_TYPE)),
     }
@@ -102,7 +102,7 @@ fn has_key(heap: &Heap, a: usize, key: &Key) -> Result<bool, Halt>
         (store_of heap.now) }
 {
     match heap.object(a)? {
-        Some(Object::Dict(entries, _)) => Ok(found(entries, key).is_some()),
+        Some(Object::Dict { entries, .. }) => Ok(found(entries, key).is_some()),
         _ => Err(Halt::Code(faults::WRONG_TYPE)),
     }
 }

@@ -47,7 +47,7 @@ fn side_objects<'a>(objects: &'a [HeapObject], a: usize, b: usize) -> Result<Sid
         (Some(Object::Text(x)), Some(Object::Text(y))) => {
             Ok(Sides::Ordered(x.as_slice().cmp(y.as_slice())))
         }
-        (Some(Object::List(x, _)), Some(Object::List(y, _))) => {
+        (Some(Object::List { members: x, .. }), Some(Object::List { members: y, .. })) => {
             Ok(Sides::Listed(x.as_slice(), y.as_slice()))
         }
         (Some(Object::Tuple(x)), Some(Object::Tuple(y))) => {

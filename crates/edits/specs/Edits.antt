@@ -1,4 +1,5 @@
 -- Edits: why they are refused, and what they make of the files.
+use Rattle.filetree.specs.declared.refusals.TheConstants.{CHANGES_COUNT, VERSIONS_SPENT}
 use Rattle.std.specs.Prelude.{◌≡◌, ℕ, List, [], ◌∷◌, length, map, ◌||◌, ◌==◌, nat_lt, Option, Some, None, option_map, Result, Ok, Err, Bool, true, false, if◌then◌else◌}
 use Rattle.filetree.specs.Files.{Files}
 use Rattle.filetree.specs.Changes.{change_refusal, changes_refusal, all_changed}
@@ -18,7 +19,7 @@ refusal_at (at, n) = at_change at n
 abbrev pub files_refusal : Edit → Files → Option Refusal
 files_refusal (one c) files = option_map plain (change_refusal c files)
 files_refusal (batch cs) files =
-    if length cs == 0 || nat_lt 256 (length cs) then Some (plain 10) else option_map refusal_at (changes_refusal cs files)
+    if length cs == 0 || nat_lt 256 (length cs) then Some (plain CHANGES_COUNT) else option_map refusal_at (changes_refusal cs files)
 
 -- the greatest version
 abbrev pub version_limit : ℕ
@@ -27,7 +28,7 @@ version_limit = 4294967295
 -- and then by the version
 abbrev pub or_version_refusal : Option Refusal → ℕ → Option Refusal
 or_version_refusal (Some r) version = Some r
-or_version_refusal None version = if nat_lt version version_limit then None else Some (plain 8)
+or_version_refusal None version = if nat_lt version version_limit then None else Some (plain VERSIONS_SPENT)
 
 -- the files after an edit: its changes are made in their order
 abbrev pub changed_files : Edit → Files → Files

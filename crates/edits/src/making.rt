@@ -9,7 +9,7 @@ ghost use Rattle.edits.specs.Edits as specs;
 
 use crate::error::EditError;
 use commands::Edit;
-use filetree::{BatchError, Change, Tree, TreeError};
+use filetree::{BatchError, Change, Tree, TreeError, refusals};
 use std::alloc::Global;
 use texts::Memory;
 
@@ -33,10 +33,10 @@ fn change_one(tree: &mut Tree, change: &Change<'_>) -> Result<(), EditError>
 {
     match put_or_del(tree, change) {
         Ok(()) => Ok(()),
-        Err(TreeError::Code2) => Err(EditError::Refused(2)),
-        Err(TreeError::Code3) => Err(EditError::Refused(3)),
-        Err(TreeError::Code4) => Err(EditError::Refused(4)),
-        Err(TreeError::Code7) => Err(EditError::Refused(7)),
+        Err(TreeError::Code2) => Err(EditError::Refused(refusals::BAD_PATH)),
+        Err(TreeError::Code3) => Err(EditError::Refused(refusals::IN_THE_WAY)),
+        Err(TreeError::Code4) => Err(EditError::Refused(refusals::NO_FILE)),
+        Err(TreeError::Code7) => Err(EditError::Refused(refusals::TEXT_TOO_LONG)),
         Err(TreeError::Memory) => Err(EditError::Memory),
     }
 }
@@ -47,11 +47,11 @@ fn change_all(tree: &mut Tree, changes: &[Change<'_>]) -> Result<(), EditError>
         result }
 {
     if changes.is_empty() || changes.len() > MOST_CHANGES {
-        return Err(EditError::Refused(10));
+        return Err(EditError::Refused(refusals::CHANGES_COUNT));
     }
     match tree.apply_all(changes) {
         Ok(()) => Ok(()),
-        Err(BatchError::At(at, n)) => Err(EditError::RefusedAt { at, number: n }),
+        Err(BatchError::At { at, number: n }) => Err(EditError::RefusedAt { at, number: n }),
         Err(BatchError::Memory) => Err(EditError::Memory),
     }
 }
@@ -79,7 +79,7 @@ pub fn refusal_at_limit(tree: &Tree, edit: &Edit<'_>) -> EditError
         return EditError::Memory;
     };
     match edit_files(&mut trial, edit) {
-        Ok(()) => EditError::Refused(8),
+        Ok(()) => EditError::Refused(refusals::VERSIONS_SPENT),
         Err(error) => error,
     }
 }

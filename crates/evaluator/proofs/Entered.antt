@@ -16,7 +16,7 @@ use Rattle.names.specs.View.{Ran}
 use Rattle.heap.specs.declared.halt.Halt.{Halt}
 use Rattle.heap.specs.declared.halt.Halt.TheVariants.{Code, Memory}
 use Rattle.frames.specs.declared.frame.Control.{Control}
-use Rattle.frames.specs.Frames.{Goes, Sig, a_value, an_exit, on_exit}
+use Rattle.frames.specs.Frames.{Goes, Sig, a_value, an_exit, given_by}
 use Rattle.evaluator.specs.declared.machine.Environment.{Environment}
 use Rattle.evaluator.specs.declared.machine.Machine.{Machine}
 use Rattle.evaluator.specs.declared.machine.Stop.{Stop}
@@ -81,12 +81,12 @@ no_file env n label name xs ns here w own reached =
     no_call env n label name xs ns here w w (none_needed env label here w reached) (rw (own, reached) refl)
 
 -- the body of a function, above a frame that ends the call
-pub body_above : (e : Ends s.Exit) (blocks : List Block) (here : Here) (j : Sig → Runs Sig)
+pub body_above : (e : Ends s.Exit) (blocks : List Block) (j : Sig → Runs Sig)
     → then_runs (then_runs (then_runs (then_runs e (λ a u. ended a (with_blocks blocks u))) (λ exit. pure (given exit))) (λ v. pure (a_value v))) j
-    ≡ then_runs (then_runs e (λ exit. pure (an_exit exit))) (λ sig u. then_runs (on_exit here (λ exit v. ended (a_value (given exit)) (with_blocks blocks v)) sig u) j)
-body_above (ended exit u) blocks here j = refl
-body_above (failed c site) blocks here j = refl
-body_above (waits ps) blocks here j = refl
+    ≡ then_runs (then_runs e (λ exit. pure (an_exit exit))) (λ sig u. then_runs (ended (given_by sig) (with_blocks blocks u)) j)
+body_above (ended exit u) blocks j = refl
+body_above (failed c site) blocks j = refl
+body_above (waits ps) blocks j = refl
 
 -- the body of a function where at least one more call may be open
 pub body_goes : (env : Env) (left k : ℕ) (f : Fn) (ps : Block) (within here : Here) → left ≡ suc k
@@ -99,12 +99,12 @@ one_opened running open' = ap (map open_of) (reverse-append running (open' ∷ [
 
 -- the same body, where it stands in memory
 pub same_body : (env : Env) (n : ℕ) (ss : Suite) (within stands : Here) (w u : World) (blocks : List Block) (j k : Sig → Runs Sig)
-    → within ≡ stands → w ≡ u → k ≡ (λ (sig : Sig) (z : World). then_runs (on_exit stands (λ exit v. ended (a_value (given exit)) (with_blocks blocks v)) sig z) j)
-    → then_runs (then_runs (suite env (call env n) ss within w) (λ exit. pure (an_exit exit))) (λ sig z. then_runs (on_exit within (λ exit v. ended (a_value (given exit)) (with_blocks blocks v)) sig z) j)
+    → within ≡ stands → w ≡ u → k ≡ (λ (sig : Sig) (z : World). then_runs (ended (given_by sig) (with_blocks blocks z)) j)
+    → then_runs (then_runs (suite env (call env n) ss within w) (λ exit. pure (an_exit exit))) (λ sig z. then_runs (ended (given_by sig) (with_blocks blocks z)) j)
     ≡ then_runs (then_runs (suite env (call env n) ss stands u) (λ exit. pure (an_exit exit))) k
 same_body env n ss within stands w u blocks j k place world frames =
-    ap (λ (h : Here). then_runs (then_runs (suite env (call env n) ss h w) (λ exit. pure (an_exit exit))) (λ sig z. then_runs (on_exit h (λ exit v. ended (a_value (given exit)) (with_blocks blocks v)) sig z) j)) place
-    ∙ ap (λ (z : World). then_runs (then_runs (suite env (call env n) ss stands z) (λ exit. pure (an_exit exit))) (λ sig z. then_runs (on_exit stands (λ exit v. ended (a_value (given exit)) (with_blocks blocks v)) sig z) j)) world
+    ap (λ (h : Here). then_runs (then_runs (suite env (call env n) ss h w) (λ exit. pure (an_exit exit))) (λ sig z. then_runs (ended (given_by sig) (with_blocks blocks z)) j)) place
+    ∙ ap (λ (z : World). then_runs (then_runs (suite env (call env n) ss stands z) (λ exit. pure (an_exit exit))) (λ sig z. then_runs (ended (given_by sig) (with_blocks blocks z)) j)) world
     ∙ ap (λ i. then_runs (then_runs (suite env (call env n) ss stands u) (λ exit. pure (an_exit exit))) i) (sym frames)
 
 -- why a part stops, as a turn

@@ -1,5 +1,5 @@
 //! How a call of a function of a file begins, and how it ends.
-ghost use Rattle.std.specs.Prelude.{◌≡◌, ◌≤◌, ◌<◌, ◌+◌, ◌++◌, ◌∷◌, [], ℕ, List, IfOk, OnErr, IsOkUnless};
+ghost use Rattle.std.specs.Prelude.{◌≡◌, ◌≤◌, ◌<◌, ◌+◌, ◌++◌, ◌∷◌, [], ℕ, IfOk, OnErr, IsOkUnless};
 ghost use Rattle.heap.specs.declared.halt.Halt.TheVariants.{Memory};
 ghost use Rattle.names.specs.View.{held, world_of};
 ghost use Rattle.language.specs.World as world;
@@ -13,16 +13,15 @@ ghost use Rattle.language.specs.Environment.{Env, path_of};
 ghost use Rattle.frames.specs.Frames.{Goes, on, valued, above, machine_does};
 ghost use Rattle.frames.specs.Weight.{frames_weight, control_weight};
 ghost use Rattle.frames.specs.declared.frame.Control.TheVariants as c;
-ghost use Rattle.frames.specs.declared.frame.Signal.TheVariants as g;
 ghost use Rattle.frames.specs.declared.frame.Frame.TheVariants as f;
-ghost use Rattle.evaluator.specs.Machines.{Under, means, here_in, Falls};
+ghost use Rattle.evaluator.specs.Machines.{Under, means, here_in};
 ghost use Rattle.evaluator.specs.Finding.{calls_on, body_runs, IsFunction};
 
 use crate::finding::{find, label_text};
 use crate::machine::Machine;
 use crate::setting::Setting;
 use calls::{Open, call_block, defaults_of, is_running};
-use frames::{Caller, Control, Exit, Frame, Signal, given, push};
+use frames::{Caller, Control, Frame, Signal, given_by, push};
 use grammar::FileKind;
 use heap::{Bytes, Halt, Heap, Object, Val};
 use meaning::faults;
@@ -191,9 +190,9 @@ fn copy_of(at: &Standing) -> Result<Standing, Halt>
 }
 
 /// Ends a call: the caller goes on where it stands, with its own blocks, where so many calls may be open.
-pub fn leave(m: &mut Machine, caller: Box<Caller>, exit: Exit) -> Control
-    ensures goes { (env : Env) → machine_does env m.old.left (here_in m.old)
-        (c.Signal (g.Exit exit)) (m.old.frames.items ++ f.Leave caller ∷ []) (world_of m.old.state)
+pub fn leave(m: &mut Machine, caller: Box<Caller>, signal: Signal) -> Control
+    ensures goes { (env : Env) → machine_does env m.old.left (here_in m.old) (c.Signal signal)
+        (m.old.frames.items ++ f.Leave caller ∷ []) (world_of m.old.state)
         ≡ means env m.new result }
     ensures steps { m.new.state.heap ≡ m.old.state.heap }
     ensures frames { m.new.frames ≡ m.old.frames }
@@ -205,5 +204,5 @@ pub fn leave(m: &mut Machine, caller: Box<Caller>, exit: Exit) -> Control
     m.left = caller.left;
     let ended = m.running.pop();
     drop(ended);
-    Control::Signal(Signal::Value(given(exit)))
+    Control::Signal(given_by(signal))
 }

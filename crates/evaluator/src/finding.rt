@@ -1,10 +1,9 @@
 //! Where the function of an object stands.
-ghost use Rattle.std.specs.Prelude.{◌≡◌, ◌∷◌, map, IfOk, IsOkUnless, Option, Some, None, option_map, false, MatchOption};
+ghost use Rattle.std.specs.Prelude.{◌≡◌, ◌∷◌, map, IfOk, IsOkUnless, Option, Some, None, option_map};
 ghost use Rattle.heap.specs.declared.halt.Halt.TheVariants.{Memory};
-ghost use Rattle.tree.specs.Statements.{fn_of, top_of};
+ghost use Rattle.tree.specs.Statements.{top_of};
 ghost use Rattle.std.specs.Arc.{arc_value};
-ghost use Rattle.meaning.specs.Comparing.{same_text};
-ghost use Rattle.language.specs.Environment.{path_of, functions_of, defs, function_named};
+ghost use Rattle.language.specs.Environment.{defs, function_named};
 ghost use Rattle.language.specs.Modules.{body_at, all_bodies};
 ghost use Rattle.evaluator.specs.Machines.{env_of};
 ghost use Rattle.evaluator.specs.Finding.{IsDef, IsFound, IsLabel};

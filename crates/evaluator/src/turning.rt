@@ -1,19 +1,15 @@
 //! Turns of a machine, until it ends or waits.
-ghost use Rattle.std.specs.Prelude.{◌≡◌, ◌<◌, ◌≤◌, ◌+◌, ℕ, List, IfOk, OnErr, ◌++◌, ◌∷◌, []};
-ghost use Rattle.names.specs.View.{world_of};
+ghost use Rattle.std.specs.Prelude.{◌≡◌, ◌<◌, IfOk, OnErr};
 ghost use Rattle.frames.specs.declared.frame.Control.TheVariants as c;
-ghost use Rattle.frames.specs.declared.frame.Frame.TheVariants as f;
-ghost use Rattle.frames.specs.Frames.{Goes, on, control_line, machine_does};
-ghost use Rattle.evaluator.specs.Machines.{Under, Leads, Stops, TurnFalls, Falls, StepsFall, IsOver, IsActing, IsLight, means, here_in};
+ghost use Rattle.frames.specs.Frames.{Goes, on, control_line};
+ghost use Rattle.evaluator.specs.Machines.{Under, Leads, Stops, TurnFalls, Falls, StepsFall, IsOver, IsActing, means, here_in};
 
 use crate::acting::{added, begin_block, built_in, define, of_value};
 use crate::entering::{enter, leave};
 use crate::machine::{Environment, Machine, Stop, Turned};
 use crate::setting::Setting;
 use crate::tidying::tidy;
-use frames::{
-    Caller, Control, Frame, NOT_AWAITED, Signal, control_line, frame_line, hand_down, step,
-};
+use frames::{Control, Frame, Signal, control_line, frame_line, hand_down, step};
 use heap::{Builtin, Halt, Val};
 use names::{Slot, Standing};
 use package_calls::{Called, package_call};
@@ -34,27 +30,6 @@ fn stop(m: &Machine, line: usize, halt: Halt) -> Stop
     }
 }
 
-// Ends a call at the end of its body.
-fn end_call(
-    m: &mut Machine,
-    e: &Setting<'_>,
-    signal: Signal,
-    caller: Box<Caller>,
-) -> Result<Turned, Stop>
-    ensures leads { Leads e.now (λ env. machine_does env m.old.left (here_in m.old)
-        (c.Signal signal) (m.old.frames.items ++ f.Leave caller ∷ []) (world_of m.old.state)) result
-        m.new }
-    ensures light { IfOk result (λ turned. (m.new.state.heap ≡ m.old.state.heap)
-        × (m.new.frames ≡ m.old.frames) × IsLight turned) }
-{
-    match signal {
-        Signal::Exit(exit) => Ok(Turned::Goes(leave(m, caller, exit))),
-        Signal::Value(_) => Err(stop(m, m.at.line, Halt::Code(NOT_AWAITED))),
-        Signal::Aim(_) => Err(stop(m, m.at.line, Halt::Code(NOT_AWAITED))),
-        Signal::Gathered(_) => Err(stop(m, m.at.line, Halt::Code(NOT_AWAITED))),
-    }
-}
-
 // Hands a signal to the topmost frame.
 fn hand(m: &mut Machine, e: &Setting<'_>, signal: Signal) -> Result<Turned, Stop>
     ensures leads { Leads e.now (λ env. means env m.old (c.Signal signal)) result m.new }
@@ -65,7 +40,7 @@ fn hand(m: &mut Machine, e: &Setting<'_>, signal: Signal) -> Result<Turned, Stop
         None => return Ok(Turned::Ended(signal)),
     };
     match frame {
-        Frame::Leave(caller) => end_call(m, e, signal, caller),
+        Frame::Leave(caller) => Ok(Turned::Goes(leave(m, caller, signal))),
         frame => {
             let line = frame_line(&frame, m.at.line);
             match hand_down(&mut m.state, &mut m.frames, &m.at, frame, signal) {

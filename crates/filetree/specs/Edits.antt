@@ -1,4 +1,5 @@
 -- What an edit did.
+use Rattle.filetree.specs.declared.refusals.TheConstants.{BAD_PATH, IN_THE_WAY, NO_FILE, TEXT_TOO_LONG}
 use Rattle.std.specs.Prelude.{◌≡◌, ℕ, Option, Some, None, Result, Ok, Err}
 use Rattle.filetree.specs.Files.{Files}
 use Rattle.filetree.specs.declared.error.TreeError.{TreeError}
@@ -6,10 +7,10 @@ use Rattle.filetree.specs.declared.error.TreeError.TheVariants.{Code2, Code3, Co
 
 -- the refusal that an error names; memory runs out only where there is none
 abbrev pub refusal_of : TreeError → Option ℕ
-refusal_of Code2 = Some 2
-refusal_of Code3 = Some 3
-refusal_of Code4 = Some 4
-refusal_of Code7 = Some 7
+refusal_of Code2 = Some BAD_PATH
+refusal_of Code3 = Some IN_THE_WAY
+refusal_of Code4 = Some NO_FILE
+refusal_of Code7 = Some TEXT_TOO_LONG
 refusal_of Memory = None
 
 -- the change is made, or the refusal is told and nothing changes

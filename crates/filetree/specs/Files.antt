@@ -1,4 +1,5 @@
 -- The files, and their edits.
+use Rattle.filetree.specs.declared.refusals.TheConstants.{BAD_PATH, IN_THE_WAY, NO_FILE, TEXT_TOO_LONG}
 use Rattle.std.specs.Prelude.{ℕ, List, length, Bool, ◌||◌, ◌&&◌, ◌==◌, slice_index, not, nat_lt, nat_eq, Option, Some, None, if◌then◌else◌}
 use Rattle.std.specs.Ordering.{nat_cmp}
 use Rattle.std.specs.Cmp.Lexicographic.{slice_cmp}
@@ -30,9 +31,9 @@ text_limit = 262144
 -- the first refusal of a put, and of a removal
 abbrev pub put_refusal : Files → List ℕ → List ℕ → Option ℕ
 put_refusal files path text =
-    if not (is_path path) then Some 2 else
-    if nat_lt text_limit (length text) then Some 7 else
-    if is_below_a_file files path || is_directory files path then Some 3 else None
+    if not (is_path path) then Some BAD_PATH else
+    if nat_lt text_limit (length text) then Some TEXT_TOO_LONG else
+    if is_below_a_file files path || is_directory files path then Some IN_THE_WAY else None
 
 abbrev pub del_refusal : Files → List ℕ → Option ℕ
-del_refusal files path = if not (is_path path) then Some 2 else if not (is_file files path) then Some 4 else None
+del_refusal files path = if not (is_path path) then Some BAD_PATH else if not (is_file files path) then Some NO_FILE else None

@@ -33,10 +33,10 @@ fn refused_at(at: usize, error: &TreeError) -> BatchError
     ensures { result ≡ specs.error_at at (refusal_of error.now) }
 {
     match error {
-        TreeError::Code2 => BatchError::At(at, 2),
-        TreeError::Code3 => BatchError::At(at, 3),
-        TreeError::Code4 => BatchError::At(at, 4),
-        TreeError::Code7 => BatchError::At(at, 7),
+        TreeError::Code2 => BatchError::At { at, number: 2 },
+        TreeError::Code3 => BatchError::At { at, number: 3 },
+        TreeError::Code4 => BatchError::At { at, number: 4 },
+        TreeError::Code7 => BatchError::At { at, number: 7 },
         TreeError::Memory => BatchError::Memory,
     }
 }

@@ -27,8 +27,8 @@ pub enum TreeError {
 #[derive(Debug, Drop, Error)]
 pub enum BatchError {
     /// The first change that is refused on the files after those before it, counted from 0, and the number of its refusal.
-    #[error("change {0} refused: {1}")]
-    At(usize, u64),
+    #[error("change {at} refused: {number}")]
+    At { at: usize, number: u64 },
     /// A growth was refused.
     #[error("out of memory")]
     Memory,

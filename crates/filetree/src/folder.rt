@@ -58,7 +58,7 @@ fn names_of<V: Drop>(alloc: Global, map: &BTreeMap<String, Arc<V>>) -> Result<Ve
     ensures { IfOk result
         (λ names. names.items ≡ sorted_names (each (λ e. e.0) (levels.named map.now))) }
 {
-    let mut names = Vec::new(alloc);
+    let mut names = Vec::with_capacity(alloc, map.len())?;
     for name in map.keys() {
         names.push(Text::new(alloc, name.as_str())?)?;
     }

@@ -7,6 +7,7 @@ mod change;
 mod error;
 mod folder;
 mod listing;
+pub mod refusals;
 mod tree;
 
 pub use change::Change;

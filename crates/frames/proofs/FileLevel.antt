@@ -17,15 +17,15 @@ use Rattle.frames.proofs.Bind.{through}
 module _ (env : Env) (n : ℕ) (here : Here) (frames : List Frame) (w : World) where
   -- the statements of a file from a place on, of which the first runs above a frame
   pub top_begins : (file again : File) (st : Stmt) (k m : ℕ) (j : Sig → Runs Sig) → map top_of (drop k file.tops.items) ≡ t.stmt (stmt_of st) ∷ map top_of (drop m file.tops.items) → again ≡ file
-      → j ≡ (λ (sig : Sig) (u : World). then_runs (on_exit here (λ exit. exited (tops_do env n here (map top_of (drop m again.tops.items)))) sig u) (stack_does env n here frames))
+      → j ≡ (λ (sig : Sig) (u : World). then_runs (on_exit (λ exit. exited (tops_do env n here (map top_of (drop m again.tops.items)))) sig u) (stack_does env n here frames))
       → above env n here (exited (tops_do env n here (map top_of (drop k file.tops.items)))) frames w ≡ then_runs (exited (exec env (call env n) (stmt_of st) here) w) j
   top_begins file again st k m j first same pushed =
       let e = exec env (call env n) (stmt_of st) here w in
       let p = λ (x : s.Exit). pure (an_exit x) in
       let rest = λ (f : File) (x : s.Exit). tops_do env n here (map top_of (drop m f.tops.items)) in
       ap (λ (l : List Tp). above env n here (exited (tops_do env n here l)) frames w) first
-      ∙ through e (rest file) p (stack_does env n here frames) an_exit (on_exit here (λ exit. exited (rest file exit))) (λ x u. refl)
-      ∙ ap (λ (f : File). then_runs (then_runs e p) (λ sig u. then_runs (on_exit here (λ exit. exited (rest f exit)) sig u) (stack_does env n here frames))) (sym same)
+      ∙ through e (rest file) p (stack_does env n here frames) an_exit (on_exit (λ exit. exited (rest file exit))) (λ x u. refl)
+      ∙ ap (λ (f : File). then_runs (then_runs e p) (λ sig u. then_runs (on_exit (λ exit. exited (rest f exit)) sig u) (stack_does env n here frames))) (sym same)
       ∙ ap (λ i. then_runs (then_runs e p) i) (sym pushed)
 
 -- one more in the middle

@@ -1,12 +1,9 @@
 -- What stands behind an expression whose value is known at once.
-use Rattle.std.proofs.Common.{ℕ, Err, ap}
+use Rattle.std.proofs.Common.{Err, ap}
 use Rattle.heap.specs.declared.halt.Halt.{Halt}
 use Rattle.heap.specs.declared.halt.Halt.TheVariants.{Code, Memory}
 use Rattle.meaning.specs.declared.val.Val.{Val}
-use Rattle.language.specs.World.{Site, World, Here, Ends, Runs, then_runs}
-use Rattle.language.specs.Environment.{Env}
-use Rattle.language.specs.Statements.{Exit}
-use Rattle.quiet.specs.Done.{Done, Tested}
+use Rattle.language.specs.World.{Site, World, Ends, Runs, then_runs}
 use Rattle.frames.specs.declared.frame.Control.{Control}
 use Rattle.names.specs.View.{Ran}
 use Rattle.frames.specs.Frames.{Sig, Goes}

@@ -25,15 +25,15 @@ use Rattle.frames.proofs.Bind.{through, then_assoc}
 module _ (env : Env) (n : ℕ) (here : Here) (frames : List Frame) (w : World) where
   -- the statements from a place on, of which the first runs above a frame
   pub stmt_begins : (ss again : Arc (Vec Stmt Global) Global) (st : Stmt) (k m : ℕ) (j : Sig → Runs Sig) → drop k (arc_value ss).items ≡ st ∷ drop m (arc_value ss).items → arc_value again ≡ arc_value ss
-      → j ≡ (λ (sig : Sig) (u : World). then_runs (on_exit here (λ exit. exited (unless_over exit (body env n here (stmts_of (drop m (arc_value again).items))))) sig u) (stack_does env n here frames))
+      → j ≡ (λ (sig : Sig) (u : World). then_runs (on_exit (λ exit. exited (unless_over exit (body env n here (stmts_of (drop m (arc_value again).items))))) sig u) (stack_does env n here frames))
       → above env n here (exited (body env n here (stmts_of (drop k (arc_value ss).items)))) frames w ≡ then_runs (exited (exec env (call env n) (stmt_of st) here) w) j
   stmt_begins ss again st k m j first same pushed =
       let e = exec env (call env n) (stmt_of st) here w in
       let p = λ (x : s.Exit). pure (an_exit x) in
       let rest = λ (v : Vec Stmt Global) (x : s.Exit). unless_over x (body env n here (stmts_of (drop m v.items))) in
       ap (λ (l : List Stmt). above env n here (exited (body env n here (stmts_of l))) frames w) first
-      ∙ through e (rest (arc_value ss)) p (stack_does env n here frames) an_exit (on_exit here (λ exit. exited (rest (arc_value ss) exit))) (λ x u. refl)
-      ∙ ap (λ (v : Vec Stmt Global). then_runs (then_runs e p) (λ sig u. then_runs (on_exit here (λ exit. exited (rest v exit)) sig u) (stack_does env n here frames))) (sym same)
+      ∙ through e (rest (arc_value ss)) p (stack_does env n here frames) an_exit (on_exit (λ exit. exited (rest (arc_value ss) exit))) (λ x u. refl)
+      ∙ ap (λ (v : Vec Stmt Global). then_runs (then_runs e p) (λ sig u. then_runs (on_exit (λ exit. exited (rest v exit)) sig u) (stack_does env n here frames))) (sym same)
       ∙ ap (λ i. then_runs (then_runs e p) i) (sym pushed)
 
   -- the statements from a place on, of which the first is done

@@ -51,7 +51,6 @@ use Rattle.language.specs.Files.{keep_defaults}
 use Rattle.names.specs.View.{held, here_of}
 use Rattle.pieces.specs.View.{before, aim_of, gathered_of}
 pub use Rattle.quiet.specs.Done.{first_line, stmt_line}
-use Rattle.frames.specs.declared.frame.TheConstants.{NOT_AWAITED}
 use Rattle.frames.specs.declared.frame.Exit.{Exit}
 use Rattle.frames.specs.declared.frame.Exit.TheVariants as x
 use Rattle.frames.specs.declared.frame.Signal.{Signal}
@@ -102,29 +101,27 @@ exited m = m >>= λ exit. pure (an_exit exit)
 abbrev pub gathered : Runs l.Gathered → Runs Sig
 gathered m = m >>= λ got. pure (a_gathered got)
 
-abbrev pub on_value : Here → (Val → Runs Sig) → Sig → Runs Sig
-on_value here k (a_value v) = k v
-on_value here k (an_aim a) = fault NOT_AWAITED here
-on_value here k (an_exit exit) = fault NOT_AWAITED here
-on_value here k (a_gathered got) = fault NOT_AWAITED here
+-- A frame waits for signals of one kind. Any other signal passes it by, and goes to the frame below.
+abbrev pub on_value : (Val → Runs Sig) → Sig → Runs Sig
+on_value k (a_value v) = k v
+on_value k sig = pure sig
 
-abbrev pub on_aim : Here → (ta.Aim → Runs Sig) → Sig → Runs Sig
-on_aim here k (a_value v) = fault NOT_AWAITED here
-on_aim here k (an_aim a) = k a
-on_aim here k (an_exit exit) = fault NOT_AWAITED here
-on_aim here k (a_gathered got) = fault NOT_AWAITED here
+abbrev pub on_aim : (ta.Aim → Runs Sig) → Sig → Runs Sig
+on_aim k (an_aim a) = k a
+on_aim k sig = pure sig
 
-abbrev pub on_exit : Here → (s.Exit → Runs Sig) → Sig → Runs Sig
-on_exit here k (a_value v) = fault NOT_AWAITED here
-on_exit here k (an_aim a) = fault NOT_AWAITED here
-on_exit here k (an_exit exit) = k exit
-on_exit here k (a_gathered got) = fault NOT_AWAITED here
+abbrev pub on_exit : (s.Exit → Runs Sig) → Sig → Runs Sig
+on_exit k (an_exit exit) = k exit
+on_exit k sig = pure sig
 
-abbrev pub on_gathered : Here → (l.Gathered → Runs Sig) → Sig → Runs Sig
-on_gathered here k (a_value v) = fault NOT_AWAITED here
-on_gathered here k (an_aim a) = fault NOT_AWAITED here
-on_gathered here k (an_exit exit) = fault NOT_AWAITED here
-on_gathered here k (a_gathered got) = k got
+abbrev pub on_gathered : (l.Gathered → Runs Sig) → Sig → Runs Sig
+on_gathered k (a_gathered got) = k got
+on_gathered k sig = pure sig
+
+-- what a call gives its caller, by the signal that its body ends with
+abbrev pub given_by : Sig → Sig
+given_by (an_exit exit) = a_value (given exit)
+given_by sig = sig
 
 -- ---- operands
 
@@ -324,48 +321,48 @@ module _ (env : Env) (n : ℕ) (here : Here) where
 
   -- what a frame does with the signal that it waits for
   abbrev pub frame_does : Frame → Sig → Runs Sig
-  frame_does (f.Items line s) = on_value (on line) λ v. valued (items_from s.value.purpose (trees_from (length s.value.done.items + 1) s.value.items) (s.value.done.items ++ v ∷ []) line)
-  frame_does (f.Key line pairs next) = on_value (on line) λ k. valued (entry_from k (trees_from next pairs.value.values) (trees_from (next + 1) pairs.value.keys) pairs.value.done.entries line)
-  frame_does (f.Entry line pairs next k) = on_value (on line) λ y. valued (entry_set k y (trees_from next pairs.value.keys) (trees_from next pairs.value.values) pairs.value.done.entries line >>= λ found. on_heap (on line) (makes_dict found))
-  frame_does (f.Unary line op) = on_value (on line) λ v. valued (unary op v (on line))
-  frame_does (f.Right line op b) = on_value (on line) λ v. valued (right op v (ex (shared_tree b) line) (on line))
-  frame_does (f.Both line op v) = on_value (on line) λ y. valued (on_heap (on line) (binary (operator_of op) v y))
-  frame_does (f.Choice line a b) = on_value (on line) λ v. valued (by_truth v (ex (shared_tree a) line) (ex (shared_tree b) line))
-  frame_does (f.Indexed line i) = on_value (on line) λ v. valued (ex (shared_tree i) line >>= λ y. on_heap (on line) (index v y))
-  frame_does (f.Index line v) = on_value (on line) λ y. valued (on_heap (on line) (index v y))
-  frame_does (f.Sliced line i j) = on_value (on line) λ v. valued (sliced_from v (bound_tree i) (bound_tree j) line)
-  frame_does (f.From line v j) = on_value (on line) λ y. valued (sliced v y (bound_tree j) line)
-  frame_does (f.To line v y) = on_value (on line) λ z. valued (on_heap (on line) (slice v y z))
-  frame_does (f.Called line es names) = on_value (on line) λ g. valued (items_from (p.Call g names) (shared_trees es) [] line)
-  frame_does (f.On line name es names) = on_value (on line) λ v. valued (items_from (p.Method (r.Of v) name names) (shared_trees es) [] line)
-  frame_does (f.Container line i) = on_value (on line) λ v. aimed (ex (shared_tree i) line >>= λ y. pure (to_member v y))
-  frame_does (f.Member line v) = on_value (on line) λ y. pure (an_aim (to_member v y))
-  frame_does (f.Aims line es done) = on_aim (on line) λ a. aimed (aims_from (trees_from (length done.items + 1) es) (map aim_of done.items ++ a ∷ []) line)
-  frame_does f.Discard = on_value here λ v. pure (an_exit goes_on)
-  frame_does (f.Assign line target) = on_value (on line) λ v. assigned (shared_tree target) v line
-  frame_does (f.Store line v) = on_aim (on line) λ a. exited (store a v (on line) >>= λ _. pure goes_on)
-  frame_does (f.Augment line op e) = on_aim (on line) λ a. exited (present a (on line) >>= λ v. ex (shared_tree e) line >>= λ y. changed op v y (on line) >>= λ z. store a z (on line) >>= λ _. pure goes_on)
-  frame_does (f.Change line op a v) = on_value (on line) λ y. changes op (aim_of a.value) v y line
-  frame_does f.Return = on_value here λ v. pure (an_exit (returns v))
-  frame_does (f.Branch ss bs next other) = on_value here λ v. exited (by_truth v (body (shared_suite ss)) (first_true env (call env n) (branches_from next bs) (body (shared_suite other)) here))
-  frame_does (f.For line target ss) = on_value (on line) λ v. exited (over v (turns (turn env (call env n) (shared_tree target) (body (shared_suite ss)) (on line))) (on line))
-  frame_does (f.Turn u v) = on_aim (on u.value.line) λ a. exited ((store a v (on u.value.line) >>= λ _. body (shared_suite u.value.body)) >>= turns_behind u.value)
-  frame_does (f.Turns u) = on_exit (on u.value.line) λ exit. exited (turns_behind u.value exit)
-  frame_does (f.Rest ss next) = on_exit here λ exit. exited (unless_over exit (body (suite_from next ss)))
-  frame_does (f.Leave caller) = on_exit here λ exit w. ended (a_value (given exit)) (with_blocks (map held caller.value.blocks.items) w)
-  frame_does (f.First line target comp) = on_value (on line) λ v. gathered (first_does (shared_tree target) (arc_value comp) line v)
-  frame_does (f.Each line target comp inner got) = on_value (on line) λ v. gathered (each_does (shared_tree target) (arc_value comp) inner line (gathered_of got.value) v)
-  frame_does (f.Only line comp inner got) = on_value (on line) λ v. gathered (by_truth v (clauses_do (arc_value comp) inner line (gathered_of got.value)) (pure (gathered_of got.value)))
-  frame_does (f.Aimed u v got) = on_aim (on u.value.line) λ a. gathered ((store a v (on u.value.line) >>= λ _. clauses_do (arc_value u.value.of) u.value.inner u.value.line (gathered_of got.value)) >>= gather_from u.value)
-  frame_does (f.Gather u) = on_gathered (on u.value.line) λ got. gathered (gather_from u.value got)
-  frame_does (f.OneMore line got) = on_value (on line) λ v. gathered (one_more v (gathered_of got.value) (on line))
-  frame_does (f.OneKey line e got) = on_value (on line) λ k. gathered (ex (shared_tree e) line >>= λ y. one_entry k y (gathered_of got.value) (on line))
-  frame_does (f.OneEntry line k got) = on_value (on line) λ y. gathered (one_entry k y (gathered_of got.value) (on line))
-  frame_does f.EndBlock = on_gathered here λ got w. ended (a_gathered got) (without_block w)
-  frame_does (f.MakeList line) = on_gathered (on line) λ got. valued (on_heap (on line) (makes_list got.members))
-  frame_does (f.MakeDict line) = on_gathered (on line) λ got. valued (on_heap (on line) (makes_dict got.entries))
-  frame_does (f.Default line def next done) = on_value (on line) λ v. exited (defines (fn_of (arc_value def)) (params_at next def) (done.items ++ v ∷ []) line)
-  frame_does (f.Tops file next) = on_exit here λ exit. exited (tops_do (tops_at next file))
+  frame_does (f.Items line s) = on_value λ v. valued (items_from s.value.purpose (trees_from (length s.value.done.items + 1) s.value.items) (s.value.done.items ++ v ∷ []) line)
+  frame_does (f.Key line pairs next) = on_value λ k. valued (entry_from k (trees_from next pairs.value.values) (trees_from (next + 1) pairs.value.keys) pairs.value.done.entries line)
+  frame_does (f.Entry line pairs next k) = on_value λ y. valued (entry_set k y (trees_from next pairs.value.keys) (trees_from next pairs.value.values) pairs.value.done.entries line >>= λ found. on_heap (on line) (makes_dict found))
+  frame_does (f.Unary line op) = on_value λ v. valued (unary op v (on line))
+  frame_does (f.Right line op b) = on_value λ v. valued (right op v (ex (shared_tree b) line) (on line))
+  frame_does (f.Both line op v) = on_value λ y. valued (on_heap (on line) (binary (operator_of op) v y))
+  frame_does (f.Choice line a b) = on_value λ v. valued (by_truth v (ex (shared_tree a) line) (ex (shared_tree b) line))
+  frame_does (f.Indexed line i) = on_value λ v. valued (ex (shared_tree i) line >>= λ y. on_heap (on line) (index v y))
+  frame_does (f.Index line v) = on_value λ y. valued (on_heap (on line) (index v y))
+  frame_does (f.Sliced line i j) = on_value λ v. valued (sliced_from v (bound_tree i) (bound_tree j) line)
+  frame_does (f.From line v j) = on_value λ y. valued (sliced v y (bound_tree j) line)
+  frame_does (f.To line v y) = on_value λ z. valued (on_heap (on line) (slice v y z))
+  frame_does (f.Called line es names) = on_value λ g. valued (items_from (p.Call g names) (shared_trees es) [] line)
+  frame_does (f.On line name es names) = on_value λ v. valued (items_from (p.Method (r.Of v) name names) (shared_trees es) [] line)
+  frame_does (f.Container line i) = on_value λ v. aimed (ex (shared_tree i) line >>= λ y. pure (to_member v y))
+  frame_does (f.Member line v) = on_value λ y. pure (an_aim (to_member v y))
+  frame_does (f.Aims line es done) = on_aim λ a. aimed (aims_from (trees_from (length done.items + 1) es) (map aim_of done.items ++ a ∷ []) line)
+  frame_does f.Discard = on_value λ v. pure (an_exit goes_on)
+  frame_does (f.Assign line target) = on_value λ v. assigned (shared_tree target) v line
+  frame_does (f.Store line v) = on_aim λ a. exited (store a v (on line) >>= λ _. pure goes_on)
+  frame_does (f.Augment line op e) = on_aim λ a. exited (present a (on line) >>= λ v. ex (shared_tree e) line >>= λ y. changed op v y (on line) >>= λ z. store a z (on line) >>= λ _. pure goes_on)
+  frame_does (f.Change line op a v) = on_value λ y. changes op (aim_of a.value) v y line
+  frame_does f.Return = on_value λ v. pure (an_exit (returns v))
+  frame_does (f.Branch ss bs next other) = on_value λ v. exited (by_truth v (body (shared_suite ss)) (first_true env (call env n) (branches_from next bs) (body (shared_suite other)) here))
+  frame_does (f.For line target ss) = on_value λ v. exited (over v (turns (turn env (call env n) (shared_tree target) (body (shared_suite ss)) (on line))) (on line))
+  frame_does (f.Turn u v) = on_aim λ a. exited ((store a v (on u.value.line) >>= λ _. body (shared_suite u.value.body)) >>= turns_behind u.value)
+  frame_does (f.Turns u) = on_exit λ exit. exited (turns_behind u.value exit)
+  frame_does (f.Rest ss next) = on_exit λ exit. exited (unless_over exit (body (suite_from next ss)))
+  frame_does (f.Leave caller) = λ sig w. ended (given_by sig) (with_blocks (map held caller.value.blocks.items) w)
+  frame_does (f.First line target comp) = on_value λ v. gathered (first_does (shared_tree target) (arc_value comp) line v)
+  frame_does (f.Each line target comp inner got) = on_value λ v. gathered (each_does (shared_tree target) (arc_value comp) inner line (gathered_of got.value) v)
+  frame_does (f.Only line comp inner got) = on_value λ v. gathered (by_truth v (clauses_do (arc_value comp) inner line (gathered_of got.value)) (pure (gathered_of got.value)))
+  frame_does (f.Aimed u v got) = on_aim λ a. gathered ((store a v (on u.value.line) >>= λ _. clauses_do (arc_value u.value.of) u.value.inner u.value.line (gathered_of got.value)) >>= gather_from u.value)
+  frame_does (f.Gather u) = on_gathered λ got. gathered (gather_from u.value got)
+  frame_does (f.OneMore line got) = on_value λ v. gathered (one_more v (gathered_of got.value) (on line))
+  frame_does (f.OneKey line e got) = on_value λ k. gathered (ex (shared_tree e) line >>= λ y. one_entry k y (gathered_of got.value) (on line))
+  frame_does (f.OneEntry line k got) = on_value λ y. gathered (one_entry k y (gathered_of got.value) (on line))
+  frame_does f.EndBlock = on_gathered λ got w. ended (a_gathered got) (without_block w)
+  frame_does (f.MakeList line) = on_gathered λ got. valued (on_heap (on line) (makes_list got.members))
+  frame_does (f.MakeDict line) = on_gathered λ got. valued (on_heap (on line) (makes_dict got.entries))
+  frame_does (f.Default line def next done) = on_value λ v. exited (defines (fn_of (arc_value def)) (params_at next def) (done.items ++ v ∷ []) line)
+  frame_does (f.Tops file next) = on_exit λ exit. exited (tops_do (tops_at next file))
 
 -- the line of the statement that a frame stands in
 abbrev pub frame_line : ℕ → Frame → ℕ

@@ -1,14 +1,10 @@
 -- How far an expression leads whose value is known at once.
-use Rattle.std.specs.Prelude.{◌≡◌, ◌<◌, ℕ, Option, Some, None, Result, Ok, Err}
+use Rattle.std.specs.Prelude.{◌≡◌, ◌<◌, Option, Some, None, Result, Ok, Err}
 use Rattle.meaning.specs.declared.val.Val.{Val}
 use Rattle.heap.specs.declared.halt.Halt.{Halt}
 use Rattle.heap.specs.declared.halt.Halt.TheVariants.{Code, Memory}
-use Rattle.language.specs.World.{Site, World, Here, Ends, ended, failed, then_runs, pure}
-use Rattle.language.specs.Environment.{Env}
-use Rattle.language.specs.Statements.{Exit}
+use Rattle.language.specs.World.{Site, World, Ends, ended, failed}
 use Rattle.names.specs.declared.state.State.{State}
-use Rattle.frames.specs.declared.frame.Control.{Control}
-use Rattle.frames.specs.Frames.{an_exit, control_does}
 
 -- to its value, to a fault, or nowhere
 abbrev pub AtOnce : Site → Ends Val → Result (Option Val) Halt → World → Type 0

@@ -1,5 +1,5 @@
 //! Statements that are run at once, as far as they can be.
-ghost use Rattle.std.specs.Prelude.{◌≡◌, ◌+◌, ◌≤◌, ◌<◌, ℕ, List, IfOk, IsOkUnless};
+ghost use Rattle.std.specs.Prelude.{◌≡◌, ◌+◌, ◌<◌, ℕ, List, IfOk, IsOkUnless};
 ghost use Rattle.tree.specs.Statements.{stmt_of};
 ghost use Rattle.language.specs.Calls.{call};
 ghost use Rattle.language.specs.Statements as s;

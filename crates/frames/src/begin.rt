@@ -1,10 +1,10 @@
 //! How an expression begins.
-ghost use Rattle.std.specs.Prelude.{◌≡◌, ◌<◌, ℕ, List, IfOk};
-ghost use Rattle.language.specs.Environment.{Env};
+ghost use Rattle.std.specs.Prelude.{◌≡◌, ◌<◌, List, IfOk};
 ghost use Rattle.language.specs.Expressions as e;
 ghost use Rattle.tree.specs.View.{tree_of};
-ghost use Rattle.names.specs.View.{world_of, here_of};
-ghost use Rattle.frames.specs.Frames.{Goes, on, ex, valued, above, machine_does};
+ghost use Rattle.names.specs.View.{world_of};
+ghost use Rattle.frames.specs.Going.{LeadsOn};
+ghost use Rattle.frames.specs.Frames.{ex, valued, above};
 
 use crate::forms::{
     begin_binary, begin_call, begin_choice, begin_dict, begin_dict_of, begin_index, begin_items,
@@ -36,11 +36,9 @@ pub fn begin(
     line: usize,
     e: &Expr,
 ) -> Result<Control, Halt>
-    ensures goes { (env : Env) (n : ℕ) (running : List (List ℕ × List ℕ))
-        → let here = here_of at.now at.now.line running in Goes (on env n here line).site
-        (above env n here (valued (ex env n here (tree_of e.now) line)) frames.old.items
-        (world_of state.old)) result (λ control. machine_does env n here control frames.new.items
-        (world_of state.new)) }
+    ensures goes { LeadsOn at.now line
+        (λ env n here. above env n here (valued (ex env n here (tree_of e.now) line))
+        frames.old.items (world_of state.old)) result frames.new.items state.new }
     ensures steps { IfOk result (λ _. state.new.heap.steps < state.old.heap.steps) }
 {
     match at_once(state, at, e) {
@@ -59,11 +57,9 @@ pub fn begin_parts(
     line: usize,
     e: &Expr,
 ) -> Result<Control, Halt>
-    ensures goes { (env : Env) (n : ℕ) (running : List (List ℕ × List ℕ))
-        → let here = here_of at.now at.now.line running in Goes (on env n here line).site
-        (above env n here (valued (ex env n here (tree_of e.now) line)) frames.old.items
-        (world_of state.old)) result (λ control. machine_does env n here control frames.new.items
-        (world_of state.new)) }
+    ensures goes { LeadsOn at.now line
+        (λ env n here. above env n here (valued (ex env n here (tree_of e.now) line))
+        frames.old.items (world_of state.old)) result frames.new.items state.new }
     ensures steps { IfOk result (λ _. state.new.heap.steps < state.old.heap.steps) }
 {
     tick(&mut state.heap)?;

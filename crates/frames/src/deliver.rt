@@ -1,14 +1,12 @@
 //! What each frame does with the signal that it waits for.
-ghost use Rattle.std.specs.Prelude.{◌≡◌, ◌<◌, ◌+◌, ◌≤◌, ℕ, List, IfOk};
-ghost use Rattle.language.specs.World.{Here};
-ghost use Rattle.language.specs.Environment.{Env};
-ghost use Rattle.language.specs.Calls.{given};
-ghost use Rattle.names.specs.View.{world_of, here_of};
+ghost use Rattle.std.specs.Prelude.{◌≡◌, ◌<◌, ◌+◌, false};
+ghost use Rattle.names.specs.View.{world_of};
 ghost use Rattle.pieces.specs.View.{aim_of, gathered_of};
-ghost use Rattle.frames.specs.Frames.{Goes, on, an_aim, an_exit, a_gathered, exit_of, frame_does, frame_line, above, machine_does};
-ghost use Rattle.frames.specs.Weight.{Lighter, frames_weight, frame_weight, control_weight};
+ghost use Rattle.frames.specs.Going.{GetsLighter, LeadsOn};
+ghost use Rattle.frames.specs.Frames.{an_aim, an_exit, a_gathered, exit_of, sig_of, given_by, frame_does, frame_line, is_leave, above};
+ghost use Rattle.frames.specs.Weight.{frames_weight, frame_weight};
 
-use crate::frame::{Control, Exit, Frame, NOT_AWAITED, Signal};
+use crate::frame::{Control, Exit, Frame, Signal};
 use crate::handed::{aim_done, augment, begin_body, begin_clause, store_value};
 use heap::{Halt, Val};
 use names::{Standing, State};
@@ -22,16 +20,12 @@ pub fn deliver_exit(
     frame: Frame,
     exit: Exit,
 ) -> Result<Control, Halt>
-    ensures goes { (env : Env) (n : ℕ) (running : List (List ℕ × List ℕ))
-        → let here = here_of at.now at.now.line running in
-        Goes (on env n here (frame_line at.now.line frame)).site
-        (above env n here (frame_does env n here frame (an_exit (exit_of exit))) frames.now.items
-        (world_of state.old)) result (λ control. machine_does env n here control frames.now.items
-        (world_of state.new)) }
-    ensures lighter { IfOk result
-        (λ control. Lighter state.old.heap.steps
-        (frames_weight frames.now.items + frame_weight frame) state.new.heap.steps
-        (frames_weight frames.now.items + control_weight control)) }
+    requires { is_leave frame ≡ false }
+    ensures goes { LeadsOn at.now (frame_line at.now.line frame)
+        (λ env n here. above env n here (frame_does env n here frame (an_exit (exit_of exit)))
+        frames.now.items (world_of state.old)) result frames.now.items state.new }
+    ensures lighter { GetsLighter state.old (frames_weight frames.now.items + frame_weight frame)
+        result frames.now.items state.new }
 {
     match frame {
         Frame::Turns(turns) => match exit {
@@ -52,28 +46,22 @@ pub fn deliver_exit(
             Exit::Continues => Ok(Control::Signal(Signal::Exit(Exit::Continues))),
             Exit::Returns(x) => Ok(Control::Signal(Signal::Exit(Exit::Returns(x)))),
         },
-        Frame::Leave(caller) => {
-            let caller = Box::into_inner(caller);
-            state.blocks = caller.blocks;
-            Ok(Control::Signal(Signal::Value(given(exit))))
-        }
         Frame::Tops { file, next } => Ok(Control::Tops { file, next }),
         frame => {
             drop(frame);
-            Err(Halt::Code(NOT_AWAITED))
+            Ok(Control::Signal(Signal::Exit(exit)))
         }
     }
 }
 
-/// What a call gives.
-pub fn given(exit: Exit) -> Val
-    ensures { result ≡ given (exit_of exit) }
+/// What a call gives its caller, by the signal that its body ends with: where a statement ends, that is a value.
+pub fn given_by(signal: Signal) -> Signal
+    ensures { sig_of result ≡ given_by (sig_of signal) }
 {
-    match exit {
-        Exit::Returns(x) => x,
-        Exit::GoesOn => Val::Nothing,
-        Exit::Breaks => Val::Nothing,
-        Exit::Continues => Val::Nothing,
+    match signal {
+        Signal::Exit(Exit::Returns(x)) => Signal::Value(x),
+        Signal::Exit(_) => Signal::Value(Val::Nothing),
+        signal => signal,
     }
 }
 
@@ -85,16 +73,13 @@ pub fn deliver_gathered(
     frame: Frame,
     got: Box<Gathered>,
 ) -> Result<Control, Halt>
-    ensures goes { (env : Env) (n : ℕ) (running : List (List ℕ × List ℕ))
-        → let here = here_of at.now at.now.line running in
-        Goes (on env n here (frame_line at.now.line frame)).site
-        (above env n here (frame_does env n here frame (a_gathered (gathered_of got.value)))
-        frames.now.items (world_of state.old)) result
-        (λ control. machine_does env n here control frames.now.items (world_of state.new)) }
-    ensures lighter { IfOk result
-        (λ control. Lighter state.old.heap.steps
-        (frames_weight frames.now.items + frame_weight frame) state.new.heap.steps
-        (frames_weight frames.now.items + control_weight control)) }
+    requires { is_leave frame ≡ false }
+    ensures goes { LeadsOn at.now (frame_line at.now.line frame)
+        (λ env n here. above env n here
+        (frame_does env n here frame (a_gathered (gathered_of got.value))) frames.now.items
+        (world_of state.old)) result frames.now.items state.new }
+    ensures lighter { GetsLighter state.old (frames_weight frames.now.items + frame_weight frame)
+        result frames.now.items state.new }
 {
     match frame {
         Frame::Gather(turns) => Ok(Control::Gather(turns, got)),
@@ -114,8 +99,7 @@ pub fn deliver_gathered(
         }
         frame => {
             drop(frame);
-            drop(got);
-            Err(Halt::Code(NOT_AWAITED))
+            Ok(Control::Signal(Signal::Gathered(got)))
         }
     }
 }
@@ -128,16 +112,12 @@ pub fn deliver_aim(
     frame: Frame,
     aim: Aim,
 ) -> Result<Control, Halt>
-    ensures goes { (env : Env) (n : ℕ) (running : List (List ℕ × List ℕ))
-        → let here = here_of at.now at.now.line running in
-        Goes (on env n here (frame_line at.now.line frame)).site
-        (above env n here (frame_does env n here frame (an_aim (aim_of aim))) frames.old.items
-        (world_of state.old)) result (λ control. machine_does env n here control frames.new.items
-        (world_of state.new)) }
-    ensures lighter { IfOk result
-        (λ control. Lighter state.old.heap.steps
-        (frames_weight frames.old.items + frame_weight frame) state.new.heap.steps
-        (frames_weight frames.new.items + control_weight control)) }
+    requires { is_leave frame ≡ false }
+    ensures goes { LeadsOn at.now (frame_line at.now.line frame)
+        (λ env n here. above env n here (frame_does env n here frame (an_aim (aim_of aim)))
+        frames.old.items (world_of state.old)) result frames.new.items state.new }
+    ensures lighter { GetsLighter state.old (frames_weight frames.old.items + frame_weight frame)
+        result frames.new.items state.new }
 {
     match frame {
         Frame::Aims {
@@ -151,8 +131,7 @@ pub fn deliver_aim(
         Frame::Aimed(turns, x, got) => begin_clause(state, frames, at, turns, x, got, aim),
         frame => {
             drop(frame);
-            drop(aim);
-            Err(Halt::Code(NOT_AWAITED))
+            Ok(Control::Signal(Signal::Aim(aim)))
         }
     }
 }

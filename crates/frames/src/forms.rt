@@ -10,6 +10,7 @@ ghost use Rattle.language.specs.Environment.{Env};
 ghost use Rattle.language.specs.Expressions as e;
 ghost use Rattle.tree.specs.View.{tree_of, shared_tree, bound_tree, clause_trees};
 ghost use Rattle.names.specs.View.{world_of, here_of};
+ghost use Rattle.frames.specs.Going.{LeadsOn};
 ghost use Rattle.frames.specs.declared.frame.Frame.{Frame};
 ghost use Rattle.frames.specs.Frames.{Goes, on, valued, gathered, item_does, items_from, entries_from, method_does, unary_does, binary_does, choice_does, index_does, slice_does, call_does, list_of_does, dict_of_does, shared_trees, above, machine_does};
 
@@ -97,12 +98,10 @@ pub fn begin_binary(
     a: &Arc<Expr, Global>,
     b: &Arc<Expr, Global>,
 ) -> Result<Control, Halt>
-    ensures goes { (env : Env) (n : ℕ) (running : List (List ℕ × List ℕ))
-        → let here = here_of at.now at.now.line running in Goes (on env n here line).site
-        (above env n here
+    ensures goes { LeadsOn at.now line
+        (λ env n here. above env n here
         (valued (binary_does env n here op (shared_tree a.now) (shared_tree b.now) line))
-        frames.old.items (world_of state.old)) result
-        (λ control. machine_does env n here control frames.new.items (world_of state.new)) }
+        frames.old.items (world_of state.old)) result frames.new.items state.new }
     ensures steps { IfOk result (λ _. state.new.heap.steps ≤ state.old.heap.steps) }
 {
     let right = Arc::try_clone(b)?;
@@ -148,12 +147,10 @@ pub fn begin_index(
     a: &Arc<Expr, Global>,
     i: &Arc<Expr, Global>,
 ) -> Result<Control, Halt>
-    ensures goes { (env : Env) (n : ℕ) (running : List (List ℕ × List ℕ))
-        → let here = here_of at.now at.now.line running in Goes (on env n here line).site
-        (above env n here
+    ensures goes { LeadsOn at.now line
+        (λ env n here. above env n here
         (valued (index_does env n here (shared_tree a.now) (shared_tree i.now) line))
-        frames.old.items (world_of state.old)) result
-        (λ control. machine_does env n here control frames.new.items (world_of state.new)) }
+        frames.old.items (world_of state.old)) result frames.new.items state.new }
     ensures steps { IfOk result (λ _. state.new.heap.steps ≤ state.old.heap.steps) }
 {
     let index = Arc::try_clone(i)?;
@@ -191,12 +188,11 @@ pub fn begin_call(
     es: &Arc<Vec<Expr>, Global>,
     names: &Arc<Vec<Text>, Global>,
 ) -> Result<Control, Halt>
-    ensures goes { (env : Env) (n : ℕ) (running : List (List ℕ × List ℕ))
-        → let here = here_of at.now at.now.line running in Goes (on env n here line).site
-        (above env n here
+    ensures goes { LeadsOn at.now line
+        (λ env n here. above env n here
         (valued (call_does env n here (shared_tree f.now) (shared_trees es.now)
         (arc_value names.now).items line)) frames.old.items (world_of state.old)) result
-        (λ control. machine_does env n here control frames.new.items (world_of state.new)) }
+        frames.new.items state.new }
     ensures steps { IfOk result (λ _. state.new.heap.steps ≤ state.old.heap.steps) }
 {
     let names = Arc::try_clone(names)?;
@@ -331,12 +327,11 @@ pub fn begin_method(
     es: &Arc<Vec<Expr>, Global>,
     names: &Arc<Vec<Text>, Global>,
 ) -> Result<Control, Halt>
-    ensures goes { (env : Env) (n : ℕ) (running : List (List ℕ × List ℕ))
-        → let here = here_of at.now at.now.line running in Goes (on env n here line).site
-        (above env n here
+    ensures goes { LeadsOn at.now line
+        (λ env n here. above env n here
         (valued (method_does env n here (shared_tree x.now) name.now (shared_trees es.now)
         (arc_value names.now).items line)) frames.old.items (world_of state.old)) result
-        (λ control. machine_does env n here control frames.new.items (world_of state.new)) }
+        frames.new.items state.new }
     ensures steps { IfOk result (λ _. state.new.heap.steps ≤ state.old.heap.steps) }
 {
     let names = Arc::try_clone(names)?;

@@ -9,9 +9,6 @@ use std::sync::Arc;
 use texts::Text;
 use tree::{BinaryOp, Branch, Clause, Def, Expr, File, Stmt, UnaryOp};
 
-/// No fault of a file: a frame is handed a signal that it does not wait for. No evaluation comes to that.
-pub const NOT_AWAITED: u8 = 0;
-
 /// How a statement ends.
 #[derive(Clone, Copy)]
 pub enum Exit {

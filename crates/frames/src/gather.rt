@@ -1,13 +1,12 @@
 //! How the clauses of a comprehension go on.
-ghost use Rattle.std.specs.Prelude.{◌≡◌, ◌<◌, ◌+◌, ◌≤◌, ℕ, List, IfOk};
-ghost use Rattle.std.specs.Arc.{arc_value};
+ghost use Rattle.std.specs.Prelude.{◌≡◌, ◌<◌, ◌+◌, ◌≤◌, IfOk};
 ghost use Rattle.tree.specs.View.{tree_of};
-ghost use Rattle.language.specs.World.{Here, then_runs};
+ghost use Rattle.language.specs.World.{then_runs};
 ghost use Rattle.language.specs.Targets.{to_name};
-ghost use Rattle.language.specs.Environment.{Env};
-ghost use Rattle.names.specs.View.{world_of, here_of};
-ghost use Rattle.frames.specs.Frames.{Goes, on, ex, gathered, item_does, an_aim, aims_at, frame_does, above, machine_does};
-ghost use Rattle.frames.specs.Weight.{Lighter, frames_weight, control_weight};
+ghost use Rattle.names.specs.View.{world_of};
+ghost use Rattle.frames.specs.Going.{GetsLighter, LeadsOn};
+ghost use Rattle.frames.specs.Frames.{Goes, on, gathered, item_does, an_aim, aims_at, frame_does, above, machine_does};
+ghost use Rattle.frames.specs.Weight.{frames_weight};
 ghost use Rattle.pieces.specs.View.{gathered_of};
 ghost use Rattle.frames.specs.declared.frame.Control.TheVariants as c;
 ghost use Rattle.frames.specs.declared.frame.Frame.TheVariants as f;
@@ -35,11 +34,10 @@ fn begin_item(
     item: &Item,
     got: Box<Gathered>,
 ) -> Result<Control, Halt>
-    ensures goes { (env : Env) (n : ℕ) (running : List (List ℕ × List ℕ))
-        → let here = here_of at.now at.now.line running in Goes (on env n here line).site
-        (above env n here (gathered (item_does env n here item.now line (gathered_of got.value)))
-        frames.old.items (world_of state.old)) result
-        (λ control. machine_does env n here control frames.new.items (world_of state.new)) }
+    ensures goes { LeadsOn at.now line
+        (λ env n here. above env n here
+        (gathered (item_does env n here item.now line (gathered_of got.value))) frames.old.items
+        (world_of state.old)) result frames.new.items state.new }
     ensures steps { IfOk result (λ _. state.new.heap.steps < state.old.heap.steps) }
 {
     match item {
@@ -65,11 +63,9 @@ pub fn next_clause(
     inner: usize,
     got: Box<Gathered>,
 ) -> Result<Control, Halt>
-    ensures goes { (env : Env) (n : ℕ) (running : List (List ℕ × List ℕ))
-        → let here = here_of at.now at.now.line running in Goes (on env n here line).site
-        (machine_does env n here (c.Clauses line of inner got) frames.old.items
-        (world_of state.old)) result (λ control. machine_does env n here control frames.new.items
-        (world_of state.new)) }
+    ensures goes { LeadsOn at.now line
+        (λ env n here. machine_does env n here (c.Clauses line of inner got) frames.old.items
+        (world_of state.old)) result frames.new.items state.new }
     ensures steps { IfOk result (λ _. state.new.heap.steps < state.old.heap.steps) }
 {
     if inner >= of.clauses.len() {
@@ -108,14 +104,11 @@ pub fn next_gather(
     turns: Box<Gathering>,
     got: Box<Gathered>,
 ) -> Result<Control, Halt>
-    ensures goes { (env : Env) (n : ℕ) (running : List (List ℕ × List ℕ))
-        → let here = here_of at.now at.now.line running in
-        Goes (on env n here turns.value.line).site
-        (machine_does env n here (c.Gather turns got) frames.old.items (world_of state.old)) result
-        (λ control. machine_does env n here control frames.new.items (world_of state.new)) }
-    ensures lighter { IfOk result
-        (λ control. Lighter state.old.heap.steps (frames_weight frames.old.items + 1)
-        state.new.heap.steps (frames_weight frames.new.items + control_weight control)) }
+    ensures goes { LeadsOn at.now turns.value.line
+        (λ env n here. machine_does env n here (c.Gather turns got) frames.old.items
+        (world_of state.old)) result frames.new.items state.new }
+    ensures lighter { GetsLighter state.old (frames_weight frames.old.items + 1) result
+        frames.new.items state.new }
 {
     let now = &*turns;
     if now.next >= now.items.len() {
@@ -144,12 +137,10 @@ fn aim_gathering(
     got: Box<Gathered>,
 ) -> Result<Control, Halt>
     requires { line ≡ turns.value.line }
-    ensures goes { (env : Env) (n : ℕ) (running : List (List ℕ × List ℕ))
-        → let here = here_of at.now at.now.line running in Goes (on env n here line).site
-        (then_runs (aims_at env n here (tree_of target.now) line (world_of state.old))
+    ensures goes { LeadsOn at.now line
+        (λ env n here. then_runs (aims_at env n here (tree_of target.now) line (world_of state.old))
         (λ a. above env n here (frame_does env n here (f.Aimed turns x got) (an_aim a))
-        frames.old.items)) result (λ control. machine_does env n here control frames.new.items
-        (world_of state.new)) }
+        frames.old.items)) result frames.new.items state.new }
     ensures steps { IfOk result (λ _. state.new.heap.steps ≤ state.old.heap.steps) }
 {
     match target {
@@ -172,12 +163,10 @@ fn gather_named(
     x: Val,
     got: Box<Gathered>,
 ) -> Result<Control, Halt>
-    ensures goes { (env : Env) (n : ℕ) (running : List (List ℕ × List ℕ))
-        → let here = here_of at.now at.now.line running in
-        Goes (on env n here turns.value.line).site
-        (above env n here (frame_does env n here (f.Aimed turns x got) (an_aim (to_name name.now)))
-        frames.old.items (world_of state.old)) result
-        (λ control. machine_does env n here control frames.new.items (world_of state.new)) }
+    ensures goes { LeadsOn at.now turns.value.line
+        (λ env n here. above env n here
+        (frame_does env n here (f.Aimed turns x got) (an_aim (to_name name.now))) frames.old.items
+        (world_of state.old)) result frames.new.items state.new }
     ensures steps { state.new.heap ≡ state.old.heap }
 {
     if let Err(halt) = bind(state, at, name, last, x) {

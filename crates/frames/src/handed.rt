@@ -5,10 +5,11 @@ ghost use Rattle.language.specs.World.{World, Here};
 ghost use Rattle.language.specs.Environment.{Env};
 ghost use Rattle.names.specs.View.{world_of, here_of};
 ghost use Rattle.pieces.specs.View.{aim_of};
+ghost use Rattle.frames.specs.Going.{GetsLighter, LeadsOn, LeadsOnAnywhere, SpendsFor};
 ghost use Rattle.frames.specs.declared.frame.Frame.{Frame};
 ghost use Rattle.frames.specs.declared.frame.Frame.TheVariants as f;
 ghost use Rattle.frames.specs.Frames.{Goes, a_value, an_aim, on, frame_does, params_at, above, machine_does};
-ghost use Rattle.frames.specs.Weight.{Lighter, frames_weight, frame_weight, control_weight};
+ghost use Rattle.frames.specs.Weight.{frames_weight, frame_weight, control_weight};
 
 use crate::frame::{Comprehension, Control, Exit, Frame, Gathering, Pairs, Signal, Turns};
 use crate::items::begin_above;
@@ -29,13 +30,10 @@ pub fn entry_done(
     k: Val,
     x: Val,
 ) -> Result<Control, Halt>
-    ensures goes { (env : Env) (n : ℕ) (here : Here) (frames : List Frame)
-        → Goes (on env n here line).site
-        (above env n here (frame_does env n here (f.Entry line pairs next k) (a_value x)) frames
-        (world_of state.old)) result (λ control. machine_does env n here control frames
-        (world_of state.new)) }
-    ensures light { IfOk result (λ control. (state.new.heap.steps ≤ state.old.heap.steps)
-        × (control_weight control ≡ 3)) }
+    ensures goes { LeadsOnAnywhere line
+        (λ env n here frames. above env n here (frame_does env n here (f.Entry line pairs next k)
+        (a_value x)) frames (world_of state.old)) result state.new }
+    ensures light { SpendsFor 3 state.old result state.new }
 {
     let mut pairs = pairs;
     fresh(&mut state.heap, &mut pairs.done, k, x)?;
@@ -44,26 +42,20 @@ pub fn entry_done(
 
 /// An index.
 pub fn index_done(state: &mut State, line: usize, v: Val, x: Val) -> Result<Control, Halt>
-    ensures goes { (env : Env) (n : ℕ) (here : Here) (frames : List Frame)
-        → Goes (on env n here line).site
-        (above env n here (frame_does env n here (f.Index line v) (a_value x)) frames
-        (world_of state.old)) result (λ control. machine_does env n here control frames
-        (world_of state.new)) }
-    ensures light { IfOk result (λ control. (state.new.heap.steps ≤ state.old.heap.steps)
-        × (control_weight control ≡ 0)) }
+    ensures goes { LeadsOnAnywhere line
+        (λ env n here frames. above env n here (frame_does env n here (f.Index line v) (a_value x))
+        frames (world_of state.old)) result state.new }
+    ensures light { SpendsFor 0 state.old result state.new }
 {
     Ok(Control::Signal(Signal::Value(index(&mut state.heap, v, x)?)))
 }
 
 /// The upper bound of a slice.
 pub fn slice_done(state: &mut State, line: usize, v: Val, y: Val, x: Val) -> Result<Control, Halt>
-    ensures goes { (env : Env) (n : ℕ) (here : Here) (frames : List Frame)
-        → Goes (on env n here line).site
-        (above env n here (frame_does env n here (f.To line v y) (a_value x)) frames
-        (world_of state.old)) result (λ control. machine_does env n here control frames
-        (world_of state.new)) }
-    ensures light { IfOk result (λ control. (state.new.heap.steps ≤ state.old.heap.steps)
-        × (control_weight control ≡ 0)) }
+    ensures goes { LeadsOnAnywhere line
+        (λ env n here frames. above env n here (frame_does env n here (f.To line v y) (a_value x))
+        frames (world_of state.old)) result state.new }
+    ensures light { SpendsFor 0 state.old result state.new }
 {
     Ok(Control::Signal(Signal::Value(slice(&mut state.heap, v, y, x)?)))
 }
@@ -105,11 +97,9 @@ pub fn clause_known(
     got: Box<Gathered>,
     x: Val,
 ) -> Result<Control, Halt>
-    ensures goes { (env : Env) (n : ℕ) (here : Here) (frames : List Frame)
-        → Goes (on env n here line).site
-        (above env n here (frame_does env n here (f.Only line of inner got) (a_value x)) frames
-        (world_of state.now)) result (λ control. machine_does env n here control frames
-        (world_of state.now)) }
+    ensures goes { LeadsOnAnywhere line
+        (λ env n here frames. above env n here (frame_does env n here (f.Only line of inner got)
+        (a_value x)) frames (world_of state.now)) result state.now }
     ensures light { IfOk result (λ control. control_weight control ≤ 1) }
 {
     let holds = is_true(&state.heap, x)?;
@@ -148,13 +138,10 @@ pub fn entry_gathered(
     got: Box<Gathered>,
     x: Val,
 ) -> Result<Control, Halt>
-    ensures goes { (env : Env) (n : ℕ) (here : Here) (frames : List Frame)
-        → Goes (on env n here line).site
-        (above env n here (frame_does env n here (f.OneEntry line k got) (a_value x)) frames
-        (world_of state.old)) result (λ control. machine_does env n here control frames
-        (world_of state.new)) }
-    ensures light { IfOk result (λ control. (state.new.heap.steps ≤ state.old.heap.steps)
-        × (control_weight control ≡ 0)) }
+    ensures goes { LeadsOnAnywhere line
+        (λ env n here frames. above env n here (frame_does env n here (f.OneEntry line k got)
+        (a_value x)) frames (world_of state.old)) result state.new }
+    ensures light { SpendsFor 0 state.old result state.new }
 {
     let mut got = got;
     one_entry(&mut state.heap, &mut got, k, x)?;
@@ -223,8 +210,7 @@ pub(crate) fn store_value(
         (above env n here (frame_does env n here (f.Store line x) (an_aim (aim_of aim))) frames
         (world_of state.old)) result (λ control. machine_does env n here control frames
         (world_of state.new)) }
-    ensures light { IfOk result (λ control. (state.new.heap.steps ≤ state.old.heap.steps)
-        × (control_weight control ≡ 0)) }
+    ensures light { SpendsFor 0 state.old result state.new }
 {
     if let Err(halt) = store(state, at, &aim, x) {
         return Err(halt);
@@ -242,14 +228,12 @@ pub(crate) fn augment(
     e: Arc<Expr, Global>,
     aim: Aim,
 ) -> Result<Control, Halt>
-    ensures goes { (env : Env) (n : ℕ) (running : List (List ℕ × List ℕ))
-        → let here = here_of at.now at.now.line running in Goes (on env n here line).site
-        (above env n here (frame_does env n here (f.Augment line op e) (an_aim (aim_of aim)))
-        frames.old.items (world_of state.old)) result
-        (λ control. machine_does env n here control frames.new.items (world_of state.new)) }
-    ensures lighter { IfOk result
-        (λ control. Lighter state.old.heap.steps (frames_weight frames.old.items + 2)
-        state.new.heap.steps (frames_weight frames.new.items + control_weight control)) }
+    ensures goes { LeadsOn at.now line
+        (λ env n here. above env n here
+        (frame_does env n here (f.Augment line op e) (an_aim (aim_of aim))) frames.old.items
+        (world_of state.old)) result frames.new.items state.new }
+    ensures lighter { GetsLighter state.old (frames_weight frames.old.items + 2) result
+        frames.new.items state.new }
 {
     let x = match present(state, at, &aim) {
         Ok(x) => x,
@@ -280,15 +264,12 @@ pub(crate) fn begin_body(
     x: Val,
     aim: Aim,
 ) -> Result<Control, Halt>
-    ensures goes { (env : Env) (n : ℕ) (running : List (List ℕ × List ℕ))
-        → let here = here_of at.now at.now.line running in
-        Goes (on env n here turns.value.line).site
-        (above env n here (frame_does env n here (f.Turn turns x) (an_aim (aim_of aim)))
-        frames.old.items (world_of state.old)) result
-        (λ control. machine_does env n here control frames.new.items (world_of state.new)) }
-    ensures lighter { IfOk result
-        (λ control. Lighter state.old.heap.steps (frames_weight frames.old.items + 8)
-        state.new.heap.steps (frames_weight frames.new.items + control_weight control)) }
+    ensures goes { LeadsOn at.now turns.value.line
+        (λ env n here. above env n here
+        (frame_does env n here (f.Turn turns x) (an_aim (aim_of aim))) frames.old.items
+        (world_of state.old)) result frames.new.items state.new }
+    ensures lighter { GetsLighter state.old (frames_weight frames.old.items + 8) result
+        frames.new.items state.new }
 {
     if let Err(halt) = store(state, at, &aim, x) {
         return Err(halt);
@@ -311,15 +292,12 @@ pub(crate) fn begin_clause(
     got: Box<Gathered>,
     aim: Aim,
 ) -> Result<Control, Halt>
-    ensures goes { (env : Env) (n : ℕ) (running : List (List ℕ × List ℕ))
-        → let here = here_of at.now at.now.line running in
-        Goes (on env n here turns.value.line).site
-        (above env n here (frame_does env n here (f.Aimed turns x got) (an_aim (aim_of aim)))
-        frames.old.items (world_of state.old)) result
-        (λ control. machine_does env n here control frames.new.items (world_of state.new)) }
-    ensures lighter { IfOk result
-        (λ control. Lighter state.old.heap.steps (frames_weight frames.old.items + 8)
-        state.new.heap.steps (frames_weight frames.new.items + control_weight control)) }
+    ensures goes { LeadsOn at.now turns.value.line
+        (λ env n here. above env n here
+        (frame_does env n here (f.Aimed turns x got) (an_aim (aim_of aim))) frames.old.items
+        (world_of state.old)) result frames.new.items state.new }
+    ensures lighter { GetsLighter state.old (frames_weight frames.old.items + 8) result
+        frames.new.items state.new }
 {
     if let Err(halt) = store(state, at, &aim, x) {
         return Err(halt);

@@ -1,17 +1,17 @@
 //! What each frame does with the value that it waits for.
-ghost use Rattle.std.specs.Prelude.{◌≡◌, ◌<◌, ◌+◌, ◌≤◌, ℕ, List, IfOk};
-ghost use Rattle.language.specs.World.{Here};
+ghost use Rattle.std.specs.Prelude.{◌≡◌, ◌<◌, ◌+◌, ℕ, List, false, IfOk};
 ghost use Rattle.language.specs.Environment.{Env};
 ghost use Rattle.tree.specs.Tree as t;
 ghost use Rattle.tree.specs.View.{shared_tree};
 ghost use Rattle.names.specs.View.{world_of, here_of};
 ghost use Rattle.pieces.specs.View.{aim_of};
-ghost use Rattle.frames.specs.Frames.{Goes, on, a_value, sig_of, assigned, changes, frame_does, frame_line, above, machine_does};
+ghost use Rattle.frames.specs.Going.{GetsLighter, LeadsOn};
+ghost use Rattle.frames.specs.Frames.{Goes, on, a_value, sig_of, assigned, changes, frame_does, frame_line, is_leave, above, machine_does};
 ghost use Rattle.frames.specs.declared.frame.Frame.{Frame};
-ghost use Rattle.frames.specs.Weight.{Lighter, frames_weight, frame_weight, control_weight, aim_size};
+ghost use Rattle.frames.specs.Weight.{frames_weight, frame_weight, control_weight, aim_size};
 
 use crate::deliver::{deliver_aim, deliver_exit, deliver_gathered};
-use crate::frame::{Control, Exit, Frame, NOT_AWAITED, Purpose, Receiver, Signal};
+use crate::frame::{Control, Exit, Frame, Purpose, Receiver, Signal};
 use crate::handed::{
     branch_known, clause_known, default_done, entry_done, entry_gathered, index_done,
     member_gathered, slice_done,
@@ -63,15 +63,12 @@ fn assign(
     target: &Arc<Expr, Global>,
     x: Val,
 ) -> Result<Control, Halt>
-    ensures goes { (env : Env) (n : ℕ) (running : List (List ℕ × List ℕ))
-        → let here = here_of at.now at.now.line running in Goes (on env n here line).site
-        (above env n here (assigned env n here (shared_tree target.now) x line) frames.old.items
-        (world_of state.old)) result (λ control. machine_does env n here control frames.new.items
-        (world_of state.new)) }
-    ensures lighter { IfOk result
-        (λ control. Lighter state.old.heap.steps
-        (frames_weight frames.old.items + (aim_size (shared_tree target.now) + 4))
-        state.new.heap.steps (frames_weight frames.new.items + control_weight control)) }
+    ensures goes { LeadsOn at.now line
+        (λ env n here. above env n here (assigned env n here (shared_tree target.now) x line)
+        frames.old.items (world_of state.old)) result frames.new.items state.new }
+    ensures lighter { GetsLighter state.old
+        (frames_weight frames.old.items + (aim_size (shared_tree target.now) + 4)) result
+        frames.new.items state.new }
 {
     match &**target {
         Expr::Name(name, last) => assign_name(state, at, line, name, last, x),
@@ -93,14 +90,11 @@ fn change(
     x: Val,
     y: Val,
 ) -> Result<Control, Halt>
-    ensures goes { (env : Env) (n : ℕ) (running : List (List ℕ × List ℕ))
-        → let here = here_of at.now at.now.line running in Goes (on env n here line).site
-        (above env n here (changes env n here op (aim_of aim.value) x y line) frames.now.items
-        (world_of state.old)) result (λ control. machine_does env n here control frames.now.items
-        (world_of state.new)) }
-    ensures lighter { IfOk result
-        (λ control. Lighter state.old.heap.steps (frames_weight frames.now.items + 6)
-        state.new.heap.steps (frames_weight frames.now.items + control_weight control)) }
+    ensures goes { LeadsOn at.now line
+        (λ env n here. above env n here (changes env n here op (aim_of aim.value) x y line)
+        frames.now.items (world_of state.old)) result frames.now.items state.new }
+    ensures lighter { GetsLighter state.old (frames_weight frames.now.items + 6) result
+        frames.now.items state.new }
 {
     match op {
         BinaryOp::Add => Ok(Control::Add {
@@ -127,16 +121,12 @@ pub fn deliver_value(
     frame: Frame,
     x: Val,
 ) -> Result<Control, Halt>
-    ensures goes { (env : Env) (n : ℕ) (running : List (List ℕ × List ℕ))
-        → let here = here_of at.now at.now.line running in
-        Goes (on env n here (frame_line at.now.line frame)).site
-        (above env n here (frame_does env n here frame (a_value x)) frames.old.items
-        (world_of state.old)) result (λ control. machine_does env n here control frames.new.items
-        (world_of state.new)) }
-    ensures lighter { IfOk result
-        (λ control. Lighter state.old.heap.steps
-        (frames_weight frames.old.items + frame_weight frame) state.new.heap.steps
-        (frames_weight frames.new.items + control_weight control)) }
+    requires { is_leave frame ≡ false }
+    ensures goes { LeadsOn at.now (frame_line at.now.line frame)
+        (λ env n here. above env n here (frame_does env n here frame (a_value x)) frames.old.items
+        (world_of state.old)) result frames.new.items state.new }
+    ensures lighter { GetsLighter state.old (frames_weight frames.old.items + frame_weight frame)
+        result frames.new.items state.new }
 {
     match frame {
         Frame::Items { line, series } => item_done(line, series, x),
@@ -261,19 +251,10 @@ pub fn deliver_value(
             next,
             done,
         } => default_done(line, def, next, done, x),
-        Frame::Aims { .. } => Err(Halt::Code(NOT_AWAITED)),
-        Frame::Store { .. } => Err(Halt::Code(NOT_AWAITED)),
-        Frame::Augment { .. } => Err(Halt::Code(NOT_AWAITED)),
-        Frame::Turn(_, _) => Err(Halt::Code(NOT_AWAITED)),
-        Frame::Turns(_) => Err(Halt::Code(NOT_AWAITED)),
-        Frame::Rest { .. } => Err(Halt::Code(NOT_AWAITED)),
-        Frame::Leave(_) => Err(Halt::Code(NOT_AWAITED)),
-        Frame::Aimed(_, _, _) => Err(Halt::Code(NOT_AWAITED)),
-        Frame::Gather(_) => Err(Halt::Code(NOT_AWAITED)),
-        Frame::EndBlock => Err(Halt::Code(NOT_AWAITED)),
-        Frame::MakeList(_) => Err(Halt::Code(NOT_AWAITED)),
-        Frame::MakeDict(_) => Err(Halt::Code(NOT_AWAITED)),
-        Frame::Tops { .. } => Err(Halt::Code(NOT_AWAITED)),
+        frame => {
+            drop(frame);
+            Ok(Control::Signal(Signal::Value(x)))
+        }
     }
 }
 
@@ -285,16 +266,12 @@ pub fn deliver(
     frame: Frame,
     signal: Signal,
 ) -> Result<Control, Halt>
-    ensures goes { (env : Env) (n : ℕ) (running : List (List ℕ × List ℕ))
-        → let here = here_of at.now at.now.line running in
-        Goes (on env n here (frame_line at.now.line frame)).site
-        (above env n here (frame_does env n here frame (sig_of signal)) frames.old.items
-        (world_of state.old)) result (λ control. machine_does env n here control frames.new.items
-        (world_of state.new)) }
-    ensures lighter { IfOk result
-        (λ control. Lighter state.old.heap.steps
-        (frames_weight frames.old.items + frame_weight frame) state.new.heap.steps
-        (frames_weight frames.new.items + control_weight control)) }
+    requires { is_leave frame ≡ false }
+    ensures goes { LeadsOn at.now (frame_line at.now.line frame)
+        (λ env n here. above env n here (frame_does env n here frame (sig_of signal))
+        frames.old.items (world_of state.old)) result frames.new.items state.new }
+    ensures lighter { GetsLighter state.old (frames_weight frames.old.items + frame_weight frame)
+        result frames.new.items state.new }
 {
     match signal {
         Signal::Value(x) => deliver_value(state, frames, at, frame, x),

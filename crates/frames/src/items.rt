@@ -1,8 +1,6 @@
 //! How items and entries go on, and what they are for.
-ghost use Rattle.std.specs.Prelude.{◌≡◌, ◌<◌, ◌+◌, ◌≤◌, ℕ, List, [], length, IfOk};
-ghost use Rattle.std.specs.List.{list_any};
+ghost use Rattle.std.specs.Prelude.{◌≡◌, ◌<◌, ◌+◌, ◌≤◌, ℕ, List, [], IfOk};
 ghost use Rattle.std.specs.Arc.{arc_value};
-ghost use Rattle.meaning.specs.Builtins.{same_builtin, package_functions};
 ghost use Rattle.language.specs.World.{World, Here, then_runs};
 ghost use Rattle.language.specs.Environment.{Env};
 ghost use Rattle.language.specs.Expressions as e;
@@ -10,8 +8,9 @@ ghost use Rattle.language.specs.Arguments.{plain_part, named_part};
 ghost use Rattle.language.specs.Calls.{call};
 ghost use Rattle.names.specs.View.{world_of, here_of};
 ghost use Rattle.tree.specs.View.{tree_of};
+ghost use Rattle.frames.specs.Going.{GetsLighter, LeadsOn, LeadsOnAnywhere};
 ghost use Rattle.frames.specs.Frames.{Goes, on, ex, valued, a_value, use_items, items_from, shared_trees, receiver_of, frame_does, calls_below, here_below, above, machine_does};
-ghost use Rattle.frames.specs.Weight.{Lighter, frames_weight, control_weight};
+ghost use Rattle.frames.specs.Weight.{frames_weight, control_weight};
 ghost use Rattle.frames.specs.declared.frame.Control.TheVariants as c;
 
 use crate::begin::{begin, begin_parts};
@@ -108,11 +107,9 @@ fn apply_method(
 
 // What the values of several expressions are for.
 fn use_items(state: &mut State, line: usize, xs: Vec<Val>, p: Purpose) -> Result<Control, Halt>
-    ensures goes { (env : Env) (n : ℕ) (here : Here) (frames : List Frame)
-        → Goes (on env n here line).site
-        (above env n here (valued (use_items env n here p xs.items line)) frames
-        (world_of state.old)) result (λ control. machine_does env n here control frames
-        (world_of state.new)) }
+    ensures goes { LeadsOnAnywhere line
+        (λ env n here frames. above env n here (valued (use_items env n here p xs.items line))
+        frames (world_of state.old)) result state.new }
     ensures steps { IfOk result (λ _. state.new.heap.steps ≤ state.old.heap.steps) }
     ensures light { IfOk result (λ control. control_weight control < 8) }
 {
@@ -199,13 +196,10 @@ pub fn next_item(
     line: usize,
     series: Box<Series>,
 ) -> Result<Control, Halt>
-    ensures goes { (env : Env) (n : ℕ) (running : List (List ℕ × List ℕ))
-        → let here = here_of at.now at.now.line running in Goes (on env n here line).site
-        (machine_does env n here (c.Items line series) frames.old.items (world_of state.old)) result
-        (λ control. machine_does env n here control frames.new.items (world_of state.new)) }
-    ensures lighter { IfOk result
-        (λ control. Lighter state.old.heap.steps (frames_weight frames.old.items + 8)
-        state.new.heap.steps (frames_weight frames.new.items + control_weight control)) }
+    ensures goes { LeadsOn at.now line (λ env n here. machine_does env n here (c.Items line series)
+        frames.old.items (world_of state.old)) result frames.new.items state.new }
+    ensures lighter { GetsLighter state.old (frames_weight frames.old.items + 8) result
+        frames.new.items state.new }
 {
     let now = &*series;
     let next = now.done.len();

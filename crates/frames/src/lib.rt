@@ -23,10 +23,10 @@ mod stepping;
 mod targets;
 mod tops;
 
-pub use deliver::given;
+pub use deliver::given_by;
 pub use frame::{
-    Caller, Comprehension, Control, Exit, Frame, Gathering, Item, NOT_AWAITED, Pairs, Purpose,
-    Receiver, Series, Signal, Turns,
+    Caller, Comprehension, Control, Exit, Frame, Gathering, Item, Pairs, Purpose, Receiver, Series,
+    Signal, Turns,
 };
 pub use moves::hand_down;
 pub use places::{control_line, frame_line};

@@ -1,13 +1,13 @@
 //! How suites, branches and loops go on.
-ghost use Rattle.std.specs.Prelude.{◌≡◌, ◌<◌, ◌+◌, ◌≤◌, ℕ, List, length, IfOk};
+ghost use Rattle.std.specs.Prelude.{◌≡◌, ◌<◌, ◌+◌, ◌≤◌, length, IfOk};
 ghost use Rattle.std.specs.Arc.{arc_value};
 ghost use Rattle.tree.specs.View.{tree_of};
-ghost use Rattle.language.specs.World.{Here, then_runs};
+ghost use Rattle.language.specs.World.{then_runs};
 ghost use Rattle.language.specs.Targets.{to_name};
-ghost use Rattle.language.specs.Environment.{Env};
-ghost use Rattle.names.specs.View.{world_of, here_of};
+ghost use Rattle.names.specs.View.{world_of};
+ghost use Rattle.frames.specs.Going.{GetsLighter, LeadsOn};
 ghost use Rattle.frames.specs.Frames.{Goes, on, an_aim, aims_at, frame_does, above, machine_does, suite_from, branches_from, suite_line, first_line};
-ghost use Rattle.frames.specs.Weight.{Lighter, frames_weight, control_weight};
+ghost use Rattle.frames.specs.Weight.{frames_weight};
 ghost use Rattle.frames.specs.declared.frame.Control.TheVariants as c;
 ghost use Rattle.frames.specs.declared.frame.Frame.TheVariants as f;
 
@@ -35,14 +35,11 @@ pub fn next_stmt(
     ss: Arc<Vec<Stmt>, Global>,
     next: usize,
 ) -> Result<Control, Halt>
-    ensures goes { (env : Env) (n : ℕ) (running : List (List ℕ × List ℕ))
-        → let here = here_of at.now at.now.line running in
-        Goes (on env n here (suite_line (suite_from next ss))).site
-        (machine_does env n here (c.Suite ss next) frames.old.items (world_of state.old)) result
-        (λ control. machine_does env n here control frames.new.items (world_of state.new)) }
-    ensures lighter { IfOk result
-        (λ control. Lighter state.old.heap.steps (frames_weight frames.old.items + 1)
-        state.new.heap.steps (frames_weight frames.new.items + control_weight control)) }
+    ensures goes { LeadsOn at.now (suite_line (suite_from next ss))
+        (λ env n here. machine_does env n here (c.Suite ss next) frames.old.items
+        (world_of state.old)) result frames.new.items state.new }
+    ensures lighter { GetsLighter state.old (frames_weight frames.old.items + 1) result
+        frames.new.items state.new }
 {
     let ahead = match ahead(state, at, &ss, next) {
         Ok(ahead) => ahead,
@@ -68,11 +65,9 @@ fn stmt_above(
     next: usize,
 ) -> Result<Control, Halt>
     requires { next < length (arc_value ss).items }
-    ensures goes { (env : Env) (n : ℕ) (running : List (List ℕ × List ℕ))
-        → let here = here_of at.now at.now.line running in
-        Goes (on env n here (suite_line (suite_from next ss))).site
-        (machine_does env n here (c.Suite ss next) frames.old.items (world_of state.old)) result
-        (λ control. machine_does env n here control frames.new.items (world_of state.new)) }
+    ensures goes { LeadsOn at.now (suite_line (suite_from next ss))
+        (λ env n here. machine_does env n here (c.Suite ss next) frames.old.items
+        (world_of state.old)) result frames.new.items state.new }
     ensures steps { IfOk result (λ _. state.new.heap.steps < state.old.heap.steps) }
 {
     let again = Arc::try_clone(&ss)?;
@@ -98,14 +93,11 @@ pub fn next_branch(
     next: usize,
     other: Arc<Vec<Stmt>, Global>,
 ) -> Result<Control, Halt>
-    ensures goes { (env : Env) (n : ℕ) (running : List (List ℕ × List ℕ))
-        → let here = here_of at.now at.now.line running in
-        Goes (on env n here (first_line (branches_from next bs))).site
-        (machine_does env n here (c.Branches bs next other) frames.old.items (world_of state.old))
-        result (λ control. machine_does env n here control frames.new.items (world_of state.new)) }
-    ensures lighter { IfOk result
-        (λ control. Lighter state.old.heap.steps (frames_weight frames.old.items + 2)
-        state.new.heap.steps (frames_weight frames.new.items + control_weight control)) }
+    ensures goes { LeadsOn at.now (first_line (branches_from next bs))
+        (λ env n here. machine_does env n here (c.Branches bs next other) frames.old.items
+        (world_of state.old)) result frames.new.items state.new }
+    ensures lighter { GetsLighter state.old (frames_weight frames.old.items + 2) result
+        frames.new.items state.new }
 {
     if next >= bs.len() {
         return Ok(Control::Suite {
@@ -134,14 +126,11 @@ pub fn next_turn(
     at: &Standing,
     turns: Box<Turns>,
 ) -> Result<Control, Halt>
-    ensures goes { (env : Env) (n : ℕ) (running : List (List ℕ × List ℕ))
-        → let here = here_of at.now at.now.line running in
-        Goes (on env n here turns.value.line).site
-        (machine_does env n here (c.Turns turns) frames.old.items (world_of state.old)) result
-        (λ control. machine_does env n here control frames.new.items (world_of state.new)) }
-    ensures lighter { IfOk result
-        (λ control. Lighter state.old.heap.steps (frames_weight frames.old.items + 1)
-        state.new.heap.steps (frames_weight frames.new.items + control_weight control)) }
+    ensures goes { LeadsOn at.now turns.value.line
+        (λ env n here. machine_does env n here (c.Turns turns) frames.old.items
+        (world_of state.old)) result frames.new.items state.new }
+    ensures lighter { GetsLighter state.old (frames_weight frames.old.items + 1) result
+        frames.new.items state.new }
 {
     let now = &*turns;
     if now.next >= now.items.len() {
@@ -169,12 +158,10 @@ fn aim_turn(
     x: Val,
 ) -> Result<Control, Halt>
     requires { line ≡ turns.value.line }
-    ensures goes { (env : Env) (n : ℕ) (running : List (List ℕ × List ℕ))
-        → let here = here_of at.now at.now.line running in Goes (on env n here line).site
-        (then_runs (aims_at env n here (tree_of target.now) line (world_of state.old))
+    ensures goes { LeadsOn at.now line
+        (λ env n here. then_runs (aims_at env n here (tree_of target.now) line (world_of state.old))
         (λ a. above env n here (frame_does env n here (f.Turn turns x) (an_aim a))
-        frames.old.items)) result (λ control. machine_does env n here control frames.new.items
-        (world_of state.new)) }
+        frames.old.items)) result frames.new.items state.new }
     ensures steps { IfOk result (λ _. state.new.heap.steps ≤ state.old.heap.steps) }
 {
     match target {
@@ -196,12 +183,10 @@ fn begin_named(
     turns: Box<Turns>,
     x: Val,
 ) -> Result<Control, Halt>
-    ensures goes { (env : Env) (n : ℕ) (running : List (List ℕ × List ℕ))
-        → let here = here_of at.now at.now.line running in
-        Goes (on env n here turns.value.line).site
-        (above env n here (frame_does env n here (f.Turn turns x) (an_aim (to_name name.now)))
-        frames.old.items (world_of state.old)) result
-        (λ control. machine_does env n here control frames.new.items (world_of state.new)) }
+    ensures goes { LeadsOn at.now turns.value.line
+        (λ env n here. above env n here
+        (frame_does env n here (f.Turn turns x) (an_aim (to_name name.now))) frames.old.items
+        (world_of state.old)) result frames.new.items state.new }
     ensures steps { IfOk result (λ _. state.new.heap.steps ≤ state.old.heap.steps) }
 {
     if let Err(halt) = bind(state, at, name, last, x) {

@@ -1,5 +1,5 @@
 //! What begins with nothing done: items, entries and loops.
-ghost use Rattle.std.specs.Prelude.{◌≡◌, ◌≤◌, ◌<◌, ◌+◌, ◌^◌, ℕ, List, [], IfOk, IsOkUnless};
+ghost use Rattle.std.specs.Prelude.{◌≡◌, ◌<◌, ◌+◌, ◌^◌, ℕ, List, [], IfOk, IsOkUnless};
 ghost use Rattle.heap.specs.declared.halt.Halt.TheVariants.{Memory};
 ghost use Rattle.std.specs.Arc.{arc_value};
 ghost use Rattle.language.specs.World.{World, Here};
@@ -10,8 +10,9 @@ ghost use Rattle.language.specs.Loops.{over};
 ghost use Rattle.tree.specs.View.{shared_tree};
 ghost use Rattle.names.specs.View.{world_of};
 ghost use Rattle.pieces.specs.View.{gathered_of};
+ghost use Rattle.frames.specs.Going.{LeadsOnAnywhere, SpendsFor};
 ghost use Rattle.frames.specs.declared.frame.Frame.{Frame};
-ghost use Rattle.frames.specs.Frames.{Goes, on, valued, exited, gathered, shared_trees, shared_suite, body, items_from, entries_from, each_does, above, machine_does};
+ghost use Rattle.frames.specs.Frames.{on, valued, exited, gathered, shared_trees, shared_suite, body, items_from, entries_from, each_does, above, machine_does};
 ghost use Rattle.frames.specs.Weight.{control_weight};
 
 use crate::frame::{Comprehension, Control, Gathering, Pairs, Purpose, Series, Turns};
@@ -82,17 +83,14 @@ pub fn turns_over(
     statements: Arc<Vec<Stmt>, Global>,
     x: Val,
 ) -> Result<Control, Halt>
-    ensures goes { (env : Env) (n : ℕ) (here : Here) (frames : List Frame)
-        → Goes (on env n here line).site
-        (above env n here
+    ensures goes { LeadsOnAnywhere line
+        (λ env n here frames. above env n here
         (exited
         (over x
         (s.turns (s.turn env (call env n) (shared_tree target)
         (body env n here (shared_suite statements)) (on env n here line))) (on env n here line)))
-        frames (world_of state.old)) result (λ control. machine_does env n here control frames
-        (world_of state.new)) }
-    ensures light { IfOk result (λ control. (state.new.heap.steps ≤ state.old.heap.steps)
-        × (control_weight control ≡ 1)) }
+        frames (world_of state.old)) result state.new }
+    ensures light { SpendsFor 1 state.old result state.new }
 {
     let members = items(&state.heap, x)?;
     lock(&mut state.heap, x)?;
@@ -117,14 +115,11 @@ pub fn clause_over(
     got: Box<Gathered>,
     x: Val,
 ) -> Result<Control, Halt>
-    ensures goes { (env : Env) (n : ℕ) (here : Here) (frames : List Frame)
-        → Goes (on env n here line).site
-        (above env n here
+    ensures goes { LeadsOnAnywhere line
+        (λ env n here frames. above env n here
         (gathered (each_does env n here (shared_tree target) (arc_value of) inner line
-        (gathered_of got.value) x)) frames (world_of state.old)) result
-        (λ control. machine_does env n here control frames (world_of state.new)) }
-    ensures light { IfOk result (λ control. (state.new.heap.steps ≤ state.old.heap.steps)
-        × (control_weight control ≡ 1)) }
+        (gathered_of got.value) x)) frames (world_of state.old)) result state.new }
+    ensures light { SpendsFor 1 state.old result state.new }
 {
     let members = items(&state.heap, x)?;
     lock(&mut state.heap, x)?;

@@ -1,11 +1,11 @@
 //! A signal for the topmost frame.
 ghost use Rattle.std.specs.Prelude.{◌≡◌, ◌+◌, ◌++◌, [], ◌∷◌, ℕ, List, true, false, IfOk, IsOkUnless};
-ghost use Rattle.language.specs.World.{Here};
 ghost use Rattle.language.specs.Environment.{Env};
 ghost use Rattle.names.specs.View.{world_of, here_of};
 ghost use Rattle.heap.specs.declared.halt.Halt.TheVariants.{Memory};
+ghost use Rattle.frames.specs.Going.{GetsLighter, LeadsOn};
 ghost use Rattle.frames.specs.Frames.{Goes, on, sig_of, frame_does, frame_line, is_leave, is_within, above, machine_does};
-ghost use Rattle.frames.specs.Weight.{Lighter, frames_weight, frame_weight, control_weight};
+ghost use Rattle.frames.specs.Weight.{frames_weight, frame_weight, control_weight};
 ghost use Rattle.frames.specs.Ahead.{AsLight};
 ghost use Rattle.frames.specs.declared.frame.Control.TheVariants as c;
 
@@ -94,16 +94,12 @@ fn hand_on(
     frame: Frame,
     signal: Signal,
 ) -> Result<Control, Halt>
-    ensures goes { (env : Env) (n : ℕ) (running : List (List ℕ × List ℕ))
-        → let here = here_of at.now at.now.line running in
-        Goes (on env n here (frame_line at.now.line frame)).site
-        (above env n here (frame_does env n here frame (sig_of signal)) frames.old.items
-        (world_of state.old)) result (λ control. machine_does env n here control frames.new.items
-        (world_of state.new)) }
-    ensures lighter { IfOk result
-        (λ control. Lighter state.old.heap.steps
-        (frames_weight frames.old.items + frame_weight frame) state.new.heap.steps
-        (frames_weight frames.new.items + control_weight control)) }
+    requires { is_leave frame ≡ false }
+    ensures goes { LeadsOn at.now (frame_line at.now.line frame)
+        (λ env n here. above env n here (frame_does env n here frame (sig_of signal))
+        frames.old.items (world_of state.old)) result frames.new.items state.new }
+    ensures lighter { GetsLighter state.old (frames_weight frames.old.items + frame_weight frame)
+        result frames.new.items state.new }
 {
     match deliver(state, frames, at, frame, signal) {
         Ok(control) => onward(state, frames, at, control),
@@ -120,15 +116,11 @@ pub fn hand_down(
     signal: Signal,
 ) -> Result<Control, Halt>
     requires { is_leave frame ≡ false }
-    ensures goes { (env : Env) (n : ℕ) (running : List (List ℕ × List ℕ))
-        → let here = here_of at.now at.now.line running in
-        Goes (on env n here (frame_line at.now.line frame)).site
-        (machine_does env n here (c.Signal signal) (frames.old.items ++ frame ∷ [])
-        (world_of state.old)) result (λ next. machine_does env n here next frames.new.items
-        (world_of state.new)) }
-    ensures lighter { IfOk result
-        (λ next. Lighter state.old.heap.steps (frames_weight (frames.old.items ++ frame ∷ []))
-        state.new.heap.steps (frames_weight frames.new.items + control_weight next)) }
+    ensures goes { LeadsOn at.now (frame_line at.now.line frame)
+        (λ env n here. machine_does env n here (c.Signal signal) (frames.old.items ++ frame ∷ [])
+        (world_of state.old)) result frames.new.items state.new }
+    ensures lighter { GetsLighter state.old (frames_weight (frames.old.items ++ frame ∷ [])) result
+        frames.new.items state.new }
 {
     hand_on(state, frames, at, frame, signal)
 }

@@ -7,6 +7,7 @@ ghost use Rattle.language.specs.Environment.{Env};
 ghost use Rattle.language.specs.Expressions.{operator_of};
 ghost use Rattle.tree.specs.View.{tree_of, shared_tree};
 ghost use Rattle.names.specs.View.{world_of, here_of};
+ghost use Rattle.frames.specs.Going.{LeadsOn};
 ghost use Rattle.frames.specs.Immediate.{AtOnce, Costs};
 ghost use Rattle.frames.specs.Frames.{Sig, Goes, a_value, on, ex, valued, items_from, trees_from, frame_does, calls_below, here_below, above, machine_does};
 ghost use Rattle.frames.specs.Weight.{control_weight};
@@ -65,15 +66,14 @@ pub fn one_item(
     series: Box<Series>,
     e: &Expr,
 ) -> Result<Control, Halt>
-    ensures goes { (env : Env) (n : ℕ) (running : List (List ℕ × List ℕ))
-        → let here = here_of at.now at.now.line running in Goes (on env n here line).site
-        (then_runs (ex env n here (tree_of e.now) line (world_of state.old))
+    ensures goes { LeadsOn at.now line
+        (λ env n here. then_runs (ex env n here (tree_of e.now) line (world_of state.old))
         (λ v. above env n here
         (valued
         (items_from env n here series.value.purpose
         (trees_from (length series.value.done.items + 1) series.value.items)
-        (series.value.done.items ++ v ∷ []) line)) frames.old.items)) result
-        (λ control. machine_does env n here control frames.new.items (world_of state.new)) }
+        (series.value.done.items ++ v ∷ []) line)) frames.old.items)) result frames.new.items
+        state.new }
     ensures steps { IfOk result (λ _. state.new.heap.steps < state.old.heap.steps) }
 {
     match at_once(state, at, e) {
@@ -106,12 +106,10 @@ pub fn second_operand(
     x: Val,
     e: &Expr,
 ) -> Result<Control, Halt>
-    ensures goes { (env : Env) (n : ℕ) (running : List (List ℕ × List ℕ))
-        → let here = here_of at.now at.now.line running in Goes (on env n here line).site
-        (then_runs (ex env n here (tree_of e.now) line (world_of state.old))
+    ensures goes { LeadsOn at.now line
+        (λ env n here. then_runs (ex env n here (tree_of e.now) line (world_of state.old))
         (λ y. above env n here (valued (on_heap (on env n here line) (binary (operator_of op) x y)))
-        frames.old.items)) result (λ control. machine_does env n here control frames.new.items
-        (world_of state.new)) }
+        frames.old.items)) result frames.new.items state.new }
     ensures steps { IfOk result (λ _. state.new.heap.steps < state.old.heap.steps) }
 {
     match at_once(state, at, e) {

@@ -1,15 +1,13 @@
 //! What waits for the values of operands.
 ghost use Rattle.std.specs.Prelude.{◌≡◌, ◌<◌, ◌+◌, ◌≤◌, ℕ, List, IfOk};
-ghost use Rattle.std.specs.Arc.{arc_value};
-ghost use Rattle.meaning.specs.Indexing as ix;
-ghost use Rattle.language.specs.World.{Here, on_heap, by_truth};
+ghost use Rattle.language.specs.World.{Here, by_truth};
 ghost use Rattle.language.specs.Environment.{Env};
 ghost use Rattle.language.specs.Expressions as e;
-ghost use Rattle.language.specs.Calls.{call};
 ghost use Rattle.tree.specs.View.{shared_tree, bound_tree};
-ghost use Rattle.names.specs.View.{world_of, here_of};
-ghost use Rattle.frames.specs.Frames.{Goes, on, ex, valued, right, sliced, sliced_from, entries_from, entry_from, trees_from, above, machine_does};
-ghost use Rattle.frames.specs.Weight.{Lighter, frames_weight, control_weight};
+ghost use Rattle.names.specs.View.{world_of};
+ghost use Rattle.frames.specs.Going.{GetsLighter, LeadsOn};
+ghost use Rattle.frames.specs.Frames.{Goes, on, ex, valued, right, sliced, sliced_from, entry_from, trees_from, above, machine_does};
+ghost use Rattle.frames.specs.Weight.{frames_weight, control_weight};
 ghost use Rattle.frames.specs.declared.frame.Control.TheVariants as c;
 
 use crate::begin::begin;
@@ -48,15 +46,12 @@ pub fn right_operand(
     x: Val,
     b: &Arc<Expr, Global>,
 ) -> Result<Control, Halt>
-    ensures goes { (env : Env) (n : ℕ) (running : List (List ℕ × List ℕ))
-        → let here = here_of at.now at.now.line running in Goes (on env n here line).site
-        (above env n here
+    ensures goes { LeadsOn at.now line
+        (λ env n here. above env n here
         (valued (right op x (ex env n here (shared_tree b.now) line) (on env n here line)))
-        frames.old.items (world_of state.old)) result
-        (λ control. machine_does env n here control frames.new.items (world_of state.new)) }
-    ensures lighter { IfOk result
-        (λ control. Lighter state.old.heap.steps (frames_weight frames.old.items + 2)
-        state.new.heap.steps (frames_weight frames.new.items + control_weight control)) }
+        frames.old.items (world_of state.old)) result frames.new.items state.new }
+    ensures lighter { GetsLighter state.old (frames_weight frames.old.items + 2) result
+        frames.new.items state.new }
 {
     match op {
         BinaryOp::Or => {
@@ -87,12 +82,11 @@ pub fn choose(
     a: &Arc<Expr, Global>,
     b: &Arc<Expr, Global>,
 ) -> Result<Control, Halt>
-    ensures goes { (env : Env) (n : ℕ) (running : List (List ℕ × List ℕ))
-        → let here = here_of at.now at.now.line running in Goes (on env n here line).site
-        (above env n here
+    ensures goes { LeadsOn at.now line
+        (λ env n here. above env n here
         (valued (by_truth x (ex env n here (shared_tree a.now) line)
         (ex env n here (shared_tree b.now) line))) frames.old.items (world_of state.old)) result
-        (λ control. machine_does env n here control frames.new.items (world_of state.new)) }
+        frames.new.items state.new }
     ensures steps { IfOk result (λ _. state.new.heap.steps < state.old.heap.steps) }
 {
     let holds = is_true(&state.heap, x)?;
@@ -112,14 +106,11 @@ pub fn slice_to(
     y: Val,
     j: &Option<Arc<Expr, Global>>,
 ) -> Result<Control, Halt>
-    ensures goes { (env : Env) (n : ℕ) (running : List (List ℕ × List ℕ))
-        → let here = here_of at.now at.now.line running in Goes (on env n here line).site
-        (above env n here (valued (sliced env n here x y (bound_tree j.now) line)) frames.old.items
-        (world_of state.old)) result (λ control. machine_does env n here control frames.new.items
-        (world_of state.new)) }
-    ensures lighter { IfOk result
-        (λ control. Lighter state.old.heap.steps (frames_weight frames.old.items + 2)
-        state.new.heap.steps (frames_weight frames.new.items + control_weight control)) }
+    ensures goes { LeadsOn at.now line
+        (λ env n here. above env n here (valued (sliced env n here x y (bound_tree j.now) line))
+        frames.old.items (world_of state.old)) result frames.new.items state.new }
+    ensures lighter { GetsLighter state.old (frames_weight frames.old.items + 2) result
+        frames.new.items state.new }
 {
     match j {
         Some(e) => begin_above(
@@ -147,13 +138,11 @@ pub fn next_entry(
     pairs: Box<Pairs>,
     next: usize,
 ) -> Result<Control, Halt>
-    ensures goes { (env : Env) (n : ℕ) (running : List (List ℕ × List ℕ))
-        → let here = here_of at.now at.now.line running in Goes (on env n here line).site
-        (machine_does env n here (c.Entries line pairs next) frames.old.items (world_of state.old))
-        result (λ control. machine_does env n here control frames.new.items (world_of state.new)) }
-    ensures lighter { IfOk result
-        (λ control. Lighter state.old.heap.steps (frames_weight frames.old.items + 3)
-        state.new.heap.steps (frames_weight frames.new.items + control_weight control)) }
+    ensures goes { LeadsOn at.now line
+        (λ env n here. machine_does env n here (c.Entries line pairs next) frames.old.items
+        (world_of state.old)) result frames.new.items state.new }
+    ensures lighter { GetsLighter state.old (frames_weight frames.old.items + 3) result
+        frames.new.items state.new }
 {
     let now = &*pairs;
     if next < now.keys.len() && next < now.values.len() {
@@ -175,16 +164,13 @@ pub fn entry_value(
     next: usize,
     k: Val,
 ) -> Result<Control, Halt>
-    ensures goes { (env : Env) (n : ℕ) (running : List (List ℕ × List ℕ))
-        → let here = here_of at.now at.now.line running in Goes (on env n here line).site
-        (above env n here
+    ensures goes { LeadsOn at.now line
+        (λ env n here. above env n here
         (valued (entry_from env n here k (trees_from next pairs.value.values)
         (trees_from (next + 1) pairs.value.keys) pairs.value.done.entries line)) frames.old.items
-        (world_of state.old)) result (λ control. machine_does env n here control frames.new.items
-        (world_of state.new)) }
-    ensures lighter { IfOk result
-        (λ control. Lighter state.old.heap.steps (frames_weight frames.old.items + 3)
-        state.new.heap.steps (frames_weight frames.new.items + control_weight control)) }
+        (world_of state.old)) result frames.new.items state.new }
+    ensures lighter { GetsLighter state.old (frames_weight frames.old.items + 3) result
+        frames.new.items state.new }
 {
     let now = &*pairs;
     if next < now.values.len() {
@@ -211,14 +197,12 @@ pub fn slice_from(
     i: &Option<Arc<Expr, Global>>,
     j: Option<Arc<Expr, Global>>,
 ) -> Result<Control, Halt>
-    ensures goes { (env : Env) (n : ℕ) (running : List (List ℕ × List ℕ))
-        → let here = here_of at.now at.now.line running in Goes (on env n here line).site
-        (above env n here (valued (sliced_from env n here x (bound_tree i.now) (bound_tree j) line))
-        frames.old.items (world_of state.old)) result
-        (λ control. machine_does env n here control frames.new.items (world_of state.new)) }
-    ensures lighter { IfOk result
-        (λ control. Lighter state.old.heap.steps (frames_weight frames.old.items + 3)
-        state.new.heap.steps (frames_weight frames.new.items + control_weight control)) }
+    ensures goes { LeadsOn at.now line
+        (λ env n here. above env n here
+        (valued (sliced_from env n here x (bound_tree i.now) (bound_tree j) line)) frames.old.items
+        (world_of state.old)) result frames.new.items state.new }
+    ensures lighter { GetsLighter state.old (frames_weight frames.old.items + 3) result
+        frames.new.items state.new }
 {
     match i {
         Some(e) => begin_above(

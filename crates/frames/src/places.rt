@@ -1,7 +1,7 @@
 //! The line of the statement that a frame or a control stands in.
 ghost use Rattle.std.specs.Prelude.{◌≡◌, drop, map};
 ghost use Rattle.tree.specs.Statements.{stmts_of, branch_trees, top_of};
-ghost use Rattle.frames.specs.Frames.{frame_line, control_line, suite_line, suite_from, first_line, branches_from, tops_line, tops_at};
+ghost use Rattle.frames.specs.Frames.{frame_line, control_line, suite_line, first_line, tops_line};
 
 use crate::frame::{Control, Frame};
 use crate::statements::line_of;

@@ -1,6 +1,6 @@
 //! How statements, branches and loops go on.
-ghost use Rattle.std.specs.Prelude.{◌≡◌, ◌<◌, ◌+◌, ◌≤◌, ℕ, List, IfOk};
-ghost use Rattle.language.specs.World.{Here, Ends, at_line, then_runs};
+ghost use Rattle.std.specs.Prelude.{◌≡◌, ◌<◌, ℕ, List, IfOk};
+ghost use Rattle.language.specs.World.{Ends, then_runs};
 ghost use Rattle.language.specs.Environment.{Env};
 ghost use Rattle.language.specs.Statements as s;
 ghost use Rattle.language.specs.Calls.{call};
@@ -8,8 +8,6 @@ ghost use Rattle.tree.specs.Statements.{stmt_of};
 ghost use Rattle.tree.specs.View.{shared_tree};
 ghost use Rattle.names.specs.View.{world_of, here_of};
 ghost use Rattle.frames.specs.Frames.{Sig, Goes, on, ex, a_value, exited, frame_does, calls_below, here_below, stmt_line, above, machine_does};
-ghost use Rattle.frames.specs.Weight.{Lighter, frames_weight, control_weight, aim_size};
-ghost use Rattle.frames.specs.declared.frame.Control.TheVariants as c;
 
 use crate::frame::{Control, Exit, Frame, Signal, Turns};
 use crate::items::begin_above;

@@ -1,9 +1,8 @@
 //! One step within a function or a file.
-ghost use Rattle.std.specs.Prelude.{◌≡◌, ◌+◌, ℕ, List, true, IfOk};
-ghost use Rattle.language.specs.World.{Here};
-ghost use Rattle.language.specs.Environment.{Env};
-ghost use Rattle.names.specs.View.{world_of, here_of};
-ghost use Rattle.frames.specs.Frames.{Goes, on, control_line, is_within, machine_does};
+ghost use Rattle.std.specs.Prelude.{◌≡◌, ◌+◌, true, IfOk};
+ghost use Rattle.names.specs.View.{world_of};
+ghost use Rattle.frames.specs.Going.{LeadsOn};
+ghost use Rattle.frames.specs.Frames.{on, control_line, is_within, machine_does};
 ghost use Rattle.frames.specs.Weight.{Lighter, frames_weight, control_weight};
 
 use crate::begin::begin;
@@ -25,11 +24,9 @@ pub fn step(
     at: &Standing,
     control: Control,
 ) -> Result<Control, Halt>
-    ensures goes { (env : Env) (n : ℕ) (running : List (List ℕ × List ℕ))
-        → let here = here_of at.now at.now.line running in
-        Goes (on env n here (control_line at.now.line control)).site
-        (machine_does env n here control frames.old.items (world_of state.old)) result
-        (λ next. machine_does env n here next frames.new.items (world_of state.new)) }
+    ensures goes { LeadsOn at.now (control_line at.now.line control)
+        (λ env n here. machine_does env n here control frames.old.items (world_of state.old)) result
+        frames.new.items state.new }
     ensures lighter { is_within control ≡ true
         → IfOk result
         (λ next. Lighter state.old.heap.steps

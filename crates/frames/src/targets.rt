@@ -1,12 +1,13 @@
 //! How targets go on: their operands are evaluated from left to right.
-ghost use Rattle.std.specs.Prelude.{◌≡◌, ◌<◌, ◌+◌, ◌≤◌, ℕ, List, IfOk, IsOkUnless};
+ghost use Rattle.std.specs.Prelude.{◌≡◌, ◌<◌, ◌+◌, ℕ, List, IfOk, IsOkUnless};
 ghost use Rattle.heap.specs.declared.halt.Halt.TheVariants.{Memory};
 ghost use Rattle.language.specs.World.{World, Here, then_runs};
 ghost use Rattle.language.specs.Environment.{Env};
 ghost use Rattle.tree.specs.View.{tree_of, shared_tree};
-ghost use Rattle.names.specs.View.{world_of, here_of};
+ghost use Rattle.names.specs.View.{world_of};
+ghost use Rattle.frames.specs.Going.{GetsLighter, LeadsOn};
 ghost use Rattle.frames.specs.Frames.{Goes, on, an_aim, aimed, aims_at, frame_does, calls_below, here_below, above, machine_does};
-ghost use Rattle.frames.specs.Weight.{Lighter, frames_weight, control_weight, aim_size, aim_sizes};
+ghost use Rattle.frames.specs.Weight.{frames_weight, control_weight, aim_size};
 ghost use Rattle.frames.specs.declared.frame.Control.TheVariants as c;
 
 use crate::frame::{Control, Frame, Signal};
@@ -50,22 +51,22 @@ pub fn begin_aim(
     line: usize,
     e: &Expr,
 ) -> Result<Control, Halt>
-    ensures goes { (env : Env) (n : ℕ) (running : List (List ℕ × List ℕ))
-        → let here = here_of at.now at.now.line running in Goes (on env n here line).site
-        (above env n here (aimed (aims_at env n here (tree_of e.now) line)) frames.old.items
-        (world_of state.old)) result (λ control. machine_does env n here control frames.new.items
-        (world_of state.new)) }
-    ensures lighter { IfOk result
-        (λ control. Lighter state.old.heap.steps
-        (frames_weight frames.old.items + aim_size (tree_of e.now)) state.new.heap.steps
-        (frames_weight frames.new.items + control_weight control)) }
+    ensures goes { LeadsOn at.now line
+        (λ env n here. above env n here (aimed (aims_at env n here (tree_of e.now) line))
+        frames.old.items (world_of state.old)) result frames.new.items state.new }
+    ensures lighter { GetsLighter state.old
+        (frames_weight frames.old.items + aim_size (tree_of e.now)) result frames.new.items
+        state.new }
 {
     match e {
         Expr::Name(x, last) => {
             // The name is looked for, so that its place is known from here on.
             let _slot = slot(state, at, x, last);
             let place = last.load(Ordering::Relaxed);
-            Ok(Control::Signal(Signal::Aim(Aim::Name(x.share()?, place))))
+            Ok(Control::Signal(Signal::Aim(Aim::Name {
+                name: x.share()?,
+                place,
+            })))
         }
         Expr::Index(a, i) => {
             let frame = Frame::Container {
@@ -97,14 +98,10 @@ pub fn next_aim(
     es: Arc<Vec<Expr>, Global>,
     done: Vec<Aim>,
 ) -> Result<Control, Halt>
-    ensures goes { (env : Env) (n : ℕ) (running : List (List ℕ × List ℕ))
-        → let here = here_of at.now at.now.line running in Goes (on env n here line).site
-        (machine_does env n here (c.Aims line es done) frames.old.items (world_of state.old)) result
-        (λ control. machine_does env n here control frames.new.items (world_of state.new)) }
-    ensures lighter { IfOk result
-        (λ control. Lighter state.old.heap.steps (frames_weight frames.old.items + control_weight
-        (c.Aims line es done)) state.new.heap.steps
-        (frames_weight frames.new.items + control_weight control)) }
+    ensures goes { LeadsOn at.now line (λ env n here. machine_does env n here (c.Aims line es done)
+        frames.old.items (world_of state.old)) result frames.new.items state.new }
+    ensures lighter { GetsLighter state.old (frames_weight frames.old.items + control_weight
+        (c.Aims line es done)) result frames.new.items state.new }
 {
     let next = done.len();
     if next < es.len() {

@@ -1,10 +1,9 @@
 //! How the statements of a file go on.
-ghost use Rattle.std.specs.Prelude.{◌≡◌, ◌<◌, ◌+◌, ◌≤◌, ℕ, List, IfOk};
-ghost use Rattle.language.specs.World.{Here};
-ghost use Rattle.language.specs.Environment.{Env};
-ghost use Rattle.names.specs.View.{world_of, here_of};
+ghost use Rattle.std.specs.Prelude.{◌<◌, ◌+◌};
+ghost use Rattle.names.specs.View.{world_of};
+ghost use Rattle.frames.specs.Going.{GetsLighter, LeadsOn};
 ghost use Rattle.frames.specs.Frames.{Goes, on, machine_does, tops_at, tops_line};
-ghost use Rattle.frames.specs.Weight.{Lighter, frames_weight, control_weight};
+ghost use Rattle.frames.specs.Weight.{frames_weight, control_weight};
 ghost use Rattle.frames.specs.declared.frame.Control.TheVariants as c;
 
 use crate::frame::{Control, Exit, Frame, Signal};
@@ -27,14 +26,11 @@ pub fn next_top(
     file: Arc<File, Global>,
     next: usize,
 ) -> Result<Control, Halt>
-    ensures goes { (env : Env) (n : ℕ) (running : List (List ℕ × List ℕ))
-        → let here = here_of at.now at.now.line running in
-        Goes (on env n here (tops_line (tops_at next file))).site
-        (machine_does env n here (c.Tops file next) frames.old.items (world_of state.old)) result
-        (λ control. machine_does env n here control frames.new.items (world_of state.new)) }
-    ensures lighter { IfOk result
-        (λ control. Lighter state.old.heap.steps (frames_weight frames.old.items + 1)
-        state.new.heap.steps (frames_weight frames.new.items + control_weight control)) }
+    ensures goes { LeadsOn at.now (tops_line (tops_at next file))
+        (λ env n here. machine_does env n here (c.Tops file next) frames.old.items
+        (world_of state.old)) result frames.new.items state.new }
+    ensures lighter { GetsLighter state.old (frames_weight frames.old.items + 1) result
+        frames.new.items state.new }
 {
     if next >= file.tops.len() {
         return Ok(Control::Signal(Signal::Exit(Exit::GoesOn)));
@@ -72,15 +68,11 @@ pub fn next_default(
     next: usize,
     done: Vec<Val>,
 ) -> Result<Control, Halt>
-    ensures goes { (env : Env) (n : ℕ) (running : List (List ℕ × List ℕ))
-        → let here = here_of at.now at.now.line running in Goes (on env n here line).site
-        (machine_does env n here (c.Defaults line def next done) frames.old.items
-        (world_of state.old)) result (λ control. machine_does env n here control frames.new.items
-        (world_of state.new)) }
-    ensures lighter { IfOk result
-        (λ control. Lighter state.old.heap.steps (frames_weight frames.old.items + control_weight
-        (c.Defaults line def next done)) state.new.heap.steps
-        (frames_weight frames.new.items + control_weight control)) }
+    ensures goes { LeadsOn at.now line
+        (λ env n here. machine_does env n here (c.Defaults line def next done) frames.old.items
+        (world_of state.old)) result frames.new.items state.new }
+    ensures lighter { GetsLighter state.old (frames_weight frames.old.items + control_weight
+        (c.Defaults line def next done)) result frames.new.items state.new }
 {
     if next >= def.params.len() {
         return Ok(Control::Define {

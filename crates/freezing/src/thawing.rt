@@ -23,7 +23,11 @@ pub fn thaw(heap: &mut Heap, f: &Frozen) -> Result<Val, Halt>
         Frozen::Text(bytes) => heap.make(Object::Text(bytes.share()?)),
         Frozen::List(members) => {
             let xs = thaw_members(heap, members.as_slice())?;
-            heap.make(Object::List(xs, true))
+            let frozen = true;
+            heap.make(Object::List {
+                members: xs,
+                frozen,
+            })
         }
         Frozen::Tuple(members) => {
             let xs = thaw_members(heap, members.as_slice())?;
@@ -33,7 +37,10 @@ pub fn thaw(heap: &mut Heap, f: &Frozen) -> Result<Val, Halt>
             let mut all = IndexMap::new(heap.alloc);
             thaw_entries(heap, entries.as_slice(), &mut all)?;
             let all = Box::new(heap.alloc, all)?;
-            heap.make(Object::Dict(all, true))
+            heap.make(Object::Dict {
+                entries: all,
+                frozen: true,
+            })
         }
         Frozen::Function(label, name) => heap.make(Object::Function(label.share()?, name.share()?)),
     }

@@ -53,7 +53,7 @@ fn freeze_object(
 {
     match object_at(objects, place)? {
         Some(Object::Text(bytes)) => settled(steps, Frozen::text(bytes.share()?)),
-        Some(Object::List(members, _)) => freeze_list(
+        Some(Object::List { members, .. }) => freeze_list(
             alloc,
             objects,
             steps,
@@ -67,7 +67,7 @@ fn freeze_object(
             members.as_slice(),
             left,
         ),
-        Some(Object::Dict(entries, _)) => freeze_dict(alloc, objects, steps, entries, left),
+        Some(Object::Dict { entries, .. }) => freeze_dict(alloc, objects, steps, entries, left),
         Some(Object::Function(label, name)) => settled(
             steps,
             Frozen::function(label.share()?, name.share()?),

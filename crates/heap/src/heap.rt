@@ -220,7 +220,10 @@ impl Heap {
         if members.len() > LONGEST {
             return Err(Halt::Code(faults::TOO_LARGE));
         }
-        let made = self.make(Object::List(members, false))?;
+        let made = self.make(Object::List {
+            members,
+            frozen: false,
+        })?;
         Ok(made)
     }
 
@@ -243,7 +246,8 @@ impl Heap {
             return Err(Halt::Code(faults::TOO_LARGE));
         }
         let entries = Box::new(self.alloc, entries)?;
-        let made = self.make(Object::Dict(entries, false))?;
+        let frozen = false;
+        let made = self.make(Object::Dict { entries, frozen })?;
         Ok(made)
     }
 }

@@ -13,14 +13,20 @@ pub(crate) const MEMBER: u128 = 16;
 
 pub(crate) const ENTRY: u128 = 96;
 
-/// An object of the heap. The flag of a list or dictionary says that it is frozen.
+/// An object of the heap.
 #[derive(Drop)]
 pub enum Object {
     Text(Bytes),
-    List(Vec<Val>, bool),
+    List {
+        members: Vec<Val>,
+        frozen: bool,
+    },
     Tuple(Vec<Val>),
     /// Boxed, so that the many other objects are small.
-    Dict(Box<IndexMap<Key, Entry>>, bool),
+    Dict {
+        entries: Box<IndexMap<Key, Entry>>,
+        frozen: bool,
+    },
     /// A function of a file: the file's label, and the name.
     Function(Bytes, Bytes),
 }
@@ -40,9 +46,9 @@ pub fn shape_of(object: &Object) -> Shape
 {
     match object {
         Object::Text(bytes) => Shape::Bytes(bytes.as_slice().len()),
-        Object::List(members, _) => Shape::Members(members.len()),
+        Object::List { members, .. } => Shape::Members(members.len()),
         Object::Tuple(members) => Shape::Members(members.len()),
-        Object::Dict(entries, _) => Shape::Entries(entries.len()),
+        Object::Dict { entries, .. } => Shape::Entries(entries.len()),
         Object::Function(_, _) => Shape::Plain,
     }
 }

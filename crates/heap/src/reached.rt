@@ -69,9 +69,9 @@ impl Reached {
     // What an object holds is reached.
     fn add_members(&mut self, object: Option<&Object>) -> Result<(), Memory> {
         match object {
-            Some(Object::List(members, _)) => self.add_all(members.as_slice()),
+            Some(Object::List { members, .. }) => self.add_all(members.as_slice()),
             Some(Object::Tuple(members)) => self.add_all(members.as_slice()),
-            Some(Object::Dict(entries, _)) => self.add_entries(entries),
+            Some(Object::Dict { entries, .. }) => self.add_entries(entries),
             Some(Object::Text(_) | Object::Function(_, _)) | None => Ok(()),
         }
     }

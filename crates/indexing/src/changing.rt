@@ -27,14 +27,14 @@ fn set_object(heap: &mut Heap, a: usize, i: Val, x: Val) -> Result<(), Halt>
         (store_of heap.new) }
 {
     match heap.object(a)? {
-        Some(Object::List(_, frozen)) => {
+        Some(Object::List { frozen, .. }) => {
             let frozen = *frozen;
             let n = as_int(i)?;
             may_change(heap, a, frozen)?;
             set_member(heap, a, n, x)?;
             Ok(())
         }
-        Some(Object::Dict(_, frozen)) => {
+        Some(Object::Dict { frozen, .. }) => {
             let frozen = *frozen;
             let key = hash(heap, i)?;
             may_change(heap, a, frozen)?;
@@ -66,14 +66,20 @@ fn set_member(heap: &mut Heap, a: usize, i: i64, x: Val) -> Result<(), Halt>
     ensures { Says (set_member a (at a (store_of heap.old)) i x (store_of heap.old)) result
         (store_of heap.new) }
 {
-    let Some(Object::List(mut members, frozen)) = heap.take(a)? else {
+    let Some(
+        Object::List {
+            members: mut members,
+            frozen,
+        },
+    ) = heap.take(a)?
+    else {
         return Err(Halt::Code(faults::WRONG_TYPE));
     };
     let Some(at) = place(i, members.len()) else {
         return Err(Halt::Code(faults::ABSENT));
     };
     members[at] = x;
-    heap.put(a, Object::List(members, frozen));
+    heap.put(a, Object::List { members, frozen });
     Ok(())
 }
 
@@ -82,14 +88,20 @@ fn set_key(heap: &mut Heap, a: usize, key: Key, entry: Entry) -> Result<(), Halt
     ensures { Says (set_key a (at a (store_of heap.old)) key entry (store_of heap.old)) result
         (store_of heap.new) }
 {
-    let Some(Object::Dict(mut entries, frozen)) = heap.take(a)? else {
+    let Some(
+        Object::Dict {
+            entries: mut entries,
+            frozen,
+        },
+    ) = heap.take(a)?
+    else {
         return Err(Halt::Code(faults::WRONG_TYPE));
     };
     if !has_room(&entries, &key) {
         return Err(Halt::Code(faults::TOO_LARGE));
     }
     set_entry(&mut entries, key, entry)?;
-    heap.put(a, Object::Dict(entries, frozen));
+    heap.put(a, Object::Dict { entries, frozen });
     heap.hold_entry()?;
     Ok(())
 }

@@ -49,9 +49,9 @@ fn index_object(heap: &mut Heap, a: usize, i: Val) -> Result<Val, Halt>
             let byte = found_at(bytes.as_slice(), i)?;
             make_letter(heap, byte)
         }
-        Some(Object::List(members, _)) => found_at(members.as_slice(), i),
+        Some(Object::List { members, .. }) => found_at(members.as_slice(), i),
         Some(Object::Tuple(members)) => found_at(members.as_slice(), i),
-        Some(Object::Dict(_, _)) => found_key(heap, a, i),
+        Some(Object::Dict { .. }) => found_key(heap, a, i),
         Some(Object::Function(_, _)) => Err(Halt::Code(faults::WRONG_TYPE)),
         None => Err(Halt::Code(faults::WRONG_TYPE)),
     }
@@ -73,7 +73,7 @@ fn at_key(heap: &Heap, a: usize, key: &Key) -> Result<Val, Halt>
         (store_of heap.now) }
 {
     match heap.object(a)? {
-        Some(Object::Dict(entries, _)) => match found(entries, key) {
+        Some(Object::Dict { entries, .. }) => match found(entries, key) {
             Some(entry) => Ok(entry.value),
             None => Err(Halt::Code(faults::ABSENT)),
         },
@@ -110,7 +110,7 @@ fn slice_object(heap: &mut Heap, a: usize, i: Val, j: Val) -> Result<Val, Halt>
             let part = cut(heap.alloc, bytes.as_slice(), i, j)?;
             heap.make_text(part)
         }
-        Some(Object::List(members, _)) => {
+        Some(Object::List { members, .. }) => {
             let part = cut(heap.alloc, members.as_slice(), i, j)?;
             heap.make_list(part)
         }
@@ -137,9 +137,9 @@ fn object_items(heap: &Heap, a: usize) -> Result<Vec<Val>, Halt>
     ensures { ChecksItems (items_of (at a (store_of heap.now))) result }
 {
     match heap.object(a)? {
-        Some(Object::List(members, _)) => Ok(Vec::from_slice(heap.alloc, members.as_slice())?),
+        Some(Object::List { members, .. }) => Ok(Vec::from_slice(heap.alloc, members.as_slice())?),
         Some(Object::Tuple(members)) => Ok(Vec::from_slice(heap.alloc, members.as_slice())?),
-        Some(Object::Dict(entries, _)) => Ok(keys(heap.alloc, entries)?),
+        Some(Object::Dict { entries, .. }) => Ok(keys(heap.alloc, entries)?),
         Some(Object::Text(_)) => Err(Halt::Code(faults::WRONG_TYPE)),
         Some(Object::Function(_, _)) => Err(Halt::Code(faults::WRONG_TYPE)),
         None => Err(Halt::Code(faults::WRONG_TYPE)),

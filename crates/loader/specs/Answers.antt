@@ -1,4 +1,5 @@
 -- Which answers an input has, from the present files alone.
+use Rattle.filetree.specs.declared.refusals.TheConstants.{LINE_TOO_LONG, NO_COMMAND}
 use Rattle.std.specs.Prelude.{◌≡◌, ℕ, ◌+◌, List, [], ◌∷◌, ◌++◌, Bool, true, false, Option, Some, None, option_and_then, codes, if◌then◌else◌}
 use Rattle.lines.specs.Lines.{is_too_long}
 use Rattle.filetree.specs.Files.{Files}
@@ -113,14 +114,14 @@ state_by (ask request) s = s
 
 abbrev pub IsAnswerIf : Option Command → State → Data → Type 0
 IsAnswerIf (Some command) s d = IsAnswerTo command s d
-IsAnswerIf None s d = d ≡ refused 1
+IsAnswerIf None s d = d ≡ refused NO_COMMAND
 
 abbrev pub state_if : Option Command → State → State
 state_if (Some command) s = state_by command s
 state_if None s = s
 
 abbrev pub IsAnswerOf : Bool → List ℕ → State → Data → Type 0
-IsAnswerOf true line s d = d ≡ refused 6
+IsAnswerOf true line s d = d ≡ refused LINE_TOO_LONG
 IsAnswerOf false line s d = IsAnswerIf (option_and_then command_of (data_of line)) s d
 
 -- an answer to a line

@@ -24,6 +24,7 @@ use crate::workers::evaluate_with;
 use commands::{Command, Request, command_of, data_of, refusal};
 use edits::{Accepted, Edit, EditError, edit_files, edited_paths, refusal_at_limit};
 use filetree::Tree;
+use filetree::refusals::{LINE_TOO_LONG, NO_COMMAND};
 use functions::{LoadRules, Loading};
 use keys::{BuildName, Key};
 use lines::Line;
@@ -452,10 +453,10 @@ fn begin<'a>(
     ensures lawful { IsLawful session.old → IsLawful session.new }
 {
     let Some(value) = value else {
-        return Ok(Step::Answered(refused(alloc, 1)?));
+        return Ok(Step::Answered(refused(alloc, NO_COMMAND)?));
     };
     match command_of(alloc, value)? {
-        None => Ok(Step::Answered(refused(alloc, 1)?)),
+        None => Ok(Step::Answered(refused(alloc, NO_COMMAND)?)),
         Some(Command::Change(edit)) => Ok(Step::Answered(edit_answer(alloc, session, &edit)?)),
         Some(Command::Ask(request)) => Ok(Step::Asks(request)),
     }
@@ -491,7 +492,7 @@ pub fn answer(alloc: Global, session: &mut Session, line: &Line, budget: u64) ->
     ensures lawful { IsLawful session.old → IsLawful session.new }
 {
     if line.too_long {
-        return Ok(plain(alloc, ended(refused(alloc, 6)?)?));
+        return Ok(plain(alloc, ended(refused(alloc, LINE_TOO_LONG)?)?));
     }
     let value = data_of(alloc, line.bytes.as_slice())?;
     let step = begin(alloc, session, &value)?;
@@ -524,7 +525,7 @@ pub fn answer_with<H: LoadRules + Send + Drop, T: Threads + Wait + Sync>(
     ensures lawful { IsLawful session.old → IsLawful session.new }
 {
     if line.too_long {
-        return Ok((hands, plain(alloc, ended(refused(alloc, 6)?)?)));
+        return Ok((hands, plain(alloc, ended(refused(alloc, LINE_TOO_LONG)?)?)));
     }
     let value = data_of(alloc, line.bytes.as_slice())?;
     let step = begin(alloc, session, &value)?;

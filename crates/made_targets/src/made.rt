@@ -17,7 +17,7 @@ pub fn targets_made(alloc: Global, state: &State) -> Result<Targets, Memory>
         (λ targets. targets ≡ in_order (λ x. x.name) (world_of state.now).targets) }
 {
     let set = ordered(alloc, state.targets.as_slice())?;
-    let mut all = Vec::new(alloc);
+    let mut all = Vec::with_capacity(alloc, set.len())?;
     for named in set {
         all.push(named.target)?;
     }
@@ -55,7 +55,7 @@ fn make_attributes(
 ) -> Result<Vec<(Bytes, Attribute)>, Memory>
     ensures { IfOk result (λ v. v.items ≡ map attributed_of attributes.now) }
 {
-    let mut all = Vec::new(alloc);
+    let mut all = Vec::with_capacity(alloc, attributes.len())?;
     for attribute in attributes {
         let name = attribute.name.share()?;
         let value = make_attribute(alloc, &attribute.value)?;
@@ -84,7 +84,7 @@ fn make_attribute(alloc: Global, value: &names::Attribute) -> Result<Attribute, 
 fn copy_of(alloc: Global, texts: &[Bytes]) -> Result<Vec<Bytes>, Memory>
     ensures { IfOk result (λ v. v.items ≡ texts.now) }
 {
-    let mut all = Vec::new(alloc);
+    let mut all = Vec::with_capacity(alloc, texts.len())?;
     for text in texts {
         all.push(text.share()?)?;
     }

@@ -50,8 +50,8 @@ fn object_method(heap: &mut Heap, a: usize, name: &str, xs: &[Val]) -> Result<Va
             let whole = bytes.share()?;
             text_method(heap, whole.as_slice(), name, xs)
         }
-        Some(Object::List(_, _)) => list_method(heap, a, name, xs),
-        Some(Object::Dict(_, _)) => dict_method(heap, a, name, xs),
+        Some(Object::List { .. }) => list_method(heap, a, name, xs),
+        Some(Object::Dict { .. }) => dict_method(heap, a, name, xs),
         Some(Object::Tuple(_)) => Err(Halt::Code(faults::WRONG_TYPE)),
         Some(Object::Function(_, _)) => Err(Halt::Code(faults::WRONG_TYPE)),
         None => Err(Halt::Code(faults::WRONG_TYPE)),
@@ -71,8 +71,8 @@ fn has_method(heap: &Heap, a: usize, name: &str) -> Result<bool, Memory>
                 || is_name(name, "replace")
                 || is_name(name, "strip"),
         ),
-        Some(Object::List(_, _)) => Ok(is_name(name, "append") || is_name(name, "extend")),
-        Some(Object::Dict(_, _)) => Ok(
+        Some(Object::List { .. }) => Ok(is_name(name, "append") || is_name(name, "extend")),
+        Some(Object::Dict { .. }) => Ok(
             is_name(name, "get")
                 || is_name(name, "keys")
                 || is_name(name, "values")

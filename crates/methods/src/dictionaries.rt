@@ -41,7 +41,7 @@ fn get(heap: &mut Heap, a: usize, xs: &[Val]) -> Result<Val, Halt>
         (store_of heap.new) }
 {
     match heap.object(a)? {
-        Some(Object::Dict(_, _)) => {
+        Some(Object::Dict { .. }) => {
             let (k, other) = match xs {
                 [k] => (*k, Val::Nothing),
                 [k, other] => (*k, *other),
@@ -69,7 +69,7 @@ fn all_keys(heap: &mut Heap, a: usize) -> Result<Val, Halt>
         (store_of heap.new) }
 {
     match heap.object(a)? {
-        Some(Object::Dict(entries, _)) => {
+        Some(Object::Dict { entries, .. }) => {
             let all = keys(heap.alloc, entries)?;
             heap.make_list(all)
         }
@@ -83,7 +83,7 @@ fn all_values(heap: &mut Heap, a: usize) -> Result<Val, Halt>
         (store_of heap.new) }
 {
     match heap.object(a)? {
-        Some(Object::Dict(entries, _)) => {
+        Some(Object::Dict { entries, .. }) => {
             let all = values(heap.alloc, entries)?;
             heap.make_list(all)
         }
@@ -97,7 +97,7 @@ fn all_items(heap: &mut Heap, a: usize) -> Result<Val, Halt>
         (store_of heap.new) }
 {
     match heap.object(a)? {
-        Some(Object::Dict(entries, _)) => {
+        Some(Object::Dict { entries, .. }) => {
             let pairs = pairs(heap.alloc, entries)?;
             let all = tuples(heap, pairs.as_slice())?;
             heap.make_list(all)
@@ -152,7 +152,7 @@ fn found_or(heap: &Heap, a: usize, key: &Key, other: Val) -> Result<Val, Halt>
         (store_of heap.now) }
 {
     match heap.object(a)? {
-        Some(Object::Dict(entries, _)) => match found(entries, key) {
+        Some(Object::Dict { entries, .. }) => match found(entries, key) {
             Some(entry) => Ok(entry.value),
             None => Ok(other),
         },

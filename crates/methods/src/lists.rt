@@ -42,7 +42,7 @@ fn add_objects(heap: &mut Heap, a: usize, b: usize) -> Result<Val, Halt>
         (store_of heap.old)) result (store_of heap.new) }
 {
     let more = match (heap.object(a)?, heap.object(b)?) {
-        (Some(Object::List(_, _)), Some(Object::List(members, _))) => {
+        (Some(Object::List { .. }), Some(Object::List { members, .. })) => {
             Vec::from_slice(heap.alloc, members.as_slice())?
         }
         _ => {
@@ -84,7 +84,7 @@ fn adds(heap: &mut Heap, a: usize, more: &[Val]) -> Result<(), Halt>
         (store_of heap.new) }
 {
     match heap.object(a)? {
-        Some(Object::List(_, frozen)) => {
+        Some(Object::List { frozen, .. }) => {
             let frozen = *frozen;
             may_change(heap, a, frozen)?;
             extend_members(heap, a, more)?;
@@ -112,14 +112,20 @@ fn extend_members(heap: &mut Heap, a: usize, more: &[Val]) -> Result<(), Halt>
     ensures { Says (extended a (at a (store_of heap.old)) more.now (store_of heap.old)) result
         (store_of heap.new) }
 {
-    let Some(Object::List(mut members, frozen)) = heap.take(a)? else {
+    let Some(
+        Object::List {
+            members: mut members,
+            frozen,
+        },
+    ) = heap.take(a)?
+    else {
         return Err(Halt::Code(faults::WRONG_TYPE));
     };
     if members.len() > LONGEST || more.len() > LONGEST - members.len() {
         return Err(Halt::Code(faults::TOO_LARGE));
     }
     members.extend_from_slice(more)?;
-    heap.put(a, Object::List(members, frozen));
+    heap.put(a, Object::List { members, frozen });
     heap.hold_members(more.len())?;
     Ok(())
 }

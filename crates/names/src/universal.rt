@@ -4,7 +4,7 @@ ghost use Rattle.meaning.specs.Builtins.{plain_functions, package_functions};
 ghost use Rattle.language.specs.Names.{first_named, universal, is_native};
 
 use grammar::FileKind;
-use heap::{Builtin, PACKAGE, PLAIN};
+use meaning::{Builtin, PACKAGE, PLAIN};
 use texts::Text;
 
 // The first of these functions that has a name.

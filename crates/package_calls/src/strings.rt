@@ -28,7 +28,7 @@ pub fn texts_in(heap: &Heap, x: Val) -> Result<Vec<Bytes>, Halt>
 {
     match x {
         Val::At(place) => match heap.object(place)? {
-            Some(Object::List(members, _)) => all_texts(heap, members.as_slice()),
+            Some(Object::List { members, .. }) => all_texts(heap, members.as_slice()),
             _ => Err(Halt::Code(faults::WRONG_TYPE)),
         },
         _ => Err(Halt::Code(faults::WRONG_TYPE)),

@@ -18,7 +18,7 @@ use texts::Text;
 #[derive(Drop)]
 pub enum Aim {
     /// A name, and the place at which it was found.
-    Name(Text, usize),
+    Name { name: Text, place: usize },
     /// The container and the index.
     Member(Val, Val),
     Each(Vec<Aim>),
@@ -32,7 +32,7 @@ pub fn present(state: &mut State, at: &Standing, aim: &Aim) -> Result<Val, Halt>
     ensures steps { IfOk result (λ _. state.new.heap.steps ≤ state.old.heap.steps) }
 {
     match aim {
-        Aim::Name(x, place) => read(state, at, x, &AtomicUsize::new(*place)),
+        Aim::Name { name: x, place } => read(state, at, x, &AtomicUsize::new(*place)),
         Aim::Member(container, i) => index(&mut state.heap, *container, *i),
         Aim::Each(_) => Err(Halt::Code(faults::WRONG_TYPE)),
     }
@@ -47,7 +47,7 @@ fn unpack(heap: &Heap, n: usize, x: Val) -> Result<Vec<Val>, Halt>
         return Err(Halt::Code(faults::WRONG_TYPE));
     };
     let members = match heap.object(place)? {
-        Some(Object::List(members, _)) => members,
+        Some(Object::List { members, .. }) => members,
         Some(Object::Tuple(members)) => members,
         _ => return Err(Halt::Code(faults::WRONG_TYPE)),
     };
@@ -66,7 +66,7 @@ pub fn store(state: &mut State, at: &Standing, aim: &Aim, value: Val) -> Result<
     ensures steps { IfOk result (λ _. state.new.heap.steps ≤ state.old.heap.steps) }
 {
     match aim {
-        Aim::Name(x, place) => bind(state, at, x, &AtomicUsize::new(*place), value),
+        Aim::Name { name: x, place } => bind(state, at, x, &AtomicUsize::new(*place), value),
         Aim::Member(container, i) => set_index(&mut state.heap, *container, *i, value),
         Aim::Each(aims) => {
             let xs = match unpack(&state.heap, aims.len(), value) {

@@ -9,7 +9,7 @@ use texts::Memory;
 #[cycle(reaching)]
 pub fn reach_aim(reached: &mut Reached, aim: &Aim) -> Result<(), Memory> {
     match aim {
-        Aim::Name(_, _) => Ok(()),
+        Aim::Name { .. } => Ok(()),
         Aim::Member(container, i) => {
             reached.add(*container)?;
             reached.add(*i)

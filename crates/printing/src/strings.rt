@@ -52,9 +52,9 @@ fn object_text(heap: &mut Heap, place: usize) -> Result<Val, Halt>
 {
     match heap.object(place)? {
         Some(Object::Text(_)) => return Ok(Val::At(place)),
-        Some(Object::List(_, _)) => {}
+        Some(Object::List { .. }) => {}
         Some(Object::Tuple(_)) => {}
-        Some(Object::Dict(_, _)) => {}
+        Some(Object::Dict { .. }) => {}
         Some(Object::Function(_, _)) => {}
         None => {}
     }

@@ -106,7 +106,7 @@ fn print_object(
 {
     match object_at(objects, place)? {
         Some(Object::Text(bytes)) => print_text(steps, bytes.as_slice(), out)?,
-        Some(Object::List(members, _)) => print_list(
+        Some(Object::List { members, .. }) => print_list(
             objects,
             steps,
             members.as_slice(),
@@ -114,7 +114,7 @@ fn print_object(
             out,
         )?,
         Some(Object::Tuple(members)) => print_tuple(objects, steps, members.as_slice(), left, out)?,
-        Some(Object::Dict(entries, _)) => print_dict(objects, steps, entries, left, out)?,
+        Some(Object::Dict { entries, .. }) => print_dict(objects, steps, entries, left, out)?,
         Some(Object::Function(_, name)) => print_function(steps, name.as_slice(), out)?,
         None => {
             tick(steps)?;

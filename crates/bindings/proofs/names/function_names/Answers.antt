@@ -1,4 +1,4 @@
-use Rattle.std.proofs.Common.{ap, sym, ◌∙◌, Vec, Global}
+use Rattle.std.proofs.Common.{ap, ◌∙◌, Vec, Global}
 use Rattle.texts.specs.declared.text.Text.{Text}
 use Rattle.tree.specs.Statements.{stmts_of}
 use Rattle.tree.specs.Bound.{suite_names}

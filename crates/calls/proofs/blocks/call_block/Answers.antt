@@ -17,5 +17,5 @@ of_few-requires c =
     c.in_ok-push_unbound.ensures ∙ ap (λ l. block_of old ++ all_unbound l) (rest_all n c.deref.result.now ∙ ap (λ (l : List (List ℕ)). drop n l) c.deref.ensures.value) in
     let begins = arguments_names (fn_of d) (plain_part c.args.xs.now c.args.names.now) (named_part c.args.xs.now c.args.names.now) c.args.defaults.now (block_of old) c.in-Ok.ensures in
     ap differ (names_filled d.params.items (names_once own (suite_names (stmts_of (arc_value d.body).items))) all old.items new.items n d.bound begins made (ap length c.as_slice-params.ensures.value))
-    ∙ ap (λ b. cond b (differ all) true) (sym c.if-def.true)
+    ∙ ap (λ b. cond b (differ all) true) (sym c.if-once.true)
     ∙ d.distinct

@@ -7,12 +7,12 @@ use Rattle.names.specs.declared.state.Block as state
 use Rattle.meaning.specs.declared.val.Val.{Val}
 use Rattle.language.specs.World.{World, Block, Here, ended, Runs, then_runs, with_blocks}
 use Rattle.language.specs.Statements.{suite}
-use Rattle.language.specs.Calls.{call, inside, function_block, given}
+use Rattle.language.specs.Calls.{call, inside, function_block}
 use Rattle.names.specs.declared.state.Standing.{Standing}
 use Rattle.names.specs.View.{world_of, here_of, held}
 use Rattle.calls.specs.View.{running_of}
 use Rattle.frames.specs.declared.frame.Caller.{Caller}
-use Rattle.frames.specs.Frames.{Sig, a_value, on, on_exit, valued, exited, above, stack_does}
+use Rattle.frames.specs.Frames.{Sig, given_by, on, valued, exited, above, stack_does}
 use Rattle.evaluator.specs.Machines.{here_in}
 use Rattle.evaluator.proofs.Entered.{body_above, body_goes, one_opened, same_body}
 use Rattle.evaluator.proofs.entering.begin_body.Goals as goal
@@ -47,15 +47,15 @@ returns-clause-goes c = λ env line parameters holds path.
     ∙ ap (λ (v : Vec state.Block Global). map held v.items) (sym c.replace-callers.ensures.after) in
     let u : World = record w { blocks = map held c.replace-callers.new.dest.items } in
     let world : with_blocks (block ∷ []) w ≡ u = ap (λ (bs : List Block). with_blocks bs w) blocks in
-    let ends : Vec state.Block Global → Here → Sig → Runs Sig = λ b below sig z. then_runs (on_exit stands (λ exit v. ended (a_value (given exit)) (with_blocks (map held b.items) v)) sig z) (stack_does env left below frames) in
+    let ends : Vec state.Block Global → Here → Sig → Runs Sig = λ b below sig z. then_runs (ended (given_by sig) (with_blocks (map held b.items) z)) (stack_does env left below frames) in
     let caller : Standing → List (List ℕ × List ℕ) → Here = λ at r. here_of at at.line (drop 1 r) in
-    let below : Caller → Sig → Runs Sig = λ d sig z. then_runs (on_exit stands (λ exit v. ended (a_value (given exit)) (with_blocks (map held d.blocks.items) v)) sig z) (stack_does env d.left (caller d.at stands.running) frames) in
+    let below : Caller → Sig → Runs Sig = λ d sig z. then_runs (ended (given_by sig) (with_blocks (map held d.blocks.items) z)) (stack_does env d.left (caller d.at stands.running) frames) in
     let above_frame : stack_does env n stands c.push-3.new.frames.items ≡ ends m.state.blocks here = c.in_ok-push-3.ensures.ok env n stands
     ∙ ap below c.in_ok-back.ensures.ok
     ∙ ap (λ (b : Vec state.Block Global). ends b (caller c.in_ok-caller.caller stands.running)) c.replace-callers.ensures.value
     ∙ ap (λ (at : Standing). ends m.state.blocks (caller at stands.running)) c.in_ok-caller.ensures.ok
     ∙ ap (λ (r : List (List ℕ × List ℕ)). ends m.state.blocks (caller m.at r)) opened in
     ap (λ (r : Runs Val). above env left here (valued r) frames w) (body_goes env left n f parameters within h succ)
-    ∙ body_above e w.blocks within (stack_does env left here frames)
+    ∙ body_above e w.blocks (stack_does env left here frames)
     ∙ same_body env n f.body within stands (with_blocks (block ∷ []) w) u w.blocks (stack_does env left here frames) (stack_does env n stands c.push-3.new.frames.items) place world above_frame
     ∙ ap (λ (ss : Vec Stmt Global). then_runs (exited (suite env (call env n) (stmts_of ss.items) stands) u) (stack_does env n stands c.push-3.new.frames.items)) (sym c.in_ok-body.ensures)

@@ -1,12 +1,10 @@
 use Rattle.std.proofs.Common.{◌++◌, ◌∷◌, [], ℕ, List, drop, refl, sym, ap, ◌∙◌}
-use Rattle.meaning.specs.declared.val.Val.{Val}
 use Rattle.language.specs.World.{World, Ends}
 use Rattle.names.specs.View.{world_of, here_of}
 use Rattle.calls.specs.View.{running_of}
-use Rattle.language.specs.Calls.{given}
 use Rattle.frames.specs.declared.frame.Caller.{Caller}
 use Rattle.frames.specs.declared.frame.Frame.TheVariants as f
-use Rattle.frames.specs.Frames.{Sig, a_value, an_exit, exit_of, stack_does}
+use Rattle.frames.specs.Frames.{Sig, sig_of, given_by, stack_does}
 use Rattle.frames.proofs.Bind.{stack_push}
 use Rattle.evaluator.specs.Machines.{here_in}
 use Rattle.evaluator.proofs.Entered.{one_closed}
@@ -22,7 +20,7 @@ returns-clause-goes c = λ env.
     let w = world_of m.state in
     let u = world_of (record m.state { blocks = d.blocks }) in
     let closed = one_closed m.running c.pop-ended.new.self c.pop-ended.result c.pop-ended.ensures.items c.pop-ended.ensures.cases in
-    ap (λ (j : Sig → World → Ends Sig). j (an_exit (exit_of c.args.exit)) w) (stack_push env m.left here frames frame (frames ++ frame ∷ []) refl)
-    ∙ ap (λ (b : Caller). stack_does env b.left (here_of b.at b.at.line (drop 1 (running_of m.running.items))) frames (a_value (given (exit_of c.args.exit))) (world_of (record m.state { blocks = b.blocks }))) (sym c.into_inner-caller.ensures)
-    ∙ ap (λ (v : Val). stack_does env d.left (here_of d.at d.at.line (drop 1 (running_of m.running.items))) frames (a_value v) u) (sym c.given.ensures)
-    ∙ ap (λ (l : List (List ℕ × List ℕ)). stack_does env d.left (here_of d.at d.at.line l) frames (a_value c.given.result) u) closed
+    ap (λ (j : Sig → World → Ends Sig). j (sig_of c.args.signal) w) (stack_push env m.left here frames frame (frames ++ frame ∷ []) refl)
+    ∙ ap (λ (b : Caller). stack_does env b.left (here_of b.at b.at.line (drop 1 (running_of m.running.items))) frames (given_by (sig_of c.args.signal)) (world_of (record m.state { blocks = b.blocks }))) (sym c.into_inner-caller.ensures)
+    ∙ ap (λ (s : Sig). stack_does env d.left (here_of d.at d.at.line (drop 1 (running_of m.running.items))) frames s u) (sym c.given_by.ensures)
+    ∙ ap (λ (l : List (List ℕ × List ℕ)). stack_does env d.left (here_of d.at d.at.line l) frames (sig_of c.given_by.result) u) closed

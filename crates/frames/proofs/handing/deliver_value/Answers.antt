@@ -1,4 +1,4 @@
-use Rattle.std.proofs.Common.{refl, sym, subst, ap, ◌∙◌}
+use Rattle.std.proofs.Common.{◌≡◌, false, refl, sym, subst, ap, ◌∙◌}
 use Rattle.meaning.specs.declared.val.Val.{Val}
 use Rattle.meaning.specs.Indexing as ix
 use Rattle.tree.specs.declared.expr.Expr.{Expr}
@@ -12,7 +12,8 @@ use Rattle.names.specs.View.{world_of, here_of}
 use Rattle.pieces.specs.View.{gathered_of}
 use Rattle.frames.specs.declared.frame.Control.{Control}
 use Rattle.frames.specs.declared.frame.Frame.{Frame}
-use Rattle.frames.specs.Frames.{Sig, a_value, an_aim, a_gathered, Goes, on, ex, valued, aimed, gathered, frame_does, frame_line, above, stack_does, machine_does}
+use Rattle.frames.specs.declared.frame.Frame.TheVariants as f
+use Rattle.frames.specs.Frames.{Sig, a_value, an_aim, a_gathered, Goes, on, ex, valued, aimed, gathered, frame_does, frame_line, is_leave, above, stack_does, machine_does}
 use Rattle.frames.proofs.Bind.{under}
 use Rattle.frames.proofs.Clauses.{went}
 use Rattle.frames.proofs.handing.deliver_value.Goals as goal
@@ -235,3 +236,53 @@ returns-in-On-clause-goes c = λ env n running.
     let frames = c.args.frames.now.items in
     let after = λ (control : Control). machine_does env n here control frames (world_of c.begin_arguments-in-On.new.state) in
     subst (λ (fr : Frame). Goes (on env n here (frame_line c.args.at.now.line fr)).site (above env n here (frame_does env n here fr (a_value c.args.x)) frames (world_of c.args.state.now)) c.begin_arguments-in-On.result after) (sym c.in-On.is) (c.begin_arguments-in-On.ensures.goes env n running frames)
+
+pub returns-in_default-clause-goes : goal.returns-in_default-clause-goes
+returns-in_default-clause-goes c = λ env n running.
+    let here = here_of c.args.at.now c.args.at.now.line running in
+    let w = world_of c.args.state.now in
+    let frames = c.args.frames.now.items in
+    elim c.args.frame as (λ (frame : Frame). ◌≡◌ {A = Frame} c.args.frame frame → ◌≡◌ {A = Ends Sig} (above env n here (frame_does env n here frame (a_value c.args.x)) frames w) (stack_does env n here frames (a_value c.args.x) w)) [
+      | f.Items line s ↦ λ is. absurd (c.in_default.not-Items line s is)
+      | f.Key line pairs next ↦ λ is. absurd (c.in_default.not-Key line pairs next is)
+      | f.Entry line pairs next k ↦ λ is. absurd (c.in_default.not-Entry line pairs next k is)
+      | f.Unary line op ↦ λ is. absurd (c.in_default.not-Unary line op is)
+      | f.Right line op b ↦ λ is. absurd (c.in_default.not-Right line op b is)
+      | f.Both line op v ↦ λ is. absurd (c.in_default.not-Both line op v is)
+      | f.Choice line a b ↦ λ is. absurd (c.in_default.not-Choice line a b is)
+      | f.Indexed line i ↦ λ is. absurd (c.in_default.not-Indexed line i is)
+      | f.Index line v ↦ λ is. absurd (c.in_default.not-Index line v is)
+      | f.Sliced line i j ↦ λ is. absurd (c.in_default.not-Sliced line i j is)
+      | f.From line v j ↦ λ is. absurd (c.in_default.not-From line v j is)
+      | f.To line v y ↦ λ is. absurd (c.in_default.not-To line v y is)
+      | f.Called line es names ↦ λ is. absurd (c.in_default.not-Called line es names is)
+      | f.On line name es names ↦ λ is. absurd (c.in_default.not-On line name es names is)
+      | f.Container line i ↦ λ is. absurd (c.in_default.not-Container line i is)
+      | f.Member line v ↦ λ is. absurd (c.in_default.not-Member line v is)
+      | f.Aims line es done ↦ λ is. refl
+      | f.Discard ↦ λ is. absurd (c.in_default.not-Discard is)
+      | f.Assign line target ↦ λ is. absurd (c.in_default.not-Assign line target is)
+      | f.Store line v ↦ λ is. refl
+      | f.Augment line op e ↦ λ is. refl
+      | f.Change line op a v ↦ λ is. absurd (c.in_default.not-Change line op a v is)
+      | f.Return ↦ λ is. absurd (c.in_default.not-Return is)
+      | f.Branch ss bs next other ↦ λ is. absurd (c.in_default.not-Branch ss bs next other is)
+      | f.For line target ss ↦ λ is. absurd (c.in_default.not-For line target ss is)
+      | f.Turn u v ↦ λ is. refl
+      | f.Turns u ↦ λ is. refl
+      | f.Rest ss next ↦ λ is. refl
+      | f.Leave caller ↦ λ is. let leaves : is_leave (f.Leave caller) ≡ false = ap is_leave (sym is) ∙ c.requires in absurd cc
+      | f.First line target comp ↦ λ is. absurd (c.in_default.not-First line target comp is)
+      | f.Each line target comp inner got ↦ λ is. absurd (c.in_default.not-Each line target comp inner got is)
+      | f.Only line comp inner got ↦ λ is. absurd (c.in_default.not-Only line comp inner got is)
+      | f.Aimed u v got ↦ λ is. refl
+      | f.Gather u ↦ λ is. refl
+      | f.OneMore line got ↦ λ is. absurd (c.in_default.not-OneMore line got is)
+      | f.OneKey line e got ↦ λ is. absurd (c.in_default.not-OneKey line e got is)
+      | f.OneEntry line k got ↦ λ is. absurd (c.in_default.not-OneEntry line k got is)
+      | f.EndBlock ↦ λ is. refl
+      | f.MakeList line ↦ λ is. refl
+      | f.MakeDict line ↦ λ is. refl
+      | f.Default line def next done ↦ λ is. absurd (c.in_default.not-Default line def next done is)
+      | f.Tops file next ↦ λ is. refl
+    ] refl
