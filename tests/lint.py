@@ -7,7 +7,8 @@
 - Sources: no function of over 60 lines. Fields that the layout puts on lines of their own do not count.
 - Programs beside the gate (`.rattle`, `.proof`): no sentence of over 25 words in a comment.
 - What is still to be put in order is counted, and may only become less: long clauses, double imports, fields that have
-  no name, definitions that are imported for nothing. The numbers stand in `LEFT`. Who makes one smaller writes the new number there.
+  no name, definitions that are imported for nothing. The numbers stand in `LEFT`. Who makes one smaller writes the new
+  number there.
 
 It prints one line for each fault, as `path:line: what`, and fails where there is one.
 """
