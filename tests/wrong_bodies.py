@@ -61,10 +61,12 @@ def crates():
 
 def below(name, uses):
     """All crates that a crate stands on, lowest first."""
-    found = []
-    for it in uses[name]:
-        found += [crate for crate in [*below(it, uses), it] if crate not in found]
-    return found
+    found, left = set(), [name]
+    while left:
+        further = set(uses[left.pop()]) - found
+        found |= further
+        left += further
+    return [it for it in uses if it in found]
 
 
 def edits_of(name):
@@ -75,9 +77,15 @@ def files_of(name, parts, ending):
     return sorted(file for it in parts for file in glob.glob(f"{ROOT}/crates/{name}/{it}/**/*{ending}", recursive=True))
 
 
+def without_comments(text, mark):
+    """A text without the lines that are comments, and without empty lines."""
+    return "\n".join(line for line in text.split("\n") if line.strip() and not line.lstrip().startswith(mark))
+
+
 @functools.lru_cache(maxsize=None)
 def contracts_in(file):
-    """What a source shows to the crates above: without comments, imports, bodies and private functions."""
+    """What a source shows to the crates above: without comments, imports, bodies, private functions, and how a type that
+    contracts see as a model holds it."""
     lines = read(file).split("\n")
     for it in reversed(functions("", "\n".join(lines))):
         first = next(at for at in range(it.first - 1, it.last) if FUNCTION.match(lines[at]))
@@ -86,31 +94,139 @@ def contracts_in(file):
         is_shown = lines[first].lstrip().startswith("pub ") or re.match(r"(pub )?trait |impl.* for ", around)
         lines[body if is_shown else it.first - 1 : it.last] = []
     shown = "\n".join(line for line in lines if line.strip() and not re.match(r" *(//|use |ghost use )", line))
-    return "\n".join([*imports_of(lines, shown), shown])
+    return without_representations(shown)
 
 
-def imports_of(lines, shown):
-    """The ghost imports of a source that a shown text names, one name each."""
-    found = set()
+def without_representations(shown):
+    """A source's items without the private fields of the types that have a model, and without how that is computed. The
+    crates above know such a type by its model alone."""
+    for name in re.findall(r"(?m)^impl(?:<.*?>)? Model for (\w+)", shown):
+        shown = re.sub(rf"(?m)(^pub struct {name}\b[^;{{]*\{{\n)((?:    .*\n)*)", lambda it: it[1] + public_lines(it[2]), shown)
+    return re.sub(r"(?m)^    ghost view = \{(?:.*\};$|(?:.*\n)*?    \};$)\n?", "", shown)
+
+
+def public_lines(fields):
+    return "".join(f"{line}\n" for line in fields.split("\n") if line.startswith("    pub "))
+
+
+def imports_in(lines, shown):
+    """The ghost imports of a source that a text names: each name with its module."""
     for line in lines:
         it = re.match(r" *ghost use ([^;{]+?)(?:\.\{(.*)\}| as (\S+))?;", line)
         for name in (it[2] or it[3] or it[1].rpartition(".")[2]).split(", ") if it else []:
             if all(part in shown for part in name.rpartition(" as ")[2].split("◌")):
-                found.add(f"{it[1]} {name}")
-    return sorted(found)
+                yield it[1], name
+
+
+def imports_of(lines, shown):
+    """The ghost imports of a source that a text names, one name each."""
+    return sorted({f"{module} {name}" for module, name in imports_in(lines, shown)})
+
+
+@functools.lru_cache(maxsize=None)
+def own_text(file):
+    """What counts of a file of the crate itself: without comments, and without imports for contracts that nothing names."""
+    text = read(file)
+    if file.endswith(".antt"):
+        return without_comments(text, "--")
+    lines = without_comments(text, "//").split("\n")
+    code = "\n".join(line for line in lines if not re.match(r" *(pub )?ghost use ", line))
+    return "\n".join([*imports_of(lines, code), code])
+
+
+# What a crate's outcome hangs on in the crates below: the files that it names, and those that these name.
+
+
+def module_file(path):
+    """The file of the crates that a ghost import goes to: definitions, or the source where a type is declared."""
+    crate, _, rest = path.removeprefix("Rattle.").partition(".specs.")
+    parts, ending = rest.split("."), ".antt"
+    if parts[0] == "declared":
+        parts, folder, ending = parts[1:], "src", ".rt"
+    else:
+        folder = "specs"
+    names = ["/".join(parts[:count]) for count in range(len(parts), 0, -1)] + ["lib"] * (ending == ".rt")
+    files = [f"{ROOT}/crates/{crate}/{folder}/{it}{ending}" for it in names]
+    return next((it for it in files if os.path.exists(it)), None)
+
+
+@functools.lru_cache(maxsize=None)
+def homes(crate):
+    """The sources of a crate in which each name is declared or is the type of an `impl`, and each module."""
+    found = collections.defaultdict(set)
+    for file in files_of(crate, ["src"], ".rt"):
+        text = read(file)
+        for name in re.findall(r"(?m)^ *pub(?:\([a-z ]+\))? (?:const |unsafe )*(?:fn|struct|enum|trait|type|const) (\w+)", text):
+            found[name].add(file)
+        for head in re.findall(r"(?m)^impl\b(.*)\{$", text):
+            for name in re.findall(r"\w+", head):
+                found[name].add(file)
+        found[os.path.basename(file)[: -len(".rt")]].add(file)
+    return found
+
+
+def names_used(lines, text):
+    """The names of Rust items that a text has by the imports of its source, each with the crate or module named first."""
+    for line in re.findall(r"(?ms)^ *(?:pub )?use ([^;]*);", "\n".join(lines)):
+        first = line.partition("::")[0]
+        for name in re.findall(r"\w+", line.partition("::")[2]):
+            if re.search(rf"\b{name}\b", text):
+                yield first, name
+    # A type's functions stand where the type is found, so of a path that begins with one only the type counts.
+    yield from re.findall(r"\b([a-z]\w*)::(\w+)", text)
+
+
+@functools.lru_cache(maxsize=None)
+def named_from(file, reached, is_own):
+    """The files of some crates that a file names, which is one of the crate itself or of one below."""
+    text, found = read(file), set()
+    if file.endswith(".antt"):
+        paths = re.findall(r"\bRattle\.\w+\.specs\.[\w.]+", text)
+        return {it for it in map(module_file, paths) if it}
+    lines = text.split("\n")
+    shown = own_text(file) if is_own else contracts_in(file)
+    found |= {it for it in (module_file(module) for module, _ in imports_in(lines, shown) if ".specs." in module) if it}
+    for first, name in names_used(lines, shown):
+        at = [first] if first in reached and homes(first).get(name) else reached
+        found |= {home for it in at for home in homes(it).get(name, ())}
+    return found
+
+
+def reached_from(name, uses):
+    """The files of the crates below on which a crate's texts hang: those that they name, and those that these name."""
+    own = files_of(name, PARTS, ".rt") + files_of(name, PARTS, ".antt")
+    found, left = set(), [(it, True) for it in own]
+    while left:
+        file, is_own = left.pop()
+        crate = os.path.relpath(file, f"{ROOT}/crates").partition("/")[0]
+        further = named_from(file, (crate, *below(crate, uses)), is_own) - found
+        found |= further
+        left += [(it, False) for it in further]
+    return sorted(found - set(own))
+
+
+@functools.lru_cache(maxsize=None)
+def shown_text(file):
+    """What counts of a file of a crate below."""
+    if file.endswith(".antt"):
+        return in_one_line(without_comments(read(file), "--"))
+    shown = contracts_in(file)
+    return in_one_line("\n".join([*imports_of(read(file).split("\n"), shown), shown]))
+
+
+def in_one_line(text):
+    return re.sub(r"\s*\n\s*", " ", text)
 
 
 def digest(name, uses, logic):
     """The digest of all texts on which it hangs whether the crate's wrong bodies are refused. How their lines are broken
     counts for nothing."""
     made = hashlib.sha256(logic.encode())
-    own = files_of(name, PARTS, ".rt") + files_of(name, PARTS, ".antt") + edits_of(name)
-    texts = [(file, read(file)) for file in own]
-    for it in below(name, uses):
-        texts += [(file, read(file)) for file in files_of(it, ["specs"], ".antt")]
-        texts += [(file, contracts_in(file)) for file in files_of(it, ["src"], ".rt")]
+    own = files_of(name, PARTS, ".rt") + files_of(name, PARTS, ".antt")
+    texts = [(file, in_one_line(own_text(file))) for file in own] + [(file, in_one_line(read(file))) for file in edits_of(name)]
+    texts += [(file, shown_text(file)) for file in reached_from(name, uses)]
     for file, text in texts:
-        for part in os.path.relpath(file, ROOT), re.sub(r"\s*\n\s*", " ", text):
+        for part in os.path.relpath(file, ROOT), text:
             made.update(f"{len(part.encode())} ".encode() + part.encode())
     return made.hexdigest()[:32]
 
