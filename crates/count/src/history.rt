@@ -20,21 +20,21 @@ impl Model for History {
 }
 
 impl History {
-    /// No byte so far.
+    /// Makes a history without a byte.
     pub fn new() -> History
         ensures { result ≡ [] }
     {
         History { log: Log::new() }
     }
 
-    /// One more byte.
+    /// Adds one byte.
     pub fn add(&mut self, byte: &u8)
         ensures { self.new ≡ self.old ++ byte.now ∷ [] }
     {
         self.log = self.log.and(byte, &());
     }
 
-    /// More bytes, in order.
+    /// Adds bytes, in order.
     pub fn add_all(&mut self, bytes: &[u8])
         ensures { self.new ≡ self.old ++ bytes.now }
     {

@@ -19,14 +19,14 @@ impl Model for Count {
 }
 
 impl Count {
-    /// None so far.
+    /// Makes a count that has counted nothing.
     pub fn new() -> Count
         ensures { result ≡ 0 }
     {
         Count { log: Log::new() }
     }
 
-    /// Once more.
+    /// Counts once more.
     pub fn add_one(&mut self)
         ensures { self.new ≡ self.old + 1 }
     {

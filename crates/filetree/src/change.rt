@@ -17,7 +17,7 @@ pub enum Change<'a> {
 }
 
 impl Change<'_> {
-    /// The path of the file that is changed.
+    /// Returns the path of the file that is changed.
     pub fn path(&self) -> &str
         ensures { result.now ≡ specs.path_of (change_seen self.now) }
     {
@@ -28,7 +28,7 @@ impl Change<'_> {
     }
 }
 
-// The error of a change that is refused, by its number among several.
+// Returns the error of a change that is refused, with its number among several.
 fn refused_at(at: usize, error: &TreeError) -> BatchError
     ensures { result ≡ specs.error_at at (refusal_of error.now) }
 {
@@ -66,9 +66,9 @@ impl Tree {
         Ok(())
     }
 
-    /// Makes all of these changes in their order, or none: a change is refused as `put` and `del` refuse it on the files
-    /// after those before it. Then, and where a growth was refused, nothing has changed. Folders are shared with the
-    /// tree as it was, so it costs what the changed paths reach.
+    /// Makes all of these changes in their order, or none. A change is refused as `put` and `del` refuse it on the
+    /// files after those before it. If a change is refused or an allocation fails, nothing changes. Folders are shared
+    /// with the tree as it was, so it costs what the changed paths reach.
     pub fn apply_all(&mut self, edits: &[Change<'_>]) -> Result<(), BatchError>
         ensures { specs.EditsAll result (specs.changes_refusal (changes_seen edits.now) self.old)
             self.old (specs.all_changed (changes_seen edits.now) self.old) self.new }

@@ -37,7 +37,7 @@ impl Model for Folder {
     ghost size_decreases = { λ a h. Prim.omega arith };
 }
 
-// The first name of a path and the rest, if it has a slash.
+// Returns the first name of a path and the rest, if the path has a slash.
 fn split_name(path: &str) -> Option<(&str, &str)>
     ensures { MatchOption result (levels.has_no_slash path.now ≡ true)
         (λ x. levels.IsSplit path.now x.0.now x.1.now) }
@@ -45,7 +45,7 @@ fn split_name(path: &str) -> Option<(&str, &str)>
     path.split_once('/')
 }
 
-// The same names with the same values, which are shared.
+// Returns a map of the same names with the same values, which are shared.
 fn copy_of<V: Drop>(map: &BTreeMap<String, Arc<V>>) -> Result<BTreeMap<String, Arc<V>>, Memory>
     ensures { IfOk result (λ copy. levels.named copy ≡ levels.named map.now) }
 {
@@ -53,7 +53,7 @@ fn copy_of<V: Drop>(map: &BTreeMap<String, Arc<V>>) -> Result<BTreeMap<String, A
     Ok(copy)
 }
 
-// The names of a map.
+// Returns the names of a map.
 fn names_of<V: Drop>(alloc: Global, map: &BTreeMap<String, Arc<V>>) -> Result<Vec<Text>, Memory>
     ensures { IfOk result
         (λ names. names.items ≡ sorted_names (each (λ e. e.0) (levels.named map.now))) }
@@ -66,7 +66,7 @@ fn names_of<V: Drop>(alloc: Global, map: &BTreeMap<String, Arc<V>>) -> Result<Ve
 }
 
 impl Folder {
-    /// No files.
+    /// Makes a folder without files.
     pub(crate) fn new(alloc: Global) -> Folder
         ensures { result.entries ≡ [] }
     {
@@ -76,7 +76,7 @@ impl Folder {
         }
     }
 
-    // The file at a name.
+    // Returns the text of the file at a name.
     fn own_file(&self, name: &str) -> Option<&Text>
         requires { levels.has_no_slash name.now ≡ true }
         ensures { option_copied result ≡ levels.text_at self.now.entries name.now }
@@ -87,7 +87,7 @@ impl Folder {
         }
     }
 
-    // The folder at a name; it is not empty.
+    // Returns the folder at a name. It is not empty.
     fn folder(&self, name: &str) -> Option<&Folder>
         requires { levels.has_no_slash name.now ≡ true }
         ensures below { (rest : List ℕ) → option_and_then (λ f. levels.text_at f.now.entries rest)
@@ -106,7 +106,7 @@ impl Folder {
         self.files.is_empty() && self.folders.is_empty()
     }
 
-    // The folder with another text at a name.
+    // Returns the folder with this text at a name.
     fn with_file(&self, alloc: Global, name: &str, text: &Arc<Text>) -> Result<Folder, Memory>
         requires { levels.has_no_slash name.now ≡ true }
         ensures { IfOk result (λ new. (path : List ℕ) → levels.text_at new.entries path
@@ -119,7 +119,7 @@ impl Folder {
         Ok(Folder { files, folders })
     }
 
-    // The folder without a file at a name.
+    // Returns the folder without the file at a name.
     fn without_file(&self, name: &str) -> Result<Folder, Memory>
         requires { levels.has_no_slash name.now ≡ true }
         ensures { IfOk result (λ new. (path : List ℕ) → levels.text_at new.entries path
@@ -131,7 +131,7 @@ impl Folder {
         Ok(Folder { files, folders })
     }
 
-    // The folder with another folder at a name, which differs at one path from the one there.
+    // Returns the folder with another folder at a name, which differs at one path from the one there.
     fn with_folder(&self, alloc: Global, name: &str, inner: Folder) -> Result<Folder, Memory>
         requires plain { levels.has_no_slash name.now ≡ true }
         requires some { 0 < length inner.entries }
@@ -146,7 +146,7 @@ impl Folder {
         Ok(Folder { files, folders })
     }
 
-    // The folder without a folder at a name, which has a text at one path at most.
+    // Returns the folder without the folder at a name, which has a text at one path at most.
     fn without_folder(&self, name: &str) -> Result<Folder, Memory>
         requires { levels.has_no_slash name.now ≡ true }
         ensures { IfOk result (λ new. (rest : List ℕ) → levels.Changes name.now rest None
@@ -176,7 +176,7 @@ impl Folder {
         if self.is_empty() { None } else { Some(self) }
     }
 
-    /// The folder with a text at a path; its other parts are shared.
+    /// Returns the folder with a text at a path; its other parts are shared.
     pub(crate) fn put(&self, alloc: Global, path: &str, text: &Arc<Text>) -> Result<Folder, Memory>
         ensures { IfOk result (λ new. (other : List ℕ) → levels.text_at new.entries other
             ≡ (if bytes_eq path.now other then Some text.now.value
@@ -192,7 +192,7 @@ impl Folder {
         self.with_folder(alloc, name, inner)
     }
 
-    /// The folder without a text at a path, if anything is left; its other parts are shared.
+    /// Returns the folder without the text at a path, if anything is left; its other parts are shared.
     pub(crate) fn del(&self, alloc: Global, path: &str) -> Result<Option<Folder>, Memory>
         ensures same { IfOk result
             (λ left. (other : List ℕ) → option_and_then (λ f. levels.text_at f.entries other) left
@@ -212,7 +212,7 @@ impl Folder {
         Ok(left.unless_empty())
     }
 
-    /// The text at a path.
+    /// Returns the text at a path.
     pub(crate) fn file(&self, path: &str) -> Option<&Text>
         ensures { option_copied result ≡ levels.text_at self.now.entries path.now }
     {
@@ -225,7 +225,7 @@ impl Folder {
         }
     }
 
-    /// Whether a file lies below the path.
+    /// Returns whether a file lies below the path.
     pub(crate) fn has_below(&self, path: &str) -> bool
         ensures yes { result ≡ true → (rest : List ℕ)
             × (is_some (levels.text_at self.now.entries (path.now ++ 47 ∷ rest)) ≡ true) }
@@ -241,7 +241,7 @@ impl Folder {
         }
     }
 
-    /// Whether a proper ancestor of the path is a file.
+    /// Returns whether a proper ancestor of the path is a file.
     pub(crate) fn has_above(&self, path: &str) -> bool
         ensures yes { result ≡ true → (front : List ℕ) × (rest : List ℕ)
             × (path.now ≡ front ++ 47 ∷ rest) × (is_some (levels.text_at self.now.entries front)
@@ -263,7 +263,7 @@ impl Folder {
         }
     }
 
-    // The folder at a path; it is not empty.
+    // Returns the folder at a path. It is not empty.
     fn folder_at(&self, path: &str) -> Option<&Folder>
         ensures found { MatchOption result ((rest : List ℕ) → levels.text_at self.now.entries
             (path.now ++ 47 ∷ rest) ≡ None)
@@ -280,7 +280,7 @@ impl Folder {
         }
     }
 
-    // The names in the folder, which is not empty.
+    // Returns the names in the folder, which is not empty.
     fn names(&self, alloc: Global) -> Result<Listing, Memory>
         requires { 0 < length self.now.entries }
         ensures { IfOk result
@@ -292,7 +292,7 @@ impl Folder {
         })
     }
 
-    /// The names in a directory, if it is there; the root's name is empty.
+    /// Returns the names in a directory, if it is there; the root's name is empty.
     pub(crate) fn listing(&self, alloc: Global, directory: &str) -> Result<Option<Listing>, Memory>
         ensures { IfOk result (λ l. option_map names_seen l ≡ names_in directory.now
             (each (λ e. e.0) self.now.entries)) }

@@ -15,8 +15,8 @@ pub use error::{BatchError, TreeError};
 pub use listing::Listing;
 pub use tree::Tree;
 
-/// The law of the names: in no files at first, and after each put that is not refused and each removal,
-/// every file has a path for its name.
+/// States the law of the names: every file has a path for its name. It holds where there are no files, and after each
+/// put that is not refused and each removal.
 pub fn edits_keep_paths()
     ensures { EditsKeepPaths }
 {}

@@ -62,7 +62,7 @@ fn put_below(
     Ok(())
 }
 
-// The first folder without a text at a path, if anything is left.
+// Returns the first folder without the text at a path, if anything is left.
 fn root_without(
     alloc: Global,
     root: &Option<Arc<Folder>>,
@@ -82,14 +82,14 @@ fn root_without(
 }
 
 impl Tree {
-    /// No files. The tree grows by the allocator it is made with.
+    /// Makes a tree without files. It grows by the allocator it is made with.
     pub fn new(alloc: Global) -> Tree
         ensures { result ≡ map.empty }
     {
         Tree { alloc, root: None }
     }
 
-    /// The text of the file at the path.
+    /// Returns the text of the file at the path.
     pub fn file(&self, path: &str) -> Option<&Text>
         ensures { option_copied result ≡ map.get self.now path.now }
     {
@@ -99,7 +99,7 @@ impl Tree {
         }
     }
 
-    /// Whether there is a file at the path.
+    /// Returns whether there is a file at the path.
     pub fn is_file(&self, path: &str) -> bool
         ensures { result ≡ specs.is_file self.now path.now }
     {
@@ -124,8 +124,8 @@ impl Tree {
         }
     }
 
-    /// The names in a directory, or none where there is no such directory; the root's name is empty, and
-    /// the root of an empty tree is not there. It costs what the directory's own names do.
+    /// Returns the names in a directory, or `None` if there is no such directory. The root's name is empty, and the
+    /// root of an empty tree is not there. It costs what the directory's own names do.
     pub fn listing(&self, directory: &str) -> Result<Option<Listing>, Memory>
         ensures { IfOk result (λ l. option_map names_seen l ≡ listing self.now directory.now) }
     {
@@ -135,7 +135,7 @@ impl Tree {
         }
     }
 
-    /// An equal tree, which shares all its folders with this one: one count, whatever the size.
+    /// Returns an equal tree, which shares all its folders with this one: one count, whatever the size.
     pub fn copy(&self) -> Result<Tree, Memory>
         ensures { IfOk result (λ t. t ≡ self.now) }
     {
@@ -176,9 +176,9 @@ impl Tree {
         Ok(())
     }
 
-    /// Puts a text at a path, or answers the first refusal and changes nothing: 2 for a bad path, 7 for a text over
-    /// 262,144 bytes, 3 where a proper ancestor of the path is a file or the path is a directory. `Memory` comes only
-    /// where there is no other refusal.
+    /// Puts a text at a path, or returns the first refusal and changes nothing. The refusal is 2 for a bad path, and 7
+    /// for a text over 262,144 bytes. It is 3 if a proper ancestor of the path is a file or the path is a directory.
+    /// Returns `Memory` only if there is no other refusal.
     pub fn put(&mut self, path: &str, text: &str) -> Result<(), TreeError>
         ensures { Edits result (specs.put_refusal self.old path.now text.now)
             self.old (map.insert self.old path.now text.now) self.new }
@@ -188,8 +188,8 @@ impl Tree {
         Ok(())
     }
 
-    /// Removes a file, or answers the first refusal and changes nothing: 2 for a bad path, 4 for no such file. `Memory`
-    /// comes only where there is no other refusal.
+    /// Removes a file, or returns the first refusal and changes nothing: 2 for a bad path, 4 for no such file. Returns
+    /// `Memory` only if there is no other refusal.
     pub fn del(&mut self, path: &str) -> Result<(), TreeError>
         ensures { Edits result (specs.del_refusal self.old path.now)
             self.old (map.remove self.old path.now) self.new }

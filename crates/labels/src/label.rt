@@ -52,7 +52,7 @@ fn last_segment(text: &str) -> &str
     }
 }
 
-// What the text behind `//` names.
+// Returns the package and the name that the text behind `//` stands for.
 fn absolute(text: &str) -> (&str, &str)
     ensures package_name { result.0.now ≡ (labels.absolute text.now).package_name }
     ensures name { result.1.now ≡ (labels.absolute text.now).name }
@@ -103,7 +103,7 @@ fn joined(alloc: Global, package_name: &str, name: &str) -> Result<Text, Memory>
     Text::from_string(alloc, path)
 }
 
-// The text of the label of a target.
+// Returns the text of the label of a target.
 fn written(alloc: Global, package_name: &str, name: &str) -> Result<Text, Memory>
     ensures { IfOk result
         (λ t. t ≡ labels.label_text (record { package_name = package_name.now; name = name.now })) }
@@ -117,8 +117,8 @@ fn written(alloc: Global, package_name: &str, name: &str) -> Result<Text, Memory
     Text::from_string(alloc, text)
 }
 
-/// The text of the label that `Label::read` gives, always `//P:T`, where only the text is wanted. Any other text is
-/// `Code15`.
+/// Returns the text of the label that `Label::read` gives, always `//P:T`, for callers that want only the text. Returns
+/// `Code15` if the text is no label.
 pub fn label_text(alloc: Global, text: &str, present: &str) -> Result<Text, BadLabel>
     ensures ok { IfOk result
         (λ t. option_map labels.label_text (labels.label_of text.now present.now) ≡ Some t) }
@@ -154,9 +154,9 @@ impl Model for Label {
 }
 
 impl Label {
-    /// Reads a label in a package: `//P:T`, `//P` (with P nonempty, and T its last segment), `:T` or
-    /// `T` (in the present package), where P is a package's name, T a path, and P and T joined are at
-    /// most 255 bytes. Any other text is `Code15`.
+    /// Reads a label in a package: `//P:T`, `//P` (with P nonempty, and T its last segment), `:T` or `T` (in the
+    /// present package). P is a package's name, T a path, and P and T joined are at most 255 bytes. Any other text is
+    /// `Code15`.
     pub fn read(alloc: Global, text: &str, present: &str) -> Result<Label, BadLabel>
         ensures ok { IfOk result (λ l. labels.label_of text.now present.now ≡ Some l) }
         ensures bad { IsErrOf result BadLabel.Code15 → labels.label_of text.now present.now ≡ None }
@@ -173,7 +173,7 @@ impl Label {
         })
     }
 
-    /// The label's text, always `//P:T`. Read in any package it is this label again.
+    /// Returns the label's text, always `//P:T`. Read in any package it is this label again.
     pub fn text(&self) -> &Text
         ensures value { result.now ≡ labels.label_text self.now }
         ensures reads_back { (present : List ℕ) → labels.label_of result.now present
@@ -182,21 +182,21 @@ impl Label {
         &self.text
     }
 
-    /// The name of the package, P.
+    /// Returns the name of the package, P.
     pub fn package_name(&self) -> &Text
         ensures { result.now ≡ self.now.package_name }
     {
         &self.package_name
     }
 
-    /// The name in the package, T.
+    /// Returns the name in the package, T.
     pub fn name(&self) -> &Text
         ensures { result.now ≡ self.now.name }
     {
         &self.name
     }
 
-    /// The path of the file: P and T joined.
+    /// Returns the path of the file: P and T joined.
     pub fn file(&self) -> &Text
         ensures value { result.now ≡ labels.label_file self.now }
         ensures path { IsTrue (is_path result.now) }
@@ -204,15 +204,15 @@ impl Label {
         &self.file
     }
 
-    /// Whether the label is one of a module: T ends in `.bzl`.
+    /// Returns whether the label is one of a module: T ends in `.bzl`.
     pub fn is_module(&self) -> bool
         ensures { result ≡ labels.is_module self.now }
     {
         self.name.as_str().ends_with(".bzl")
     }
 
-    /// The names of the packages that would stand between the label's package and its file: each proper
-    /// directory of T joined to P, shortest first. If one is a package, the label crosses a boundary.
+    /// Returns the names of the packages that would stand between the label's package and its file. They are each
+    /// proper directory of T joined to P, shortest first. If one is a package, the label crosses a boundary.
     pub fn boundaries(&self, alloc: Global) -> Result<Vec<Text>, Memory>
         ensures { IfOk result (λ names. names.items ≡ labels.boundaries self.now) }
     {
@@ -226,7 +226,7 @@ impl Label {
         Ok(names)
     }
 
-    /// The same label, its texts shared.
+    /// Returns the same label, its texts shared.
     pub fn share(&self) -> Result<Label, Memory>
         ensures { IfOk result (λ l. l ≡ self.now) }
     {

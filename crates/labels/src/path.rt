@@ -22,8 +22,8 @@ fn is_segment(name: &str) -> bool
     name.bytes().all(is_name_byte)
 }
 
-/// Whether the text is a path: segments joined by `/`, at most 255 bytes. A segment is one or more of
-/// ASCII letters, digits, `_`, `-` and `.`, and is neither `.` nor `..`.
+/// Returns whether the text is a path: segments joined by `/`, at most 255 bytes. A segment is one or more of ASCII
+/// letters, digits, `_`, `-` and `.`, and is neither `.` nor `..`.
 pub fn is_path(text: &str) -> bool
     ensures { result ≡ paths.is_path text.now }
 {
@@ -33,7 +33,7 @@ pub fn is_path(text: &str) -> bool
     text.split('/').all(is_segment)
 }
 
-/// Whether the text names a package or a directory: a path, or the empty text for the root.
+/// Returns whether the text names a package or a directory: a path, or the empty text for the root.
 pub fn is_package_name(text: &str) -> bool
     ensures { result ≡ paths.is_package_name text.now }
 {
@@ -93,7 +93,7 @@ impl Path {
         Ok(Path { text })
     }
 
-    /// The path.
+    /// Returns the path.
     pub fn as_str(&self) -> &str
         ensures value { result.now ≡ self.now }
         ensures path { IsTrue (paths.is_path self.now) }
@@ -101,7 +101,7 @@ impl Path {
         self.text.as_str()
     }
 
-    /// The path as a shared text.
+    /// Returns the path as a shared text.
     pub fn text(&self) -> &Text
         ensures value { result.now ≡ self.now }
         ensures path { IsTrue (paths.is_path self.now) }

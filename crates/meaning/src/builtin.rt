@@ -66,7 +66,7 @@ pub const PACKAGE: [Builtin; 6] = [
 ];
 
 impl Builtin {
-    /// Its number. Two functions are equal where their numbers are.
+    /// Returns the function's number. Two functions are equal where their numbers are.
     pub fn number(self) -> u8
         ensures { result ≡ builtin_number self }
     {
@@ -98,7 +98,7 @@ impl Builtin {
         }
     }
 
-    /// Its name, as it stands in files.
+    /// Returns the function's name, as it stands in files.
     pub fn name(self) -> &'static str
         ensures { result.now ≡ builtin_name self }
     {
@@ -130,7 +130,7 @@ impl Builtin {
         }
     }
 
-    /// Whether it is a package call.
+    /// Returns whether the function is a package call.
     pub fn is_package_call(self) -> bool
         ensures { result ≡ list_any (same_builtin self) package_functions }
     {

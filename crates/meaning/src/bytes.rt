@@ -36,7 +36,7 @@ impl Model for Bytes {
 }
 
 impl Bytes {
-    /// A text of the source.
+    /// Makes a string of a text of the source.
     pub fn of_text(text: Text) -> Bytes
         ensures { result ≡ text }
     {
@@ -45,7 +45,7 @@ impl Bytes {
         }
     }
 
-    /// A new string.
+    /// Makes a string of bytes that an evaluation made.
     pub fn new(alloc: Global, bytes: Vec<u8>) -> Result<Bytes, Memory>
         ensures { IfOk result (λ b. b ≡ bytes.items) }
     {
@@ -53,7 +53,7 @@ impl Bytes {
         Ok(Bytes { inner })
     }
 
-    /// The bytes.
+    /// Returns the bytes.
     pub fn as_slice(&self) -> &[u8]
         ensures { result.now ≡ self.now }
     {
@@ -63,7 +63,7 @@ impl Bytes {
         }
     }
 
-    /// The same string, shared.
+    /// Returns the same string, shared.
     pub fn share(&self) -> Result<Bytes, Memory>
         ensures { IfOk result (λ b. b ≡ self.now) }
     {

@@ -84,7 +84,7 @@ impl Model for Key {
 }
 
 impl Key {
-    /// The key of one part.
+    /// Makes the key of one part.
     pub fn one(part: Part) -> Key
         ensures { result ≡ part ∷ [] }
     {
@@ -93,7 +93,7 @@ impl Key {
         }
     }
 
-    /// The key of these parts.
+    /// Makes the key of these parts.
     pub fn several(parts: Vec<Part>) -> Key
         ensures { result ≡ parts.items }
     {
@@ -102,7 +102,7 @@ impl Key {
         }
     }
 
-    /// The parts.
+    /// Returns the parts.
     pub fn parts(&self) -> &[Part]
         ensures { result.now ≡ self.now }
     {

@@ -107,7 +107,7 @@ impl Pattern {
         Ok(Pattern { text })
     }
 
-    /// The pattern's text.
+    /// Returns the pattern's text.
     pub fn text(&self) -> &Text
         ensures value { result.now ≡ self.now }
         ensures pattern { IsTrue (patterns.is_pattern self.now) }
@@ -115,16 +115,16 @@ impl Pattern {
         &self.text
     }
 
-    /// Whether the pattern matches the path: `*` matches zero or more bytes inside a segment, and `**` zero
-    /// or more whole segments. It takes no memory, and time near to the product of the longest run between
-    /// two `**` and the path.
+    /// Returns whether the pattern matches the path: `*` matches zero or more bytes inside a segment, and `**` zero or
+    /// more whole segments. It takes no memory, and time near to the product of the longest run between two `**` and
+    /// the path.
     pub fn matches(&self, path: &str) -> bool
         ensures { result ≡ patterns.path_matches (segments self.now) (segments path.now) }
     {
         segments_match(Some(self.text.as_str()), Some(path))
     }
 
-    /// The first segment and the pattern of the others, if there are others.
+    /// Returns the first segment and the pattern of the others, if there are others.
     pub fn split_first(&self, alloc: Global) -> Result<(Text, Option<Pattern>), Memory>
         ensures { IfOk result (λ x. segments self.now ≡ x.0 ∷ rest_segments x.1) }
     {
@@ -141,7 +141,7 @@ impl Pattern {
     }
 }
 
-/// Whether a segment of a pattern is `**`.
+/// Returns whether a segment of a pattern is `**`.
 pub fn is_double_star(segment: &str) -> bool
     ensures { result ≡ patterns.is_double_star segment.now }
 {

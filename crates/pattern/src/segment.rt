@@ -27,7 +27,8 @@ fn piece<'a>(pattern: &'a [u8], name: &'a [u8]) -> Option<(&'a [u8], &'a [u8])>
     Some((pattern, name))
 }
 
-// The first end of the name that begins with the piece; the last piece has to end with the name.
+// Finds the first end of the name that begins with the piece, and takes the piece from it. The last piece has to end
+// with the name.
 fn search<'a>(pattern: &'a [u8], name: &'a [u8]) -> Option<(&'a [u8], &'a [u8])>
     ensures { MatchOption result (some_end (patterns.segment_matches pattern.now) name.now ≡ false)
         (λ left. PieceFound patterns.is_star patterns.segment_matches pattern.now name.now
@@ -63,9 +64,9 @@ fn bytes_match(pattern: &[u8], name: &[u8]) -> bool
     name.is_empty()
 }
 
-/// Whether one segment of a pattern matches a name: `*` matches zero or more bytes, a leading dot too,
-/// and any other byte itself. It takes no memory, and time near to the product of the longest run
-/// between two stars and the name.
+/// Returns whether one segment of a pattern matches a name: `*` matches zero or more bytes, a leading dot too, and any
+/// other byte itself. It takes no memory, and time near to the product of the longest run between two stars and the
+/// name.
 pub fn segment_matches(segment: &str, name: &str) -> bool
     ensures { result ≡ patterns.segment_matches segment.now name.now }
 {

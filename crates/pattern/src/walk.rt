@@ -7,7 +7,7 @@ ghost use Rattle.pattern.specs.Pieces.{PieceFits, PieceFound};
 
 use crate::segment::segment_matches;
 
-// The first segment, and the rest, if it is there.
+// Returns the first segment of a text and the rest, if there is a rest. Returns `None` if there is no text.
 fn split_segment<'a>(text: Option<&'a str>) -> Option<(&'a str, Option<&'a str>)>
     ensures { MatchOption result (parts text.entry ≡ [])
         (λ x. parts text.entry ≡ x.0.now ∷ parts x.1) }
@@ -44,7 +44,7 @@ fn piece<'a>(
     Some((pattern, path))
 }
 
-// The same, where the last piece has to end with the path.
+// Takes a piece as `piece` does; the last piece has to end with the path.
 fn whole_piece<'a>(
     pattern: Option<&'a str>,
     path: Option<&'a str>,
@@ -63,7 +63,8 @@ fn whole_piece<'a>(
     }
 }
 
-// The first end of the path that begins with the piece; the last piece has to end with the path.
+// Finds the first end of the path that begins with the piece, and takes the piece from it. The last piece has to end
+// with the path.
 fn search<'a>(
     pattern: Option<&'a str>,
     path: Option<&'a str>,
@@ -83,7 +84,7 @@ fn search<'a>(
     }
 }
 
-// Whether the segments of the pattern match those of the path.
+// Returns whether the segments of the pattern match those of the path.
 pub(crate) fn segments_match(pattern: Option<&str>, path: Option<&str>) -> bool
     ensures { result ≡ patterns.path_matches (parts pattern.entry) (parts path.entry) }
 {

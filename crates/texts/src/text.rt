@@ -32,7 +32,7 @@ impl Model for Text {
 }
 
 impl Text {
-    /// A new text.
+    /// Makes a shared text of a copy of the bytes.
     pub fn new(alloc: Global, text: &str) -> Result<Text, Memory>
         ensures { IfOk result (λ t. t ≡ text.now) }
     {
@@ -40,7 +40,7 @@ impl Text {
         Ok(Text { inner })
     }
 
-    /// The text of a string, whose bytes are taken over and not copied.
+    /// Makes a shared text of a string, whose bytes are taken over and not copied.
     pub fn from_string(alloc: Global, text: String) -> Result<Text, Memory>
         ensures { IfOk result (λ t. t ≡ string_bytes text) }
     {
@@ -48,14 +48,14 @@ impl Text {
         Ok(Text { inner })
     }
 
-    /// The text.
+    /// Returns the text.
     pub fn as_str(&self) -> &str
         ensures { result.now ≡ self.now }
     {
         self.inner.as_str()
     }
 
-    /// The same text, shared.
+    /// Returns the same text, shared.
     pub fn share(&self) -> Result<Text, Memory>
         ensures { IfOk result (λ t. t ≡ self.now) }
     {

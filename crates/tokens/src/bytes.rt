@@ -32,7 +32,7 @@ pub(crate) fn is_escape(b: u8) -> bool
     b == b'\\' || b == b'"' || b == b'\'' || b == b'n' || b == b't' || b == b'r'
 }
 
-/// How many bytes at the front a name has.
+/// Counts the bytes at the front that may stand in a name.
 pub(crate) fn name_run(bytes: &[u8]) -> usize
     ensures exact { result ≡ run is_name_byte bytes.now }
     ensures within { result ≤ length bytes.now }
@@ -45,7 +45,7 @@ pub(crate) fn name_run(bytes: &[u8]) -> usize
     bytes.len()
 }
 
-/// How many digits stand at the front.
+/// Counts the digits at the front.
 pub(crate) fn digit_run(bytes: &[u8]) -> usize
     ensures exact { result ≡ run is_digit bytes.now }
     ensures within { result ≤ length bytes.now }
@@ -58,7 +58,7 @@ pub(crate) fn digit_run(bytes: &[u8]) -> usize
     bytes.len()
 }
 
-/// How many bytes at the front may stand in a comment.
+/// Counts the bytes at the front that may stand in a comment.
 pub(crate) fn text_run(bytes: &[u8]) -> usize
     ensures exact { result ≡ run is_text_byte bytes.now }
     ensures within { result ≤ length bytes.now }

@@ -156,7 +156,7 @@ impl Depth {
     }
 }
 
-/// At the start of a text.
+/// Returns the depth at the start of a text.
 fn outermost(alloc: Global) -> Result<Depth, AllocError>
     ensures { IfOk result (λ d. (nesting_of d ≡ outermost) × IsOrdered d × (d.total ≡ 0)
         × (d.indents ≡ 0)) }
@@ -170,7 +170,7 @@ fn outermost(alloc: Global) -> Result<Depth, AllocError>
     })
 }
 
-/// Some token is nested deeper than 64.
+/// Returns whether some token is nested deeper than 64.
 pub(crate) fn too_deep(alloc: Global, tokens: &[Lexed<'_>]) -> Result<bool, AllocError>
     ensures { IfOk result (λ deep. deep ≡ too_deep outermost (map lex_of tokens.now)) }
 {

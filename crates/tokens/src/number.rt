@@ -7,7 +7,7 @@ use crate::bytes::is_digit;
 /// The largest number that a text can have: the largest of 64 signed bits.
 const LARGEST: u64 = 9_223_372_036_854_775_807;
 
-/// The number that digits are, if it has no needless zero in front and is not too large.
+/// Returns the number that digits are, if it has no needless zero in front and is not too large.
 pub(crate) fn number_of(digits: &[u8]) -> Option<u64>
     ensures exact { result ≡ number_of digits.now }
     ensures few { IfSome result (λ n. n ≤ largest) }

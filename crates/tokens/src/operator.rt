@@ -12,7 +12,7 @@ pub(crate) struct Sign {
     pub(crate) len: usize,
 }
 
-/// The longer symbol where an equals sign follows, else the shorter one.
+/// Returns the longer symbol if an equals sign follows, else the shorter one.
 fn with_equal(long: Symbol, short: Symbol, rest: &[u8]) -> Option<Sign>
     ensures exact { result ≡ with_equal long short rest.now }
     ensures within { IfSome result (λ s. (0 < s.len) × (s.len ≤ 1 + length rest.now)) }
@@ -36,7 +36,7 @@ fn one(symbol: Symbol) -> Option<Sign>
     Some(Sign { symbol, len: 1 })
 }
 
-/// A symbol that has an equals sign or a slash behind its first byte.
+/// Returns the symbol that begins with a slash, if a second slash follows.
 #[tactic(auto, unfolding(crate::specs::Pieces::operator_at))]
 fn slashes(rest: &[u8]) -> Option<Sign>
     ensures exact { result ≡ operator_at 47 rest.now }
@@ -60,7 +60,7 @@ fn slashes(rest: &[u8]) -> Option<Sign>
     }
 }
 
-/// The symbol that begins with a byte, before those that follow it.
+/// Returns the symbol that begins with a byte, before those that follow it, if there is one.
 #[tactic(auto, unfolding(crate::specs::Pieces::operator_at))]
 pub(crate) fn operator_at(first: u8, rest: &[u8]) -> Option<Sign>
     ensures exact { result ≡ operator_at first rest.now }

@@ -30,7 +30,7 @@ pub(crate) struct Piece<'a> {
     pub(crate) line_ends: usize,
 }
 
-/// The word at the front.
+/// Returns the word at the front, unless it is reserved.
 #[tactic(auto, unfolding(crate::specs::Pieces::word_at))]
 fn word_at(bytes: &[u8]) -> Option<Piece<'_>>
     requires ascii { IsAscii bytes.now }
@@ -51,7 +51,7 @@ fn word_at(bytes: &[u8]) -> Option<Piece<'_>>
     }
 }
 
-/// The number at the front.
+/// Returns the number at the front, if it is well formed and no letter follows.
 #[tactic(auto, unfolding(crate::specs::Pieces::number_at))]
 fn number_at(bytes: &[u8]) -> Option<Piece<'_>>
     requires { 0 < run is_digit bytes.now }
@@ -74,7 +74,7 @@ fn number_at(bytes: &[u8]) -> Option<Piece<'_>>
     }
 }
 
-/// The string of a quote, before those that follow it.
+/// Returns the string that begins with a quote, before the bytes that follow it, if it is well formed.
 #[tactic(auto, unfolding(crate::specs::Pieces::string_at))]
 fn string_at(quote: u8, rest: &[u8]) -> Option<Piece<'_>>
     requires { IsAscii rest.now }
@@ -110,7 +110,7 @@ fn string_at(quote: u8, rest: &[u8]) -> Option<Piece<'_>>
     }
 }
 
-/// The piece at the front; None at the end of the text, and where none can stand there.
+/// Returns the piece at the front, or `None` at the end of the text and where no piece can stand there.
 #[tactic(auto, unfolding(crate::specs::Pieces::piece_at))]
 pub(crate) fn piece_at(bytes: &[u8]) -> Option<Piece<'_>>
     requires { IsAscii bytes.now }

@@ -79,7 +79,7 @@ fn goes_on(b: u8, escaped: bool, long: bool) -> Option<Inside>
     }
 }
 
-/// How far the text of a string goes from behind its opening quote.
+/// Returns how far the text of a string goes from behind its opening quote, if it is well formed and ends.
 pub(crate) fn extent_of(bytes: &[u8], quote: u8, long: bool) -> Option<Extent>
     ensures exact { result ≡ extent long quote false bytes.now }
     ensures within { IfSome result (λ e. e.len + (if long then 3 else 1) ≤ length bytes.now) }

@@ -13,7 +13,7 @@ use crate::token::Lexed;
 use meaning::faults;
 use std::alloc::Global;
 
-/// The line of the first byte over 127.
+/// Returns the line of the first byte over 127, if there is one.
 fn foreign(text: &[u8]) -> Option<usize>
     ensures exact { result ≡ foreign 1 text.now }
     ensures ascii { IfNone result (IsAscii text.now) }
@@ -30,7 +30,7 @@ fn foreign(text: &[u8]) -> Option<usize>
     None
 }
 
-/// The tokens of a text that is ASCII, before their nesting is looked at.
+/// Reads the tokens of a text that is ASCII. Their nesting is not looked at.
 fn scan(alloc: Global, text: &[u8]) -> Result<Vec<Lexed<'_>>, Stop>
     requires { IsAscii text.now }
     ensures { Scans (scan start 0 text.now) result }
@@ -63,9 +63,9 @@ fn scan(alloc: Global, text: &[u8]) -> Result<Vec<Lexed<'_>>, Stop>
     Ok(out)
 }
 
-/// The tokens of a text, with their lines. Names and strings are lent by the text. The first fault that applies is
-/// answered: 2 where a byte is over 127; 3 where the tokens are malformed; 12 where one is nested deeper than 64.
-/// Memory is answered only where a growth was refused.
+/// Reads the tokens of a text, with their lines. Names and strings are lent by the text. Returns the first fault that
+/// applies. It is 2 if a byte is over 127, 3 if the tokens are malformed, and 12 if one is nested deeper than 64.
+/// Returns `Memory` only if an allocation fails.
 #[tactic(auto, unfolding(crate::specs::Reading::tokens_of))]
 pub fn read_tokens(alloc: Global, text: &[u8]) -> Result<Vec<Lexed<'_>>, Refused>
     ensures { Reads (tokens_of text.now) result }

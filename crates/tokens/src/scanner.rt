@@ -64,7 +64,7 @@ pub(crate) struct Scanner<'a> {
 }
 
 impl<'a> Scanner<'a> {
-    /// At the start of a text.
+    /// Makes a scanner at the start of a text.
     pub(crate) fn new(alloc: Global) -> Scanner<'a>
         ensures state { state_of result ≡ start }
         ensures said { said_by result ≡ [] }
@@ -94,7 +94,7 @@ impl<'a> Scanner<'a> {
         Ok(())
     }
 
-    /// The spaces of the deepest level.
+    /// Returns the spaces of the deepest level.
     fn top(&self) -> usize
         ensures { result ≡ top (state_of self.now).levels }
     {

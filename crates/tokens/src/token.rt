@@ -31,7 +31,7 @@ pub struct Lexed<'a> {
 }
 
 impl<'a> Ascii<'a> {
-    /// The part as text.
+    /// Returns the part as text.
     pub fn as_str(self) -> &'a str
         ensures { result.now ≡ self.entry.bytes.now }
     {

@@ -8,7 +8,7 @@ use crate::token::Ascii;
 use std::alloc::Global;
 use texts::{Memory, Text};
 
-/// What an escaped byte stands for.
+/// Returns the byte that an escaped byte stands for.
 fn meant(b: u8) -> u8
     ensures exact { result ≡ meant b }
     ensures ascii { b < 128 → result < 128 }
@@ -21,7 +21,7 @@ fn meant(b: u8) -> u8
     }
 }
 
-/// A backslash stands in what is written.
+/// Returns whether a backslash stands in the written bytes.
 fn has_escape(written: &[u8]) -> bool
     ensures { result ≡ has_escape written.now }
 {
@@ -33,8 +33,8 @@ fn has_escape(written: &[u8]) -> bool
     false
 }
 
-/// The text that a string stands for, from what is written between its quotes: each backslash and the byte behind it
-/// stand for one byte.
+/// Returns the text that a string stands for, from the bytes written between its quotes. Each backslash and the byte
+/// behind it stand for one byte.
 #[tactic(auto, using(crate::proofs::Unescaped::as_written))]
 pub fn string_text(alloc: Global, written: Ascii<'_>) -> Result<Text, Memory>
     ensures { IfOk result (λ t. t ≡ unescaped written.entry.bytes.now) }
@@ -47,7 +47,7 @@ pub fn string_text(alloc: Global, written: Ascii<'_>) -> Result<Text, Memory>
     Ok(text)
 }
 
-/// The same where a backslash may stand.
+/// Returns the text that a string stands for, where a backslash may stand in it.
 fn without_escapes(alloc: Global, bytes: &[u8]) -> Result<Text, Memory>
     requires { IsAscii bytes.now }
     ensures { IfOk result (λ t. t ≡ unescaped bytes.now) }

@@ -9,7 +9,7 @@ use crate::bytes::{begins_with_letter, name_run};
 use crate::symbol::Symbol;
 use crate::token::{Ascii, Token};
 
-/// What a word is: a keyword or a literal, a name, or None where it is reserved.
+/// Returns the keyword, literal or name that a word is, or `None` where it is reserved.
 #[tactic(auto, using(crate::proofs::Words::outside))]
 pub(crate) fn word_of(bytes: &[u8]) -> Option<Token<'_>>
     requires { IsAscii bytes.now }
@@ -27,7 +27,7 @@ pub(crate) fn word_of(bytes: &[u8]) -> Option<Token<'_>>
     }
 }
 
-/// The part is a name: a letter and what names go on with, and no keyword, literal or reserved word.
+/// Returns whether the part is a name: a letter and what names go on with, and no keyword, literal or reserved word.
 #[tactic(auto, unfolding(crate::specs::Words::is_name_text))]
 pub fn is_name(part: Ascii<'_>) -> bool
     ensures { result ≡ is_name_text part.entry.bytes.now }
