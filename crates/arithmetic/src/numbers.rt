@@ -14,7 +14,7 @@ pub enum Wide {
     Down(u64),
 }
 
-// A number as it is.
+// Makes a wide number of a number.
 fn widen(x: i64) -> Wide
     ensures value { wide_value result ≡ x }
     ensures narrow { IsNarrow result }
@@ -26,7 +26,7 @@ fn widen(x: i64) -> Wide
     }
 }
 
-// A number, negated.
+// Makes a wide number of a number, negated.
 fn widen_negated(x: i64) -> Wide
     ensures { wide_value result ≡ neg_ℤ x }
 {
@@ -37,7 +37,7 @@ fn widen_negated(x: i64) -> Wide
     }
 }
 
-// The number in 64 bits, or fault 9.
+// Returns the number in 64 bits, or fault 9.
 fn narrow(x: Wide) -> Result<Val, Halt>
     ensures { Checks (fitting (wide_value x)) result }
 {
@@ -57,7 +57,7 @@ fn narrow(x: Wide) -> Result<Val, Halt>
     }
 }
 
-// The greatest number that is not above x / n.
+// Returns the greatest number that is not above x / n.
 fn over(x: Wide, n: u64) -> Wide
     requires { 0 < n }
     ensures { wide_value result ≡ floor_over (wide_value x) n }
@@ -68,7 +68,7 @@ fn over(x: Wide, n: u64) -> Wide
     }
 }
 
-// What is left of x over n.
+// Returns the remainder of x over n.
 fn left_over(x: Wide, n: u64) -> u64
     requires { 0 < n }
     ensures value { result ≡ left_over (wide_value x) n }
@@ -80,7 +80,7 @@ fn left_over(x: Wide, n: u64) -> u64
     }
 }
 
-/// `x // y`: the quotient, rounded towards negative infinity, or fault 10, or 9.
+/// Evaluates `x // y`: the quotient, rounded towards negative infinity, or fault 10, or 9.
 #[tactic(auto, using(crate::proofs::Quotients::divided))]
 pub fn divide(x: i64, y: i64) -> Result<Val, Halt>
     ensures { Checks (unless_zero y (floor_div x y)) result }
@@ -91,7 +91,7 @@ pub fn divide(x: i64, y: i64) -> Result<Val, Halt>
     narrow(quotient(x, widen(y)))
 }
 
-// The quotient by what is not 0.
+// Returns the quotient by a number that is not 0, rounded towards negative infinity.
 fn quotient(x: i64, y: Wide) -> Wide
     requires nonzero { IsNonzero y }
     requires narrow { IsNarrow y }
@@ -103,7 +103,7 @@ fn quotient(x: i64, y: Wide) -> Wide
     }
 }
 
-/// `x % y`: what is left, with the sign of y, or fault 10.
+/// Evaluates `x % y`: the remainder, with the sign of y, or fault 10.
 #[tactic(auto, using(crate::proofs::Quotients::divided))]
 pub fn remainder(x: i64, y: i64) -> Result<Val, Halt>
     ensures { Checks (unless_zero y (floor_rem x y)) result }
@@ -114,7 +114,7 @@ pub fn remainder(x: i64, y: i64) -> Result<Val, Halt>
     narrow(rest(x, widen(y)))
 }
 
-// What is left over what is not 0.
+// Returns the remainder over a number that is not 0, with the sign of that number.
 fn rest(x: i64, y: Wide) -> Wide
     requires nonzero { IsNonzero y }
     requires narrow { IsNarrow y }

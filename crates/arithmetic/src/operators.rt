@@ -9,7 +9,7 @@ use heap::{Halt, Heap, Object, Val, joined, repeated};
 use meaning::faults;
 use texts::Memory;
 
-/// `a + b`
+/// Evaluates `a + b`.
 pub fn add(heap: &mut Heap, a: Val, b: Val) -> Result<Val, Halt>
     ensures { Says (add a b (store_of heap.old)) result (store_of heap.new) }
 {
@@ -23,7 +23,7 @@ pub fn add(heap: &mut Heap, a: Val, b: Val) -> Result<Val, Halt>
     }
 }
 
-// Two strings, lists or tuples, one after the other.
+// Joins two strings, lists or tuples, one after the other.
 fn join(heap: &mut Heap, a: usize, b: usize) -> Result<Val, Halt>
     ensures { Says (joins (at a (store_of heap.old)) (at b (store_of heap.old)) (store_of heap.old))
         result (store_of heap.new) }
@@ -54,7 +54,7 @@ fn join(heap: &mut Heap, a: usize, b: usize) -> Result<Val, Halt>
     }
 }
 
-/// `a - b`
+/// Evaluates `a - b`.
 pub fn subtract(heap: &mut Heap, a: Val, b: Val) -> Result<Val, Halt>
     ensures { Says (subtract a b (store_of heap.old)) result (store_of heap.new) }
 {
@@ -67,7 +67,7 @@ pub fn subtract(heap: &mut Heap, a: Val, b: Val) -> Result<Val, Halt>
     }
 }
 
-/// `a * b`
+/// Evaluates `a * b`.
 pub fn multiply(heap: &mut Heap, a: Val, b: Val) -> Result<Val, Halt>
     ensures { Says (multiply a b (store_of heap.old)) result (store_of heap.new) }
 {
@@ -82,7 +82,7 @@ pub fn multiply(heap: &mut Heap, a: Val, b: Val) -> Result<Val, Halt>
     }
 }
 
-// A string, list or tuple so many times over.
+// Repeats a string, list or tuple so many times.
 fn repeat(heap: &mut Heap, a: usize, n: i64) -> Result<Val, Halt>
     ensures { Says (repeats (at a (store_of heap.old)) n (store_of heap.old)) result
         (store_of heap.new) }
@@ -106,7 +106,7 @@ fn repeat(heap: &mut Heap, a: usize, n: i64) -> Result<Val, Halt>
     }
 }
 
-/// `a // b`
+/// Evaluates `a // b`.
 pub fn divide(heap: &mut Heap, a: Val, b: Val) -> Result<Val, Halt>
     ensures { Says (divide a b (store_of heap.old)) result (store_of heap.new) }
 {
@@ -116,7 +116,7 @@ pub fn divide(heap: &mut Heap, a: Val, b: Val) -> Result<Val, Halt>
     }
 }
 
-/// `a % b`
+/// Evaluates `a % b`.
 pub fn remainder(heap: &mut Heap, a: Val, b: Val) -> Result<Val, Halt>
     ensures { Says (remainder a b (store_of heap.old)) result (store_of heap.new) }
 {
@@ -126,7 +126,7 @@ pub fn remainder(heap: &mut Heap, a: Val, b: Val) -> Result<Val, Halt>
     }
 }
 
-/// `-a`
+/// Evaluates `-a`.
 pub fn negate(heap: &mut Heap, a: Val) -> Result<Val, Halt>
     ensures { Says (negate a (store_of heap.old)) result (store_of heap.new) }
 {
@@ -139,7 +139,7 @@ pub fn negate(heap: &mut Heap, a: Val) -> Result<Val, Halt>
     }
 }
 
-/// `+a`
+/// Evaluates `+a`.
 pub fn plus(heap: &mut Heap, a: Val) -> Result<Val, Halt>
     ensures { Says (plus a (store_of heap.old)) result (store_of heap.new) }
 {
@@ -149,7 +149,7 @@ pub fn plus(heap: &mut Heap, a: Val) -> Result<Val, Halt>
     }
 }
 
-/// Whether a value counts as true. `Memory` where it has been given back.
+/// Returns whether a value counts as true, or `Memory` if it has been given back.
 pub fn is_true(heap: &Heap, a: Val) -> Result<bool, Memory>
     ensures { IfOk result (λ b. b ≡ is_true a (store_of heap.now)) }
 {
@@ -162,7 +162,7 @@ pub fn is_true(heap: &Heap, a: Val) -> Result<bool, Memory>
     }
 }
 
-// Whether an object counts as true.
+// Returns whether an object counts as true.
 fn is_object_true(heap: &Heap, place: usize) -> Result<bool, Memory>
     ensures { IfOk result (λ b. b ≡ object_is_true (at place (store_of heap.now))) }
 {

@@ -20,7 +20,7 @@ pub struct Found {
 }
 
 impl Found {
-    /// The names that are kept.
+    /// Returns the names that are kept.
     pub fn into_kept(self) -> Vec<Text>
         ensures { result ≡ self.kept }
     {
@@ -28,7 +28,7 @@ impl Found {
     }
 }
 
-/// No names were found, and these are kept already.
+/// Makes a record in which no name was found, and these are kept already.
 pub fn nothing_found(alloc: Global, kept: Vec<Text>) -> Found
     ensures names { seen result ≡ [] }
     ensures kept { result.kept ≡ kept }
@@ -40,7 +40,7 @@ pub fn nothing_found(alloc: Global, kept: Vec<Text>) -> Found
     }
 }
 
-/// Whether a name is one of these.
+/// Returns whether a name is one of these.
 pub fn is_among(names: &[Text], x: &Text) -> bool
     ensures { result ≡ has_name x.now names.now }
 {
@@ -52,14 +52,14 @@ pub fn is_among(names: &[Text], x: &Text) -> bool
     false
 }
 
-// Whether a name was found.
+// Returns whether a name was found.
 fn is_found(found: &Found, x: &Text) -> bool
     ensures { result ≡ has_name x.now (seen found.now) }
 {
     is_among(found.few.as_slice(), x) || found.more.contains(x)
 }
 
-/// From here on a name is found, which is not kept by that.
+/// Marks a name as found, without keeping it.
 pub fn note(found: &mut Found, x: &Text) -> Result<(), Memory>
     ensures names { OnOk result (SameNames (seen found.new) (x.now ∷ seen found.old)) }
     ensures kept { found.new.kept ≡ found.old.kept }
@@ -73,7 +73,7 @@ pub fn note(found: &mut Found, x: &Text) -> Result<(), Memory>
     Ok(())
 }
 
-/// Finds a name, which is kept where it is found for the first time.
+/// Finds a name, which is kept if it is found for the first time.
 pub fn find(found: &mut Found, x: &Text) -> Result<(), Memory>
     ensures { OnOk result (Finds found.old (x.now ∷ []) found.new) }
 {

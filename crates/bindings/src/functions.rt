@@ -10,12 +10,12 @@ use std::sync::Arc;
 use texts::{Memory, Text};
 use tree::{Def, Param, Stmt};
 
-/// Makes a function of its line, its name, its parameters and its body, and finds the names of a call. Whether they
-/// differ is looked at where they are sixteen or fewer.
+/// Makes a function of its line, its name, its parameters and its body, and finds the names of a call. Looks whether
+/// they differ if they are sixteen or fewer.
 ///
 /// # Errors
 ///
-/// `Memory` where memory is refused.
+/// Returns `Memory` if an allocation fails.
 pub fn new_function(
     alloc: Global,
     line: usize,

@@ -9,7 +9,7 @@ use crate::finding::{Found, find};
 use texts::Memory;
 use tree::{Branch, Clause, Expr, LoadItem, LoadStmt, Stmt, Top};
 
-/// The names that an assignment to a target binds.
+/// Finds the names that an assignment to a target binds.
 #[cycle(targets)]
 pub fn find_target(found: &mut Found, target: &Expr) -> Result<(), Memory>
     ensures { OnOk result (Finds found.old (target_names (tree_of target.now)) found.new) }
@@ -23,7 +23,7 @@ pub fn find_target(found: &mut Found, target: &Expr) -> Result<(), Memory>
     Ok(())
 }
 
-// The names that an assignment to several targets binds.
+// Finds the names that an assignment to several targets binds.
 #[cycle(targets)]
 fn find_targets(found: &mut Found, targets: &[Expr]) -> Result<(), Memory>
     ensures { OnOk result (Finds found.old (targets_names (trees_of targets.now)) found.new) }
@@ -34,7 +34,7 @@ fn find_targets(found: &mut Found, targets: &[Expr]) -> Result<(), Memory>
     Ok(())
 }
 
-/// The names of a comprehension.
+/// Finds the names of a comprehension.
 pub fn find_clauses(found: &mut Found, clauses: &[Clause]) -> Result<(), Memory>
     ensures { OnOk result (Finds found.old (clause_names (clause_trees clauses.now)) found.new) }
 {
@@ -46,7 +46,7 @@ pub fn find_clauses(found: &mut Found, clauses: &[Clause]) -> Result<(), Memory>
     Ok(())
 }
 
-// The names that a statement binds.
+// Finds the names that a statement binds.
 #[cycle(statements)]
 fn find_stmt(found: &mut Found, stmt: &Stmt) -> Result<(), Memory>
     ensures { OnOk result (Finds found.old (stmt_names (stmt_of stmt.now)) found.new) }
@@ -73,7 +73,7 @@ fn find_stmt(found: &mut Found, stmt: &Stmt) -> Result<(), Memory>
     Ok(())
 }
 
-/// The names that statements bind.
+/// Finds the names that statements bind.
 #[cycle(statements)]
 pub fn find_suite(found: &mut Found, suite: &[Stmt]) -> Result<(), Memory>
     ensures { OnOk result (Finds found.old (suite_names (stmts_of suite.now)) found.new) }
@@ -84,7 +84,7 @@ pub fn find_suite(found: &mut Found, suite: &[Stmt]) -> Result<(), Memory>
     Ok(())
 }
 
-// The names that branches bind.
+// Finds the names that branches bind.
 #[cycle(statements)]
 fn find_branches(found: &mut Found, branches: &[Branch]) -> Result<(), Memory>
     ensures { OnOk result (Finds found.old (branches_names (branch_trees branches.now)) found.new) }
@@ -95,7 +95,7 @@ fn find_branches(found: &mut Found, branches: &[Branch]) -> Result<(), Memory>
     Ok(())
 }
 
-// The names that a branch binds.
+// Finds the names that a branch binds.
 #[cycle(statements)]
 fn find_branch(found: &mut Found, branch: &Branch) -> Result<(), Memory>
     ensures { OnOk result (Finds found.old (branch_names (branch_of branch.now)) found.new) }
@@ -103,7 +103,7 @@ fn find_branch(found: &mut Found, branch: &Branch) -> Result<(), Memory>
     find_suite(found, branch.body.as_slice())
 }
 
-/// The names that a file's own statements bind at file level.
+/// Finds the names that a file's own statements bind at file level.
 pub fn find_tops(found: &mut Found, tops: &[Top]) -> Result<(), Memory>
     ensures { OnOk result (Finds found.old (top_names (map top_of tops.now)) found.new) }
 {
@@ -116,7 +116,7 @@ pub fn find_tops(found: &mut Found, tops: &[Top]) -> Result<(), Memory>
     Ok(())
 }
 
-// The names that a load binds.
+// Finds the names that a load binds.
 fn find_items(found: &mut Found, items: &[LoadItem]) -> Result<(), Memory>
     ensures { OnOk result (Finds found.old (item_names (map item_of items.now)) found.new) }
 {
@@ -126,7 +126,7 @@ fn find_items(found: &mut Found, items: &[LoadItem]) -> Result<(), Memory>
     Ok(())
 }
 
-/// The names that loads bind.
+/// Finds the names that loads bind.
 pub fn find_loads(found: &mut Found, loads: &[LoadStmt]) -> Result<(), Memory>
     ensures { OnOk result (Finds found.old (load_names (map load_of loads.now)) found.new) }
 {

@@ -12,7 +12,7 @@ use std::alloc::Global;
 use texts::{Memory, Text};
 use tree::{Clause, File, Param, Stmt, Top};
 
-// The names of parameters, in their order.
+// Returns the names of parameters, in their order.
 fn names_of(alloc: Global, params: &[Param]) -> Result<Vec<Text>, Memory>
     ensures { IfOk result (λ names. names.items ≡ names_of_params params.now) }
 {
@@ -23,7 +23,7 @@ fn names_of(alloc: Global, params: &[Param]) -> Result<Vec<Text>, Memory>
     Ok(names)
 }
 
-// From here on the names of these parameters are found.
+// Marks the names of these parameters as found, without keeping them.
 fn note_params(found: &mut Found, params: &[Param]) -> Result<(), Memory>
     ensures names { OnOk result
         (SameNames (seen found.new) (names_of_params params.now ++ seen found.old)) }
@@ -35,12 +35,12 @@ fn note_params(found: &mut Found, params: &[Param]) -> Result<(), Memory>
     Ok(())
 }
 
-/// Returns the names that a call of a function has, by its parameters and its body: the names of the parameters, and
-/// behind them those that the body binds besides, each once, in the order in which they are bound first.
+/// Returns the names of a call of a function, by its parameters and its body. They are the names of the parameters, and
+/// behind them those that the body binds besides. Each stands there once, in the order in which they are bound first.
 ///
 /// # Errors
 ///
-/// `Memory` where memory is refused.
+/// Returns `Memory` if an allocation fails.
 pub fn function_names(alloc: Global, params: &[Param], body: &[Stmt]) -> Result<Vec<Text>, Memory>
     ensures { IfOk result (λ names. names.items
         ≡ bound.function_names (map param_of params.now) (stmts_of body.now)) }
@@ -55,7 +55,7 @@ pub fn function_names(alloc: Global, params: &[Param], body: &[Stmt]) -> Result<
 ///
 /// # Errors
 ///
-/// `Memory` where memory is refused.
+/// Returns `Memory` if an allocation fails.
 pub fn clause_names(alloc: Global, clauses: &[Clause]) -> Result<Vec<Text>, Memory>
     ensures { IfOk result
         (λ names. names.items ≡ names_once [] (bound.clause_names (clause_trees clauses.now))) }
@@ -69,7 +69,7 @@ pub fn clause_names(alloc: Global, clauses: &[Clause]) -> Result<Vec<Text>, Memo
 ///
 /// # Errors
 ///
-/// `Memory` where memory is refused.
+/// Returns `Memory` if an allocation fails.
 pub fn file_names(alloc: Global, file: &File) -> Result<Vec<Text>, Memory>
     ensures { let f = file_of file.now in
         IfOk result
@@ -86,7 +86,7 @@ pub fn file_names(alloc: Global, file: &File) -> Result<Vec<Text>, Memory>
 ///
 /// # Errors
 ///
-/// `Memory` where memory is refused.
+/// Returns `Memory` if an allocation fails.
 pub fn top_names(alloc: Global, tops: &[Top]) -> Result<Vec<Text>, Memory>
     ensures { IfOk result
         (λ names. names.items ≡ names_once [] (bound.top_names (map top_of tops.now))) }

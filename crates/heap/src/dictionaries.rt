@@ -11,7 +11,7 @@ use meaning::{Entry, Key, Val};
 use std::alloc::Global;
 use texts::Memory;
 
-/// What a dictionary has at a key.
+/// Returns the entry that a dictionary has at a key, if there is one.
 #[tactic(auto, using(crate::proofs::Keyed::lookup_found))]
 pub fn found(entries: &IndexMap<Key, Entry>, key: &Key) -> Option<Entry>
     ensures { result ≡ found key.now entries.now.entries }
@@ -19,7 +19,7 @@ pub fn found(entries: &IndexMap<Key, Entry>, key: &Key) -> Option<Entry>
     entries.get(key).copied()
 }
 
-/// Sets a key, which keeps its place where it was there.
+/// Sets a key, which keeps its place if it was there.
 #[tactic(auto, using(crate::proofs::Keyed::insert_with_key))]
 pub fn set_entry(entries: &mut IndexMap<Key, Entry>, key: Key, entry: Entry) -> Result<(), Memory>
     ensures { OnOk result (entries.new.entries ≡ with_key key entry entries.old.entries) }
@@ -28,7 +28,7 @@ pub fn set_entry(entries: &mut IndexMap<Key, Entry>, key: Key, entry: Entry) -> 
     Ok(())
 }
 
-/// Whether a dictionary with a key set is not too long.
+/// Returns whether a dictionary is not too long once the key is set.
 #[tactic(auto, using(crate::proofs::Keyed::with_key_length, crate::proofs::Keyed::lookup_found))]
 pub fn has_room(entries: &IndexMap<Key, Entry>, key: &Key) -> bool
     ensures { (e : Entry) → result ≡ is_sized (length (with_key key.now e entries.now.entries)) }
@@ -39,7 +39,7 @@ pub fn has_room(entries: &IndexMap<Key, Entry>, key: &Key) -> bool
     entries.len() == LONGEST && entries.contains_key(key)
 }
 
-/// The keys of a dictionary, in order.
+/// Returns the keys of a dictionary, in order.
 #[tactic(auto, using(crate::proofs::Keyed::take_some, crate::proofs::Keyed::take_none, crate::proofs::Keyed::take_keys))]
 pub fn keys(alloc: Global, entries: &IndexMap<Key, Entry>) -> Result<Vec<Val>, Memory>
     ensures { IfOk result (λ v. v.items ≡ keys_of entries.now.entries) }
@@ -53,7 +53,7 @@ pub fn keys(alloc: Global, entries: &IndexMap<Key, Entry>) -> Result<Vec<Val>, M
     Ok(all)
 }
 
-// The key at a place of the order.
+// Returns the key at a place of the order.
 #[tactic(auto, using(crate::proofs::Keyed::key_there))]
 fn key_at(entries: &IndexMap<Key, Entry>, i: usize) -> Option<Val>
     ensures { result ≡ slice_get (keys_of entries.now.entries) i }

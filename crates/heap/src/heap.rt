@@ -42,7 +42,7 @@ pub struct Heap {
 }
 
 impl Heap {
-    /// An empty heap.
+    /// Makes an empty heap.
     pub fn new(alloc: Global, steps: u64) -> Heap
         ensures store { store_of result ≡ record { heap = []; iterated = []; steps = steps } }
         ensures held { result.held ≡ 0 }
@@ -57,7 +57,7 @@ impl Heap {
         }
     }
 
-    /// The object at a place. `Memory` where it has been given back.
+    /// Returns the object at a place, if one stands there, or `Memory` if it has been given back.
     pub fn object(&self, place: usize) -> Result<Option<&Object>, Memory>
         ensures found { IfOk result (λ found. at place (store_of self.now) ≡ option_map
             (λ o. object_of o.now) found) }
@@ -66,8 +66,8 @@ impl Heap {
         object_at(self.objects.as_slice(), place)
     }
 
-    /// The object at a place, to be changed and then put there again. Until then it counts as given back. `Memory` where it
-    /// has been given back.
+    /// Takes the object at a place, to be changed and then put there again. Until then it counts as given back. Returns
+    /// `Memory` if it has been given back before.
     pub fn take(&mut self, place: usize) -> Result<Option<Object>, Memory>
         ensures same { store_of self.new ≡ store_of self.old }
         ensures taken { IfOk result (λ found. at place (store_of self.old) ≡ option_map object_of
@@ -84,8 +84,8 @@ impl Heap {
         }
     }
 
-    /// Another object at a place, if one stands there. The bytes that it takes more are counted by `hold_members` and
-    /// `hold_entry`.
+    /// Puts another object at a place, if one stands there. The bytes that it takes more are counted by `hold_members`
+    /// and `hold_entry`.
     pub fn put(&mut self, place: usize, object: Object)
         ensures put { puts place (object_of object) (store_of self.old) ≡ gives tt
             (store_of self.new) }
@@ -96,14 +96,15 @@ impl Heap {
         }
     }
 
-    /// The bytes that all objects made so far and all copies that loops go over count for.
+    /// Returns the bytes that the objects and the copies that loops go over count for. An object that has been given
+    /// back does not count.
     pub fn held(&self) -> u64
         ensures { result ≡ self.now.held }
     {
         self.held
     }
 
-    // Counts bytes that the objects are about to take. `Memory` where they would take more than `MOST_HELD`.
+    // Counts bytes that the objects are about to take. Returns `Memory` if they would take more than `MOST_HELD`.
     fn hold(&mut self, bytes: u128) -> Result<(), Halt>
         ensures same { store_of self.new ≡ store_of self.old }
         ensures counted { Counted bytes self.old.held result self.new.held }
@@ -116,14 +117,14 @@ impl Heap {
         Ok(())
     }
 
-    /// Whether it is time to give back what is reached no more.
+    /// Returns whether it is time to give back the objects that are reached no more.
     pub fn is_full(&self) -> bool
         ensures { result ≡ nat_le self.now.full_at self.now.held }
     {
         self.held >= self.full_at
     }
 
-    /// The next time to give back is when twice as many bytes are held as now.
+    /// Puts off the next time to give back until twice as many bytes are held as now.
     pub(crate) fn wait_until_full(&mut self)
         ensures same { store_of self.new ≡ store_of self.old }
         ensures held { self.new.held ≡ self.old.held }
@@ -131,7 +132,7 @@ impl Heap {
         self.full_at = self.held.saturating_mul(2).max(FIRST_FULL);
     }
 
-    /// Counts members that a list is about to get, 16 bytes each. `Memory` where the objects would take more than
+    /// Counts members that a list is about to get, 16 bytes each. Returns `Memory` if the objects would take more than
     /// `MOST_HELD` bytes.
     pub fn hold_members(&mut self, number: usize) -> Result<(), Halt>
         ensures same { store_of self.new ≡ store_of self.old }
@@ -158,7 +159,7 @@ impl Heap {
         self.hold(bytes)
     }
 
-    /// The copy that a loop went over counts no more. What stands at the place must have kept its size since
+    /// Counts the copy that a loop went over no more. The object at the place must have kept its size since
     /// `hold_copy`; else the count is wrong, and nothing but the count.
     pub fn release_copy(&mut self, place: usize)
         ensures same { store_of self.new ≡ store_of self.old }
@@ -168,7 +169,7 @@ impl Heap {
         self.release(bytes);
     }
 
-    // Bytes count no more.
+    // Counts bytes no more.
     pub(crate) fn release(&mut self, bytes: u128)
         ensures same { store_of self.new ≡ store_of self.old }
         ensures counted { self.new.held ≡ self.old.held - bytes }
@@ -177,7 +178,7 @@ impl Heap {
         self.held = (self.held as u128).saturating_sub(bytes) as u64;
     }
 
-    // The bytes that what stands at a place counts for.
+    // Returns the bytes that the object at a place counts for.
     fn size_at(&self, place: usize) -> u128
         ensures { result ≡ place_bytes place (store_of self.now) }
     {
@@ -187,7 +188,7 @@ impl Heap {
         }
     }
 
-    /// A new object. `Memory` also where the objects would take more than `MOST_HELD` bytes.
+    /// Makes an object. Returns `Memory` also if the objects would take more than `MOST_HELD` bytes.
     pub fn make(&mut self, object: Object) -> Result<Val, Halt>
         ensures held { OnOk result (self.new.held ≡ self.old.held + object_bytes
             (object_of object)) }
@@ -201,7 +202,7 @@ impl Heap {
         Ok(Val::At(place))
     }
 
-    /// A new string, or fault 13.
+    /// Makes a string, or returns fault 13.
     pub fn make_text(&mut self, bytes: Vec<u8>) -> Result<Val, Halt>
         ensures { Says (makes_text bytes.items (store_of self.old)) result (store_of self.new) }
     {
@@ -213,7 +214,7 @@ impl Heap {
         Ok(made)
     }
 
-    /// A new list, or fault 13.
+    /// Makes a list, or returns fault 13.
     pub fn make_list(&mut self, members: Vec<Val>) -> Result<Val, Halt>
         ensures { Says (makes_list members.items (store_of self.old)) result (store_of self.new) }
     {
@@ -227,7 +228,7 @@ impl Heap {
         Ok(made)
     }
 
-    /// A new tuple, or fault 13.
+    /// Makes a tuple, or returns fault 13.
     pub fn make_tuple(&mut self, members: Vec<Val>) -> Result<Val, Halt>
         ensures { Says (makes_tuple members.items (store_of self.old)) result (store_of self.new) }
     {
@@ -238,7 +239,7 @@ impl Heap {
         Ok(made)
     }
 
-    /// A new dictionary, or fault 13.
+    /// Makes a dictionary, or returns fault 13.
     pub fn make_dict(&mut self, entries: IndexMap<Key, Entry>) -> Result<Val, Halt>
         ensures { Says (makes_dict entries.entries (store_of self.old)) result (store_of self.new) }
     {
@@ -252,7 +253,7 @@ impl Heap {
     }
 }
 
-/// The object at a place. `Memory` where it has been given back.
+/// Returns the object at a place, if one stands there, or `Memory` if it has been given back.
 pub fn object_at(objects: &[HeapObject], place: usize) -> Result<Option<&Object>, Memory>
     ensures found { IfOk result (λ found. slice_get (map object_in objects.now) place ≡ option_map
         (λ o. object_of o.now) found) }

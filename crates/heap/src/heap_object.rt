@@ -27,7 +27,7 @@ impl HeapObject {
     ghost use Rattle.heap.specs.View.{object_in};
     ghost use Rattle.heap.specs.Gone.{counted_bytes};
 
-    /// An object that comes to stand on the heap.
+    /// Makes an object that comes to stand on the heap.
     #[tactic(auto, unfolding(crate::specs::View::object_in))]
     pub fn new(object: Object) -> HeapObject
         ensures { object_in result ≡ object_of object }
@@ -41,7 +41,7 @@ impl HeapObject {
         }
     }
 
-    /// The object. `Memory` where it has been given back.
+    /// Returns the object, or `Memory` if it has been given back.
     #[tactic(auto, unfolding(crate::specs::View::object_in))]
     pub fn object(&self) -> Result<&Object, Memory>
         ensures object { IfOk result (λ object. object_of object.now ≡ object_in self.now) }
@@ -53,8 +53,8 @@ impl HeapObject {
         }
     }
 
-    /// The object, to be changed and then written again. Until then it counts as given back. `Memory` where it has been
-    /// given back before.
+    /// Takes the object, to be changed and then written again. Until then it counts as given back. Returns `Memory` if
+    /// it has been given back before.
     #[tactic(auto, unfolding(crate::specs::View::object_in))]
     pub fn take(&mut self) -> Result<Object, Memory>
         ensures taken { IfOk result (λ object. object_of object ≡ object_in self.old) }
@@ -64,7 +64,7 @@ impl HeapObject {
         self.object.take().ok_or(Memory)
     }
 
-    /// Another object in the place of this one.
+    /// Writes another object in the place of this one.
     #[tactic(auto, unfolding(crate::specs::View::object_in))]
     pub fn write(&mut self, object: Object)
         ensures { object_in self.new ≡ object_of object }
@@ -74,7 +74,7 @@ impl HeapObject {
         self.object = Some(object);
     }
 
-    /// Gives the object's memory back, and tells the bytes that it counted for, or 0 where that was done before.
+    /// Gives back the object's memory, and returns the bytes that it counted for, or 0 if that was done before.
     #[tactic(auto, unfolding(crate::specs::View::object_in))]
     pub fn give_back(&mut self) -> u128
         ensures same { object_in self.new ≡ object_in self.old }
@@ -87,7 +87,7 @@ impl HeapObject {
         }
     }
 
-    /// The bytes that the object counts for.
+    /// Returns the bytes that the object counts for.
     #[tactic(auto, unfolding(crate::specs::View::object_in))]
     pub fn size(&self) -> u128
         ensures { result ≡ object_bytes (object_in self.now) }

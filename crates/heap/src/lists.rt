@@ -14,7 +14,7 @@ use texts::Memory;
 // So many times over, a list is copied as a whole.
 const BLOCK: usize = 256;
 
-/// One list after the other, or fault 13.
+/// Returns one list after the other, or fault 13.
 pub fn joined<T: Copy>(alloc: Global, a: &[T], b: &[T]) -> Result<Vec<T>, Halt>
     ensures { SizedAs (a.now ++ b.now) result }
 {
@@ -27,7 +27,7 @@ pub fn joined<T: Copy>(alloc: Global, a: &[T], b: &[T]) -> Result<Vec<T>, Halt>
     Ok(all)
 }
 
-/// A list so many times over, or fault 13; a negative number repeats nothing.
+/// Returns a list so many times over, or fault 13; a negative number repeats nothing.
 pub fn repeated<T: Copy>(alloc: Global, a: &[T], n: i64) -> Result<Vec<T>, Halt>
     ensures { SizedAs (repeated a.now n) result }
 {
@@ -37,7 +37,7 @@ pub fn repeated<T: Copy>(alloc: Global, a: &[T], n: i64) -> Result<Vec<T>, Halt>
     times_sized(alloc, a, n as usize)
 }
 
-// A list so many times over, or fault 13.
+// Returns a list so many times over, or fault 13.
 #[tactic(auto, using(crate::proofs::Times::times_empty, crate::proofs::Times::times_length))]
 fn times_sized<T: Copy>(alloc: Global, a: &[T], n: usize) -> Result<Vec<T>, Halt>
     ensures { SizedAs (times n a.now) result }
@@ -52,7 +52,7 @@ fn times_sized<T: Copy>(alloc: Global, a: &[T], n: usize) -> Result<Vec<T>, Halt
     Ok(all)
 }
 
-// Whether so many times a length is too long.
+// Returns whether so many times a length is too long.
 fn is_too_long(n: usize, len: usize) -> bool
     ensures { result ≡ not (is_sized (n * len)) }
 {
@@ -62,7 +62,7 @@ fn is_too_long(n: usize, len: usize) -> bool
     }
 }
 
-// A list so many times over. Where it is many times, blocks that hold it many times are copied.
+// Returns a list so many times over. Where it is many times, blocks that hold it many times are copied.
 #[tactic(auto, using(crate::proofs::Times::times_blocks))]
 fn times<T: Copy>(alloc: Global, a: &[T], n: usize) -> Result<Vec<T>, Memory>
     ensures { IfOk result (λ v. v.items ≡ times n a.now) }
@@ -89,7 +89,7 @@ fn add_times<T: Copy>(all: &mut Vec<T>, a: &[T], n: usize) -> Result<(), Memory>
     Ok(())
 }
 
-/// The place that an index names among so many: negative from the end.
+/// Returns the place that an index names among so many: negative from the end.
 pub fn place(i: i64, len: usize) -> Option<usize>
     ensures { result ≡ place i len }
 {
@@ -106,14 +106,14 @@ pub fn place(i: i64, len: usize) -> Option<usize>
     }
 }
 
-/// A member.
+/// Returns the member at a place.
 pub fn val_at(xs: &[Val], i: usize) -> Option<Val>
     ensures { result ≡ slice_get xs.now i }
 {
     xs.get(i).copied()
 }
 
-/// What is at an index.
+/// Returns the member at an index.
 pub fn member<T: Copy>(a: &[T], i: i64) -> Option<T>
     ensures { result ≡ member a.now i }
 {
@@ -123,7 +123,7 @@ pub fn member<T: Copy>(a: &[T], i: i64) -> Option<T>
     }
 }
 
-/// Where a bound cuts so many.
+/// Returns where a bound cuts so many members.
 pub fn bound(i: i64, len: usize) -> usize
     ensures value { result ≡ bound i len }
     ensures within { result ≤ len }
@@ -137,7 +137,8 @@ pub fn bound(i: i64, len: usize) -> usize
     }
 }
 
-/// Where a bound cuts that may be `None`.
+/// Returns where a bound cuts so many members, or `other` if the bound is `None`. Returns no place for a value of
+/// another type.
 pub fn bound_or(other: usize, x: Val, len: usize) -> Option<usize>
     requires { other ≤ len }
     ensures value { result ≡ bound_or other x len }
@@ -150,7 +151,7 @@ pub fn bound_or(other: usize, x: Val, len: usize) -> Option<usize>
     }
 }
 
-/// The part between two bounds.
+/// Returns the part between two bounds, or a fault if a bound has another type.
 pub fn cut<T: Copy>(alloc: Global, a: &[T], from: Val, to: Val) -> Result<Vec<T>, Halt>
     ensures { CutAs (cut a.now from to) result }
 {
@@ -161,7 +162,7 @@ pub fn cut<T: Copy>(alloc: Global, a: &[T], from: Val, to: Val) -> Result<Vec<T>
     Ok(Vec::from_slice(alloc, part)?)
 }
 
-// What is between two places.
+// Returns the part between two places.
 fn between<T>(a: &[T], from: usize, to: usize) -> &[T]
     requires { to ≤ length a.now }
     ensures { result.now ≡ between a.now from to }

@@ -40,7 +40,7 @@ pub enum Shape {
     Plain,
 }
 
-/// What the bytes of an object hang on.
+/// Returns the shape of an object, on which its bytes hang.
 pub fn shape_of(object: &Object) -> Shape
     ensures { shape_bytes result ≡ object_bytes (object_of object.now) }
 {
@@ -53,7 +53,7 @@ pub fn shape_of(object: &Object) -> Shape
     }
 }
 
-/// The bytes that an object counts for.
+/// Returns the bytes that an object of a shape counts for.
 pub fn size_of(shape: Shape) -> u128
     ensures { result ≡ shape_bytes shape }
 {

@@ -21,7 +21,7 @@ pub struct Reached {
 }
 
 impl Reached {
-    /// Nothing is reached among the objects of a heap.
+    /// Makes a record of the objects of a heap in which none is reached.
     pub fn new(alloc: Global, heap: &Heap) -> Result<Reached, Memory> {
         let mut marks = Vec::new(alloc);
         marks.resize(heap.objects.len(), false)?;
@@ -31,7 +31,7 @@ impl Reached {
         })
     }
 
-    /// A value is reached.
+    /// Marks a value as reached.
     pub fn add(&mut self, x: Val) -> Result<(), Memory> {
         if let Val::At(place) = x {
             if let Some(mark) = self.marks.get_mut(place) {
@@ -44,7 +44,7 @@ impl Reached {
         Ok(())
     }
 
-    /// Values are reached.
+    /// Marks values as reached.
     pub fn add_all(&mut self, xs: &[Val]) -> Result<(), Memory> {
         for x in xs {
             self.add(*x)?;
@@ -52,7 +52,7 @@ impl Reached {
         Ok(())
     }
 
-    /// The keys and values of entries are reached.
+    /// Marks the keys and values of entries as reached.
     pub fn add_entries(&mut self, entries: &IndexMap<Key, Entry>) -> Result<(), Memory> {
         for entry in entries.values() {
             self.add(entry.key)?;
@@ -61,12 +61,12 @@ impl Reached {
         Ok(())
     }
 
-    // Whether the object at a place is reached.
+    // Returns whether the object at a place is reached.
     fn has(&self, place: usize) -> bool {
         self.marks.get(place).copied().unwrap_or(true)
     }
 
-    // What an object holds is reached.
+    // Marks the values that an object holds as reached.
     fn add_members(&mut self, object: Option<&Object>) -> Result<(), Memory> {
         match object {
             Some(Object::List { members, .. }) => self.add_all(members.as_slice()),
@@ -78,7 +78,7 @@ impl Reached {
 }
 
 impl Heap {
-    /// What reached objects hold is reached too.
+    /// Marks the values that reached objects hold as reached too.
     pub fn follow(&self, reached: &mut Reached) -> Result<(), Memory> {
         // Each object is opened once at most.
         for _i in 0..self.objects.len() {
@@ -90,7 +90,7 @@ impl Heap {
         Ok(())
     }
 
-    /// Gives the memory of all objects back that are not reached. For a contract they still stand there.
+    /// Gives back the memory of all objects that are not reached. For a contract they still stand there.
     pub fn give_back(&mut self, reached: &Reached)
         ensures same { store_of self.new ≡ store_of self.old }
         ensures held { self.new.held ≤ self.old.held }
@@ -103,7 +103,7 @@ impl Heap {
         self.wait_until_full();
     }
 
-    // Gives the memory of the object at a place back.
+    // Gives back the memory of the object at a place.
     fn give_back_at(&mut self, place: usize)
         ensures same { store_of self.new ≡ store_of self.old }
         ensures held { self.new.held ≡ self.old.held - bytes_at self.old.objects.items place }

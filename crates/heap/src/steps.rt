@@ -5,7 +5,7 @@ ghost use Rattle.heap.specs.View.{Says};
 use crate::halt::Halt;
 use meaning::faults;
 
-/// Takes one step, or fault 11.
+/// Takes one step, or returns fault 11.
 pub fn tick(steps: &mut u64) -> Result<(), Halt>
     ensures { Says (tick steps.old) result steps.new }
 {
@@ -16,7 +16,7 @@ pub fn tick(steps: &mut u64) -> Result<(), Halt>
     Ok(())
 }
 
-/// Takes so many steps, or fault 11.
+/// Takes so many steps, or returns fault 11.
 pub fn spend(steps: &mut u64, n: usize) -> Result<(), Halt>
     ensures { Says (spend n steps.old) result steps.new }
 {

@@ -8,7 +8,7 @@ use std::alloc::Global;
 use std::sync::Arc;
 use tree::{Clause, Expr};
 
-/// Whether two expressions are one tree.
+/// Returns whether two expressions are one tree.
 #[cycle(exprs)]
 pub fn same_expr(a: &Expr, b: &Expr) -> bool
     ensures { result ≡ same_ex (tree_of a.now) (tree_of b.now) }
@@ -57,7 +57,7 @@ pub fn same_expr(a: &Expr, b: &Expr) -> bool
     }
 }
 
-// Whether expressions are the same trees, in order.
+// Returns whether expressions are the same trees, in order.
 #[cycle(exprs)]
 fn same_exprs(xs: &[Expr], ys: &[Expr]) -> bool
     ensures { result ≡ same_exs (trees_of xs.now) (trees_of ys.now) }
@@ -73,7 +73,7 @@ fn same_exprs(xs: &[Expr], ys: &[Expr]) -> bool
     true
 }
 
-/// Whether two expressions are the same, or both not given.
+/// Returns whether two expressions are one tree, or both are not given.
 #[cycle(exprs)]
 pub fn same_bound(a: &Option<Arc<Expr, Global>>, b: &Option<Arc<Expr, Global>>) -> bool
     ensures { result ≡ same_bound (bound_tree a.now) (bound_tree b.now) }
@@ -85,7 +85,7 @@ pub fn same_bound(a: &Option<Arc<Expr, Global>>, b: &Option<Arc<Expr, Global>>) 
     }
 }
 
-// Whether clauses are the same trees, in order.
+// Returns whether clauses are the same trees, in order.
 #[cycle(exprs)]
 fn same_clauses(xs: &[Clause], ys: &[Clause]) -> bool
     ensures { result ≡ same_clauses (clause_trees xs.now) (clause_trees ys.now) }
@@ -101,7 +101,7 @@ fn same_clauses(xs: &[Clause], ys: &[Clause]) -> bool
     true
 }
 
-// Whether two clauses are one tree.
+// Returns whether two clauses are one tree.
 #[cycle(exprs)]
 fn same_clause(a: &Clause, b: &Clause) -> bool
     ensures { result ≡ same_clause (clause_of a.now) (clause_of b.now) }

@@ -4,7 +4,7 @@ ghost use Rattle.same_trees.specs.Same.{literal_number, unary_number, binary_num
 
 use tree::{BinaryOp, Literal, UnaryOp};
 
-/// The place of a literal among them.
+/// Returns the place of a literal among the literals.
 pub fn literal_number(x: Literal) -> u8
     ensures { result ≡ literal_number x }
 {
@@ -15,7 +15,7 @@ pub fn literal_number(x: Literal) -> u8
     }
 }
 
-/// The place of an operator before one operand among them.
+/// Returns the place of an operator before one operand among these operators.
 pub fn unary_number(x: UnaryOp) -> u8
     ensures { result ≡ unary_number x }
 {
@@ -26,7 +26,7 @@ pub fn unary_number(x: UnaryOp) -> u8
     }
 }
 
-/// The place of an operator between two operands among them.
+/// Returns the place of an operator between two operands among these operators.
 pub fn binary_number(x: BinaryOp) -> u8
     ensures { result ≡ binary_number x }
 {

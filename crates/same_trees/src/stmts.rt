@@ -9,7 +9,7 @@ use crate::exprs::{same_bound, same_expr};
 use crate::numbers::binary_number;
 use tree::{Branch, Def, Param, Stmt};
 
-/// Whether two functions are one tree, line for line.
+/// Returns whether two functions are one tree, line for line.
 pub fn same_def(a: &Def, b: &Def) -> bool
     ensures { result ≡ same_fn (fn_of a.now) (fn_of b.now) }
 {
@@ -19,7 +19,7 @@ pub fn same_def(a: &Def, b: &Def) -> bool
         && same_stmts(a.body.as_slice(), b.body.as_slice())
 }
 
-// Whether parameters are the same, in order.
+// Returns whether parameters are the same, in order.
 fn same_params(xs: &[Param], ys: &[Param]) -> bool
     ensures { result ≡ pointwise same_param (map param_of xs.now) (map param_of ys.now) }
 {
@@ -34,14 +34,14 @@ fn same_params(xs: &[Param], ys: &[Param]) -> bool
     true
 }
 
-// Whether two parameters are the same.
+// Returns whether two parameters are the same.
 fn same_param(a: &Param, b: &Param) -> bool
     ensures { result ≡ same_param (param_of a.now) (param_of b.now) }
 {
     a.name == b.name && same_bound(&a.default, &b.default)
 }
 
-// Whether two statements are one tree.
+// Returns whether two statements are one tree.
 #[cycle(stmts)]
 fn same_stmt(a: &Stmt, b: &Stmt) -> bool
     ensures { result ≡ same_st (stmt_of a.now) (stmt_of b.now) }
@@ -127,7 +127,7 @@ fn same_stmt(a: &Stmt, b: &Stmt) -> bool
     }
 }
 
-// Whether statements are the same trees, in order.
+// Returns whether statements are the same trees, in order.
 #[cycle(stmts)]
 fn same_stmts(xs: &[Stmt], ys: &[Stmt]) -> bool
     ensures { result ≡ same_suite (stmts_of xs.now) (stmts_of ys.now) }
@@ -143,7 +143,7 @@ fn same_stmts(xs: &[Stmt], ys: &[Stmt]) -> bool
     true
 }
 
-// Whether branches are the same trees, in order.
+// Returns whether branches are the same trees, in order.
 #[cycle(stmts)]
 fn same_branches(xs: &[Branch], ys: &[Branch]) -> bool
     ensures { result ≡ same_branches (branch_trees xs.now) (branch_trees ys.now) }
@@ -159,7 +159,7 @@ fn same_branches(xs: &[Branch], ys: &[Branch]) -> bool
     true
 }
 
-// Whether two branches are one tree.
+// Returns whether two branches are one tree.
 #[cycle(stmts)]
 fn same_branch(a: &Branch, b: &Branch) -> bool
     ensures { result ≡ same_branch (branch_of a.now) (branch_of b.now) }

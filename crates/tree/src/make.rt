@@ -9,7 +9,7 @@ use std::sync::Arc;
 use std::sync::atomic::AtomicUsize;
 use texts::{Memory, Text};
 
-// Two expressions, each of which can be shared. What fails here has no third value to drop.
+// Makes two expressions shared. A failure here has no third value to drop.
 pub(crate) fn both(
     alloc: Global,
     first: Expr,
@@ -22,49 +22,49 @@ pub(crate) fn both(
 }
 
 impl Expr {
-    /// A name, which was not looked for yet.
+    /// Makes a name, which was not looked for yet.
     pub fn name(text: Text) -> Expr
         ensures { tree_of result ≡ name text }
     {
         Expr::Name(text, AtomicUsize::new(0))
     }
 
-    /// A whole number.
+    /// Makes a whole number.
     pub fn int(n: i64) -> Expr
         ensures { tree_of result ≡ int n }
     {
         Expr::Int(n)
     }
 
-    /// A string.
+    /// Makes a string.
     pub fn string(text: Text) -> Expr
         ensures { tree_of result ≡ str text }
     {
         Expr::Str(text)
     }
 
-    /// `None`, `True` or `False`.
+    /// Makes `None`, `True` or `False`.
     pub fn literal(value: Literal) -> Expr
         ensures { tree_of result ≡ literal value }
     {
         Expr::Literal(value)
     }
 
-    /// A tuple.
+    /// Makes a tuple.
     pub fn tuple(alloc: Global, items: Vec<Expr>) -> Result<Expr, Memory>
         ensures { IfOk result (λ e. tree_of e ≡ tuple (trees_of items.items)) }
     {
         Ok(Expr::Tuple(Arc::new(alloc, items)?))
     }
 
-    /// A list.
+    /// Makes a list.
     pub fn list(alloc: Global, items: Vec<Expr>) -> Result<Expr, Memory>
         ensures { IfOk result (λ e. tree_of e ≡ list (trees_of items.items)) }
     {
         Ok(Expr::List(Arc::new(alloc, items)?))
     }
 
-    /// A dictionary of keys and as many values.
+    /// Makes a dictionary of keys and as many values.
     pub fn dict(alloc: Global, keys: Vec<Expr>, values: Vec<Expr>) -> Result<Expr, Memory>
         ensures { IfOk result
             (λ e. tree_of e ≡ dict (trees_of keys.items) (trees_of values.items)) }
@@ -72,7 +72,7 @@ impl Expr {
         Ok(Expr::Dict(Arc::new(alloc, keys)?, Arc::new(alloc, values)?))
     }
 
-    /// A list of an item for each turn of the clauses.
+    /// Makes a list of an item for each turn of the clauses.
     pub fn list_of(alloc: Global, item: Expr, clauses: Vec<Clause>) -> Result<Expr, Memory>
         ensures { IfOk result
             (λ e. tree_of e ≡ list_of (tree_of item) (clause_trees clauses.items)) }
@@ -80,7 +80,7 @@ impl Expr {
         Ok(Expr::ListOf(Arc::new(alloc, item)?, Arc::new(alloc, clauses)?))
     }
 
-    /// A dictionary of a key and a value for each turn of the clauses.
+    /// Makes a dictionary of a key and a value for each turn of the clauses.
     pub fn dict_of(
         alloc: Global,
         key: Expr,
@@ -94,14 +94,14 @@ impl Expr {
         Ok(Expr::DictOf(key, value, Arc::new(alloc, clauses)?))
     }
 
-    /// An operator before an operand.
+    /// Makes an operator before an operand.
     pub fn unary(alloc: Global, op: UnaryOp, operand: Expr) -> Result<Expr, Memory>
         ensures { IfOk result (λ e. tree_of e ≡ unary op (tree_of operand)) }
     {
         Ok(Expr::Unary(op, Arc::new(alloc, operand)?))
     }
 
-    /// An operator between two operands.
+    /// Makes an operator between two operands.
     pub fn binary(alloc: Global, op: BinaryOp, left: Expr, right: Expr) -> Result<Expr, Memory>
         ensures { IfOk result (λ e. tree_of e ≡ binary op (tree_of left) (tree_of right)) }
     {
@@ -109,7 +109,7 @@ impl Expr {
         Ok(Expr::Binary(op, left, right))
     }
 
-    /// What it is if the condition holds, and what it is else.
+    /// Makes a choice: the first expression if the condition holds, and the last one else.
     pub fn choice(alloc: Global, then: Expr, condition: Expr, other: Expr) -> Result<Expr, Memory>
         ensures { IfOk result (λ e. tree_of e ≡ choice (tree_of «then») (tree_of condition)
             (tree_of other)) }
@@ -118,7 +118,7 @@ impl Expr {
         Ok(Expr::Choice(then, condition, Arc::new(alloc, other)?))
     }
 
-    /// What is at an index.
+    /// Makes the member of a value at an index.
     pub fn index(alloc: Global, value: Expr, at: Expr) -> Result<Expr, Memory>
         ensures { IfOk result (λ e. tree_of e ≡ index (tree_of value) (tree_of at)) }
     {
@@ -126,7 +126,7 @@ impl Expr {
         Ok(Expr::Index(value, at))
     }
 
-    /// What is between two bounds.
+    /// Makes the part of a value between two bounds.
     pub fn slice(
         alloc: Global,
         value: Expr,
@@ -139,7 +139,7 @@ impl Expr {
         Ok(Expr::Slice(Arc::new(alloc, value)?, from, to))
     }
 
-    /// A call; the names are those of the last arguments.
+    /// Makes a call; the names are those of the last arguments.
     pub fn call(
         alloc: Global,
         function: Expr,
@@ -156,7 +156,7 @@ impl Expr {
         ))
     }
 
-    /// A call of a method; the names are those of the last arguments.
+    /// Makes a call of a method; the names are those of the last arguments.
     pub fn method(
         alloc: Global,
         receiver: Expr,
@@ -177,7 +177,7 @@ impl Expr {
 }
 
 impl Clause {
-    /// A turn for each item of a sequence.
+    /// Makes a clause with a turn for each item of a sequence.
     pub fn for_in(alloc: Global, target: Expr, sequence: Expr) -> Result<Clause, Memory>
         ensures { IfOk result (λ c. clause_of c ≡ for_in (tree_of target) (tree_of sequence)) }
     {
@@ -185,7 +185,7 @@ impl Clause {
         Ok(Clause::For(target, sequence))
     }
 
-    /// A turn only where a condition holds.
+    /// Makes a clause with a turn only where a condition holds.
     pub fn only_if(alloc: Global, condition: Expr) -> Result<Clause, Memory>
         ensures { IfOk result (λ c. clause_of c ≡ only_if (tree_of condition)) }
     {

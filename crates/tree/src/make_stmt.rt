@@ -13,35 +13,35 @@ use std::sync::Arc;
 use texts::Memory;
 
 impl Stmt {
-    /// `pass`
+    /// Makes a `pass`.
     pub fn pass(line: usize) -> Stmt
         ensures { stmt_of result ≡ pass line }
     {
         Stmt::Pass(line)
     }
 
-    /// `break`
+    /// Makes a `break`.
     pub fn break_off(line: usize) -> Stmt
         ensures { stmt_of result ≡ break line }
     {
         Stmt::Break(line)
     }
 
-    /// `continue`
+    /// Makes a `continue`.
     pub fn go_on(line: usize) -> Stmt
         ensures { stmt_of result ≡ continue line }
     {
         Stmt::Continue(line)
     }
 
-    /// `return`, with a value or without one.
+    /// Makes a `return`, with a value or without one.
     pub fn give(line: usize, value: Option<Arc<Expr, Global>>) -> Stmt
         ensures { stmt_of result ≡ return line (bound_tree value) }
     {
         Stmt::Return { line, value }
     }
 
-    /// An expression that is evaluated.
+    /// Makes a statement that evaluates an expression.
     pub fn eval(alloc: Global, line: usize, value: Expr) -> Result<Stmt, Memory>
         ensures { IfOk result (λ s. stmt_of s ≡ eval line (tree_of value)) }
     {
@@ -49,7 +49,7 @@ impl Stmt {
         Ok(Stmt::Eval { line, value })
     }
 
-    /// An assignment.
+    /// Makes an assignment.
     pub fn assign(alloc: Global, line: usize, target: Expr, value: Expr) -> Result<Stmt, Memory>
         ensures { IfOk result (λ s. stmt_of s ≡ assign line (tree_of target) (tree_of value)) }
     {
@@ -61,7 +61,7 @@ impl Stmt {
         })
     }
 
-    /// An assignment of what an operator makes of the present value.
+    /// Makes an assignment of the value that an operator makes of the present one.
     pub fn augment(
         alloc: Global,
         line: usize,
@@ -80,7 +80,7 @@ impl Stmt {
         })
     }
 
-    /// The branch `if`, the branches `elif`, and the statements where no condition holds.
+    /// Makes an `if` of its first branch, the branches `elif`, and the statements where no condition holds.
     pub fn choose(
         alloc: Global,
         first: Branch,
@@ -108,7 +108,7 @@ impl Stmt {
         })
     }
 
-    /// The statements for each item of a sequence.
+    /// Makes a loop: the statements for each item of a sequence.
     pub fn for_each(
         alloc: Global,
         line: usize,
@@ -131,7 +131,7 @@ impl Stmt {
 }
 
 impl Branch {
-    /// A branch.
+    /// Makes a branch.
     pub fn new(
         alloc: Global,
         line: usize,
@@ -152,14 +152,14 @@ impl Branch {
 }
 
 impl Top {
-    /// A statement of a file.
+    /// Makes a statement of a file.
     pub fn statement(value: Stmt) -> Top
         ensures { top_of result ≡ stmt (stmt_of value) }
     {
         Top::Stmt(value)
     }
 
-    /// A function of a file.
+    /// Makes a function of a file.
     pub fn function(alloc: Global, value: Def) -> Result<Top, Memory>
         ensures { IfOk result (λ t. top_of t ≡ def (fn_of value)) }
     {
@@ -168,7 +168,7 @@ impl Top {
 }
 
 impl File {
-    /// The load statements, in order.
+    /// Returns the load statements, in order.
     pub fn loads(&self) -> &[LoadStmt]
         ensures { map load_of result.now ≡ (file_of self.now).loads }
     {
