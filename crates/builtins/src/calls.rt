@@ -17,8 +17,8 @@ use meaning::faults;
 use printing::{print, text};
 use texts::Text;
 
-/// What a built-in function that is no package call gives of its arguments, those without a name and those by name; or
-/// its fault: 5, 11, 12, 13, 24 or 25.
+/// Calls a built-in function that is no package call, with arguments without a name and arguments by name. Returns its
+/// value or its fault: 5, 11, 12, 13, 24 or 25.
 pub fn builtin(heap: &mut Heap, f: Builtin, xs: &[Val], names: &[(Text, Val)]) -> Result<Val, Halt>
     ensures { Says (builtin f xs.now names.now (store_of heap.old)) result (store_of heap.new) }
 {
@@ -29,7 +29,7 @@ pub fn builtin(heap: &mut Heap, f: Builtin, xs: &[Val], names: &[(Text, Val)]) -
     }
 }
 
-// What a function gives that takes no names.
+// Calls a function that takes no names.
 fn unnamed(heap: &mut Heap, f: Builtin, xs: &[Val], names: &[(Text, Val)]) -> Result<Val, Halt>
     ensures { Says (unnamed f xs.now names.now (store_of heap.old)) result (store_of heap.new) }
 {
@@ -43,7 +43,7 @@ fn unnamed(heap: &mut Heap, f: Builtin, xs: &[Val], names: &[(Text, Val)]) -> Re
     }
 }
 
-// What a function gives without arguments.
+// Calls a function without arguments.
 fn of_none(heap: &mut Heap, f: Builtin) -> Result<Val, Halt>
     ensures { Says (plain f [] (store_of heap.old)) result (store_of heap.new) }
 {
@@ -68,7 +68,7 @@ fn of_none(heap: &mut Heap, f: Builtin) -> Result<Val, Halt>
     }
 }
 
-// What a function gives of one argument.
+// Calls a function with one argument.
 fn of_one(heap: &mut Heap, f: Builtin, x: Val) -> Result<Val, Halt>
     ensures { Says (plain f (x ∷ []) (store_of heap.old)) result (store_of heap.new) }
 {
@@ -93,7 +93,7 @@ fn of_one(heap: &mut Heap, f: Builtin, x: Val) -> Result<Val, Halt>
     }
 }
 
-// What a function gives of two arguments or more.
+// Calls a function with two arguments or more.
 fn of_several(heap: &mut Heap, f: Builtin, xs: &[Val]) -> Result<Val, Halt>
     requires { 2 ≤ length xs.now }
     ensures { Says (plain f xs.now (store_of heap.old)) result (store_of heap.new) }

@@ -15,7 +15,7 @@ use meaning::faults;
 use std::alloc::Global;
 use texts::{Memory, Text};
 
-/// `dict(..)`: fault 25, 5, 11, 12 or 13.
+/// Evaluates `dict(..)`, or returns fault 25, 5, 11, 12 or 13.
 pub fn dict(heap: &mut Heap, xs: &[Val], names: &[(Text, Val)]) -> Result<Val, Halt>
     ensures { Says (dict_of xs.now names.now (store_of heap.old)) result (store_of heap.new) }
 {
@@ -61,7 +61,7 @@ fn add_object(heap: &mut Heap, entries: &mut IndexMap<Key, Entry>, place: usize)
     add_each(heap, entries, members.as_slice())
 }
 
-// The keys of a dictionary with their values.
+// Returns the keys of a dictionary with their values.
 #[tactic(auto, using(crate::proofs::Paired::pairs_more, crate::proofs::Paired::pairs_end, crate::proofs::Paired::pairs_last))]
 fn pairs(alloc: Global, entries: &IndexMap<Key, Entry>) -> Result<Vec<(Val, Val)>, Memory>
     ensures { IfOk result (λ v. v.items ≡ pairs_of entries.now.entries) }
@@ -124,7 +124,7 @@ fn add_named(
     Ok(())
 }
 
-// Sets a key of a dictionary that is being made: fault 5, 11, 12 or 13.
+// Sets a key of a dictionary that is being made, or returns fault 5, 11, 12 or 13.
 fn add(heap: &mut Heap, entries: &mut IndexMap<Key, Entry>, k: Val, x: Val) -> Result<(), Halt>
     ensures { SaysEntries (grows k x entries.old.entries (store_of heap.old)) result
         entries.new.entries (store_of heap.new) }
@@ -137,7 +137,7 @@ fn add(heap: &mut Heap, entries: &mut IndexMap<Key, Entry>, k: Val, x: Val) -> R
     Ok(())
 }
 
-// The two members of a list or tuple, or fault 5.
+// Returns the two members of a list or tuple, or fault 5.
 fn pair(heap: &Heap, x: Val) -> Result<(Val, Val), Halt>
     ensures { Checks (pair_of x (store_of heap.now)) result }
 {
@@ -147,7 +147,7 @@ fn pair(heap: &Heap, x: Val) -> Result<(Val, Val), Halt>
     }
 }
 
-// The two members of an object, or fault 5.
+// Returns the two members of an object, or fault 5.
 fn object_pair(heap: &Heap, place: usize) -> Result<(Val, Val), Halt>
     ensures { Checks (object_pair (at place (store_of heap.now))) result }
 {
@@ -161,7 +161,7 @@ fn object_pair(heap: &Heap, place: usize) -> Result<(Val, Val), Halt>
     }
 }
 
-// Two members, or fault 5.
+// Returns the two members, or fault 5.
 fn two_of(members: &[Val]) -> Result<(Val, Val), Halt>
     ensures { Checks (two_of members.now) result }
 {

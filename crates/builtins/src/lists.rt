@@ -7,14 +7,14 @@ ghost use Rattle.heap.specs.View.{store_of, Says};
 use heap::{Halt, Heap, Val};
 use indexing::items;
 
-/// `list()`
+/// Evaluates `list()`.
 pub fn no_list(heap: &mut Heap) -> Result<Val, Halt>
     ensures { Says (makes_list [] (store_of heap.old)) result (store_of heap.new) }
 {
     heap.make_list(Vec::new(heap.alloc))
 }
 
-/// `list(x)`: fault 5.
+/// Evaluates `list(x)`, or returns fault 5.
 pub fn list(heap: &mut Heap, x: Val) -> Result<Val, Halt>
     ensures { Says (list_from x (store_of heap.old)) result (store_of heap.new) }
 {
@@ -22,14 +22,14 @@ pub fn list(heap: &mut Heap, x: Val) -> Result<Val, Halt>
     heap.make_list(members)
 }
 
-/// `tuple()`
+/// Evaluates `tuple()`.
 pub fn no_tuple(heap: &mut Heap) -> Result<Val, Halt>
     ensures { Says (makes_tuple [] (store_of heap.old)) result (store_of heap.new) }
 {
     heap.make_tuple(Vec::new(heap.alloc))
 }
 
-/// `tuple(x)`: fault 5.
+/// Evaluates `tuple(x)`, or returns fault 5.
 pub fn tuple(heap: &mut Heap, x: Val) -> Result<Val, Halt>
     ensures { Says (tuple_from x (store_of heap.old)) result (store_of heap.new) }
 {
@@ -37,7 +37,7 @@ pub fn tuple(heap: &mut Heap, x: Val) -> Result<Val, Halt>
     heap.make_tuple(members)
 }
 
-/// `reversed(x)`: fault 5.
+/// Evaluates `reversed(x)`, or returns fault 5.
 pub fn reversed(heap: &mut Heap, x: Val) -> Result<Val, Halt>
     ensures { Says (reversed_from x (store_of heap.old)) result (store_of heap.new) }
 {

@@ -7,7 +7,7 @@ use std::alloc::Global;
 use std::collections::HashSet;
 use texts::{Memory, Text};
 
-/// Whether a name is given twice.
+/// Returns whether a name is given twice.
 pub fn is_twice(alloc: Global, names: &[(Text, Val)]) -> Result<bool, Memory>
     ensures { IfOk result (λ b. b ≡ is_twice names.now) }
 {

@@ -8,7 +8,7 @@ ghost use Rattle.builtins.specs.Parts.{enumerate_from};
 use heap::{Halt, Heap, Val};
 use indexing::items;
 
-/// `enumerate(x)`: fault 5.
+/// Evaluates `enumerate(x)`, or returns fault 5.
 pub fn enumerate(heap: &mut Heap, x: Val) -> Result<Val, Halt>
     ensures { Says (enumerate_from x (store_of heap.old)) result (store_of heap.new) }
 {
@@ -17,7 +17,7 @@ pub fn enumerate(heap: &mut Heap, x: Val) -> Result<Val, Halt>
     heap.make_list(pairs)
 }
 
-// Pairs of a place and a member.
+// Makes pairs of a place and a member.
 fn numbered(heap: &mut Heap, members: &[Val]) -> Result<Vec<Val>, Halt>
     ensures { SaysItems (numbered 0 members.now (store_of heap.old)) result (store_of heap.new) }
 {
@@ -30,7 +30,7 @@ fn numbered(heap: &mut Heap, members: &[Val]) -> Result<Vec<Val>, Halt>
     Ok(pairs)
 }
 
-// A tuple of two.
+// Makes a tuple of two.
 fn make_pair(heap: &mut Heap, a: Val, b: Val) -> Result<Val, Halt>
     ensures { Says (makes_tuple (a ∷ b ∷ []) (store_of heap.old)) result (store_of heap.new) }
 {

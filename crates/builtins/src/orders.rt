@@ -12,21 +12,22 @@ use meaning::faults;
 use std::cmp::Ordering;
 use texts::Memory;
 
-/// `min(..)`: fault 25 or 5.
+/// Evaluates `min(..)`, or returns fault 25 or 5.
 pub fn min(heap: &Heap, xs: &[Val]) -> Result<Val, Halt>
     ensures { Says (extreme is_lt xs.now (store_of heap.now)) result (store_of heap.now) }
 {
     extreme(heap, xs, false)
 }
 
-/// `max(..)`: fault 25 or 5.
+/// Evaluates `max(..)`, or returns fault 25 or 5.
 pub fn max(heap: &Heap, xs: &[Val]) -> Result<Val, Halt>
     ensures { Says (extreme is_gt xs.now (store_of heap.now)) result (store_of heap.now) }
 {
     extreme(heap, xs, true)
 }
 
-// The first of the least of the arguments or of the one's members, or of the greatest.
+// Returns the first of the least of the arguments, or of the members of the only one. Takes the greatest if that is
+// asked for.
 fn extreme(heap: &Heap, xs: &[Val], greatest: bool) -> Result<Val, Halt>
     ensures { Says (extreme (is_better greatest) xs.now (store_of heap.now)) result
         (store_of heap.now) }
@@ -41,7 +42,7 @@ fn extreme(heap: &Heap, xs: &[Val], greatest: bool) -> Result<Val, Halt>
     }
 }
 
-// The first of the least, or of the greatest.
+// Returns the first of the least, or of the greatest.
 fn best_of(heap: &Heap, xs: &[Val], greatest: bool) -> Result<Val, Halt>
     ensures { Says (best_of (is_better greatest) xs.now (store_of heap.now)) result
         (store_of heap.now) }
@@ -57,7 +58,7 @@ fn best_of(heap: &Heap, xs: &[Val], greatest: bool) -> Result<Val, Halt>
     }
 }
 
-// The first of the least or greatest of a value and others.
+// Returns the first of the least or greatest of a value and others.
 fn best(heap: &Heap, x: Val, others: &[Val], greatest: bool) -> Result<Val, Memory>
     ensures { IfOk result (λ y. y ≡ best (is_better greatest) (plain_order (store_of heap.now)) x
         others.now) }
@@ -71,14 +72,14 @@ fn best(heap: &Heap, x: Val, others: &[Val], greatest: bool) -> Result<Val, Memo
     Ok(found)
 }
 
-// Whether an order makes a value better.
+// Returns whether an order makes a value better.
 fn is_better(o: Ordering, greatest: bool) -> bool
     ensures { result ≡ is_better greatest o }
 {
     if greatest { o.is_gt() } else { o.is_lt() }
 }
 
-/// Whether values are all ints, or all strings. `Memory` where one has been given back.
+/// Returns whether values are all ints, or all strings, or `Memory` if one has been given back.
 pub fn are_alike(heap: &Heap, xs: &[Val]) -> Result<bool, Memory>
     ensures { IfOk result (λ b. b ≡ are_alike (store_of heap.now) xs.now) }
 {
@@ -88,7 +89,7 @@ pub fn are_alike(heap: &Heap, xs: &[Val]) -> Result<bool, Memory>
     are_texts(heap, xs)
 }
 
-/// Whether values are all ints.
+/// Returns whether values are all ints.
 pub fn are_ints(xs: &[Val]) -> bool
     ensures { result ≡ all_so is_int xs.now }
 {
@@ -100,7 +101,7 @@ pub fn are_ints(xs: &[Val]) -> bool
     true
 }
 
-// Whether values are all strings.
+// Returns whether values are all strings.
 fn are_texts(heap: &Heap, xs: &[Val]) -> Result<bool, Memory>
     ensures { IfOk result (λ b. b ≡ all_so (λ x. is_some (as_text (store_of heap.now) x)) xs.now) }
 {
@@ -112,7 +113,7 @@ fn are_texts(heap: &Heap, xs: &[Val]) -> Result<bool, Memory>
     Ok(true)
 }
 
-// The order of two ints or two strings.
+// Returns the order of two ints or two strings.
 fn plain_order(heap: &Heap, x: Val, y: Val) -> Result<Ordering, Memory>
     ensures { IfOk result (λ o. o ≡ plain_order (store_of heap.now) x y) }
 {
@@ -125,7 +126,7 @@ fn plain_order(heap: &Heap, x: Val, y: Val) -> Result<Ordering, Memory>
     }
 }
 
-/// The bytes of a string. `Memory` where it has been given back.
+/// Returns the bytes of a value that is a string, or `Memory` if it has been given back.
 pub fn text_of<'a>(heap: &'a Heap, x: Val) -> Result<Option<&'a [u8]>, Memory>
     ensures { IfOk result (λ found. as_text (store_of heap.now) x ≡ option_map (λ t. t.now) found) }
 {

@@ -13,7 +13,7 @@ use heap::{Halt, Heap, Object, Val};
 use meaning::faults;
 use texts::Memory;
 
-/// `len(x)`: fault 5.
+/// Evaluates `len(x)`, or returns fault 5.
 pub fn len(heap: &Heap, x: Val) -> Result<Val, Halt>
     ensures { Says (len x (store_of heap.now)) result (store_of heap.now) }
 {
@@ -26,7 +26,7 @@ pub fn len(heap: &Heap, x: Val) -> Result<Val, Halt>
     }
 }
 
-// How many bytes or members an object has.
+// Returns how many bytes or members an object has.
 fn object_length(heap: &Heap, place: usize) -> Result<usize, Halt>
     ensures value { Checks (length_of (at place (store_of heap.now))) result }
     ensures within { IfOk result (λ n. n < 2 ^ 63) }
@@ -41,7 +41,7 @@ fn object_length(heap: &Heap, place: usize) -> Result<usize, Halt>
     }
 }
 
-/// `type(x)`, a new string.
+/// Evaluates `type(x)`, a new string.
 pub fn type_of(heap: &mut Heap, x: Val) -> Result<Val, Halt>
     ensures { Says (type_text x (store_of heap.old)) result (store_of heap.new) }
 {
@@ -50,7 +50,7 @@ pub fn type_of(heap: &mut Heap, x: Val) -> Result<Val, Halt>
     heap.make_text(bytes)
 }
 
-// The name of a value's type.
+// Returns the name of a value's type.
 fn type_name(heap: &Heap, x: Val) -> Result<&'static [u8], Halt>
     ensures { ChecksBytes (type_of x (store_of heap.now)) result }
 {
@@ -63,7 +63,7 @@ fn type_name(heap: &Heap, x: Val) -> Result<&'static [u8], Halt>
     }
 }
 
-// The name of an object's type.
+// Returns the name of an object's type.
 fn object_type(heap: &Heap, place: usize) -> Result<&'static [u8], Halt>
     ensures { ChecksBytes (object_type (at place (store_of heap.now))) result }
 {
@@ -77,7 +77,7 @@ fn object_type(heap: &Heap, place: usize) -> Result<&'static [u8], Halt>
     }
 }
 
-/// `bool(x)`
+/// Evaluates `bool(x)`.
 pub fn truth(heap: &Heap, x: Val) -> Result<Val, Memory>
     ensures { IfOk result (λ b. truth_of (is_true x (store_of heap.now)) (store_of heap.now)
         ≡ gives b (store_of heap.now)) }

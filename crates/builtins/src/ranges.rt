@@ -9,7 +9,7 @@ use heap::{Halt, Heap, LONGEST, Val};
 use meaning::faults;
 use std::alloc::Global;
 
-/// `range(to)`, `range(from, to)` or `range(from, to, step)`: fault 25, 5 or 13.
+/// Evaluates `range(to)`, `range(from, to)` or `range(from, to, step)`, or returns fault 25, 5 or 13.
 pub fn range(heap: &mut Heap, xs: &[Val]) -> Result<Val, Halt>
     ensures { Says (range xs.now (store_of heap.old)) result (store_of heap.new) }
 {
@@ -21,7 +21,7 @@ pub fn range(heap: &mut Heap, xs: &[Val]) -> Result<Val, Halt>
     }
 }
 
-// The list of a range by its three values.
+// Makes the list of a range by its three values.
 fn range_by(heap: &mut Heap, from: Val, to: Val, step: Val) -> Result<Val, Halt>
     ensures { Says (range_by from to step (store_of heap.old)) result (store_of heap.new) }
 {
@@ -37,7 +37,7 @@ fn range_by(heap: &mut Heap, from: Val, to: Val, step: Val) -> Result<Val, Halt>
     }
 }
 
-// The list of a range.
+// Makes the list of a range.
 fn make_range(heap: &mut Heap, from: i64, to: i64, step: i64) -> Result<Val, Halt>
     requires { IsNonzero step }
     ensures { Says (range_list from to step (store_of heap.old)) result (store_of heap.new) }
@@ -47,7 +47,7 @@ fn make_range(heap: &mut Heap, from: i64, to: i64, step: i64) -> Result<Val, Hal
     Ok(made)
 }
 
-// The numbers of a range, or fault 13.
+// Returns the numbers of a range, or fault 13.
 fn numbers(alloc: Global, from: i64, to: i64, step: i64) -> Result<Vec<Val>, Halt>
     requires { IsNonzero step }
     ensures { SizedAs (numbers (range_count from to step) from step) result }
@@ -67,7 +67,7 @@ fn numbers(alloc: Global, from: i64, to: i64, step: i64) -> Result<Vec<Val>, Hal
     Ok(members)
 }
 
-// Whether a number lies before the end of a range.
+// Returns whether a number lies before the end of a range.
 fn lies_before(n: i64, to: i64, step: i64) -> bool
     ensures { result ≡ lies_before n to step }
 {

@@ -12,7 +12,7 @@ use meaning::faults;
 use std::alloc::Global;
 use texts::{Memory, Text};
 
-/// `sorted(x, reverse = False)`: fault 25 or 5.
+/// Evaluates `sorted(x, reverse = False)`, or returns fault 25 or 5.
 pub fn sorted(heap: &mut Heap, xs: &[Val], names: &[(Text, Val)]) -> Result<Val, Halt>
     ensures { Says (sorted xs.now names.now (store_of heap.old)) result (store_of heap.new) }
 {
@@ -28,7 +28,7 @@ pub fn sorted(heap: &mut Heap, xs: &[Val], names: &[(Text, Val)]) -> Result<Val,
     }
 }
 
-// The members in order, in the direction that a value says.
+// Makes a list of the members in order, in the direction that a value says.
 fn sorted_by(heap: &mut Heap, x: Val, reverse: Val) -> Result<Val, Halt>
     ensures { Says (sorted_by x reverse (store_of heap.old)) result (store_of heap.new) }
 {
@@ -38,7 +38,7 @@ fn sorted_by(heap: &mut Heap, x: Val, reverse: Val) -> Result<Val, Halt>
     }
 }
 
-// The members in order, or in the order turned round.
+// Makes a list of the members in order, or in the order turned round.
 fn sorted_list(heap: &mut Heap, x: Val, reverse: bool) -> Result<Val, Halt>
     ensures { Says (sorted_list x reverse (store_of heap.old)) result (store_of heap.new) }
 {
@@ -53,7 +53,7 @@ fn sorted_list(heap: &mut Heap, x: Val, reverse: bool) -> Result<Val, Halt>
     heap.make_list(members)
 }
 
-// Ints or strings in order; equal ones keep their order.
+// Sorts ints or strings; equal ones keep their order.
 fn sort(heap: &Heap, members: Vec<Val>) -> Result<Vec<Val>, Memory>
     requires { are_alike (store_of heap.now) members.items ≡ true }
     ensures { IfOk result (λ v. v.items ≡ sort_from (plain_order (store_of heap.now)) []
@@ -68,7 +68,7 @@ fn sort(heap: &Heap, members: Vec<Val>) -> Result<Vec<Val>, Memory>
     }
 }
 
-// Ints in order.
+// Sorts ints.
 fn sort_ints(mut members: Vec<Val>) -> Result<Vec<Val>, Memory>
     requires { all_so is_int members.items ≡ true }
     ensures { (s : Store)
@@ -78,7 +78,7 @@ fn sort_ints(mut members: Vec<Val>) -> Result<Vec<Val>, Memory>
     Ok(members)
 }
 
-// The number of an int.
+// Returns the number of an int.
 fn int_of(x: Val) -> i64
     ensures { result ≡ int_of x }
 {
@@ -88,7 +88,7 @@ fn int_of(x: Val) -> i64
     }
 }
 
-// Strings in order.
+// Sorts strings.
 fn sort_texts(heap: &Heap, members: &[Val]) -> Result<Vec<Val>, Memory>
     requires { all_so (λ x. is_some (as_text (store_of heap.now) x)) members.now ≡ true }
     ensures { IfOk result (λ v. v.items ≡ sort_from (plain_order (store_of heap.now)) []
@@ -100,7 +100,7 @@ fn sort_texts(heap: &Heap, members: &[Val]) -> Result<Vec<Val>, Memory>
     Ok(members)
 }
 
-// Values, each behind its bytes.
+// Returns values, each behind its bytes.
 fn with_bytes(heap: &Heap, members: &[Val]) -> Result<Vec<(Bytes, Val)>, Memory>
     ensures { IfOk result (λ v. v.items ≡ map (with_bytes (store_of heap.now)) members.now) }
 {
@@ -112,7 +112,7 @@ fn with_bytes(heap: &Heap, members: &[Val]) -> Result<Vec<(Bytes, Val)>, Memory>
     Ok(all)
 }
 
-// Values without their bytes.
+// Returns values without their bytes.
 fn values_of(alloc: Global, pairs: &[(Bytes, Val)]) -> Result<Vec<Val>, Memory>
     ensures { IfOk result (λ v. v.items ≡ map (λ p. p.1) pairs.now) }
 {
@@ -123,7 +123,7 @@ fn values_of(alloc: Global, pairs: &[(Bytes, Val)]) -> Result<Vec<Val>, Memory>
     Ok(all)
 }
 
-// The bytes of a string, and none of what is none.
+// Returns the bytes of a string, and no bytes of another value.
 fn bytes_of(heap: &Heap, x: Val) -> Result<Bytes, Memory>
     ensures { IfOk result (λ b. b ≡ bytes_of (store_of heap.now) x) }
 {

@@ -9,7 +9,7 @@ use heap::{Halt, Heap, Val};
 use indexing::items;
 use texts::Memory;
 
-/// `any(x)`: fault 5.
+/// Evaluates `any(x)`, or returns fault 5.
 pub fn any(heap: &Heap, x: Val) -> Result<Val, Halt>
     ensures { Says (any_from x (store_of heap.now)) result (store_of heap.now) }
 {
@@ -17,7 +17,7 @@ pub fn any(heap: &Heap, x: Val) -> Result<Val, Halt>
     Ok(Val::Bool(is_any_true(heap, members.as_slice())?))
 }
 
-// Whether a member counts as true.
+// Returns whether a member counts as true.
 fn is_any_true(heap: &Heap, members: &[Val]) -> Result<bool, Memory>
     ensures { IfOk result (λ b. b ≡ any_true (store_of heap.now) members.now) }
 {
@@ -29,7 +29,7 @@ fn is_any_true(heap: &Heap, members: &[Val]) -> Result<bool, Memory>
     Ok(false)
 }
 
-/// `all(x)`: fault 5.
+/// Evaluates `all(x)`, or returns fault 5.
 pub fn all(heap: &Heap, x: Val) -> Result<Val, Halt>
     ensures { Says (all_from x (store_of heap.now)) result (store_of heap.now) }
 {
@@ -37,7 +37,7 @@ pub fn all(heap: &Heap, x: Val) -> Result<Val, Halt>
     Ok(Val::Bool(are_all_true(heap, members.as_slice())?))
 }
 
-// Whether each member counts as true.
+// Returns whether each member counts as true.
 fn are_all_true(heap: &Heap, members: &[Val]) -> Result<bool, Memory>
     ensures { IfOk result (λ b. b ≡ all_true (store_of heap.now) members.now) }
 {

@@ -10,7 +10,7 @@ use indexing::items;
 use std::alloc::Global;
 use texts::Memory;
 
-/// `zip(..)`: fault 5 or 13.
+/// Evaluates `zip(..)`, or returns fault 5 or 13.
 pub fn zip(heap: &mut Heap, xs: &[Val]) -> Result<Val, Halt>
     ensures { Says (zip_from xs.now (store_of heap.old)) result (store_of heap.new) }
 {
@@ -19,7 +19,7 @@ pub fn zip(heap: &mut Heap, xs: &[Val]) -> Result<Val, Halt>
     heap.make_list(tuples)
 }
 
-// What each of several values is iterated over.
+// Returns the lists that iterations over several values go over.
 fn each_items(heap: &Heap, xs: &[Val]) -> Result<Vec<Vec<Val>>, Halt>
     ensures { SaysLists (each_items xs.now (store_of heap.now)) result (store_of heap.now) }
 {
@@ -31,7 +31,7 @@ fn each_items(heap: &Heap, xs: &[Val]) -> Result<Vec<Vec<Val>>, Halt>
     Ok(lists)
 }
 
-// A tuple of the first members, one of the second and so on, up to the shortest.
+// Makes a tuple of the first members, one of the second and so on, up to the shortest.
 fn make_rows(heap: &mut Heap, lists: &[Vec<Val>]) -> Result<Vec<Val>, Halt>
     ensures { SaysItems (makes_tuples (zipped (lists_of lists.now)) (store_of heap.old)) result
         (store_of heap.new) }
@@ -52,7 +52,7 @@ fn make_rows(heap: &mut Heap, lists: &[Vec<Val>]) -> Result<Vec<Val>, Halt>
     Ok(tuples)
 }
 
-// The member of each list at a place, where each has one.
+// Returns the member of each list at a place, if each has one.
 fn row_at(alloc: Global, lists: &[Vec<Val>], i: usize) -> Result<Option<Vec<Val>>, Memory>
     ensures { IfOk result (λ row. items_seen row ≡ heads (map (drop i) (lists_of lists.now))) }
 {

@@ -19,7 +19,7 @@ pub enum Pair<'a> {
     Entries(&'a IndexMap<Key, Entry>, &'a IndexMap<Key, Entry>),
 }
 
-// What is left to compare of two values.
+// Returns how two values are compared: settled at once, by their members, or by their entries.
 fn make_pair<'a>(objects: &'a [HeapObject], a: Val, b: Val) -> Result<Pair<'a>, Memory>
     ensures { IfOk result (λ p. pair_seen p ≡ pair (map object_in objects.now) a b) }
 {
@@ -33,7 +33,7 @@ fn make_pair<'a>(objects: &'a [HeapObject], a: Val, b: Val) -> Result<Pair<'a>, 
     }
 }
 
-// What is left to compare of two objects.
+// Returns how two objects are compared: settled at once, by their members, or by their entries.
 fn pair_objects<'a>(objects: &'a [HeapObject], a: usize, b: usize) -> Result<Pair<'a>, Memory>
     ensures { IfOk result (λ p. pair_seen p ≡ pair_objects (slice_get (map object_in objects.now) a)
         (slice_get (map object_in objects.now) b)) }
@@ -68,8 +68,8 @@ fn pair_objects<'a>(objects: &'a [HeapObject], a: usize, b: usize) -> Result<Pai
     }
 }
 
-/// Whether two values are equal: each pair compared is a step, and so many containers more may be entered: fault 11 or
-/// 12.
+/// Returns whether two values are equal, or fault 11 or 12. Each pair compared is a step, and so many containers more
+/// may be entered.
 #[cycle(comparing)]
 #[tactic(auto, using(crate::proofs::Compared::equal_is))]
 pub fn equal(
@@ -91,7 +91,7 @@ pub fn equal(
     }
 }
 
-// Whether the members of two lists of one length are equal.
+// Returns whether the members of two lists of one length are equal.
 #[cycle(comparing)]
 #[tactic(auto, using(crate::proofs::Compared::lists_deep, crate::proofs::Compared::lists_more))]
 fn equal_lists(
@@ -111,7 +111,7 @@ fn equal_lists(
     equal_members(objects, steps, xs, ys, left - 1)
 }
 
-// Whether members are equal, up to the first that are not.
+// Returns whether members are equal. Compares up to the first that are not.
 #[cycle(comparing)]
 #[tactic(auto, using(crate::proofs::Compared::members_same, crate::proofs::Compared::members_differ, crate::proofs::Compared::members_first_over, crate::proofs::Compared::members_second_over))]
 fn equal_members(
@@ -140,7 +140,7 @@ fn equal_members(
     Ok(true)
 }
 
-// Whether the entries of two dictionaries of one length are equal.
+// Returns whether the entries of two dictionaries of one length are equal.
 #[cycle(comparing)]
 #[tactic(auto, using(crate::proofs::Compared::dicts_deep, crate::proofs::Compared::dicts_more))]
 fn equal_dicts(
@@ -160,7 +160,7 @@ fn equal_dicts(
     equal_entries(objects, steps, xs, ys, left - 1)
 }
 
-// Whether the right has the keys of the left with equal values, up to the first that it has not.
+// Returns whether the right has the keys of the left with equal values. Looks up to the first that it has not.
 #[cycle(comparing)]
 #[tactic(auto, using(crate::proofs::Compared::entries_same, crate::proofs::Compared::entries_differ))]
 fn equal_entries(
@@ -186,7 +186,7 @@ fn equal_entries(
     Ok(true)
 }
 
-// Whether the right has a key with an equal value.
+// Returns whether the right has a key with an equal value.
 #[cycle(comparing)]
 fn equal_entry(
     objects: &[HeapObject],
@@ -203,7 +203,7 @@ fn equal_entry(
     equal_found(objects, steps, x, found(ys, key), left)
 }
 
-// Whether a value is equal to the one of an entry, if there is an entry.
+// Returns whether a value is equal to the one of an entry, if there is an entry.
 #[cycle(comparing)]
 fn equal_found(
     objects: &[HeapObject],

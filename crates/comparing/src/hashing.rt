@@ -17,7 +17,7 @@ pub enum AsKey<'a> {
     NoKey,
 }
 
-// What a value is as a key.
+// Returns a value as a key: one part, the members of a tuple, or no key.
 fn as_key<'a>(objects: &'a [HeapObject], x: Val) -> Result<AsKey<'a>, Memory>
     ensures { IfOk result (λ k. key_seen k ≡ as_key (map object_in objects.now) x) }
 {
@@ -34,8 +34,8 @@ fn as_key<'a>(objects: &'a [HeapObject], x: Val) -> Result<AsKey<'a>, Memory>
     }
 }
 
-/// The parts of a key, each value visited being a step, where so many containers more may be entered: fault 5 for what
-/// is no key, 11 or 12.
+/// Returns the parts of a key, or fault 5 for a value that is no key, 11 or 12. Each value visited is a step, and so
+/// many containers more may be entered.
 #[cycle(hashing)]
 #[tactic(auto, using(crate::proofs::Hashed::key_is))]
 pub fn key(
@@ -57,7 +57,7 @@ pub fn key(
     }
 }
 
-/// A key, by the same walk. The key of a value that is no tuple takes no list.
+/// Returns a key, by the walk of `key`. The key of a value that is no tuple takes no list.
 #[tactic(auto, using(crate::proofs::Hashed::key_is))]
 pub fn key_of(
     alloc: Global,
@@ -77,7 +77,7 @@ pub fn key_of(
     }
 }
 
-// The key that is one part, for a step.
+// Returns the key that is one part, for a step.
 fn key_of_part(steps: &mut u64, x: Part) -> Result<Key, Halt>
     ensures { Says (part_key x steps.old) result steps.new }
 {
@@ -85,7 +85,7 @@ fn key_of_part(steps: &mut u64, x: Part) -> Result<Key, Halt>
     Ok(Key::one(x))
 }
 
-// A key of one part.
+// Returns the parts of a key of one part, for a step.
 fn one_part(alloc: Global, steps: &mut u64, x: Part) -> Result<Vec<Part>, Halt>
     ensures { SaysItems (part_key x steps.old) result steps.new }
 {
@@ -95,7 +95,7 @@ fn one_part(alloc: Global, steps: &mut u64, x: Part) -> Result<Vec<Part>, Halt>
     Ok(all)
 }
 
-// The key of a tuple.
+// Returns the parts of the key of a tuple.
 #[cycle(hashing)]
 #[tactic(auto, using(crate::proofs::Hashed::tuple_deep, crate::proofs::Hashed::tuple_more))]
 fn tuple_key(
@@ -119,7 +119,7 @@ fn tuple_key(
     Ok(all)
 }
 
-// The parts of keys, one after another.
+// Returns the parts of keys, one after another.
 #[cycle(hashing)]
 fn along(
     alloc: Global,

@@ -11,7 +11,7 @@ use heap::{DEEPEST, Halt, Heap, HeapObject, Key, Object, Val, found, object_at, 
 use meaning::faults;
 use memchr::memmem;
 
-// Whether a text is a part of another.
+// Returns whether a text is a part of another.
 #[tactic(auto, using(crate::proofs::Parts::part_found))]
 fn is_part(part: &[u8], whole: &[u8]) -> bool
     ensures { result ≡ is_part part.now whole.now }
@@ -19,7 +19,7 @@ fn is_part(part: &[u8], whole: &[u8]) -> bool
     memmem::find(whole, part).is_some()
 }
 
-// Whether a value is equal to one of the members, each being compared in order up to the first.
+// Returns whether a value is equal to one of the members. Compares each in order up to the first that is equal.
 #[tactic(auto, using(crate::proofs::Membered::any_same, crate::proofs::Membered::any_differ, crate::proofs::Membered::any_over))]
 fn any_equal(
     objects: &[HeapObject],
@@ -44,8 +44,8 @@ fn any_equal(
     Ok(false)
 }
 
-/// `x in a`: whether it is a member of a list or tuple, a key of a dictionary, or a part of a string; else fault 5, and
-/// 11 or 12.
+/// Evaluates `x in a`: whether `x` is a member of a list or tuple, a key of a dictionary, or a part of a string. The
+/// faults are 5, 11 and 12.
 pub fn has(heap: &mut Heap, x: Val, a: Val) -> Result<bool, Halt>
     ensures { Says (has x a (store_of heap.old)) result (store_of heap.new) }
 {
@@ -55,7 +55,7 @@ pub fn has(heap: &mut Heap, x: Val, a: Val) -> Result<bool, Halt>
     }
 }
 
-// Whether a value is in an object.
+// Returns whether a value is in an object.
 fn object_has(heap: &mut Heap, a: usize, x: Val) -> Result<bool, Halt>
     ensures { Says (object_has (at a (store_of heap.old)) x (store_of heap.old)) result
         (store_of heap.new) }
@@ -86,7 +86,7 @@ fn object_has(heap: &mut Heap, a: usize, x: Val) -> Result<bool, Halt>
     }
 }
 
-// Whether a value is a key of a dictionary.
+// Returns whether a value is a key of a dictionary.
 #[tactic(auto, unfolding(meaning::specs::Membership::hashed_has))]
 fn hashed_has(heap: &mut Heap, a: usize, x: Val) -> Result<bool, Halt>
     ensures { Says (hashed_has (at a (store_of heap.old)) x (store_of heap.old)) result
@@ -96,7 +96,7 @@ fn hashed_has(heap: &mut Heap, a: usize, x: Val) -> Result<bool, Halt>
     has_key(heap, a, &key)
 }
 
-// Whether a dictionary has a key.
+// Returns whether a dictionary has a key.
 fn has_key(heap: &Heap, a: usize, key: &Key) -> Result<bool, Halt>
     ensures { Says (has_key (at a (store_of heap.now)) key.now (store_of heap.now)) result
         (store_of heap.now) }
@@ -107,7 +107,7 @@ fn has_key(heap: &Heap, a: usize, key: &Key) -> Result<bool, Halt>
     }
 }
 
-// Whether a value is a part of a text.
+// Returns whether a value is a part of a text.
 fn text_has(objects: &[HeapObject], whole: &[u8], x: Val) -> Result<bool, Halt>
     ensures { Checks (text_has (map object_in objects.now) whole.now x) result }
 {

@@ -26,7 +26,7 @@ pub enum Parting {
     Unequal(Val, Val),
 }
 
-// What is left to order of two values.
+// Returns how two values are ordered: at once, by their members, or not at all.
 fn make_sides<'a>(objects: &'a [HeapObject], a: Val, b: Val) -> Result<Sides<'a>, Memory>
     ensures { IfOk result (λ s. sides_seen s ≡ sides (map object_in objects.now) a b) }
 {
@@ -37,7 +37,7 @@ fn make_sides<'a>(objects: &'a [HeapObject], a: Val, b: Val) -> Result<Sides<'a>
     }
 }
 
-// What is left to order of two objects.
+// Returns how two objects are ordered: at once, by their members, or not at all.
 fn side_objects<'a>(objects: &'a [HeapObject], a: usize, b: usize) -> Result<Sides<'a>, Memory>
     ensures { IfOk result
         (λ s. sides_seen s ≡ side_objects (slice_get (map object_in objects.now) a)
@@ -57,8 +57,8 @@ fn side_objects<'a>(objects: &'a [HeapObject], a: usize, b: usize) -> Result<Sid
     }
 }
 
-/// The order of two values: each pair compared is a step, and so many containers more may be entered: fault 5, 11 or
-/// 12.
+/// Returns the order of two values, or fault 5, 11 or 12. Each pair compared is a step, and so many containers more may
+/// be entered.
 #[cycle(ordering)]
 #[tactic(auto, using(crate::proofs::Compared::order_is))]
 pub fn order(
@@ -83,7 +83,7 @@ pub fn order(
     }
 }
 
-// The order of two lists.
+// Returns the order of two lists.
 #[cycle(ordering)]
 #[tactic(auto, using(crate::proofs::Compared::sides_deep, crate::proofs::Compared::sides_more))]
 fn order_lists(
@@ -106,7 +106,7 @@ fn order_lists(
     }
 }
 
-// Where two lists part.
+// Returns where two lists part.
 #[tactic(auto, using(crate::proofs::Compared::parts_same, crate::proofs::Compared::parts_differ, crate::proofs::Compared::parts_end, crate::proofs::Compared::parts_last, crate::proofs::Compared::parts_greater))]
 fn part(
     objects: &[HeapObject],
@@ -134,7 +134,7 @@ fn part(
     Ok(Parting::SettledAs(at_end(ys, xs.len())))
 }
 
-// The order by lengths, where the left ends at an index.
+// Returns the order by lengths, where the left ends at an index.
 fn at_end(ys: &[Val], i: usize) -> Ordering
     ensures { result ≡ ended (slice_get ys.now i) }
 {

@@ -10,7 +10,7 @@ use crate::ordering::order;
 use heap::{DEEPEST, Halt, Heap, Key, Val};
 use std::cmp::Ordering;
 
-/// A key of a dictionary, by a walk: fault 5 for what is no key, 11 or 12.
+/// Returns the key that a value is, by a walk, or fault 5 for a value that is no key, 11 or 12.
 pub fn hash(heap: &mut Heap, x: Val) -> Result<Key, Halt>
     ensures says { Says (hash x (store_of heap.old)) result (store_of heap.new) }
     ensures kept { heap.new.objects ≡ heap.old.objects }
@@ -24,14 +24,14 @@ pub fn hash(heap: &mut Heap, x: Val) -> Result<Key, Halt>
     )
 }
 
-/// `a == b`: fault 11 or 12.
+/// Evaluates `a == b`, or returns fault 11 or 12.
 pub fn equal(heap: &mut Heap, a: Val, b: Val) -> Result<bool, Halt>
     ensures { Says (equals a b (store_of heap.old)) result (store_of heap.new) }
 {
     equality::equal(heap.objects.as_slice(), &mut heap.steps, a, b, DEEPEST)
 }
 
-/// The order of two values: fault 5, 11 or 12.
+/// Returns the order of two values, or fault 5, 11 or 12.
 pub fn compare(heap: &mut Heap, a: Val, b: Val) -> Result<Ordering, Halt>
     ensures { Says (compares a b (store_of heap.old)) result (store_of heap.new) }
 {

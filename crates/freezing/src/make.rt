@@ -10,49 +10,49 @@ use std::sync::Arc;
 use texts::Memory;
 
 impl Frozen {
-    /// `None`
+    /// Makes `None`.
     pub fn nothing() -> Frozen
         ensures { frozen_of result ≡ nothing }
     {
         Frozen::Nothing
     }
 
-    /// A bool.
+    /// Makes a bool.
     pub fn boolean(b: bool) -> Frozen
         ensures { frozen_of result ≡ boolean b }
     {
         Frozen::Bool(b)
     }
 
-    /// An int.
+    /// Makes an int.
     pub fn whole(n: i64) -> Frozen
         ensures { frozen_of result ≡ whole n }
     {
         Frozen::Int(n)
     }
 
-    /// A built-in function.
+    /// Makes a built-in function.
     pub fn built_in(f: Builtin) -> Frozen
         ensures { frozen_of result ≡ built_in f }
     {
         Frozen::Builtin(f)
     }
 
-    /// A string.
+    /// Makes a string.
     pub fn text(bytes: Bytes) -> Frozen
         ensures { frozen_of result ≡ text bytes }
     {
         Frozen::Text(bytes)
     }
 
-    /// A list.
+    /// Makes a list.
     pub fn list(alloc: Global, members: Vec<Frozen>) -> Result<Frozen, Memory>
         ensures { IfOk result (λ f. frozen_of f ≡ list (members_of (map frozen_of members.items))) }
     {
         Ok(Frozen::List(Arc::new(alloc, members)?))
     }
 
-    /// A tuple.
+    /// Makes a tuple.
     pub fn tuple(alloc: Global, members: Vec<Frozen>) -> Result<Frozen, Memory>
         ensures { IfOk result
             (λ f. frozen_of f ≡ tuple (members_of (map frozen_of members.items))) }
@@ -60,21 +60,21 @@ impl Frozen {
         Ok(Frozen::Tuple(Arc::new(alloc, members)?))
     }
 
-    /// A dictionary.
+    /// Makes a dictionary.
     pub fn dict(alloc: Global, entries: Vec<FrozenEntry>) -> Result<Frozen, Memory>
         ensures { IfOk result (λ f. frozen_of f ≡ dict (pairs_of (map entry_of entries.items))) }
     {
         Ok(Frozen::Dict(Arc::new(alloc, entries)?))
     }
 
-    /// A function of a file: the file's label, and the name.
+    /// Makes a function of a file, by the file's label and the name.
     pub fn function(label: Bytes, name: Bytes) -> Frozen
         ensures { frozen_of result ≡ function label name }
     {
         Frozen::Function(label, name)
     }
 
-    /// The same value, shared.
+    /// Returns the same value, shared.
     pub fn share(&self) -> Result<Frozen, Memory>
         ensures { IfOk result (λ f. frozen_of f ≡ frozen_of self.now) }
     {
@@ -93,7 +93,7 @@ impl Frozen {
 }
 
 impl FrozenEntry {
-    /// A key with its value.
+    /// Makes an entry of a key with its value.
     pub fn new(key: Frozen, value: Frozen) -> FrozenEntry
         ensures { entry_of result ≡ (frozen_of key, frozen_of value) }
     {

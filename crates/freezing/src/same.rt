@@ -7,8 +7,8 @@ ghost use Rattle.freezing.specs.Same.{depth, same_within, same_members, same_pai
 use crate::frozen::{Frozen, FrozenEntry};
 use heap::DEEPEST;
 
-/// Whether two values are one value, exactly, of those at most 64 containers deep. It compares no deeper, and takes no
-/// steps.
+/// Returns whether two values are one value, exactly, of those at most 64 containers deep. It compares no deeper, and
+/// takes no steps.
 #[tactic(auto, using(crate::specs::SameLaws::within_exact, crate::specs::SameLaws::same_is_one))]
 pub fn same_frozen(a: &Frozen, b: &Frozen) -> bool
     ensures exact { depth (frozen_of a.now) ≤ 64
@@ -18,7 +18,7 @@ pub fn same_frozen(a: &Frozen, b: &Frozen) -> bool
     same(a, b, DEEPEST)
 }
 
-// Whether two values are one value, where so many containers more may be entered.
+// Returns whether two values are one value, where so many containers more may be entered.
 #[cycle(same)]
 fn same(a: &Frozen, b: &Frozen, left: u32) -> bool
     ensures { result ≡ same_within (frozen_of a.now) (frozen_of b.now) left }
@@ -43,7 +43,7 @@ fn same(a: &Frozen, b: &Frozen, left: u32) -> bool
     }
 }
 
-// Whether members are the same, in order.
+// Returns whether members are the same, in order.
 #[cycle(same)]
 fn same_all(xs: &[Frozen], ys: &[Frozen], left: u32) -> bool
     ensures { result ≡ same_members (members_of (map frozen_of xs.now))
@@ -60,7 +60,7 @@ fn same_all(xs: &[Frozen], ys: &[Frozen], left: u32) -> bool
     true
 }
 
-// Whether entries are the same, in order.
+// Returns whether entries are the same, in order.
 #[cycle(same)]
 fn same_entries(xs: &[FrozenEntry], ys: &[FrozenEntry], left: u32) -> bool
     ensures { result ≡ same_pairs (pairs_of (map entry_of xs.now)) (pairs_of (map entry_of ys.now))
@@ -77,7 +77,7 @@ fn same_entries(xs: &[FrozenEntry], ys: &[FrozenEntry], left: u32) -> bool
     true
 }
 
-// Whether two entries are the same, the keys being compared first.
+// Returns whether two entries are the same. Compares the keys first.
 #[cycle(same)]
 fn same_entry(x: &FrozenEntry, y: &FrozenEntry, left: u32) -> bool
     ensures { result ≡ same_entry (entry_of x.now) (entry_of y.now) left }

@@ -10,7 +10,7 @@ use indexmap::IndexMap;
 use std::alloc::Global;
 use texts::Memory;
 
-/// A frozen value on a heap, where its lists and dictionaries are frozen. It takes no steps.
+/// Makes a frozen value on a heap, where its lists and dictionaries are frozen. It takes no steps.
 #[cycle(thawing)]
 pub fn thaw(heap: &mut Heap, f: &Frozen) -> Result<Val, Halt>
     ensures { Says (thaw (frozen_of f.now) (store_of heap.old)) result (store_of heap.new) }
@@ -46,7 +46,7 @@ pub fn thaw(heap: &mut Heap, f: &Frozen) -> Result<Val, Halt>
     }
 }
 
-// Members on a heap, in order.
+// Makes members on a heap, in order.
 #[cycle(thawing)]
 fn thaw_members(heap: &mut Heap, members: &[Frozen]) -> Result<Vec<Val>, Halt>
     ensures { SaysItems (thaw_members (members_of (map frozen_of members.now)) (store_of heap.old))
@@ -94,7 +94,7 @@ fn thaw_entry(heap: &mut Heap, e: &FrozenEntry, all: &mut IndexMap<Key, Entry>) 
     Ok(())
 }
 
-// A key. One of a single part takes no list.
+// Returns the key that a frozen value is. A key of a single part takes no list.
 fn frozen_key_of(alloc: Global, f: &Frozen) -> Result<Key, Memory>
     ensures { IfOk result (λ k. k ≡ frozen_key (frozen_of f.now)) }
 {
@@ -111,7 +111,7 @@ fn frozen_key_of(alloc: Global, f: &Frozen) -> Result<Key, Memory>
     }
 }
 
-// The parts of a key, behind others.
+// Adds the parts of a key behind others.
 #[cycle(keying)]
 fn add_key(f: &Frozen, all: &mut Vec<Part>) -> Result<(), Memory>
     ensures { OnOk result (all.new.items ≡ all.old.items ++ frozen_key (frozen_of f.now)) }
@@ -130,7 +130,7 @@ fn add_key(f: &Frozen, all: &mut Vec<Part>) -> Result<(), Memory>
     Ok(())
 }
 
-// The parts of a tuple's key, behind others.
+// Adds the parts of a tuple's key behind others.
 #[cycle(keying)]
 #[tactic(auto, using(crate::proofs::Thawed::tuple_keyed))]
 fn add_tuple(members: &[Frozen], all: &mut Vec<Part>) -> Result<(), Memory>
@@ -143,7 +143,7 @@ fn add_tuple(members: &[Frozen], all: &mut Vec<Part>) -> Result<(), Memory>
     Ok(())
 }
 
-// The parts of keys, behind others.
+// Adds the parts of keys behind others.
 #[cycle(keying)]
 fn add_keys(members: &[Frozen], all: &mut Vec<Part>) -> Result<(), Memory>
     ensures { OnOk result (all.new.items ≡ all.old.items ++ frozen_keys

@@ -38,7 +38,7 @@ impl Model for FrozenValue {
 }
 
 impl FrozenValue {
-    /// The tree of a value on a heap: fault 11 or 12.
+    /// Returns the tree of a value on a heap, or fault 11 or 12.
     pub fn freeze(heap: &mut Heap, x: Val) -> Result<FrozenValue, Halt>
         ensures { Says (freezes x (store_of heap.old)) result (store_of heap.new) }
     {
@@ -46,14 +46,14 @@ impl FrozenValue {
         Ok(FrozenValue { inner })
     }
 
-    /// The tree.
+    /// Returns the tree.
     pub fn as_frozen(&self) -> &Frozen
         ensures { frozen_of result.now ≡ self.now }
     {
         &self.inner
     }
 
-    /// The same value, shared.
+    /// Returns the same value, shared.
     pub fn share(&self) -> Result<FrozenValue, Memory>
         ensures { IfOk result (λ f. f ≡ self.now) }
     {

@@ -7,7 +7,7 @@ use crate::frozen::Frozen;
 use crate::walk;
 use heap::{DEEPEST, Halt, Heap, Val};
 
-/// The tree of a value, which begins outside of all containers: fault 11 or 12.
+/// Returns the tree of a value, by a walk that begins outside of all containers, or fault 11 or 12.
 pub fn freeze(heap: &mut Heap, x: Val) -> Result<Frozen, Halt>
     ensures { SaysFrozen (freezes x (store_of heap.old)) result (store_of heap.new) }
 {

@@ -10,7 +10,8 @@ use indexmap::IndexMap;
 use meaning::faults;
 use std::alloc::Global;
 
-/// The tree of a value: each value visited is a step, and so many containers more may be entered: fault 11 or 12, or 5.
+/// Returns the tree of a value, or fault 11 or 12, or 5. Each value visited is a step, and so many containers more may
+/// be entered.
 #[cycle(freezing)]
 #[tactic(auto, using(crate::proofs::Froze::freeze_is))]
 pub fn freeze(
@@ -31,7 +32,7 @@ pub fn freeze(
     }
 }
 
-// A value that holds nothing else.
+// Returns the tree of a value that holds nothing else, for a step.
 fn settled(steps: &mut u64, f: Frozen) -> Result<Frozen, Halt>
     ensures { SaysFrozen (at_once (frozen_of f) steps.old) result steps.new }
 {
@@ -39,7 +40,7 @@ fn settled(steps: &mut u64, f: Frozen) -> Result<Frozen, Halt>
     Ok(f)
 }
 
-// The tree of an object.
+// Returns the tree of an object.
 #[cycle(freezing)]
 fn freeze_object(
     alloc: Global,
@@ -79,7 +80,7 @@ fn freeze_object(
     }
 }
 
-// The tree of a list.
+// Returns the tree of a list.
 #[cycle(freezing)]
 #[tactic(auto, using(crate::proofs::Froze::list_deep, crate::proofs::Froze::list_more))]
 fn freeze_list(
@@ -100,7 +101,7 @@ fn freeze_list(
     Ok(Frozen::list(alloc, fs)?)
 }
 
-// The tree of a tuple.
+// Returns the tree of a tuple.
 #[cycle(freezing)]
 #[tactic(auto, using(crate::proofs::Froze::tuple_deep, crate::proofs::Froze::tuple_more))]
 fn freeze_tuple(
@@ -121,7 +122,7 @@ fn freeze_tuple(
     Ok(Frozen::tuple(alloc, fs)?)
 }
 
-// The trees of members, in order.
+// Returns the trees of members, in order.
 #[cycle(freezing)]
 fn freeze_members(
     alloc: Global,
@@ -146,7 +147,7 @@ fn freeze_members(
     Ok(all)
 }
 
-// The tree of a dictionary.
+// Returns the tree of a dictionary.
 #[cycle(freezing)]
 #[tactic(auto, using(crate::proofs::Froze::dict_deep, crate::proofs::Froze::dict_more))]
 fn freeze_dict(
@@ -167,7 +168,7 @@ fn freeze_dict(
     Ok(Frozen::dict(alloc, es)?)
 }
 
-// The trees of keys and values, in order.
+// Returns the trees of keys and values, in order.
 #[cycle(freezing)]
 fn freeze_entries(
     alloc: Global,
@@ -193,7 +194,7 @@ fn freeze_entries(
     Ok(all)
 }
 
-// The trees of a key and its value.
+// Returns the trees of a key and its value.
 #[cycle(freezing)]
 fn freeze_entry(
     alloc: Global,

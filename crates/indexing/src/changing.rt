@@ -8,7 +8,7 @@ use comparing::hash;
 use heap::{Entry, Halt, Heap, Key, Object, Val, has_room, place, set_entry};
 use meaning::faults;
 
-/// `a[i] = x`, tested in order: type (5), frozen (6), iterated (7), index (8), size (13).
+/// Executes `a[i] = x`. The faults are tested in order: type (5), frozen (6), iterated (7), index (8), size (13).
 pub fn set_index(heap: &mut Heap, a: Val, i: Val, x: Val) -> Result<(), Halt>
     ensures { Says (set_index a i x (store_of heap.old)) result (store_of heap.new) }
 {
@@ -48,7 +48,7 @@ fn set_object(heap: &mut Heap, a: usize, i: Val, x: Val) -> Result<(), Halt>
     }
 }
 
-// Whether what stands at a place may be changed: fault 6 where it is frozen, 7 where it is iterated.
+// Tests whether the object at a place may be changed: returns fault 6 if it is frozen, 7 if it is iterated.
 fn may_change(heap: &Heap, a: usize, frozen: bool) -> Result<(), Halt>
     ensures { Says (may_change a frozen (store_of heap.now)) result (store_of heap.now) }
 {

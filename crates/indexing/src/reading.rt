@@ -8,7 +8,7 @@ use comparing::hash;
 use heap::{Halt, Heap, Key, Object, Val, cut, found, keys, member};
 use meaning::faults;
 
-/// An int, and not a bool, or fault 5.
+/// Returns the number of an int, and not of a bool, or fault 5.
 pub fn as_int(x: Val) -> Result<i64, Halt>
     ensures { Checks (int_of x) result }
 {
@@ -18,7 +18,7 @@ pub fn as_int(x: Val) -> Result<i64, Halt>
     }
 }
 
-// What is at an index of a list, or fault 8.
+// Returns the member at an index of a list, or fault 5, or 8 if nothing is there.
 fn found_at<T: Copy>(xs: &[T], i: Val) -> Result<T, Halt>
     ensures { Checks (found_at xs.now i) result }
 {
@@ -29,7 +29,7 @@ fn found_at<T: Copy>(xs: &[T], i: Val) -> Result<T, Halt>
     }
 }
 
-/// `a[i]`: fault 5, or 8 where nothing is there.
+/// Evaluates `a[i]`, or returns fault 5, or 8 if nothing is there.
 pub fn index(heap: &mut Heap, a: Val, i: Val) -> Result<Val, Halt>
     ensures { Says (index a i (store_of heap.old)) result (store_of heap.new) }
 {
@@ -39,7 +39,7 @@ pub fn index(heap: &mut Heap, a: Val, i: Val) -> Result<Val, Halt>
     }
 }
 
-// What an object has at an index.
+// Returns the value that an object has at an index.
 fn index_object(heap: &mut Heap, a: usize, i: Val) -> Result<Val, Halt>
     ensures { Says (index_object (at a (store_of heap.old)) i (store_of heap.old)) result
         (store_of heap.new) }
@@ -57,7 +57,7 @@ fn index_object(heap: &mut Heap, a: usize, i: Val) -> Result<Val, Halt>
     }
 }
 
-// What a dictionary has at a key.
+// Returns the value that a dictionary has at a key, which is hashed first.
 #[tactic(auto, unfolding(meaning::specs::Indexing::found_key))]
 fn found_key(heap: &mut Heap, a: usize, i: Val) -> Result<Val, Halt>
     ensures { Says (found_key (at a (store_of heap.old)) i (store_of heap.old)) result
@@ -67,7 +67,7 @@ fn found_key(heap: &mut Heap, a: usize, i: Val) -> Result<Val, Halt>
     at_key(heap, a, &key)
 }
 
-// The value at a key.
+// Returns the value at a key.
 fn at_key(heap: &Heap, a: usize, key: &Key) -> Result<Val, Halt>
     ensures { Says (at_key (at a (store_of heap.now)) key.now (store_of heap.now)) result
         (store_of heap.now) }
@@ -81,7 +81,7 @@ fn at_key(heap: &Heap, a: usize, key: &Key) -> Result<Val, Halt>
     }
 }
 
-// A string of one byte.
+// Makes a string of one byte.
 fn make_letter(heap: &mut Heap, byte: u8) -> Result<Val, Halt>
     ensures { Says (makes_text (byte ∷ []) (store_of heap.old)) result (store_of heap.new) }
 {
@@ -90,7 +90,7 @@ fn make_letter(heap: &mut Heap, byte: u8) -> Result<Val, Halt>
     heap.make_text(bytes)
 }
 
-/// `a[i:j]`, where a bound that is not given is `None`: fault 5.
+/// Evaluates `a[i:j]`, where a bound that is not given is `None`, or returns fault 5.
 pub fn slice(heap: &mut Heap, a: Val, i: Val, j: Val) -> Result<Val, Halt>
     ensures { Says (slice a i j (store_of heap.old)) result (store_of heap.new) }
 {
@@ -100,7 +100,7 @@ pub fn slice(heap: &mut Heap, a: Val, i: Val, j: Val) -> Result<Val, Halt>
     }
 }
 
-// The part of an object between two bounds.
+// Makes the part of an object between two bounds.
 fn slice_object(heap: &mut Heap, a: usize, i: Val, j: Val) -> Result<Val, Halt>
     ensures { Says (slice_object (at a (store_of heap.old)) i j (store_of heap.old)) result
         (store_of heap.new) }
@@ -122,7 +122,7 @@ fn slice_object(heap: &mut Heap, a: usize, i: Val, j: Val) -> Result<Val, Halt>
     }
 }
 
-/// What an iteration goes over: the members, or a dictionary's keys; else fault 5.
+/// Returns the values that an iteration goes over: the members, or a dictionary's keys; else fault 5.
 pub fn items(heap: &Heap, a: Val) -> Result<Vec<Val>, Halt>
     ensures { ChecksItems (items a (store_of heap.now)) result }
 {
@@ -132,7 +132,7 @@ pub fn items(heap: &Heap, a: Val) -> Result<Vec<Val>, Halt>
     }
 }
 
-// What an iteration over an object goes over.
+// Returns the values that an iteration over an object goes over.
 fn object_items(heap: &Heap, a: usize) -> Result<Vec<Val>, Halt>
     ensures { ChecksItems (items_of (at a (store_of heap.now))) result }
 {

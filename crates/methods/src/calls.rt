@@ -12,8 +12,8 @@ use heap::{Halt, Heap, Object, Val};
 use meaning::faults;
 use texts::{Memory, Text};
 
-/// `x.name(..)`, by its plain and its named arguments. No method takes a named one. Fault 5 for an unknown method, then
-/// 25, then 5 for a wrong type, and the faults of the method: 6, 7, 11, 12 or 13.
+/// Calls `x.name(..)`, by its plain and its named arguments. No method takes a named one. Returns fault 5 for an
+/// unknown method, then 25, then 5 for a wrong type. The method's own faults are 6, 7, 11, 12 or 13.
 pub fn method(
     heap: &mut Heap,
     x: Val,
@@ -38,7 +38,7 @@ pub fn method(
     }
 }
 
-// A method of what stands at a place.
+// Calls a method of the object at a place.
 #[tactic(auto, using(crate::proofs::Bridges::text_here, crate::proofs::Bridges::list_here, crate::proofs::Bridges::dict_here))]
 fn object_method(heap: &mut Heap, a: usize, name: &str, xs: &[Val]) -> Result<Val, Halt>
     ensures { Says (object_method a (at a (store_of heap.old)) name.now xs.now (store_of heap.old))
@@ -58,7 +58,7 @@ fn object_method(heap: &mut Heap, a: usize, name: &str, xs: &[Val]) -> Result<Va
     }
 }
 
-// Whether what stands at a place has such a method.
+// Returns whether the object at a place has such a method.
 fn has_method(heap: &Heap, a: usize, name: &str) -> Result<bool, Memory>
     ensures { IfOk result (λ b. b ≡ has_method (at a (store_of heap.now)) name.now) }
 {

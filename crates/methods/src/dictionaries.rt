@@ -12,7 +12,7 @@ use meaning::faults;
 use std::alloc::Global;
 use texts::Memory;
 
-/// A method of a dictionary: fault 5, 11, 12, 13 or 25.
+/// Calls a method of a dictionary, or returns fault 5, 11, 12, 13 or 25.
 pub fn dict_method(heap: &mut Heap, a: usize, name: &str, xs: &[Val]) -> Result<Val, Halt>
     ensures { Says (of_dict (at a (store_of heap.old)) name.now xs.now (store_of heap.old)) result
         (store_of heap.new) }
@@ -35,7 +35,7 @@ pub fn dict_method(heap: &mut Heap, a: usize, name: &str, xs: &[Val]) -> Result<
     Err(Halt::Code(faults::WRONG_TYPE))
 }
 
-// `get(k)` or `get(k, other)`
+// Evaluates `get(k)` or `get(k, other)`.
 fn get(heap: &mut Heap, a: usize, xs: &[Val]) -> Result<Val, Halt>
     ensures { Says (get_at (at a (store_of heap.old)) xs.now (store_of heap.old)) result
         (store_of heap.new) }
@@ -53,7 +53,7 @@ fn get(heap: &mut Heap, a: usize, xs: &[Val]) -> Result<Val, Halt>
     }
 }
 
-// The value at a key, or another.
+// Returns the value at a key, or another.
 #[tactic(auto, unfolding(crate::specs::Cases::get_other))]
 fn get_or_else(heap: &mut Heap, a: usize, k: Val, other: Val) -> Result<Val, Halt>
     ensures { Says (get_other (at a (store_of heap.old)) k other (store_of heap.old)) result
@@ -63,7 +63,7 @@ fn get_or_else(heap: &mut Heap, a: usize, k: Val, other: Val) -> Result<Val, Hal
     found_or(heap, a, &key, other)
 }
 
-// `keys()`, a new list.
+// Evaluates `keys()`, a new list.
 fn all_keys(heap: &mut Heap, a: usize) -> Result<Val, Halt>
     ensures { Says (keys_at (at a (store_of heap.old)) (store_of heap.old)) result
         (store_of heap.new) }
@@ -77,7 +77,7 @@ fn all_keys(heap: &mut Heap, a: usize) -> Result<Val, Halt>
     }
 }
 
-// `values()`, a new list.
+// Evaluates `values()`, a new list.
 fn all_values(heap: &mut Heap, a: usize) -> Result<Val, Halt>
     ensures { Says (values_at (at a (store_of heap.old)) (store_of heap.old)) result
         (store_of heap.new) }
@@ -91,7 +91,7 @@ fn all_values(heap: &mut Heap, a: usize) -> Result<Val, Halt>
     }
 }
 
-// `items()`, a new list of new pairs.
+// Evaluates `items()`, a new list of new pairs.
 fn all_items(heap: &mut Heap, a: usize) -> Result<Val, Halt>
     ensures { Says (items_at (at a (store_of heap.old)) (store_of heap.old)) result
         (store_of heap.new) }
@@ -106,7 +106,7 @@ fn all_items(heap: &mut Heap, a: usize) -> Result<Val, Halt>
     }
 }
 
-// The values of a dictionary, in order.
+// Returns the values of a dictionary, in order.
 fn values(alloc: Global, entries: &IndexMap<Key, Entry>) -> Result<Vec<Val>, Memory>
     ensures { IfOk result (λ v. v.items ≡ map (λ e. e.value) (entry_list entries.now.entries)) }
 {
@@ -117,14 +117,14 @@ fn values(alloc: Global, entries: &IndexMap<Key, Entry>) -> Result<Vec<Val>, Mem
     Ok(all)
 }
 
-// The entries of a dictionary, in order.
+// Returns the entries of a dictionary, in order.
 fn pairs(alloc: Global, entries: &IndexMap<Key, Entry>) -> Result<Vec<Entry>, Memory>
     ensures { IfOk result (λ v. v.items ≡ entry_list entries.now.entries) }
 {
     Ok(entries.values().copied().collect(alloc)?)
 }
 
-// New pairs of keys and values.
+// Makes pairs of keys and values.
 fn tuples(heap: &mut Heap, pairs: &[Entry]) -> Result<Vec<Val>, Halt>
     ensures { SaysItems (entry_tuples pairs.now (store_of heap.old)) result (store_of heap.new) }
 {
@@ -138,7 +138,7 @@ fn tuples(heap: &mut Heap, pairs: &[Entry]) -> Result<Vec<Val>, Halt>
     Ok(all)
 }
 
-// A new pair of a key and its value.
+// Makes a pair of a key and its value.
 fn tuple(heap: &mut Heap, pair: Entry) -> Result<Val, Halt>
     ensures { Says (entry_tuple pair (store_of heap.old)) result (store_of heap.new) }
 {
@@ -146,7 +146,7 @@ fn tuple(heap: &mut Heap, pair: Entry) -> Result<Val, Halt>
     heap.make_tuple(members)
 }
 
-// The value that a dictionary has at a key, or another.
+// Returns the value that a dictionary has at a key, or another.
 fn found_or(heap: &Heap, a: usize, key: &Key, other: Val) -> Result<Val, Halt>
     ensures { Says (found_other (at a (store_of heap.now)) other key.now (store_of heap.now)) result
         (store_of heap.now) }

@@ -11,7 +11,7 @@ use heap::{Halt, Heap, LONGEST, Object, Val};
 use indexing::items;
 use meaning::faults;
 
-/// A method of a list: fault 5, 6, 7, 13 or 25.
+/// Calls a method of a list, or returns fault 5, 6, 7, 13 or 25.
 pub fn list_method(heap: &mut Heap, a: usize, name: &str, xs: &[Val]) -> Result<Val, Halt>
     ensures { Says (of_list a (at a (store_of heap.old)) name.now xs.now (store_of heap.old)) result
         (store_of heap.new) }
@@ -25,8 +25,8 @@ pub fn list_method(heap: &mut Heap, a: usize, name: &str, xs: &[Val]) -> Result<
     Err(Halt::Code(faults::WRONG_TYPE))
 }
 
-/// `x += y`, where the right side is evaluated: with two lists the members of y are added to x in place, which is fault
-/// 6, 7 or 13; else `x + y`, which is fault 5, 9 or 13.
+/// Executes `x += y`, where the right side is evaluated. With two lists, adds the members of y to x in place, or
+/// returns fault 6, 7 or 13. Else returns `x + y`, or fault 5, 9 or 13.
 pub fn add_in_place(heap: &mut Heap, x: Val, y: Val) -> Result<Val, Halt>
     ensures { Says (added x y (store_of heap.old)) result (store_of heap.new) }
 {
@@ -53,7 +53,7 @@ fn add_objects(heap: &mut Heap, a: usize, b: usize) -> Result<Val, Halt>
     Ok(Val::At(a))
 }
 
-// `append(x)`
+// Executes `append(x)`.
 fn append(heap: &mut Heap, a: usize, xs: &[Val]) -> Result<Val, Halt>
     ensures { Says (append_to a (at a (store_of heap.old)) xs.now (store_of heap.old)) result
         (store_of heap.new) }
@@ -65,7 +65,7 @@ fn append(heap: &mut Heap, a: usize, xs: &[Val]) -> Result<Val, Halt>
     Ok(Val::Nothing)
 }
 
-// `extend(x)`, whose items are taken first.
+// Executes `extend(x)`, whose items are taken first.
 fn extend(heap: &mut Heap, a: usize, xs: &[Val]) -> Result<Val, Halt>
     ensures { Says (extend_to a (at a (store_of heap.old)) xs.now (store_of heap.old)) result
         (store_of heap.new) }
@@ -94,7 +94,7 @@ fn adds(heap: &mut Heap, a: usize, more: &[Val]) -> Result<(), Halt>
     }
 }
 
-// Whether what stands at a place may be changed: fault 6 where it is frozen, 7 where it is iterated.
+// Tests whether the object at a place may be changed: returns fault 6 if it is frozen, 7 if it is iterated.
 fn may_change(heap: &Heap, a: usize, frozen: bool) -> Result<(), Halt>
     ensures { Says (may_change a frozen (store_of heap.now)) result (store_of heap.now) }
 {
@@ -107,7 +107,7 @@ fn may_change(heap: &Heap, a: usize, frozen: bool) -> Result<(), Halt>
     Ok(())
 }
 
-// Members at the end of a list, or fault 13.
+// Adds members at the end of a list, or returns fault 13.
 fn extend_members(heap: &mut Heap, a: usize, more: &[Val]) -> Result<(), Halt>
     ensures { Says (extended a (at a (store_of heap.old)) more.now (store_of heap.old)) result
         (store_of heap.new) }

@@ -7,14 +7,14 @@ ghost use Rattle.heap.specs.View.{Checks};
 use heap::{Halt, Val};
 use meaning::faults;
 
-/// Whether a name is another.
+/// Returns whether two names are the same.
 pub fn is_name(name: &str, other: &str) -> bool
     ensures { result ≡ same_text name.now other.now }
 {
     name == other
 }
 
-/// Fault 25 where there are arguments.
+/// Returns fault 25 if there are arguments.
 pub fn no_arguments(xs: &[Val]) -> Result<(), Halt>
     ensures { Checks (without_arguments xs.now) result }
 {

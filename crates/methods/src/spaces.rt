@@ -3,14 +3,14 @@ ghost use Rattle.std.specs.Prelude.{◌≡◌, reverse};
 ghost use Rattle.meaning.specs.Membership.{begins};
 ghost use Rattle.meaning.specs.Methods.{ends, is_space, stripped, without_spaces};
 
-/// Whether a text begins with another.
+/// Returns whether a text begins with another.
 pub fn begins(part: &[u8], whole: &[u8]) -> bool
     ensures { result ≡ begins part.now whole.now }
 {
     whole.starts_with(part)
 }
 
-/// Whether a text ends with another.
+/// Returns whether a text ends with another.
 #[tactic(auto, using(crate::proofs::Endings::ends_same))]
 pub fn ends(part: &[u8], whole: &[u8]) -> bool
     ensures { result ≡ ends part.now whole.now }
@@ -18,21 +18,21 @@ pub fn ends(part: &[u8], whole: &[u8]) -> bool
     whole.ends_with(part)
 }
 
-/// A text without the spaces, tabs and ends of lines at both its ends.
+/// Returns a text without the spaces, tabs and ends of lines at both its ends.
 pub fn stripped(whole: &[u8]) -> &[u8]
     ensures { result.now ≡ stripped whole.now }
 {
     without_last_spaces(without_first_spaces(whole))
 }
 
-// A space, a tab, a line feed or a carriage return.
+// Returns whether a byte is a space, a tab, a line feed or a carriage return.
 fn is_space(byte: u8) -> bool
     ensures { result ≡ is_space byte }
 {
     byte == b' ' || byte == b'\t' || byte == b'\n' || byte == b'\r'
 }
 
-// A text without the spaces that it begins with.
+// Returns a text without the spaces that it begins with.
 fn without_first_spaces(whole: &[u8]) -> &[u8]
     ensures { result.now ≡ without_spaces whole.now }
 {
@@ -46,7 +46,7 @@ fn without_first_spaces(whole: &[u8]) -> &[u8]
     rest
 }
 
-// A text without the spaces that it ends with.
+// Returns a text without the spaces that it ends with.
 fn without_last_spaces(whole: &[u8]) -> &[u8]
     ensures { result.now ≡ reverse (without_spaces (reverse whole.now)) }
 {

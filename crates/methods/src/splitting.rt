@@ -10,7 +10,7 @@ use memchr::memmem::Finder;
 use std::alloc::Global;
 use texts::Memory;
 
-/// The parts of a text between separators, found from the left and not overlapping.
+/// Returns the parts of a text between separators, found from the left and not overlapping.
 pub fn split_parts<'a>(
     alloc: Global,
     whole: &'a [u8],
@@ -31,7 +31,7 @@ pub fn split_parts<'a>(
     Ok(all)
 }
 
-/// Texts with another between them, or fault 13.
+/// Joins texts with another between them, or returns fault 13.
 pub fn join_parts(alloc: Global, separator: &[u8], parts: &[&[u8]]) -> Result<Vec<u8>, Halt>
     ensures { SizedAs (with_between separator.now (shown parts.now)) result }
 {
@@ -46,7 +46,7 @@ pub fn join_parts(alloc: Global, separator: &[u8], parts: &[&[u8]]) -> Result<Ve
     Ok(all)
 }
 
-// A separator and a text behind those that were there, or fault 13.
+// Adds a separator and a text behind those that were there, or returns fault 13.
 fn push_part(all: &mut Vec<u8>, separator: &[u8], part: &[u8]) -> Result<(), Halt>
     ensures { Grows all.old.items (separator.now ++ part.now) result all.new.items }
 {

@@ -12,7 +12,7 @@ use heap::{Halt, Heap, LONGEST, Object, Val};
 use indexing::items;
 use meaning::faults;
 
-/// A method of a string: fault 5, 13 or 25.
+/// Calls a method of a string, or returns fault 5, 13 or 25.
 pub fn text_method(heap: &mut Heap, whole: &[u8], name: &str, xs: &[Val]) -> Result<Val, Halt>
     ensures { Says (of_text whole.now name.now xs.now (store_of heap.old)) result
         (store_of heap.new) }
@@ -41,7 +41,7 @@ pub fn text_method(heap: &mut Heap, whole: &[u8], name: &str, xs: &[Val]) -> Res
     Err(Halt::Code(faults::WRONG_TYPE))
 }
 
-// The text of a value, or fault 5.
+// Returns the text of a value, or fault 5.
 fn text_at<'a>(heap: &'a Heap, x: Val) -> Result<&'a [u8], Halt>
     ensures { ChecksText (bytes_of x (store_of heap.now)) result }
 {
@@ -54,7 +54,7 @@ fn text_at<'a>(heap: &'a Heap, x: Val) -> Result<&'a [u8], Halt>
     }
 }
 
-// The text of the only argument, or fault 25 or 5.
+// Returns the text of the only argument, or fault 25 or 5.
 fn only_text<'a>(heap: &'a Heap, xs: &[Val]) -> Result<&'a [u8], Halt>
     ensures { SaysText (only_text xs.now (store_of heap.now)) result (store_of heap.now) }
 {
@@ -64,7 +64,7 @@ fn only_text<'a>(heap: &'a Heap, xs: &[Val]) -> Result<&'a [u8], Halt>
     text_at(heap, *x)
 }
 
-// The texts of values, or fault 5.
+// Returns the texts of values, or fault 5.
 fn texts_at<'a>(heap: &'a Heap, xs: &[Val]) -> Result<Vec<&'a [u8]>, Halt>
     ensures { SaysTexts (all_bytes xs.now (store_of heap.now)) result (store_of heap.now) }
 {
@@ -78,7 +78,7 @@ fn texts_at<'a>(heap: &'a Heap, xs: &[Val]) -> Result<Vec<&'a [u8]>, Halt>
     Ok(all)
 }
 
-// A new string of these bytes, or fault 13.
+// Makes a string of these bytes, or returns fault 13.
 fn make_copy(heap: &mut Heap, bytes: &[u8]) -> Result<Val, Halt>
     ensures { Says (makes_text bytes.now (store_of heap.old)) result (store_of heap.new) }
 {
@@ -86,7 +86,7 @@ fn make_copy(heap: &mut Heap, bytes: &[u8]) -> Result<Val, Halt>
     heap.make_text(copy)
 }
 
-// New strings, in order.
+// Makes strings, in order.
 fn make_copies(heap: &mut Heap, parts: &[&[u8]]) -> Result<Vec<Val>, Halt>
     ensures { SaysItems (makes_texts (shown parts.now) (store_of heap.old)) result
         (store_of heap.new) }
@@ -101,7 +101,7 @@ fn make_copies(heap: &mut Heap, parts: &[&[u8]]) -> Result<Vec<Val>, Halt>
     Ok(all)
 }
 
-// `join(x)`
+// Evaluates `join(x)`.
 fn join(heap: &mut Heap, separator: &[u8], xs: &[Val]) -> Result<Val, Halt>
     ensures { Says (joins_items separator.now xs.now (store_of heap.old)) result
         (store_of heap.new) }
@@ -116,7 +116,7 @@ fn join(heap: &mut Heap, separator: &[u8], xs: &[Val]) -> Result<Val, Halt>
     heap.make_text(all)
 }
 
-// `split(s)`
+// Evaluates `split(s)`.
 fn split(heap: &mut Heap, whole: &[u8], xs: &[Val]) -> Result<Val, Halt>
     ensures { Says (split_only whole.now xs.now (store_of heap.old)) result (store_of heap.new) }
 {
@@ -132,7 +132,7 @@ fn split(heap: &mut Heap, whole: &[u8], xs: &[Val]) -> Result<Val, Halt>
     heap.make_list(all)
 }
 
-// `replace(old, new)`
+// Evaluates `replace(old, new)`.
 fn replace(heap: &mut Heap, whole: &[u8], xs: &[Val]) -> Result<Val, Halt>
     ensures { Says (replace whole.now xs.now (store_of heap.old)) result (store_of heap.new) }
 {

@@ -9,7 +9,7 @@ use crate::written::Written;
 use heap::{DEEPEST, Halt, Heap, Object, Val};
 use meaning::faults;
 
-/// `repr(x)`, a new string: fault 11 or 12 as it goes, and 13 at its end.
+/// Evaluates `repr(x)`, a new string, or returns fault 11 or 12 as it goes, and 13 at its end.
 pub fn print(heap: &mut Heap, x: Val) -> Result<Val, Halt>
     ensures { Says (repr x (store_of heap.old)) result (store_of heap.new) }
 {
@@ -29,7 +29,7 @@ pub fn print(heap: &mut Heap, x: Val) -> Result<Val, Halt>
     Ok(made)
 }
 
-/// `str(x)`, which of a string is itself: fault 11, 12 or 13.
+/// Evaluates `str(x)`, which of a string is itself, or returns fault 11, 12 or 13.
 pub fn text(heap: &mut Heap, x: Val) -> Result<Val, Halt>
     ensures { Says (str x (store_of heap.old)) result (store_of heap.new) }
 {
@@ -45,7 +45,7 @@ pub fn text(heap: &mut Heap, x: Val) -> Result<Val, Halt>
     }
 }
 
-// `str` of what stands at a place.
+// Evaluates `str` of the object at a place.
 fn object_text(heap: &mut Heap, place: usize) -> Result<Val, Halt>
     ensures { Says (str_object (at place (store_of heap.old)) (At place) (store_of heap.old)) result
         (store_of heap.new) }

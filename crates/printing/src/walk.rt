@@ -13,8 +13,8 @@ use itoa::Buffer;
 use meaning::faults;
 use texts::Memory;
 
-/// Writes the text of a value: each value entered is a step, and so many containers more may be entered: fault 11 or
-/// 12, or 5.
+/// Writes the text of a value, or returns fault 11 or 12, or 5. Each value entered is a step, and so many containers
+/// more may be entered.
 #[cycle(printing)]
 #[tactic(auto, using(crate::proofs::Printed::print_is, crate::proofs::Printed::print_plainly))]
 pub fn print(
@@ -172,7 +172,7 @@ fn print_tuple(
     Ok(())
 }
 
-// What ends a tuple: of one member, with a comma before it.
+// Returns the end of a tuple: of one member, with a comma before it.
 fn tuple_end(members: &[Val]) -> &'static [u8]
     ensures { result.now ≡ tuple_end members.now }
 {

@@ -14,7 +14,7 @@ pub struct Written {
 }
 
 impl Written {
-    /// An empty text.
+    /// Makes an empty text.
     #[tactic(auto, unfolding(crate::specs::Kept::kept))]
     pub fn new(alloc: Global) -> Written
         ensures { kept result ≡ Some [] }
