@@ -14,7 +14,7 @@ use std::alloc::Global;
 use texts::Text;
 use tree::{Def, Param};
 
-// The value of a named argument.
+// Returns the value of a named argument.
 fn value_named(names: &[Text], values: &[Val], x: &Text) -> Option<Val>
     ensures { result ≡ value_named x.now (zip names.now values.now) }
 {
@@ -26,7 +26,7 @@ fn value_named(names: &[Text], values: &[Val], x: &Text) -> Option<Val>
     None
 }
 
-// Whether a name is given twice.
+// Returns whether a name is given twice.
 fn is_twice(names: &[Text], values: &[Val]) -> bool
     ensures { result ≡ is_twice (zip names.now values.now) }
 {
@@ -38,7 +38,7 @@ fn is_twice(names: &[Text], values: &[Val]) -> bool
     false
 }
 
-// Whether a name is that of a parameter.
+// Returns whether a name is a parameter's.
 fn is_parameter(params: &[Param], x: &Text) -> bool
     ensures { result ≡ is_parameter x.now (map param_of params.now) }
 {
@@ -50,7 +50,7 @@ fn is_parameter(params: &[Param], x: &Text) -> bool
     false
 }
 
-// Whether each named argument is that of a parameter.
+// Returns whether each named argument has the name of a parameter.
 fn are_parameters(names: &[Text], values: &[Val], params: &[Param]) -> bool
     ensures { result ≡ are_parameters (zip names.now values.now) (map param_of params.now) }
 {
@@ -62,14 +62,14 @@ fn are_parameters(names: &[Text], values: &[Val], params: &[Param]) -> bool
     true
 }
 
-// The values behind the first.
+// Returns the values behind the first.
 fn behind(xs: &[Val]) -> &[Val]
     ensures { result.now ≡ drop 1 xs.now }
 {
     if xs.is_empty() { xs } else { &xs[1..] }
 }
 
-// The default of a parameter, where the first of these is its own if it has one.
+// Returns the default of a parameter, where the first of these is its own if it has one.
 fn next_default(param: &Param, defaults: &[Val]) -> Option<Val>
     ensures { result ≡ next_default (param_of param.now) defaults.now }
 {
@@ -79,7 +79,7 @@ fn next_default(param: &Param, defaults: &[Val]) -> Option<Val>
     }
 }
 
-// The defaults of the parameters behind one.
+// Returns the defaults of the parameters behind one.
 fn other_defaults<'a>(param: &Param, defaults: &'a [Val]) -> &'a [Val]
     ensures { result.now ≡ other_defaults (param_of param.now) defaults.now }
 {
@@ -89,7 +89,7 @@ fn other_defaults<'a>(param: &Param, defaults: &'a [Val]) -> &'a [Val]
     }
 }
 
-// The value of a parameter: from the plain arguments that are left, the named ones or its default.
+// Returns the value of a parameter: from the plain arguments that are left, the named ones or its default.
 fn taken(
     param: &Param,
     plain: &[Val],
@@ -117,7 +117,7 @@ fn taken(
     }
 }
 
-// The parameters with their values: fault 25.
+// Returns the parameters with their values, or fault 25.
 fn given(
     alloc: Global,
     params: &[Param],
@@ -149,13 +149,13 @@ fn given(
     }
 }
 
-/// The parameters of a function with their values, from the values of a call's arguments, of which the last have names,
-/// and those of the function's defaults.
+/// Returns the parameters of a function with their values. These are the values of a call's arguments, of which the
+/// last have names, and of the function's defaults.
 ///
 /// # Errors
 ///
-/// Fault 25 for an argument that is missing, is given twice, has an unknown name or is one too many; `Halt::Memory`
-/// where memory is refused.
+/// Returns fault 25 for an argument that is missing, is given twice, has an unknown name or is one too many. Returns
+/// `Halt::Memory` if an allocation fails.
 pub fn arguments(
     alloc: Global,
     def: &Def,

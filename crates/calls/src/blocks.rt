@@ -26,7 +26,7 @@ fn push_unbound(slots: &mut Vec<Slot>, names: &[Text]) -> Result<(), Memory>
     Ok(())
 }
 
-// Slots with these names, none of which is bound.
+// Makes slots with these names, none of which is bound.
 fn unbound(alloc: Global, names: &[Text]) -> Result<Vec<Slot>, Memory>
     ensures { IfOk result (λ slots. block_of slots ≡ all_unbound names.now) }
 {
@@ -35,11 +35,11 @@ fn unbound(alloc: Global, names: &[Text]) -> Result<Vec<Slot>, Memory>
     Ok(slots)
 }
 
-/// The names of a comprehension, none of which is bound.
+/// Makes slots for the names of a comprehension, none of which is bound.
 ///
 /// # Errors
 ///
-/// `Halt::Memory` where memory is refused.
+/// Returns `Halt::Memory` if an allocation fails.
 pub fn comprehension_block(alloc: Global, clauses: &[Clause]) -> Result<Vec<Slot>, Halt>
     ensures { Blocks (good (new_block (clause_names (clause_trees clauses.now)))) result }
 {
@@ -47,13 +47,13 @@ pub fn comprehension_block(alloc: Global, clauses: &[Clause]) -> Result<Vec<Slot
     Ok(unbound(alloc, names.as_slice())?)
 }
 
-/// The block of a call of a function: its parameters with their values, and the other names that its body binds. The
-/// values are those of the call's arguments, of which the last have names, and those of the function's defaults.
+/// Makes the block of a call of a function: its parameters with their values, and the other names that its body binds.
+/// The values are those of the call's arguments, of which the last have names, and of the function's defaults.
 ///
 /// # Errors
 ///
-/// Fault 25 for an argument that is missing, is given twice, has an unknown name or is one too many; `Halt::Memory`
-/// where memory is refused.
+/// Returns fault 25 for an argument that is missing, is given twice, has an unknown name or is one too many. Returns
+/// `Halt::Memory` if an allocation fails.
 pub fn call_block(
     alloc: Global,
     def: &Def,
@@ -79,11 +79,12 @@ pub fn call_block(
     }
 }
 
-/// The names of a file: those that its loads bind and those that its statements bind, none of which is bound.
+/// Makes slots for the names of a file, none of which is bound: those that its loads bind and those that its statements
+/// bind.
 ///
 /// # Errors
 ///
-/// `Halt::Memory` where memory is refused.
+/// Returns `Halt::Memory` if an allocation fails.
 pub fn file_block(alloc: Global, file: &File) -> Result<Vec<Slot>, Halt>
     ensures { let f = file_of file.now in
         Blocks (good (new_block (load_names f.loads ++ top_names f.tops))) result }
@@ -92,11 +93,11 @@ pub fn file_block(alloc: Global, file: &File) -> Result<Vec<Slot>, Halt>
     Ok(unbound(alloc, names.as_slice())?)
 }
 
-/// The names that a file's own statements bind, in the order in which they are bound first.
+/// Makes slots for the names that a file's own statements bind, in the order in which they are bound first.
 ///
 /// # Errors
 ///
-/// `Halt::Memory` where memory is refused.
+/// Returns `Halt::Memory` if an allocation fails.
 pub fn own_block(alloc: Global, tops: &[Top]) -> Result<Vec<Slot>, Halt>
     ensures { Blocks (good (new_block (top_names (map top_of tops.now)))) result }
 {

@@ -17,7 +17,7 @@ pub struct Open {
     pub name: Text,
 }
 
-// Whether a function is one of these.
+// Returns whether a function is one of these.
 fn is_among(functions: &[Open], label: &Text, name: &Text) -> bool
     ensures { result ≡ is_running label.now name.now (map open_of functions.now) }
 {
@@ -29,7 +29,7 @@ fn is_among(functions: &[Open], label: &Text, name: &Text) -> bool
     false
 }
 
-/// Whether a function is open.
+/// Returns whether a function is open.
 #[tactic(auto, using(crate::proofs::Runs::running_turned))]
 pub fn is_running(running: &[Open], label: &Text, name: &Text) -> bool
     ensures { result ≡ is_running label.now name.now (running_of running.now) }
@@ -37,7 +37,7 @@ pub fn is_running(running: &[Open], label: &Text, name: &Text) -> bool
     is_among(running, label, name)
 }
 
-/// The file with a label, of those whose names are on the heap.
+/// Returns the file with a label, of those whose names are on the heap.
 pub fn file_with<'a>(files: &'a [FileNames], label: &Text) -> Option<&'a FileNames>
     ensures { option_map (λ f. names_of f.now) result ≡ names_at label.now
         (map names_of files.now) }
@@ -50,7 +50,7 @@ pub fn file_with<'a>(files: &'a [FileNames], label: &Text) -> Option<&'a FileNam
     None
 }
 
-/// The values of a function's defaults, in these files: none where the file has no such function.
+/// Returns the values of a function's defaults, in these files: none if the file has no such function.
 pub fn defaults_among<'a>(files: &'a [FileNames], label: &Text, name: &Text) -> &'a [Val]
     ensures { result.now ≡ defaults_among name.now (names_at label.now (map names_of files.now)) }
 {
@@ -60,7 +60,7 @@ pub fn defaults_among<'a>(files: &'a [FileNames], label: &Text, name: &Text) -> 
     }
 }
 
-/// The values of a function's defaults: none where the file has no such function.
+/// Returns the values of a function's defaults: none if the file has no such function.
 pub fn defaults_of<'a>(state: &'a State, label: &Text, name: &Text) -> &'a [Val]
     ensures { result.now ≡ defaults_of label.now name.now (world_of state.now) }
 {

@@ -15,8 +15,8 @@ pub use error::{BatchError, TreeError};
 pub use listing::Listing;
 pub use tree::Tree;
 
-/// States the law of the names: every file has a path for its name. It holds where there are no files, and after each
-/// put that is not refused and each removal.
+/// States the law of the names: every file has a path for its name. It holds where there are no files, after each
+/// removal, and after each put or batch of changes that is not refused.
 pub fn edits_keep_paths()
     ensures { EditsKeepPaths }
 {}

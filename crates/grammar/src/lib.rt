@@ -12,18 +12,18 @@ mod kind;
 
 pub use kind::{FileKind, Kind, Rank, Within};
 
-/// The law that no text has two trees, for both kinds of files.
+/// States the law that no text has two trees, for both kinds of files.
 pub fn no_text_has_two_trees()
     ensures { NoTextHasTwoTrees }
 {}
 
-/// The law that no text with a tree is refused, for both kinds of files.
+/// States the law that no text with a tree is refused, for both kinds of files.
 pub fn no_tree_is_refused()
     ensures { NoTreeIsRefused }
 {}
 
-/// The law of targets: the postfix expressions that can be assigned to are those that the production of targets relates
-/// to the same trees.
+/// States the law of targets. The postfix expressions that can be assigned to are those that the production of targets
+/// relates to the same trees.
 pub fn targets_are_by_their_rules()
     ensures { TargetsAreByTheirRules }
 {}

@@ -124,7 +124,7 @@ impl Heap {
         self.held >= self.full_at
     }
 
-    /// Puts off the next time to give back until twice as many bytes are held as now.
+    /// Puts off the next time to give back until twice as many bytes are held as now, and at least `FIRST_FULL`.
     pub(crate) fn wait_until_full(&mut self)
         ensures same { store_of self.new ≡ store_of self.old }
         ensures held { self.new.held ≡ self.old.held }

@@ -151,7 +151,7 @@ pub fn bound_or(other: usize, x: Val, len: usize) -> Option<usize>
     }
 }
 
-/// Returns the part between two bounds, or a fault if a bound has another type.
+/// Returns the part between two bounds, or fault 5.
 pub fn cut<T: Copy>(alloc: Global, a: &[T], from: Val, to: Val) -> Result<Vec<T>, Halt>
     ensures { CutAs (cut a.now from to) result }
 {

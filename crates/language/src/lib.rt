@@ -8,40 +8,41 @@
 
 ghost use Rattle.language.specs.Laws.{FinishedStays, GlobalsStay, GlobsFindFiles, MoreBehind, ModulesDoNotWait, NeedsAreAsked, StepsAreSpent, TargetsRise};
 
-/// The law that answers do no harm: an outcome that does not wait for globs stays the same when more of them are
-/// answered, as by further answers behind those that are there.
+/// States the law that answers do no harm. An outcome that does not wait for globs stays the same when more of them are
+/// answered. Further answers behind those that are there are one way to answer more.
 pub fn finished_outcomes_stay()
     ensures stays { FinishedStays }
     ensures more { MoreBehind }
 {}
 
-/// The law of waiting: the patterns that an outcome waits for have no answer, each stands once, and there is one at least.
+/// States the law of waiting: the patterns that an outcome waits for have no answer, each stands once, and there is one
+/// at least.
 pub fn needs_are_asked()
     ensures { NeedsAreAsked }
 {}
 
-/// The law that a .bzl file's evaluation waits for no glob.
+/// States the law that a .bzl file's evaluation waits for no glob.
 pub fn modules_do_not_wait()
     ensures { ModulesDoNotWait }
 {}
 
-/// The law that the targets of a package stand in byte order of their names, one of each name.
+/// States the law that the targets of a package stand in byte order of their names, one of each name.
 pub fn targets_rise()
     ensures { TargetsRise }
 {}
 
-/// The law of right answers: where each include of a call of `glob` is answered by what it finds below the package's
-/// directory, the call finds what a glob finds among all files.
+/// States the law of right answers. Let each include of a call of `glob` be answered by what it finds below the
+/// package's directory. Then the call finds what a glob finds among all files.
 pub fn globs_find_files()
     ensures { GlobsFindFiles }
 {}
 
-/// The law of steps: a file's evaluation ends with no more steps left than it began with.
+/// States the law of steps: a file's evaluation ends with no more steps left than it began with.
 pub fn steps_are_spent()
     ensures { StepsAreSpent }
 {}
 
-/// The law of globals: one that is bound keeps its value to the end, and so do the names of loaded modules.
+/// States the law of globals: one that is bound keeps its value to the end, and so do the names of loaded modules.
 pub fn globals_stay()
     ensures { GlobalsStay }
 {}

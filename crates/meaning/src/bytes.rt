@@ -45,7 +45,7 @@ impl Bytes {
         }
     }
 
-    /// Makes a string of bytes that an evaluation made.
+    /// Makes a string of these bytes.
     pub fn new(alloc: Global, bytes: Vec<u8>) -> Result<Bytes, Memory>
         ensures { IfOk result (λ b. b ≡ bytes.items) }
     {

@@ -36,21 +36,21 @@ impl Model for Binding {
 }
 
 impl Binding {
-    /// A name with its value.
+    /// Makes a binding of a name with its value.
     pub fn new(name: Text, value: FrozenValue) -> Binding
         ensures { result ≡ record { name = name; value = value } }
     {
         Binding { name, value }
     }
 
-    /// The name.
+    /// Returns the name.
     pub fn name(&self) -> &Text
         ensures { result.now ≡ self.now.name }
     {
         &self.name
     }
 
-    /// The value.
+    /// Returns the value.
     pub fn value(&self) -> &FrozenValue
         ensures { result.now ≡ self.now.value }
     {
@@ -92,21 +92,21 @@ impl Model for Defaults {
 }
 
 impl Defaults {
-    /// A function's name with the values of its defaults.
+    /// Makes the defaults of a function, by its name and their values.
     pub fn new(name: Text, values: Vec<FrozenValue>) -> Defaults
         ensures { result ≡ record { name = name; values = members_of values.items } }
     {
         Defaults { name, values }
     }
 
-    /// The function's name.
+    /// Returns the function's name.
     pub fn name(&self) -> &Text
         ensures { result.now ≡ self.now.name }
     {
         &self.name
     }
 
-    /// The values.
+    /// Returns the values.
     pub fn values(&self) -> &[FrozenValue]
         ensures { members_of result.now ≡ self.now.values }
     {
@@ -149,7 +149,7 @@ impl Model for Function {
 }
 
 impl Function {
-    /// A function of a file.
+    /// Makes a function of a file, which shares its tree.
     pub fn new(def: &Arc<Def, Global>) -> Result<Function, Memory>
         ensures { IfOk result (λ f. f ≡ fn_of (arc_value def.now)) }
     {
@@ -157,7 +157,7 @@ impl Function {
         Ok(Function { def })
     }
 
-    /// The tree.
+    /// Returns the tree.
     pub fn def(&self) -> &Arc<Def, Global>
         ensures { fn_of (arc_value result.now) ≡ self.now }
     {

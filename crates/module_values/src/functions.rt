@@ -42,7 +42,7 @@ impl Model for Functions {
     ghost invariant = { λ f. ForSome f.index (λ i. i.names.keys ≡ names_of f.items.items) };
 }
 
-// The first function with a name.
+// Returns the first function with a name.
 fn first_named<'a>(functions: &'a [Function], name: &Bytes) -> Option<&'a Function>
     ensures { option_map (λ f. f.now) result ≡ first_named name.now functions.now }
 {
@@ -54,7 +54,7 @@ fn first_named<'a>(functions: &'a [Function], name: &Bytes) -> Option<&'a Functi
     None
 }
 
-// The function at a place, or none.
+// Returns the function at a place, or none.
 fn function_at<'a>(functions: &'a [Function], place: Option<usize>) -> Option<&'a Function>
     ensures { option_map (λ f. f.now) result ≡ function_at functions.now place }
 {
@@ -64,7 +64,7 @@ fn function_at<'a>(functions: &'a [Function], place: Option<usize>) -> Option<&'
     }
 }
 
-// The names of many functions, where each stands once.
+// Makes the set of the names of many functions, if each stands once.
 fn index_of(alloc: Global, functions: &[Function]) -> Result<Option<Index>, Memory>
     ensures { IfOk result (λ o. IfSome o (λ i. i.names.keys ≡ names_of functions.now)) }
 {
@@ -82,11 +82,11 @@ fn index_of(alloc: Global, functions: &[Function]) -> Result<Option<Index>, Memo
 }
 
 impl Functions {
-    /// These functions.
+    /// Takes the functions of a file, in its order.
     ///
     /// # Errors
     ///
-    /// `Memory` where memory is refused.
+    /// Returns `Memory` if an allocation fails.
     pub fn new(functions: Vec<Function>) -> Result<Functions, Memory>
         ensures { IfOk result (λ f. f ≡ functions.items) }
     {
@@ -97,14 +97,14 @@ impl Functions {
         })
     }
 
-    /// The functions.
+    /// Returns the functions.
     pub fn as_slice(&self) -> &[Function]
         ensures { result.now ≡ self.now }
     {
         self.items.as_slice()
     }
 
-    /// The first function with a name. Among many, which differ in their names, it takes no search.
+    /// Returns the first function with a name. Among many, which differ in their names, it takes no search.
     pub fn named(&self, name: &Bytes) -> Option<&Function>
         ensures { option_map (λ f. f.now) result ≡ first_named name.now self.now }
     {

@@ -46,7 +46,7 @@ impl Model for Module {
 }
 
 impl Module {
-    /// A module.
+    /// Makes a module.
     pub fn new(
         alloc: Global,
         label: Text,
@@ -78,7 +78,7 @@ impl Module {
         Ok(Module { parts })
     }
 
-    /// The same module, shared.
+    /// Returns the same module, shared.
     pub fn share(&self) -> Result<Module, Memory>
         ensures { IfOk result (λ m. m ≡ self.now) }
     {
@@ -86,49 +86,49 @@ impl Module {
         Ok(Module { parts })
     }
 
-    /// The label.
+    /// Returns the label.
     pub fn label(&self) -> &Text
         ensures { result.now ≡ self.now.label }
     {
         &self.parts.label
     }
 
-    /// The path.
+    /// Returns the path.
     pub fn path(&self) -> &Text
         ensures { result.now ≡ self.now.path }
     {
         &self.parts.path
     }
 
-    /// Its own globals, in the order in which they were bound.
+    /// Returns the module's own globals, in the order in which they were bound.
     pub fn own(&self) -> &[Binding]
         ensures { result.now ≡ self.now.own }
     {
         self.parts.own.as_slice()
     }
 
-    /// The names that its loads bound.
+    /// Returns the names that the module's loads bound.
     pub fn loaded(&self) -> &[Binding]
         ensures { result.now ≡ self.now.loaded }
     {
         self.parts.loaded.as_slice()
     }
 
-    /// Its functions.
+    /// Returns the module's functions.
     pub fn functions(&self) -> &[Function]
         ensures { result.now ≡ self.now.functions }
     {
         self.parts.functions.as_slice()
     }
 
-    /// The first of its functions with a name.
+    /// Returns the first of the module's functions with a name.
     pub fn function(&self, name: &Bytes) -> Option<&Function>
         ensures { option_map (λ f. f.now) result ≡ first_named name.now self.now.functions }
     {
         self.parts.functions.named(name)
     }
 
-    /// Its functions' defaults.
+    /// Returns the defaults of the module's functions.
     pub fn defaults(&self) -> &[Defaults]
         ensures { result.now ≡ self.now.defaults }
     {
@@ -174,21 +174,21 @@ impl Model for Loaded {
 }
 
 impl Loaded {
-    /// A module with those that it reaches.
+    /// Makes the value of a file: a module with those that it reaches.
     pub fn new(body: Module, reached: Vec<Module>) -> Loaded
         ensures { result ≡ record { body = body; reached = reached.items } }
     {
         Loaded { body, reached }
     }
 
-    /// The module itself.
+    /// Returns the module itself.
     pub fn body(&self) -> &Module
         ensures { result.now ≡ self.now.body }
     {
         &self.body
     }
 
-    /// The modules that it reaches.
+    /// Returns the modules that it reaches.
     pub fn reached(&self) -> &[Module]
         ensures { result.now ≡ self.now.reached }
     {

@@ -26,14 +26,14 @@ impl Model for Texts {
 }
 
 impl Texts {
-    /// The strings of a list.
+    /// Takes the strings of a list.
     pub fn new(items: Vec<Bytes>) -> Texts
         ensures { result ≡ items.items }
     {
         Texts { items }
     }
 
-    /// The strings.
+    /// Returns the strings.
     pub fn as_slice(&self) -> &[Bytes]
         ensures { result.now ≡ self.now }
     {
@@ -81,7 +81,7 @@ impl Model for Attribute {
 }
 
 impl Attribute {
-    /// A string, or the text of a label.
+    /// Makes an attribute of a string, or of the text of a label.
     pub fn single(text: Bytes) -> Attribute
         ensures { result ≡ single text }
     {
@@ -89,7 +89,7 @@ impl Attribute {
         Attribute { held }
     }
 
-    /// A list of these.
+    /// Makes an attribute of a list of strings, or of texts of labels.
     pub fn several(texts: Texts) -> Attribute
         ensures { result ≡ several texts }
     {
@@ -97,7 +97,7 @@ impl Attribute {
         Attribute { held }
     }
 
-    /// What it holds.
+    /// Returns the string or the list that the attribute holds.
     pub fn held(&self) -> &Held
         ensures { attribute_of result.now ≡ self.now }
     {
@@ -140,7 +140,7 @@ impl Model for Target {
 }
 
 impl Target {
-    /// A target.
+    /// Makes a target.
     pub fn new(kind: Text, name: Bytes, attributes: Vec<(Bytes, Attribute)>) -> Target
         ensures { result ≡ record { kind = kind; name = name; attributes = attributes.items } }
     {
@@ -151,21 +151,21 @@ impl Target {
         }
     }
 
-    /// The rule.
+    /// Returns the rule.
     pub fn kind(&self) -> &Text
         ensures { result.now ≡ self.now.kind }
     {
         &self.kind
     }
 
-    /// The name.
+    /// Returns the name.
     pub fn name(&self) -> &Bytes
         ensures { result.now ≡ self.now.name }
     {
         &self.name
     }
 
-    /// The attributes that were given.
+    /// Returns the attributes that were given.
     pub fn attributes(&self) -> &[(Bytes, Attribute)]
         ensures { result.now ≡ self.now.attributes }
     {
@@ -203,14 +203,14 @@ impl Model for Targets {
 }
 
 impl Targets {
-    /// The targets of a list.
+    /// Takes the targets of a list.
     pub fn new(items: Vec<Target>) -> Targets
         ensures { result ≡ items.items }
     {
         Targets { items }
     }
 
-    /// The targets.
+    /// Returns the targets.
     pub fn as_slice(&self) -> &[Target]
         ensures { result.now ≡ self.now }
     {

@@ -10,7 +10,7 @@ use heap::Val;
 use std::sync::atomic::AtomicUsize;
 use texts::Text;
 
-/// What a block has at a name, where it has the name.
+/// Returns what a block has at a name, if it has the name: a value, or none if the name is not bound.
 pub fn slot_in(block: &Block, x: &Text, last: &AtomicUsize) -> Option<Option<Val>>
     ensures { result ≡ slot_in x.now (held block.now) }
 {
@@ -20,7 +20,7 @@ pub fn slot_in(block: &Block, x: &Text, last: &AtomicUsize) -> Option<Option<Val
     }
 }
 
-/// What the innermost block that has a name has there.
+/// Returns what the innermost block that has a name has there.
 pub fn slot_among(blocks: &[Block], x: &Text, last: &AtomicUsize) -> Option<Option<Val>>
     ensures { result ≡ slot_among x.now (map held blocks.now) }
 {
@@ -32,7 +32,7 @@ pub fn slot_among(blocks: &[Block], x: &Text, last: &AtomicUsize) -> Option<Opti
     None
 }
 
-// The innermost block that has a name.
+// Returns the place of the innermost block that has a name.
 fn block_with(blocks: &[Block], x: &Text, last: &AtomicUsize) -> Option<usize>
     ensures { FirstPlace (has_slot x.now) blocks.now result }
 {
@@ -44,7 +44,7 @@ fn block_with(blocks: &[Block], x: &Text, last: &AtomicUsize) -> Option<usize>
     None
 }
 
-/// The file with a label.
+/// Returns the place of the file with a label.
 pub fn file_at(files: &[FileNames], label: &Text) -> Option<usize>
     ensures { FirstPlace (is_file label.now) files.now result }
 {
@@ -56,7 +56,7 @@ pub fn file_at(files: &[FileNames], label: &Text) -> Option<usize>
     None
 }
 
-/// Binds a name of a block, where the block has it.
+/// Binds a name of a block, if the block has it.
 pub fn bind_in(block: &mut Block, x: &Text, last: &AtomicUsize, value: Val)
     ensures { held block.new ≡ bind_in x.now value (held block.old) }
 {
@@ -67,7 +67,7 @@ pub fn bind_in(block: &mut Block, x: &Text, last: &AtomicUsize, value: Val)
     }
 }
 
-/// Binds a name in the innermost block that has it, and tells whether there is one.
+/// Binds a name in the innermost block that has it, and returns whether there is one.
 pub fn bind_among(blocks: &mut Vec<Block>, x: &Text, last: &AtomicUsize, value: Val) -> bool
     ensures had { result ≡ is_some (slot_among x.now (map held blocks.old.items)) }
     ensures bound { map held blocks.new.items ≡ bind_among x.now value (map held blocks.old.items) }

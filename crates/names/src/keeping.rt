@@ -36,7 +36,7 @@ impl Model for KeptDefaults {
     ghost invariant = { λ d. Lists d.index d.kept.items };
 }
 
-// The defaults of the newest function with a name.
+// Returns the defaults of the newest function with a name.
 fn newest_named<'a>(kept: &'a [Kept], name: &Text) -> &'a [Val]
     ensures { result.now ≡ values_named name.now (newest_first kept.now) }
 {
@@ -49,7 +49,7 @@ fn newest_named<'a>(kept: &'a [Kept], name: &Text) -> &'a [Val]
     newest
 }
 
-// The names of functions, where each stands once.
+// Returns the names of functions, if each stands once.
 fn index_of(alloc: Global, kept: &[Kept]) -> Result<Option<IndexSet<Text>>, Memory>
     ensures { IfOk result (λ index. Lists index kept.now) }
 {
@@ -63,7 +63,7 @@ fn index_of(alloc: Global, kept: &[Kept]) -> Result<Option<IndexSet<Text>>, Memo
     Ok(Some(names))
 }
 
-// The defaults of the function at a place, or none.
+// Returns the defaults of the function at a place, or none.
 fn values_at<'a>(kept: &'a [Kept], place: Option<usize>) -> &'a [Val]
     ensures { result.now ≡ values_at kept.now place }
 {
@@ -76,7 +76,7 @@ fn values_at<'a>(kept: &'a [Kept], place: Option<usize>) -> &'a [Val]
     }
 }
 
-// The names of functions with one more, where it is none of them.
+// Returns the names of functions with one more, if it is none of them.
 fn with_name(index: Option<IndexSet<Text>>, name: &Text) -> Result<Option<IndexSet<Text>>, Memory>
     ensures { IfOk result
         (λ now. IfSome now
@@ -95,7 +95,7 @@ fn with_name(index: Option<IndexSet<Text>>, name: &Text) -> Result<Option<IndexS
 }
 
 impl KeptDefaults {
-    /// No defaults.
+    /// Makes a record without defaults.
     pub fn new(alloc: Global) -> KeptDefaults
         ensures { result ≡ [] }
     {
@@ -105,11 +105,11 @@ impl KeptDefaults {
         }
     }
 
-    /// These defaults, the newest of which stands first.
+    /// Makes a record of these defaults, the newest of which stands first.
     ///
     /// # Errors
     ///
-    /// `Memory` where memory is refused.
+    /// Returns `Memory` if an allocation fails.
     pub fn of_list(kept: Vec<Kept>) -> Result<KeptDefaults, Memory>
         ensures { IfOk result (λ d. d ≡ map kept_of kept.items) }
     {
@@ -122,12 +122,12 @@ impl KeptDefaults {
         Ok(KeptDefaults { kept, index })
     }
 
-    /// The values of all defaults are reached.
+    /// Marks the values of all defaults as reached.
     pub fn reach(&self, reached: &mut Reached) -> Result<(), Memory> {
         reach_defaults(reached, self.kept.as_slice())
     }
 
-    // Before there are more than so many functions the set of their names is made.
+    // Makes the set of the functions' names before there are more than so many of them.
     fn begin_index(&mut self) -> Result<(), Memory>
         ensures { self.new ≡ self.old }
     {
@@ -142,7 +142,7 @@ impl KeptDefaults {
     ///
     /// # Errors
     ///
-    /// `Memory` where memory is refused: none are added.
+    /// Returns `Memory` if an allocation fails; none are added.
     pub fn add(&mut self, kept: Kept) -> Result<(), Memory>
         ensures added { OnOk result (self.new ≡ kept_of kept ∷ self.old) }
         ensures refused { OnErr result (self.new ≡ self.old) }
@@ -155,8 +155,8 @@ impl KeptDefaults {
         Ok(())
     }
 
-    /// The defaults of the newest function with a name: none where there is none. Among many, which differ in their names,
-    /// it takes no search.
+    /// Returns the defaults of the newest function with a name: none if there is none. Among many, which differ in
+    /// their names, it takes no search.
     pub fn named(&self, name: &Text) -> &[Val]
         ensures { result.now ≡ values_named name.now self.now }
     {

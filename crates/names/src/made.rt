@@ -88,7 +88,7 @@ impl Model for Made {
 }
 
 impl Made {
-    /// No targets.
+    /// Makes a record without targets.
     pub fn new(alloc: Global) -> Made
         ensures { result ≡ [] }
     {
@@ -98,8 +98,8 @@ impl Made {
         }
     }
 
-    /// Adds a target as the last, if none has its name, and returns whether none had. `Memory` where a growth was refused:
-    /// none is added.
+    /// Adds a target as the last, if none has its name, and returns whether none had. Returns `Memory` if an allocation
+    /// fails; none is added.
     pub fn add(&mut self, target: Target) -> Result<bool, Memory>
         ensures added { IfOk result
             (λ added. added ≡ not (has_name target.name (map name_of self.old))) }
@@ -116,7 +116,7 @@ impl Made {
         Ok(true)
     }
 
-    /// The targets.
+    /// Returns the targets.
     pub fn as_slice(&self) -> &[Target]
         ensures { result.now ≡ self.now }
     {

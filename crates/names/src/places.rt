@@ -15,7 +15,7 @@ use texts::{Memory, Text};
 /// So many names are compared with each other; for more a set is made.
 const FEW: usize = 16;
 
-// Whether two names are the same. Most that differ do so in their lengths or first bytes.
+// Returns whether two names are the same. Most that differ do so in their lengths or first bytes.
 fn is_same(x: &Text, y: &Text) -> bool
     ensures { result ≡ same_text x.now y.now }
 {
@@ -30,7 +30,7 @@ fn is_same(x: &Text, y: &Text) -> bool
     *x == *y
 }
 
-// The first place of a name.
+// Returns the first place of a name.
 fn first_place(slots: &[Slot], x: &Text) -> Option<usize>
     ensures { FirstPlace (is_slot x.now) slots.now result }
 {
@@ -42,7 +42,7 @@ fn first_place(slots: &[Slot], x: &Text) -> Option<usize>
     None
 }
 
-// Whether a name is known to stand first at a place.
+// Returns whether a name is known to stand first at a place.
 fn is_at(block: &Block, x: &Text, place: usize) -> bool
     ensures { result ≡ true → FirstSo (is_slot x.now) block.now.slots.items place }
 {
@@ -52,7 +52,7 @@ fn is_at(block: &Block, x: &Text, place: usize) -> bool
     is_same(x, &block.slots[place].name)
 }
 
-// The place of a name in a block, wherever it was found before.
+// Returns the place of a name in a block, wherever it was found before.
 fn looked_up(block: &Block, x: &Text) -> Option<usize>
     ensures { FirstPlace (is_slot x.now) block.now.slots.items result }
 {
@@ -62,7 +62,7 @@ fn looked_up(block: &Block, x: &Text) -> Option<usize>
     }
 }
 
-/// The place of a name in a block, which is where it was found last unless other code ran in between.
+/// Returns the place of a name in a block, which is where it was found last unless other code ran in between.
 pub fn place_in(block: &Block, x: &Text, last: &AtomicUsize) -> Option<usize>
     ensures { FirstPlace (is_slot x.now) block.now.slots.items result }
 {
@@ -77,7 +77,7 @@ pub fn place_in(block: &Block, x: &Text, last: &AtomicUsize) -> Option<usize>
     found
 }
 
-// Whether each of a few names stands once.
+// Returns whether each of a few names stands once.
 fn few_differ(slots: &[Slot]) -> bool
     ensures { result ≡ true → differ (names_in slots.now) ≡ true }
 {
@@ -89,7 +89,7 @@ fn few_differ(slots: &[Slot]) -> bool
     true
 }
 
-// The names of many slots, where each stands once.
+// Returns the names of many slots, if each stands once.
 fn index_of(alloc: Global, slots: &[Slot]) -> Result<Option<IndexSet<Text>>, Memory>
     ensures { IfOk result
         (λ o. IfSome o (λ s. (s.keys ≡ names_in slots.now)
@@ -106,7 +106,7 @@ fn index_of(alloc: Global, slots: &[Slot]) -> Result<Option<IndexSet<Text>>, Mem
 }
 
 impl Block {
-    /// A block with these slots, whose names differ. They are few: else `new` makes a set of them.
+    /// Makes a block with these slots, whose names differ. They are few: else `new` makes a set of them.
     pub fn of_few(slots: Vec<Slot>) -> Block
         requires { differ (names_in slots.items) ≡ true }
         ensures { held result ≡ block_of slots }
@@ -118,11 +118,11 @@ impl Block {
         }
     }
 
-    /// A block with these slots.
+    /// Makes a block with these slots.
     ///
     /// # Errors
     ///
-    /// `Memory` where memory is refused.
+    /// Returns `Memory` if an allocation fails.
     pub fn new(slots: Vec<Slot>) -> Result<Block, Memory>
         ensures { IfOk result (λ b. held b ≡ block_of slots) }
     {

@@ -4,7 +4,7 @@ use crate::state::{Block, FileNames, Kept, State};
 use heap::Reached;
 use texts::Memory;
 
-// The values of a block's names.
+// Marks the values of a block's names as reached.
 fn reach_block(reached: &mut Reached, block: &Block) -> Result<(), Memory> {
     for slot in block.slots.iter() {
         if let Some(value) = slot.value {
@@ -14,7 +14,7 @@ fn reach_block(reached: &mut Reached, block: &Block) -> Result<(), Memory> {
     Ok(())
 }
 
-/// The values of the names in blocks are reached.
+/// Marks the values of the names in blocks as reached.
 pub fn reach_blocks(reached: &mut Reached, blocks: &[Block]) -> Result<(), Memory> {
     for block in blocks {
         reach_block(reached, block)?;
@@ -22,7 +22,7 @@ pub fn reach_blocks(reached: &mut Reached, blocks: &[Block]) -> Result<(), Memor
     Ok(())
 }
 
-/// The values of defaults are reached.
+/// Marks the values of defaults as reached.
 pub(crate) fn reach_defaults(reached: &mut Reached, kept: &[Kept]) -> Result<(), Memory> {
     for k in kept {
         reached.add_all(k.values.as_slice())?;
@@ -30,13 +30,13 @@ pub(crate) fn reach_defaults(reached: &mut Reached, kept: &[Kept]) -> Result<(),
     Ok(())
 }
 
-// The values of a file's names and defaults.
+// Marks the values of a file's names and defaults as reached.
 fn reach_file(reached: &mut Reached, file: &FileNames) -> Result<(), Memory> {
     reach_block(reached, &file.block)?;
     file.defaults.reach(reached)
 }
 
-/// The values of all names and defaults of an evaluation are reached.
+/// Marks the values of all names and defaults of an evaluation as reached.
 pub fn reach_names(reached: &mut Reached, state: &State) -> Result<(), Memory> {
     for file in state.files.iter() {
         reach_file(reached, file)?;

@@ -16,7 +16,7 @@ use meaning::faults;
 use std::sync::atomic::AtomicUsize;
 use texts::Text;
 
-// What a file has at a name.
+// Returns what a file has at a name.
 fn file_slot(files: &[FileNames], label: &Text, x: &Text, last: &AtomicUsize) -> Option<Option<Val>>
     ensures { result ≡ file_slot x.now (names_at label.now (map names_of files.now)) }
 {
@@ -26,7 +26,8 @@ fn file_slot(files: &[FileNames], label: &Text, x: &Text, last: &AtomicUsize) ->
     }
 }
 
-/// What a name is in a scope: one of the blocks, else a global of the file; `last` is where it was found last.
+/// Returns what a name has in a scope: in one of the blocks, else as a global of the file. `last` is where it was found
+/// last.
 pub fn slot_in_scope(scope: &Scope<'_>, x: &Text, last: &AtomicUsize) -> Option<Option<Val>>
     ensures { result ≡ or_else (slot_among x.now (map held scope.now.blocks.now))
         (file_slot x.now (names_at scope.now.at.now.label (map names_of scope.now.files.now))) }
@@ -37,7 +38,8 @@ pub fn slot_in_scope(scope: &Scope<'_>, x: &Text, last: &AtomicUsize) -> Option<
     }
 }
 
-/// What a name is where it stands: one of the blocks, else a global of the file; `last` is where it was found last.
+/// Returns what a name has where it stands: in one of the blocks, else as a global of the file. `last` is where it was
+/// found last.
 pub fn slot(state: &State, at: &Standing, x: &Text, last: &AtomicUsize) -> Option<Option<Val>>
     ensures { result ≡ or_else (slot_among x.now (map held state.now.blocks.items))
         (file_slot x.now (names_at at.now.label (map names_of state.now.files.items))) }
@@ -50,7 +52,7 @@ pub fn slot(state: &State, at: &Standing, x: &Text, last: &AtomicUsize) -> Optio
     slot_in_scope(&scope, x, last)
 }
 
-// The value of a universal name.
+// Returns the value of a universal name.
 fn read_universal(at: &Standing, x: &Text) -> Result<Val, Halt>
     ensures { (line : ℕ) (running : List (List ℕ × List ℕ)) (w : World)
         → let here = here_of at.now line running in Ran here.site (read_universal x.now here w)
@@ -65,7 +67,7 @@ fn read_universal(at: &Standing, x: &Text) -> Result<Val, Halt>
     }
 }
 
-/// The value of a name in a scope: fault 4 where it has none, and 5 for `native` that is not before a dot.
+/// Returns the value of a name in a scope. Returns fault 4 if it has none, and 5 for `native` that is not before a dot.
 pub fn read_in_scope(scope: &Scope<'_>, x: &Text, last: &AtomicUsize) -> Result<Val, Halt>
     ensures { (line : ℕ) (running : List (List ℕ × List ℕ)) (store : Store) (targets : List Target)
         → let here = here_of scope.now.at.now line running in let w = world_in store scope.now
@@ -78,7 +80,7 @@ pub fn read_in_scope(scope: &Scope<'_>, x: &Text, last: &AtomicUsize) -> Result<
     }
 }
 
-/// The value of a name: fault 4 where it has none, and 5 for `native` that is not before a dot.
+/// Returns the value of a name. Returns fault 4 if it has none, and 5 for `native` that is not before a dot.
 pub fn read(state: &State, at: &Standing, x: &Text, last: &AtomicUsize) -> Result<Val, Halt>
     ensures { (line : ℕ) (running : List (List ℕ × List ℕ)) → let here = here_of at.now line running
         in Ran here.site (read x.now here (world_of state.now)) result (world_of state.now) }
@@ -91,7 +93,7 @@ pub fn read(state: &State, at: &Standing, x: &Text, last: &AtomicUsize) -> Resul
     read_in_scope(&scope, x, last)
 }
 
-/// Whether a name is the `native` of .bzl files.
+/// Returns whether a name is the `native` of .bzl files.
 pub fn is_native_name(state: &State, at: &Standing, x: &Text, last: &AtomicUsize) -> bool
     ensures { (line : ℕ) (running : List (List ℕ × List ℕ)) → result ≡ is_native_name
         (tree.name x.now) (here_of at.now line running) (world_of state.now) }
@@ -102,7 +104,7 @@ pub fn is_native_name(state: &State, at: &Standing, x: &Text, last: &AtomicUsize
     slot(state, at, x, last).is_none()
 }
 
-/// Binds a name in the innermost block that has it, else as a global: fault 26 where it is bound.
+/// Binds a name in the innermost block that has it, else as a global. Returns fault 26 if the global is bound.
 pub fn bind(
     state: &mut State,
     at: &Standing,

@@ -7,7 +7,7 @@ use grammar::FileKind;
 use meaning::{Builtin, PACKAGE, PLAIN};
 use texts::Text;
 
-// The first of these functions that has a name.
+// Returns the first of these functions that has a name.
 fn first_named(x: &Text, functions: &[Builtin]) -> Option<Builtin>
     ensures { result ≡ first_named x.now functions.now }
 {
@@ -19,21 +19,21 @@ fn first_named(x: &Text, functions: &[Builtin]) -> Option<Builtin>
     None
 }
 
-/// The function with a name that every file has.
+/// Returns the function with a name that every file has.
 pub fn plain_function(x: &Text) -> Option<Builtin>
     ensures { result ≡ first_named x.now plain_functions }
 {
     first_named(x, &PLAIN)
 }
 
-/// The package call with a name.
+/// Returns the package call with a name.
 pub fn package_function(x: &Text) -> Option<Builtin>
     ensures { result ≡ first_named x.now package_functions }
 {
     first_named(x, &PACKAGE)
 }
 
-/// The function that has a name in all files of a kind.
+/// Returns the function that has a name in all files of a kind.
 pub fn universal(kind: FileKind, x: &Text) -> Option<Builtin>
     ensures { result ≡ universal kind x.now }
 {
@@ -46,7 +46,7 @@ pub fn universal(kind: FileKind, x: &Text) -> Option<Builtin>
     }
 }
 
-/// Whether a name is `native`, which .bzl files have before a dot.
+/// Returns whether a name is `native`, which .bzl files have before a dot.
 pub fn is_native(kind: FileKind, x: &Text) -> bool
     ensures { result ≡ is_native kind x.now }
 {

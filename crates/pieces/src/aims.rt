@@ -24,7 +24,7 @@ pub enum Aim {
     Each(Vec<Aim>),
 }
 
-/// The present value of a target.
+/// Returns the present value of a target.
 pub fn present(state: &mut State, at: &Standing, aim: &Aim) -> Result<Val, Halt>
     ensures says { (line : ℕ) (running : List (List ℕ × List ℕ)) → let here = here_of at.now line
         running in Ran here.site (s.present (aim_of aim.now) here (world_of state.old)) result
@@ -38,7 +38,7 @@ pub fn present(state: &mut State, at: &Standing, aim: &Aim) -> Result<Val, Halt>
     }
 }
 
-// The members of a list or tuple of a length.
+// Returns the members of a list or tuple of a length.
 fn unpack(heap: &Heap, n: usize, x: Val) -> Result<Vec<Val>, Halt>
     ensures says { SaysItems (t.unpack n x (store_of heap.now)) result (store_of heap.now) }
     ensures count { IfOk result (λ xs. length xs.items ≡ n) }

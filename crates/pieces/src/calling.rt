@@ -11,7 +11,7 @@ use heap::{Builtin, Halt, Heap, Val};
 use std::alloc::Global;
 use texts::Text;
 
-// The last arguments, with their names.
+// Returns the last arguments, with their names.
 fn named(alloc: Global, xs: &[Val], names: &[Text]) -> Result<Vec<(Text, Val)>, Halt>
     ensures ok { IfOk result (λ v. v.items ≡ named_part xs.now names.now) }
     ensures err { IsOkUnless result Memory }
@@ -26,7 +26,7 @@ fn named(alloc: Global, xs: &[Val], names: &[Text]) -> Result<Vec<(Text, Val)>, 
     Ok(named)
 }
 
-// The arguments without a name.
+// Returns the arguments without a name.
 fn plain<'a>(xs: &'a [Val], names: &[Text]) -> &'a [Val]
     ensures { result.now ≡ plain_part xs.now names.now }
 {
@@ -59,7 +59,7 @@ pub fn call_method(
     values::method(heap, x, name.as_str(), plain(xs, names), named.as_slice())
 }
 
-/// `x + y` in `x += y`: in place where both are lists.
+/// Evaluates `x + y` in `x += y`: in place if both are lists.
 pub fn add(heap: &mut Heap, x: Val, y: Val) -> Result<Val, Halt>
     ensures says { Says (added x y (store_of heap.old)) result (store_of heap.new) }
     ensures steps { IfOk result (λ _. heap.new.steps ≤ heap.old.steps) }

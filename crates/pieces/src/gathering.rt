@@ -19,7 +19,7 @@ pub struct Gathered {
     pub entries: IndexMap<Key, Entry>,
 }
 
-/// No members and no entries.
+/// Makes a record without members and entries.
 pub fn nothing_yet(alloc: Global) -> Gathered
     ensures { gathered_of result ≡ l.nothing_yet }
 {
@@ -29,7 +29,7 @@ pub fn nothing_yet(alloc: Global) -> Gathered
     }
 }
 
-/// One more member, or fault 13.
+/// Adds one more member, or returns fault 13.
 pub fn one_more(g: &mut Gathered, x: Val) -> Result<(), Halt>
     ensures { (here : Here) (u : World) → RanInto here.site
         (l.one_more x (gathered_of g.old) here u) result (gathered_of g.new) u }
@@ -41,7 +41,7 @@ pub fn one_more(g: &mut Gathered, x: Val) -> Result<(), Halt>
     Ok(())
 }
 
-/// One more entry; at a key that is there the later value stays. Fault 5, 11, 12 or 13.
+/// Adds one more entry, or returns fault 5, 11, 12 or 13. At a key that is there the later value stays.
 pub fn one_entry(heap: &mut Heap, g: &mut Gathered, k: Val, x: Val) -> Result<(), Halt>
     ensures says { SaysInto (grows k x g.old.entries.entries (store_of heap.old)) result
         g.new.entries.entries (store_of heap.new) }
@@ -56,7 +56,7 @@ pub fn one_entry(heap: &mut Heap, g: &mut Gathered, k: Val, x: Val) -> Result<()
     Ok(())
 }
 
-/// One more entry of a dictionary expression: fault 5, 11, 12, or 25 for a key that is there.
+/// Adds one more entry of a dictionary expression, or returns fault 5, 11, 12, or 25 for a key that is there.
 pub fn fresh(
     heap: &mut Heap,
     entries: &mut IndexMap<Key, Entry>,

@@ -12,7 +12,7 @@ use indexmap::IndexMap;
 use meaning::faults;
 use texts::Text;
 
-/// One step, or fault 11.
+/// Takes one step, or returns fault 11.
 pub fn tick(heap: &mut Heap) -> Result<(), Halt>
     ensures says { Says (h.walks (λ objects. o.tick) (store_of heap.old)) result
         (store_of heap.new) }
@@ -21,7 +21,7 @@ pub fn tick(heap: &mut Heap) -> Result<(), Halt>
     heap::tick(&mut heap.steps)
 }
 
-/// A string of a file, or fault 13.
+/// Makes a string of a file, or returns fault 13.
 pub fn make_text(heap: &mut Heap, text: &Text) -> Result<Val, Halt>
     ensures says { Says (h.makes_text text.now (store_of heap.old)) result (store_of heap.new) }
     ensures steps { IfOk result (λ _. heap.new.steps ≤ heap.old.steps) }
@@ -33,7 +33,7 @@ pub fn make_text(heap: &mut Heap, text: &Text) -> Result<Val, Halt>
     heap.make(Object::Text(bytes))
 }
 
-/// A new list, or fault 13.
+/// Makes a list, or returns fault 13.
 pub fn make_list(heap: &mut Heap, members: Vec<Val>) -> Result<Val, Halt>
     ensures says { Says (h.makes_list members.items (store_of heap.old)) result
         (store_of heap.new) }
@@ -42,7 +42,7 @@ pub fn make_list(heap: &mut Heap, members: Vec<Val>) -> Result<Val, Halt>
     heap.make_list(members)
 }
 
-/// A new tuple, or fault 13.
+/// Makes a tuple, or returns fault 13.
 pub fn make_tuple(heap: &mut Heap, members: Vec<Val>) -> Result<Val, Halt>
     ensures says { Says (h.makes_tuple members.items (store_of heap.old)) result
         (store_of heap.new) }
@@ -51,7 +51,7 @@ pub fn make_tuple(heap: &mut Heap, members: Vec<Val>) -> Result<Val, Halt>
     heap.make_tuple(members)
 }
 
-/// A new dictionary, or fault 13.
+/// Makes a dictionary, or returns fault 13.
 pub fn make_dict(heap: &mut Heap, entries: IndexMap<Key, Entry>) -> Result<Val, Halt>
     ensures says { Says (h.makes_dict entries.entries (store_of heap.old)) result
         (store_of heap.new) }
@@ -60,7 +60,7 @@ pub fn make_dict(heap: &mut Heap, entries: IndexMap<Key, Entry>) -> Result<Val, 
     heap.make_dict(entries)
 }
 
-/// `a[i]`
+/// Evaluates `a[i]`.
 pub fn index(heap: &mut Heap, a: Val, i: Val) -> Result<Val, Halt>
     ensures says { Says (ix.index a i (store_of heap.old)) result (store_of heap.new) }
     ensures steps { IfOk result (λ _. heap.new.steps ≤ heap.old.steps) }
@@ -68,7 +68,7 @@ pub fn index(heap: &mut Heap, a: Val, i: Val) -> Result<Val, Halt>
     values::index(heap, a, i)
 }
 
-/// `a[i:j]`
+/// Evaluates `a[i:j]`.
 pub fn slice(heap: &mut Heap, a: Val, i: Val, j: Val) -> Result<Val, Halt>
     ensures says { Says (ix.slice a i j (store_of heap.old)) result (store_of heap.new) }
     ensures steps { IfOk result (λ _. heap.new.steps ≤ heap.old.steps) }
@@ -76,14 +76,14 @@ pub fn slice(heap: &mut Heap, a: Val, i: Val, j: Val) -> Result<Val, Halt>
     values::slice(heap, a, i, j)
 }
 
-/// What an iteration goes over.
+/// Returns the values that an iteration goes over.
 pub fn items(heap: &Heap, a: Val) -> Result<Vec<Val>, Halt>
     ensures { SaysItems (the_items a (store_of heap.now)) result (store_of heap.now) }
 {
     values::items(heap, a)
 }
 
-/// From here on a list or dictionary is iterated. The copy of its members that a loop goes over is counted as held.
+/// Marks a list or dictionary as iterated. Counts the copy of its members that a loop goes over as held.
 pub fn lock(heap: &mut Heap, a: Val) -> Result<(), Halt>
     ensures says { Says (locks a (store_of heap.old)) result (store_of heap.new) }
     ensures steps { heap.new.steps ≡ heap.old.steps }
@@ -95,7 +95,7 @@ pub fn lock(heap: &mut Heap, a: Val) -> Result<(), Halt>
     Ok(())
 }
 
-/// The iteration that began last ends.
+/// Ends the iteration that began last.
 pub fn unlock(heap: &mut Heap, a: Val)
     ensures says { unlocks a (store_of heap.old) ≡ o.gives tt (store_of heap.new) }
     ensures steps { heap.new.steps ≡ heap.old.steps }
@@ -108,7 +108,7 @@ pub fn unlock(heap: &mut Heap, a: Val)
     }
 }
 
-/// `a[i] = x`
+/// Executes `a[i] = x`.
 pub fn set_index(heap: &mut Heap, a: Val, i: Val, x: Val) -> Result<(), Halt>
     ensures says { Says (ix.set_index a i x (store_of heap.old)) result (store_of heap.new) }
     ensures steps { IfOk result (λ _. heap.new.steps ≤ heap.old.steps) }
@@ -116,7 +116,7 @@ pub fn set_index(heap: &mut Heap, a: Val, i: Val, x: Val) -> Result<(), Halt>
     values::set_index(heap, a, i, x)
 }
 
-/// A key of a dictionary, by a walk: fault 5 for what is no key, 11 or 12.
+/// Returns the key that a value is, by a walk, or fault 5 for a value that is no key, 11 or 12.
 pub fn hash(heap: &mut Heap, x: Val) -> Result<Key, Halt>
     ensures says { Says (ix.hash x (store_of heap.old)) result (store_of heap.new) }
     ensures steps { IfOk result (λ _. heap.new.steps ≤ heap.old.steps) }

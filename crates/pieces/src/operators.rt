@@ -11,14 +11,14 @@ use heap::{Halt, Heap, Operator, Val};
 use texts::Memory;
 use tree::{BinaryOp, UnaryOp};
 
-/// Whether a value is true. `Memory` where it has been given back.
+/// Returns whether a value is true, or `Memory` if it has been given back.
 pub fn is_true(heap: &Heap, x: Val) -> Result<bool, Memory>
     ensures { IfOk result (λ b. b ≡ o.is_true x (store_of heap.now)) }
 {
     values::is_true(heap, x)
 }
 
-/// An operator before an operand.
+/// Evaluates an operator before an operand.
 pub fn unary(heap: &mut Heap, op: UnaryOp, x: Val) -> Result<Val, Halt>
     ensures says { (here : Here) (w : World)
         → Ran here.site (e.unary op x here (record w { store = store_of heap.old })) result
@@ -32,7 +32,7 @@ pub fn unary(heap: &mut Heap, op: UnaryOp, x: Val) -> Result<Val, Halt>
     }
 }
 
-// The operator between two values that are both evaluated.
+// Returns the operator between two values that are both evaluated.
 fn operator_of(op: BinaryOp) -> Operator
     ensures { result ≡ e.operator_of op }
 {
@@ -55,7 +55,7 @@ fn operator_of(op: BinaryOp) -> Operator
     }
 }
 
-/// An operator between two values.
+/// Evaluates an operator between two values.
 pub fn both(heap: &mut Heap, op: BinaryOp, x: Val, y: Val) -> Result<Val, Halt>
     ensures says { Says (binary (e.operator_of op) x y (store_of heap.old)) result
         (store_of heap.new) }

@@ -5,7 +5,7 @@ use crate::gathering::Gathered;
 use heap::Reached;
 use texts::Memory;
 
-/// What a target aims at is reached.
+/// Marks the values that a target aims at as reached.
 #[cycle(reaching)]
 pub fn reach_aim(reached: &mut Reached, aim: &Aim) -> Result<(), Memory> {
     match aim {
@@ -18,7 +18,7 @@ pub fn reach_aim(reached: &mut Reached, aim: &Aim) -> Result<(), Memory> {
     }
 }
 
-/// What targets aim at is reached.
+/// Marks the values that targets aim at as reached.
 #[cycle(reaching)]
 pub fn reach_aims(reached: &mut Reached, aims: &[Aim]) -> Result<(), Memory> {
     for i in 0..aims.len() {
@@ -27,7 +27,7 @@ pub fn reach_aims(reached: &mut Reached, aims: &[Aim]) -> Result<(), Memory> {
     Ok(())
 }
 
-/// What is gathered is reached.
+/// Marks the gathered values as reached.
 pub fn reach_gathered(reached: &mut Reached, got: &Gathered) -> Result<(), Memory> {
     reached.add_all(got.members.as_slice())?;
     reached.add_entries(&got.entries)

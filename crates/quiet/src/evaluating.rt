@@ -19,7 +19,7 @@ use std::sync::Arc;
 use texts::Text;
 use tree::{BinaryOp, Expr, Literal, UnaryOp};
 
-// The value of a word.
+// Returns the value of a word.
 fn literal(word: Literal) -> Val
     ensures { result ≡ ex.literal word }
 {
@@ -30,8 +30,8 @@ fn literal(word: Literal) -> Val
     }
 }
 
-/// The value of a quiet expression, each node begun being a step. The faults are those of the expression, and the heap
-/// alone is changed.
+/// Evaluates a quiet expression; each node begun is a step. The faults are those of the expression, and the heap alone
+/// is changed.
 #[cycle(values)]
 #[tactic(auto, unfolding(language::specs::World::tick))]
 pub fn value(heap: &mut Heap, scope: &Scope<'_>, e: &Expr) -> Result<Val, Halt>
@@ -65,7 +65,7 @@ pub fn value(heap: &mut Heap, scope: &Scope<'_>, e: &Expr) -> Result<Val, Halt>
     }
 }
 
-/// The values of several quiet expressions, in order.
+/// Evaluates several quiet expressions, in order.
 #[cycle(values)]
 pub fn values(heap: &mut Heap, scope: &Scope<'_>, es: &[Expr]) -> Result<Vec<Val>, Halt>
     requires { quiets (is_free scope.now) (trees_of es.now) ≡ true }
@@ -84,7 +84,7 @@ pub fn values(heap: &mut Heap, scope: &Scope<'_>, es: &[Expr]) -> Result<Vec<Val
     Ok(all)
 }
 
-// A tuple of several values.
+// Makes a tuple of the values of several expressions.
 #[cycle(values)]
 fn tuple(heap: &mut Heap, scope: &Scope<'_>, es: &[Expr]) -> Result<Val, Halt>
     requires { quiets (is_free scope.now) (trees_of es.now) ≡ true }
@@ -99,7 +99,7 @@ fn tuple(heap: &mut Heap, scope: &Scope<'_>, es: &[Expr]) -> Result<Val, Halt>
     make_tuple(heap, xs)
 }
 
-// A list of several values.
+// Makes a list of the values of several expressions.
 #[cycle(values)]
 fn list(heap: &mut Heap, scope: &Scope<'_>, es: &[Expr]) -> Result<Val, Halt>
     requires { quiets (is_free scope.now) (trees_of es.now) ≡ true }
@@ -114,7 +114,7 @@ fn list(heap: &mut Heap, scope: &Scope<'_>, es: &[Expr]) -> Result<Val, Halt>
     make_list(heap, xs)
 }
 
-// An operator before an expression.
+// Evaluates an operator before an expression.
 #[cycle(values)]
 fn operated(heap: &mut Heap, scope: &Scope<'_>, op: UnaryOp, a: &Expr) -> Result<Val, Halt>
     requires { quiet (is_free scope.now) (tree_of a.now) ≡ true }
@@ -129,7 +129,7 @@ fn operated(heap: &mut Heap, scope: &Scope<'_>, op: UnaryOp, a: &Expr) -> Result
     unary(heap, op, x)
 }
 
-// An operator between two expressions.
+// Evaluates an operator between two expressions.
 #[cycle(values)]
 fn between(
     heap: &mut Heap,
@@ -165,7 +165,7 @@ fn between(
     }
 }
 
-// The second operand, where it is evaluated in any case, and the operator.
+// Evaluates the second operand, where it is evaluated in any case, and the operator.
 #[cycle(values)]
 fn second(heap: &mut Heap, scope: &Scope<'_>, op: BinaryOp, x: Val, b: &Expr) -> Result<Val, Halt>
     requires { quiet (is_free scope.now) (tree_of b.now) ≡ true }
@@ -180,7 +180,7 @@ fn second(heap: &mut Heap, scope: &Scope<'_>, op: BinaryOp, x: Val, b: &Expr) ->
     both(heap, op, x, y)
 }
 
-// One of two expressions, by a condition.
+// Evaluates one of two expressions, by a condition.
 #[cycle(values)]
 fn choice(heap: &mut Heap, scope: &Scope<'_>, a: &Expr, c: &Expr, b: &Expr) -> Result<Val, Halt>
     requires first { quiet (is_free scope.now) (tree_of a.now) ≡ true }
@@ -200,7 +200,7 @@ fn choice(heap: &mut Heap, scope: &Scope<'_>, a: &Expr, c: &Expr, b: &Expr) -> R
     value(heap, scope, b)
 }
 
-// What is at an index.
+// Evaluates an index.
 #[cycle(values)]
 fn member(heap: &mut Heap, scope: &Scope<'_>, a: &Expr, i: &Expr) -> Result<Val, Halt>
     requires first { quiet (is_free scope.now) (tree_of a.now) ≡ true }
@@ -220,7 +220,7 @@ fn member(heap: &mut Heap, scope: &Scope<'_>, a: &Expr, i: &Expr) -> Result<Val,
     index(heap, x, y)
 }
 
-// What is between two bounds.
+// Evaluates a slice.
 #[cycle(values)]
 fn part(
     heap: &mut Heap,
@@ -251,7 +251,7 @@ fn part(
     slice(heap, x, y, z)
 }
 
-// The value of a bound; one that is left out is `None`.
+// Evaluates a bound; one that is left out is `None`.
 #[cycle(values)]
 fn bound_value(
     heap: &mut Heap,
@@ -269,7 +269,7 @@ fn bound_value(
     }
 }
 
-// The function that an expression is, where it is one that every file has.
+// Returns the function that an expression is, if it is one that every file has.
 fn plain(e: &Expr) -> Option<Builtin>
     ensures { result ≡ plain_of (tree_of e.now) }
 {
@@ -279,7 +279,7 @@ fn plain(e: &Expr) -> Option<Builtin>
     }
 }
 
-// A call of a function that every file has. The name of the function is a node, too.
+// Calls a function that every file has. The name of the function is a node, too.
 #[cycle(values)]
 fn of_function(
     heap: &mut Heap,
@@ -309,7 +309,7 @@ fn of_function(
     }
 }
 
-// A call of a method of a value.
+// Calls a method of a value.
 #[cycle(values)]
 fn of_method(
     heap: &mut Heap,

@@ -10,7 +10,7 @@ use tree::Expr;
 // At most so many values are made at once.
 const MOST_MADE: u64 = 8;
 
-// How many values more may be made behind an expression, where so many may be made before it.
+// Returns how many values more may be made behind an expression, where so many may be made before it.
 #[cycle(counting)]
 fn left_behind(e: &Expr, left: u64) -> u64
     ensures { result ≡ left - making (tree_of e.now) }
@@ -43,7 +43,7 @@ fn left_behind(e: &Expr, left: u64) -> u64
     }
 }
 
-// The same of several expressions.
+// Returns how many values more may be made behind several expressions, where so many may be made before them.
 #[cycle(counting)]
 fn left_behind_all(es: &[Expr], left: u64) -> u64
     ensures { result ≡ left - makings (trees_of es.now) }
@@ -55,7 +55,7 @@ fn left_behind_all(es: &[Expr], left: u64) -> u64
     left
 }
 
-// The same of a bound, which may be left out.
+// Returns how many values more may be made behind a bound, which may be left out.
 #[cycle(counting)]
 fn left_behind_bound(bound: &Option<Arc<Expr, Global>>, left: u64) -> u64
     ensures { result ≡ left - bound_making (bound_tree bound.now) }
@@ -66,14 +66,14 @@ fn left_behind_bound(bound: &Option<Arc<Expr, Global>>, left: u64) -> u64
     }
 }
 
-/// Whether an expression makes few values.
+/// Returns whether an expression makes few values.
 pub fn makes_few(e: &Expr) -> bool
     ensures { result ≡ is_few (making (tree_of e.now)) }
 {
     left_behind(e, MOST_MADE + 1) > 0
 }
 
-/// The same of several expressions together.
+/// Returns whether several expressions together make few values.
 pub fn all_make_few(es: &[Expr]) -> bool
     ensures { result ≡ is_few (makings (trees_of es.now)) }
 {

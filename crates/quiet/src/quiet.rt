@@ -9,7 +9,7 @@ use std::alloc::Global;
 use std::sync::Arc;
 use tree::Expr;
 
-// Whether an expression is a function that every file has, where no block and no file has its name.
+// Returns whether an expression is a function that every file has, where no block and no file has its name.
 fn is_plain(scope: &Scope<'_>, e: &Expr) -> bool
     ensures { result ≡ is_plain (is_free scope.now) (tree_of e.now) }
 {
@@ -21,7 +21,7 @@ fn is_plain(scope: &Scope<'_>, e: &Expr) -> bool
     }
 }
 
-// Whether an expression is the word `native`.
+// Returns whether an expression is the word `native`.
 fn is_word_native(e: &Expr) -> bool
     ensures { result ≡ is_word_native (tree_of e.now) }
 {
@@ -31,8 +31,8 @@ fn is_word_native(e: &Expr) -> bool
     }
 }
 
-/// Whether the evaluation of an expression can wait for nothing: none in it calls a function of a file or a package call,
-/// and none has a block of its own.
+/// Returns whether the evaluation of an expression can wait for nothing. None in it calls a function of a file or a
+/// package call, and none has a block of its own.
 #[cycle(quiets)]
 pub fn is_quiet(scope: &Scope<'_>, e: &Expr) -> bool
     ensures { result ≡ quiet (is_free scope.now) (tree_of e.now) }
@@ -61,7 +61,7 @@ pub fn is_quiet(scope: &Scope<'_>, e: &Expr) -> bool
     }
 }
 
-/// The same of several expressions.
+/// Returns whether each of the expressions is quiet.
 #[cycle(quiets)]
 pub fn are_quiet(scope: &Scope<'_>, es: &[Expr]) -> bool
     ensures { result ≡ quiets (is_free scope.now) (trees_of es.now) }
@@ -74,7 +74,7 @@ pub fn are_quiet(scope: &Scope<'_>, es: &[Expr]) -> bool
     true
 }
 
-// The same of a bound, which may be left out.
+// Returns whether a bound, which may be left out, is quiet.
 #[cycle(quiets)]
 fn is_quiet_bound(scope: &Scope<'_>, bound: &Option<Arc<Expr, Global>>) -> bool
     ensures { result ≡ quiet_bound (is_free scope.now) (bound_tree bound.now) }

@@ -16,7 +16,8 @@ use heap::{Halt, Val};
 use names::{Scope, Standing, State};
 use tree::Expr;
 
-/// Whether an expression is evaluated at once where it stands: its evaluation can wait for nothing, and makes few values.
+/// Returns whether an expression is evaluated at once where it stands: its evaluation can wait for nothing, and makes
+/// few values.
 pub fn is_quiet_at(state: &State, at: &Standing, e: &Expr) -> bool
     ensures { result ≡ (quiet (free_at at.now state.now) (tree_of e.now) && is_few
         (making (tree_of e.now))) }
@@ -29,7 +30,7 @@ pub fn is_quiet_at(state: &State, at: &Standing, e: &Expr) -> bool
     is_quiet(&scope, e) && makes_few(e)
 }
 
-/// The value of a quiet expression where it stands. The heap alone is changed.
+/// Evaluates a quiet expression where it stands. The heap alone is changed.
 pub fn value_at(state: &mut State, at: &Standing, e: &Expr) -> Result<Val, Halt>
     requires { quiet (free_at at.now state.old) (tree_of e.now) ≡ true }
     ensures says { (env : Env) (call : Call) (line : ℕ) (running : List (List ℕ × List ℕ))
@@ -47,7 +48,8 @@ pub fn value_at(state: &mut State, at: &Standing, e: &Expr) -> Result<Val, Halt>
     value(&mut state.heap, &scope, e)
 }
 
-/// Whether several expressions are evaluated at once where they stand: that can wait for nothing, and makes few values.
+/// Returns whether several expressions are evaluated at once where they stand: that can wait for nothing, and makes few
+/// values.
 pub fn are_quiet_at(state: &State, at: &Standing, es: &[Expr]) -> bool
     ensures { result ≡ (quiets (free_at at.now state.now) (trees_of es.now) && is_few
         (makings (trees_of es.now))) }
@@ -60,7 +62,7 @@ pub fn are_quiet_at(state: &State, at: &Standing, es: &[Expr]) -> bool
     are_quiet(&scope, es) && all_make_few(es)
 }
 
-/// The values of several quiet expressions where they stand, in order. The heap alone is changed.
+/// Evaluates several quiet expressions where they stand, in order. The heap alone is changed.
 pub fn values_at(state: &mut State, at: &Standing, es: &[Expr]) -> Result<Vec<Val>, Halt>
     requires { quiets (free_at at.now state.old) (trees_of es.now) ≡ true }
     ensures says { (env : Env) (call : Call) (line : ℕ) (running : List (List ℕ × List ℕ))

@@ -21,7 +21,7 @@ use std::sync::atomic::AtomicUsize;
 use texts::Text;
 use tree::{BinaryOp, Expr, Stmt};
 
-// What an augmented assignment makes of the present value and another.
+// Returns the value that an augmented assignment makes of the present one and another.
 fn changed(heap: &mut Heap, op: BinaryOp, x: Val, y: Val) -> Result<Val, Halt>
     ensures says { (here : Here) (w : World)
         → Ran here.site (s.changed op x y here (record w { store = store_of heap.old })) result
@@ -34,7 +34,7 @@ fn changed(heap: &mut Heap, op: BinaryOp, x: Val, y: Val) -> Result<Val, Halt>
     }
 }
 
-// An expression whose value is left.
+// Evaluates an expression whose value is left, if that can be done at once. Returns whether it was.
 fn evaluate(state: &mut State, at: &Standing, e: &Expr) -> Result<bool, Halt>
     ensures says { (env : Env) (call : Call) (line : ℕ) (running : List (List ℕ × List ℕ))
         → let here = here_of at.now line running in
@@ -56,7 +56,7 @@ fn evaluate(state: &mut State, at: &Standing, e: &Expr) -> Result<bool, Halt>
     }
 }
 
-// `x = e`
+// Executes `x = e`, if that can be done at once. Returns whether it was.
 fn assign_name(
     state: &mut State,
     at: &Standing,
@@ -88,7 +88,7 @@ fn assign_name(
     }
 }
 
-// `a[i] = e`
+// Executes `a[i] = e`, if that can be done at once. Returns whether it was.
 fn assign_member(
     state: &mut State,
     at: &Standing,
@@ -130,7 +130,7 @@ fn assign_member(
     }
 }
 
-// `x += e`, and so with the other operators.
+// Executes `x += e`, and so with the other operators, if that can be done at once. Returns whether it was.
 fn augment_name(
     state: &mut State,
     at: &Standing,
@@ -171,7 +171,7 @@ fn augment_name(
     }
 }
 
-// An assignment, where the target is a name or an index.
+// Executes an assignment to a name or an index, if that can be done at once. Returns whether it was.
 fn assign(state: &mut State, at: &Standing, target: &Expr, e: &Expr) -> Result<bool, Halt>
     ensures says { (env : Env) (call : Call) (line : ℕ) (running : List (List ℕ × List ℕ))
         → let here = here_of at.now line running in
@@ -188,7 +188,7 @@ fn assign(state: &mut State, at: &Standing, target: &Expr, e: &Expr) -> Result<b
     }
 }
 
-// An augmented assignment, where the target is a name.
+// Executes an augmented assignment to a name, if that can be done at once. Returns whether it was.
 fn augment(
     state: &mut State,
     at: &Standing,
@@ -210,9 +210,9 @@ fn augment(
     }
 }
 
-/// Runs a statement whose parts are quiet: an expression, an assignment to a name or an index, or an augmented assignment
-/// to a name. It is done, and the statement behind it is next; or it is another one, and nothing is done. The faults
-/// are those of the statement.
+/// Runs a statement whose parts are quiet: an expression, an assignment to a name or an index, or an augmented
+/// assignment to a name. Returns whether it ran; then the statement behind it is next. With another statement nothing
+/// is done. The faults are those of the statement.
 pub fn run(state: &mut State, at: &Standing, stmt: &Stmt) -> Result<bool, Halt>
     ensures says { (env : Env) (call : Call) (running : List (List ℕ × List ℕ))
         → let here = here_of at.now at.now.line running in
@@ -239,8 +239,8 @@ pub fn run(state: &mut State, at: &Standing, stmt: &Stmt) -> Result<bool, Halt>
     }
 }
 
-/// Whether a condition holds, behind the step of its statement, where it is evaluated at once. With another condition
-/// nothing is done. The faults are those of the condition.
+/// Returns whether a condition holds, behind the step of its statement, if it is evaluated at once. With another
+/// condition nothing is done. The faults are those of the condition.
 pub fn holds(state: &mut State, at: &Standing, e: &Expr) -> Result<Option<bool>, Halt>
     ensures says { (env : Env) (call : Call) (line : ℕ) (running : List (List ℕ × List ℕ))
         → let here = here_of at.now line running in

@@ -17,7 +17,7 @@ use texts::Text;
 use tokens::Symbol;
 use tree::{Def, Param, Stmt};
 
-/// A parameter has that name.
+/// Returns whether a parameter has that name.
 fn has_name(params: &[Param], name: &Text) -> bool
     ensures { result ≡ has_name (map param_of params.now) name.now }
 {
@@ -29,7 +29,7 @@ fn has_name(params: &[Param], name: &Text) -> bool
     false
 }
 
-/// A parameter has a default.
+/// Returns whether a parameter has a default.
 fn has_default(params: &[Param]) -> bool
     ensures { result ≡ has_default (map param_of params.now) }
 {

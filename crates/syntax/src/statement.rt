@@ -62,7 +62,7 @@ fn more_exprs(alloc: Global, t: &mut Tokens<'_, '_>, first: Expr) -> Result<Vec<
     Ok(found)
 }
 
-/// Reads expressions: a tuple if a comma.
+/// Reads expressions: a tuple if a comma stands behind the first.
 #[tactic(auto, unfolding(grammar::specs::Statements::exprs))]
 fn exprs(alloc: Global, t: &mut Tokens<'_, '_>) -> Result<Expr, Stop>
     ensures { Reads tree_of (spec.exprs (left t.old)) result (left t.new) }
@@ -84,7 +84,7 @@ fn gone_over(alloc: Global, t: &mut Tokens<'_, '_>) -> Result<Expr, Stop>
     exprs(alloc, t)
 }
 
-/// The operator of an augmented assignment that the next token is.
+/// Returns the operator of the augmented assignment that the next token is, if it is one.
 #[tactic(auto, unfolding(grammar::specs::Statements::augment_at))]
 fn augment_at(t: &Tokens<'_, '_>) -> Option<BinaryOp>
     ensures { result ≡ spec.augment_at (left t.now) }
@@ -104,7 +104,7 @@ fn augment_at(t: &Tokens<'_, '_>) -> Option<BinaryOp>
     }
 }
 
-/// An expression can be the target of an augmented assignment.
+/// Returns whether an expression can be the target of an augmented assignment.
 fn can_augment(e: &Expr, in_def: bool) -> bool
     ensures { result ≡ can_augment in_def (tree_of e.now) }
 {
@@ -141,7 +141,7 @@ fn return_rest(alloc: Global, t: &mut Tokens<'_, '_>, line: usize) -> Result<Stm
     Ok(Stmt::give(line, Some(value)))
 }
 
-/// Reads the value of an assignment, where what it goes to is fit to be a target.
+/// Reads the value of an assignment, if its other side is fit to be a target.
 fn assigned(alloc: Global, t: &mut Tokens<'_, '_>, is_fit: bool) -> Result<Expr, Stop>
     ensures { Reads tree_of (if is_fit then spec.exprs (left t.old) else None) result (left t.new) }
 {
@@ -443,7 +443,7 @@ pub(crate) fn stmt(
     .statement(t, within)
 }
 
-/// Files of the kind have functions.
+/// Returns whether files of the kind have functions.
 fn has_defs(kind: FileKind) -> bool
     ensures { result ≡ files.has_defs kind }
 {
@@ -545,9 +545,10 @@ fn parsed(alloc: Global, text: &[u8], kind: FileKind) -> Result<File, Refused>
     }
 }
 
-/// Parses a file: the tree is the one that the grammar relates to the text, with its lines. The first fault that applies
-/// is answered: 2 with the line of the first byte over 127; 3 where the tokens are malformed; 12 where a token is nested
-/// deeper than 64; 3 where the grammar relates the tokens to no tree. Memory is answered only where a growth was refused.
+/// Parses a file: the tree is the one that the grammar relates to the text, with its lines. Returns the first fault
+/// that applies, in this order. It is 2 if a byte is over 127, with the line of the first such byte. It is 3 if the
+/// tokens are malformed, and 12 if a token is nested deeper than 64. It is 3 if the grammar relates the tokens to no
+/// tree. Returns `Memory` only if an allocation fails.
 pub fn parse(alloc: Global, text: &[u8], kind: FileKind) -> Result<File, Refused>
     ensures { Parses kind text.now result }
 {

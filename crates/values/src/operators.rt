@@ -6,7 +6,7 @@ use arithmetic::{add, divide, multiply, remainder, subtract};
 use comparing::{compare, equal, has};
 use heap::{Halt, Heap, Operator, Val};
 
-/// `a < b`: fault 5, 11 or 12.
+/// Evaluates `a < b`, or returns fault 5, 11 or 12.
 pub fn less(heap: &mut Heap, a: Val, b: Val) -> Result<bool, Halt>
     ensures { Says (less a b (store_of heap.old)) result (store_of heap.new) }
 {
@@ -14,7 +14,7 @@ pub fn less(heap: &mut Heap, a: Val, b: Val) -> Result<bool, Halt>
     Ok(o.is_lt())
 }
 
-/// What an operator gives, or its fault: 5, 9, 10, 11, 12 or 13.
+/// Evaluates an operator between two values, or returns its fault: 5, 9, 10, 11, 12 or 13.
 pub fn binary(heap: &mut Heap, operator: Operator, a: Val, b: Val) -> Result<Val, Halt>
     ensures { Says (binary operator a b (store_of heap.old)) result (store_of heap.new) }
 {
