@@ -110,7 +110,7 @@ impl<F: Fn(Global, &mut Tokens<'_, '_>, usize, Kind) -> Result<Expr, Stop>> Gram
         Ok(found)
     }
 
-    /// Reads targets: a tuple if a comma.
+    /// Reads targets: a tuple if a comma stands behind the first.
     #[tactic(auto, unfolding(grammar::specs::Expressions::targets))]
     fn targets(&self, t: &mut Tokens<'_, '_>) -> Result<Expr, Stop>
         requires { Nests self.now.depth (F.pre self.now.expr) (F.post self.now.expr) }
@@ -765,7 +765,7 @@ impl<F: Fn(Global, &mut Tokens<'_, '_>, usize, Kind) -> Result<Expr, Stop>> Gram
     }
 }
 
-/// Reads what closes an expression.
+/// Reads the symbol that closes an expression.
 fn closed(t: &mut Tokens<'_, '_>, closer: Symbol, whole: Expr) -> Result<Expr, Stop>
     ensures { Reads tree_of (and_then (expect closer (left t.old)) (λ _. gives (tree_of whole)))
         result (left t.new) }
@@ -774,7 +774,7 @@ fn closed(t: &mut Tokens<'_, '_>, closer: Symbol, whole: Expr) -> Result<Expr, S
     Ok(whole)
 }
 
-/// Reads an expression of a kind, with so many levels. Memory is answered only where a growth was refused.
+/// Reads an expression of a kind, with so many levels. Returns `Memory` only if an allocation fails.
 pub fn expr(alloc: Global, t: &mut Tokens<'_, '_>, depth: usize, kind: Kind) -> Result<Expr, Stop>
     ensures { Reads tree_of (spec.expr depth kind (left t.old)) result (left t.new) }
 {
@@ -789,8 +789,8 @@ pub fn expr(alloc: Global, t: &mut Tokens<'_, '_>, depth: usize, kind: Kind) -> 
     .of_kind(t, kind)
 }
 
-/// Reads the targets of a `for`, which are a tuple if there is a comma, with so many levels. Memory is answered only
-/// where a growth was refused.
+/// Reads the targets of a `for`, which are a tuple if there is a comma, with so many levels. Returns `Memory` only if
+/// an allocation fails.
 pub fn targets(alloc: Global, t: &mut Tokens<'_, '_>, depth: usize) -> Result<Expr, Stop>
     ensures { Reads tree_of (spec.targets (spec.expr depth) (left t.old)) result (left t.new) }
 {

@@ -46,7 +46,7 @@ impl From<texts::Memory> for Stop {
     }
 }
 
-/// A number for each symbol.
+/// Returns the number of a symbol.
 fn code(symbol: Symbol) -> u8
     ensures { result ≡ code symbol }
 {
@@ -115,14 +115,14 @@ pub struct Tokens<'a, 't> {
 }
 
 impl<'a, 't> Tokens<'a, 't> {
-    /// How many tokens are left.
+    /// Returns how many tokens are left.
     pub fn len(&self) -> usize
         ensures { result ≡ length (left self.now) }
     {
         self.left.len()
     }
 
-    /// That symbol is the next token.
+    /// Returns whether that symbol is the next token.
     #[tactic(auto, unfolding(grammar::specs::Front::is_at))]
     pub fn is_at(&self, wanted: Symbol) -> bool
         ensures { result ≡ is_at wanted (left self.now) }
@@ -171,7 +171,7 @@ impl<'a, 't> Tokens<'a, 't> {
         }
     }
 
-    /// The line of the next token.
+    /// Returns the line of the next token.
     #[tactic(auto, unfolding(grammar::specs::Front::line_at))]
     pub fn line(&self) -> usize
         ensures { result ≡ line_at (left self.now) }
@@ -182,7 +182,7 @@ impl<'a, 't> Tokens<'a, 't> {
         }
     }
 
-    /// The name that the next token is.
+    /// Returns the name that the next token is, if it is one.
     #[tactic(auto, unfolding(grammar::specs::Front::name_at))]
     pub fn name(&self) -> Option<Ascii<'t>>
         ensures { option_map (λ x. x.bytes.now) result ≡ name_at (left self.now) }
@@ -198,7 +198,7 @@ impl<'a, 't> Tokens<'a, 't> {
         }
     }
 
-    /// The next token is a name, and the one behind it that symbol.
+    /// Returns whether the next token is a name, and the one behind it that symbol.
     #[tactic(auto, unfolding(grammar::specs::Front::is_name_before, grammar::specs::Front::tail))]
     pub fn is_name_before(&self, wanted: Symbol) -> bool
         ensures { result ≡ is_name_before wanted (left self.now) }
@@ -227,7 +227,7 @@ impl<'a, 't> Tokens<'a, 't> {
         }
     }
 
-    /// Those two symbols are the next tokens.
+    /// Returns whether those two symbols are the next tokens.
     pub fn are_at(&self, first: Symbol, second: Symbol) -> bool
         ensures { result ≡ (is_at first (left self.now) && is_at second (tail (left self.now))) }
     {
@@ -254,7 +254,7 @@ impl<'a, 't> Tokens<'a, 't> {
         }
     }
 
-    /// What the string that the next token is has between its quotes.
+    /// Returns the text between the quotes of the next token, if that is a string.
     #[tactic(auto, unfolding(grammar::specs::Front::text_at))]
     pub fn text(&self) -> Option<Ascii<'t>>
         ensures { option_map (λ x. x.bytes.now) result ≡ text_at (left self.now) }
@@ -270,7 +270,7 @@ impl<'a, 't> Tokens<'a, 't> {
         }
     }
 
-    /// No token is left.
+    /// Returns whether no token is left.
     #[tactic(auto, unfolding(grammar::specs::Front::is_end))]
     pub fn is_end(&self) -> bool
         ensures { result ≡ is_end (left self.now) }
@@ -281,7 +281,7 @@ impl<'a, 't> Tokens<'a, 't> {
         }
     }
 
-    /// The token behind the next one is that symbol.
+    /// Returns whether the token behind the next one is that symbol.
     pub fn is_behind(&self, wanted: Symbol) -> bool
         ensures { result ≡ is_at wanted (tail (left self.now)) }
     {
@@ -291,7 +291,7 @@ impl<'a, 't> Tokens<'a, 't> {
     }
 }
 
-/// The operator of a rank that the next token is.
+/// Returns the operator of a rank that the next token is, if it is one.
 #[tactic(auto, unfolding(grammar::specs::Expressions::operator_at))]
 pub(crate) fn operator_at(t: &Tokens<'_, '_>, rank: Rank) -> Option<BinaryOp>
     ensures { result ≡ operator_at rank (left t.now) }
@@ -368,7 +368,7 @@ pub(crate) fn take_comparison(t: &mut Tokens<'_, '_>) -> Option<BinaryOp>
     None
 }
 
-/// What was read, where it is fit to stand there; else `Malformed`.
+/// Returns the value that was read, if it is fit to stand there, else `Malformed`.
 pub(crate) fn fit<A: Drop>(value: A, is_fit: bool) -> Result<A, Stop>
     ensures { result ≡ (if is_fit then Ok value else Err Malformed) }
 {

@@ -34,7 +34,7 @@ pub(crate) struct ArgumentsSoFar {
     pub(crate) names: Vec<Text>,
 }
 
-/// A shared expression.
+/// Makes an expression shared.
 pub(crate) fn shared(alloc: Global, value: Expr) -> Result<Arc<Expr, Global>, Stop>
     ensures ok { IfOk result (λ a. arc_value a ≡ value) }
     ensures err { IsOkUnless result Memory }
@@ -42,7 +42,7 @@ pub(crate) fn shared(alloc: Global, value: Expr) -> Result<Arc<Expr, Global>, St
     Ok(Arc::new(alloc, value)?)
 }
 
-/// An operation on an operand and the one that was read behind its operator.
+/// Makes an operation on an operand and the one that was read behind its operator.
 pub(crate) fn operation(
     alloc: Global,
     op: BinaryOp,
@@ -56,7 +56,7 @@ pub(crate) fn operation(
     Ok(Expr::binary(alloc, op, left, right)?)
 }
 
-/// A list of one expression.
+/// Makes a list of one expression.
 pub(crate) fn alone(alloc: Global, item: Expr) -> Result<Vec<Expr>, Stop>
     ensures ok { IfOk result (λ v. v.items ≡ item ∷ []) }
     ensures err { IsOkUnless result Memory }
@@ -66,7 +66,7 @@ pub(crate) fn alone(alloc: Global, item: Expr) -> Result<Vec<Expr>, Stop>
     Ok(found)
 }
 
-/// The first entry of a dictionary.
+/// Makes the entries so far of the first entry of a dictionary.
 pub(crate) fn one_entry(alloc: Global, entry: (Expr, Expr)) -> Result<EntriesSoFar, Stop>
     ensures ok { IfOk result
         (λ e. pairs_of e ≡ record { keys = tree_of entry.0 ∷ []; values = tree_of entry.1 ∷ [] }) }
@@ -78,7 +78,7 @@ pub(crate) fn one_entry(alloc: Global, entry: (Expr, Expr)) -> Result<EntriesSoF
     Ok(EntriesSoFar { keys, values })
 }
 
-/// A dictionary of its entries.
+/// Makes a dictionary of its entries.
 pub(crate) fn dict(alloc: Global, entries: EntriesSoFar) -> Result<Expr, Stop>
     ensures ok { IfOk result (λ e. tree_of e ≡ tree.dict (trees_of entries.keys.items)
         (trees_of entries.values.items)) }
@@ -88,7 +88,7 @@ pub(crate) fn dict(alloc: Global, entries: EntriesSoFar) -> Result<Expr, Stop>
     Ok(Expr::dict(alloc, keys, values)?)
 }
 
-/// A dictionary of the entries that clauses give.
+/// Makes a dictionary of the entries that clauses give.
 pub(crate) fn dict_by_clauses(
     alloc: Global,
     entry: (Expr, Expr),
@@ -102,7 +102,7 @@ pub(crate) fn dict_by_clauses(
     Ok(Expr::dict_of(alloc, key, value, clauses)?)
 }
 
-/// A call of a method with its arguments.
+/// Makes a call of a method with its arguments.
 pub(crate) fn method(
     alloc: Global,
     receiver: (Expr, Text),

@@ -5,7 +5,7 @@ ghost use Rattle.tree.specs.View.{tree_of, trees_of};
 
 use tree::Expr;
 
-/// An expression can be assigned to: it is a name, an index, or a tuple or list of one or more targets.
+/// Returns whether an expression can be assigned to: it is a name, an index, or a tuple or list of one or more targets.
 #[cycle(target)]
 pub fn is_target(e: &Expr) -> bool
     ensures { result ≡ is_target (tree_of e.now) }
@@ -30,7 +30,7 @@ pub fn is_target(e: &Expr) -> bool
     }
 }
 
-/// There are expressions, and each of them can be assigned to.
+/// Returns whether there are expressions, and each of them can be assigned to.
 #[cycle(target)]
 #[tactic(auto, using(crate::proofs::ManyTargets::some_is))]
 fn are_targets(items: &[Expr]) -> bool
@@ -42,7 +42,7 @@ fn are_targets(items: &[Expr]) -> bool
     all_targets(items)
 }
 
-/// Each of the expressions can be assigned to.
+/// Returns whether each of the expressions can be assigned to.
 #[cycle(target)]
 fn all_targets(items: &[Expr]) -> bool
     ensures { result ≡ all_targets (trees_of items.now) }
