@@ -166,15 +166,18 @@ def homes(crate):
     return found
 
 
-def names_used(lines, text):
-    """The names of Rust items that a text has by the imports of its source, each with the crate or module named first."""
+def names_used(lines, text, crate, reached):
+    """The names of Rust items that a text has by the imports of its source, each with the crates that it may be of."""
     for line in re.findall(r"(?ms)^ *(?:pub )?use ([^;]*);", "\n".join(lines)):
         first = line.partition("::")[0]
-        for name in re.findall(r"\w+", line.partition("::")[2]):
+        at = [crate] if first in ("crate", "self", "super") else [first] if first in reached else []
+        for name in re.findall(r"\w+", line.partition("::")[2]) if at else []:
             if re.search(rf"\b{name}\b", text):
-                yield first, name
+                # One that is not found there is passed on from another crate.
+                yield name, at if homes(at[0]).get(name) else reached
     # A type's functions stand where the type is found, so of a path that begins with one only the type counts.
-    yield from re.findall(r"\b([a-z]\w*)::(\w+)", text)
+    for first, name in re.findall(r"\b([a-z]\w*)::(\w+)", text):
+        yield name, [first] if first in reached and homes(first).get(name) else reached
 
 
 @functools.lru_cache(maxsize=None)
@@ -187,9 +190,8 @@ def named_from(file, reached, is_own):
     lines = text.split("\n")
     shown = own_text(file) if is_own else contracts_in(file)
     found |= {it for it in (module_file(module) for module, _ in imports_in(lines, shown) if ".specs." in module) if it}
-    for first, name in names_used(lines, shown):
-        at = [first] if first in reached and homes(first).get(name) else reached
-        found |= {home for it in at for home in homes(it).get(name, ())}
+    for name, crates in names_used(lines, shown, reached[0], reached):
+        found |= {home for it in crates for home in homes(it).get(name, ())}
     return found
 
 
