@@ -59,7 +59,7 @@ pub fn of_value(
     Ok(Control::Signal(Signal::Value(value)))
 }
 
-/// `x += y`.
+/// Adds two values for `x += y`, and stores the sum in the target.
 pub fn added(
     state: &mut State,
     at: &Standing,

@@ -40,7 +40,7 @@ struct Called {
     name: Bytes,
 }
 
-// The function that stands at a place of the heap.
+// Returns the function that stands at a place of the heap, or fault 5.
 fn function_at(heap: &Heap, place: usize) -> Result<Called, Halt>
     ensures { IsFunction (at place (store_of heap.now)) result }
 {
@@ -176,7 +176,7 @@ fn begin_body(
     })
 }
 
-// The same place of code.
+// Returns the same place of code.
 fn copy_of(at: &Standing) -> Result<Standing, Halt>
     ensures ok { IfOk result (λ copy. copy ≡ at.now) }
     ensures err { IsOkUnless result Memory }
@@ -189,7 +189,7 @@ fn copy_of(at: &Standing) -> Result<Standing, Halt>
     })
 }
 
-/// Ends a call: the caller goes on where it stands, with its own blocks, where so many calls may be open.
+/// Ends a call. The caller goes on where it stood, with its own blocks and the number of calls that may be open there.
 pub fn leave(m: &mut Machine, caller: Box<Caller>, signal: Signal) -> Control
     ensures goes { (env : Env) → machine_does env m.old.left (here_in m.old) (c.Signal signal)
         (m.old.frames.items ++ f.Leave caller ∷ []) (world_of m.old.state)

@@ -24,7 +24,7 @@ pub struct Found {
     pub def: Arc<Def, Global>,
 }
 
-// The function of the file with a name.
+// Returns the function with a name in the file that is evaluated.
 fn own_function<'a>(e: &'a Setting<'_>, name: &Bytes) -> Option<&'a Arc<Def, Global>>
     ensures { IsDef name.now
         (function_named name.now (defs (map top_of (arc_value e.now.file).tops.items)))
@@ -36,7 +36,7 @@ fn own_function<'a>(e: &'a Setting<'_>, name: &Bytes) -> Option<&'a Arc<Def, Glo
     }
 }
 
-// The function of a module with a name.
+// Returns the function with a name in a module.
 fn function_in<'a>(m: &'a Module, name: &Bytes) -> Option<&'a Arc<Def, Global>>
     ensures { IsDef name.now (function_named name.now m.now.functions)
         (option_map (λ d. d.now) result) }
@@ -47,7 +47,7 @@ fn function_in<'a>(m: &'a Module, name: &Bytes) -> Option<&'a Arc<Def, Global>>
     }
 }
 
-// The module with a label.
+// Returns the module with a label, of several.
 fn module_among<'a>(modules: &'a [Module], label: &[u8]) -> Option<&'a Module>
     ensures { option_map (λ m. m.now) result ≡ body_at label.now modules.now }
 {
@@ -59,7 +59,7 @@ fn module_among<'a>(modules: &'a [Module], label: &[u8]) -> Option<&'a Module>
     None
 }
 
-// The module with a label, of those that a load reaches.
+// Returns the module with a label, of those that a load reaches.
 fn module_in<'a>(loaded: &'a Loaded, label: &[u8]) -> Option<&'a Module>
     ensures { let m = loaded.now in option_map (λ m. m.now) result ≡ body_at label.now
         (m.body ∷ m.reached) }
@@ -70,7 +70,7 @@ fn module_in<'a>(loaded: &'a Loaded, label: &[u8]) -> Option<&'a Module>
     module_among(loaded.reached(), label)
 }
 
-// The module with a label, of those that loads reach.
+// Returns the module with a label, of those that loads reach.
 fn module_at<'a>(loads: &'a [Loaded], label: &[u8]) -> Option<&'a Module>
     ensures { option_map (λ m. m.now) result ≡ body_at label.now (all_bodies loads.now) }
 {
@@ -82,7 +82,7 @@ fn module_at<'a>(loads: &'a [Loaded], label: &[u8]) -> Option<&'a Module>
     None
 }
 
-/// The label of a file that is evaluated or reached, as a text.
+/// Returns a label as a text, if it belongs to a file that is evaluated or reached.
 pub fn label_text(e: &Setting<'_>, label: &[u8]) -> Result<Option<Text>, Halt>
     ensures ok { IfOk result (IsLabel (env_of e.now) label.now) }
     ensures err { IsOkUnless result Memory }
@@ -97,7 +97,7 @@ pub fn label_text(e: &Setting<'_>, label: &[u8]) -> Result<Option<Text>, Halt>
     }
 }
 
-/// The function with a name of the file with a label.
+/// Returns the function with a name in the file with a label, if there is one.
 pub fn find(e: &Setting<'_>, label: &Text, name: &Bytes) -> Result<Option<Found>, Halt>
     ensures ok { IfOk result (IsFound (env_of e.now) label.now name.now) }
     ensures err { IsOkUnless result Memory }

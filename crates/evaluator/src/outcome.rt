@@ -59,7 +59,7 @@ impl Model for Suspended {
 // How many bytes of values an evaluation may have that is kept while it waits.
 const MOST_KEPT: u64 = 4_194_304;
 
-// The same value, of a type that may go to another thread.
+// Returns the same value, of a type that may go to another thread.
 fn crossing<T: Send>(value: T) -> T
     ensures { result ≡ value }
 {
@@ -67,20 +67,20 @@ fn crossing<T: Send>(value: T) -> T
 }
 
 impl Suspended {
-    /// The same evaluation, which may go on in another thread.
+    /// Returns the same evaluation, which may go on in another thread.
     pub fn for_another_thread(self) -> Suspended
         ensures { result ≡ self }
     {
         crossing(self)
     }
 
-    /// Whether its values take so many bytes that it is better given up and begun again than kept. No outcome hangs on
-    /// that, so no contract says anything of it.
+    /// Returns whether its values take so many bytes that it is better given up and begun again than kept. No outcome
+    /// hangs on that, so no contract says anything of it.
     pub fn is_large(&self) -> bool {
         self.machine.state.heap.held() > MOST_KEPT
     }
 
-    /// The patterns that have no answer, in order.
+    /// Returns the patterns that have no answer, in order.
     pub fn patterns(&self) -> &[Text]
         ensures { result.now ≡ self.now.patterns }
     {

@@ -34,7 +34,7 @@ const OPEN_CALLS: usize = 64;
 // The steps of an evaluation.
 const STEPS: u64 = 1000000;
 
-/// Where the statements of a file stand; each has its own line.
+/// Returns where the statements of a file stand; each has its own line.
 pub fn level(e: &Environment) -> Result<Standing, Memory>
     ensures { IfOk result
         (λ at. at ≡ record {
@@ -53,7 +53,7 @@ pub fn level(e: &Environment) -> Result<Standing, Memory>
     })
 }
 
-/// A state in which no name is bound, and all steps are left.
+/// Makes a state in which no name is bound, and all steps are left.
 pub fn first_state(alloc: Global, e: &Environment) -> Result<State, Memory>
     ensures { IfOk result (λ state. world_of state ≡ start all_steps (env_of e.now)) }
 {
@@ -77,7 +77,7 @@ pub fn first_state(alloc: Global, e: &Environment) -> Result<State, Memory>
     })
 }
 
-// Why a statement stops that stands in a line of the file.
+// Returns why a statement in a line of the file stops.
 fn stop_in(at: &Standing, line: usize, halt: Halt) -> Stop
     ensures { Stops at.now.path line halt result }
 {
@@ -90,7 +90,7 @@ fn stop_in(at: &Standing, line: usize, halt: Halt) -> Stop
     }
 }
 
-// A load statement: a step, and what it binds.
+// Takes a step for a load statement, and binds its names.
 fn bind_load(state: &mut State, at: &Standing, body: &Module, load: &LoadStmt) -> Result<(), Halt>
     ensures { (line : ℕ) (running : List (List ℕ × List ℕ)) → let here = here_of at.now line running
         in Ran (at_line load.now.line here).site
@@ -103,7 +103,7 @@ fn bind_load(state: &mut State, at: &Standing, body: &Module, load: &LoadStmt) -
     load_items(state, at, body, load.items.as_slice())
 }
 
-// The load statements of a file, in order. One without a module is fault 18.
+// Binds the names of the load statements of a file, in order. A load without a module is fault 18.
 fn bind_loads(
     state: &mut State,
     at: &Standing,
@@ -126,7 +126,7 @@ fn bind_loads(
     Ok(())
 }
 
-/// What stands before the other statements of a file: a first statement that is one string alone, and the loads.
+/// Runs what stands before the other statements of a file: a first statement that is one string alone, and the loads.
 pub fn open_file(
     state: &mut State,
     at: &Standing,
@@ -145,7 +145,7 @@ pub fn open_file(
     bind_loads(state, at, file.loads.as_slice(), modules)
 }
 
-/// An outcome that stops, or want of memory.
+/// Returns the outcome of a fault, or `Memory` where memory was refused.
 pub fn stopped(stop: Stop) -> Result<Outcome, Memory>
     ensures { Shows stop result }
 {
@@ -155,7 +155,7 @@ pub fn stopped(stop: Stop) -> Result<Outcome, Memory>
     }
 }
 
-// The module that a .bzl file leaves. A fault at its end has line 0.
+// Freezes and returns the module that a .bzl file leaves. A fault at its end has line 0.
 fn leave_module(state: &mut State, e: &Environment) -> Result<Outcome, Memory>
     ensures { let env = env_of e.now in
         IsLeft (leaves FileKind.Bzl env (file_level env) (world_of state.old)) result }
@@ -167,7 +167,7 @@ fn leave_module(state: &mut State, e: &Environment) -> Result<Outcome, Memory>
     }
 }
 
-/// What a file leaves once its statements have ended: a .bzl file its module, and a BUILD file its targets.
+/// Returns what a file leaves once its statements have ended: a .bzl file its module, and a BUILD file its targets.
 pub fn leave_file(state: State, e: &Environment) -> Result<Outcome, Memory>
     ensures { let env = env_of e.now in
         IsLeft (leaves env.kind env (file_level env) (world_of state)) result }
@@ -182,7 +182,7 @@ pub fn leave_file(state: State, e: &Environment) -> Result<Outcome, Memory>
     }
 }
 
-// The same texts, shared.
+// Returns the same texts, shared.
 fn share_all(alloc: Global, texts: &[Text]) -> Result<Vec<Text>, Memory>
     ensures { IfOk result (λ shared. shared.items ≡ texts.now) }
 {
@@ -193,7 +193,7 @@ fn share_all(alloc: Global, texts: &[Text]) -> Result<Vec<Text>, Memory>
     Ok(shared)
 }
 
-// Answers to patterns, behind others.
+// Adds answers to patterns, behind the earlier ones.
 fn add_answers(
     answers: &mut Vec<Answer>,
     patterns: &[Text],
@@ -237,11 +237,11 @@ fn go_on(environment: Environment, machine: Machine, control: Control) -> Result
     }
 }
 
-/// Evaluates a file: the outcome is that of its definition.
+/// Evaluates a file, as the definition of the language says.
 ///
 /// # Errors
 ///
-/// `Memory` where memory is refused.
+/// Returns `Memory` if an allocation fails.
 pub fn run(alloc: Global, environment: Environment) -> Result<Outcome, Memory>
     ensures { Evaluates (env_of environment) result }
 {
@@ -262,12 +262,13 @@ pub fn run(alloc: Global, environment: Environment) -> Result<Outcome, Memory>
     go_on(environment, machine, Control::Tops { file, next: 0 })
 }
 
-/// Goes on with an evaluation that waits, with an answer for each of its patterns, in order. The outcome is that of the
-/// file with these answers behind those that it had.
+/// Goes on with an evaluation that waits, with an answer for each of its patterns, in order. The outcome is the same as
+/// for the file with these answers behind its earlier ones.
 ///
 /// # Errors
 ///
-/// `Memory` where memory is refused. What waited is given up then, and `run` gives the same outcome again.
+/// Returns `Memory` if an allocation fails. The evaluation that waited is then given up, and `run` gives the same
+/// outcome again.
 pub fn resume(suspended: Suspended, results: Vec<Arc<Vec<Text>, Global>>) -> Result<Outcome, Memory>
     ensures { Evaluates (answered (env_of suspended.environment) suspended.patterns
         (map shared_texts results.items)) result }

@@ -39,11 +39,11 @@ impl<'a> Model for Setting<'a> {
 }
 
 impl<'a> Setting<'a> {
-    /// The setting of an evaluation that is given this.
+    /// Makes the setting of an evaluation in this environment.
     ///
     /// # Errors
     ///
-    /// `Memory` where memory is refused.
+    /// Returns `Memory` if an allocation fails.
     pub fn new(alloc: Global, environment: &'a Environment) -> Result<Setting<'a>, Memory>
         ensures { IfOk result (λ s. s ≡ environment.now) }
     {
@@ -55,14 +55,14 @@ impl<'a> Setting<'a> {
         })
     }
 
-    /// What is given.
+    /// Returns what the evaluation is given.
     pub fn given(&self) -> &Environment
         ensures { result.now ≡ self.now }
     {
         self.environment
     }
 
-    /// The first function of the file with a name.
+    /// Returns the first function with a name in the file, if there is one.
     pub fn function(&self, name: &Bytes) -> Option<&Function>
         ensures { option_map (λ f. f.now) result ≡ first_named name.now
             (defs (map top_of (arc_value self.now.file).tops.items)) }

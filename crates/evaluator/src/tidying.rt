@@ -24,8 +24,8 @@ fn give_back(state: &mut State, frames: &[Frame], control: &Control) -> Result<(
     Ok(())
 }
 
-/// Gives back what is reached no more, where it is time for that. No outcome hangs on what is given back: what is needed
-/// later and was given back ends the evaluation as where memory is refused.
+/// Gives back the objects that are reached no more, if it is time for that. No outcome hangs on which these are: an
+/// object that is missed later ends the evaluation as refused memory does.
 pub fn tidy(m: &mut Machine, control: &Control) -> Result<(), Memory>
     ensures same { (env : Env) → means env m.new control.now ≡ means env m.old control.now }
     ensures steps { m.new.state.heap.steps ≡ m.old.state.heap.steps }

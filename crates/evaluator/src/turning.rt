@@ -17,7 +17,7 @@ use std::alloc::Global;
 use std::sync::Arc;
 use texts::Text;
 
-// Why a part stops that stands in a line.
+// Returns why a part in a line stops.
 fn stop(m: &Machine, line: usize, halt: Halt) -> Stop
     ensures { Stops m.now.at.path line halt result }
 {
@@ -51,7 +51,7 @@ fn hand(m: &mut Machine, e: &Setting<'_>, signal: Signal) -> Result<Turned, Stop
     }
 }
 
-// A package call.
+// Makes a package call.
 fn call_package(
     m: &mut Machine,
     e: &Setting<'_>,
@@ -85,7 +85,7 @@ fn call_package(
     }
 }
 
-// What is neither a signal nor a package call.
+// Makes one turn of a control that is neither a signal nor a package call.
 fn act(m: &mut Machine, e: &Setting<'_>, control: Control) -> Result<Control, Halt>
     ensures goes { Under e.now
         (λ env. Goes (on env m.old.left (here_in m.old) (control_line m.old.at.line control)).site
@@ -134,7 +134,7 @@ fn act(m: &mut Machine, e: &Setting<'_>, control: Control) -> Result<Control, Ha
     }
 }
 
-// One turn.
+// Makes one turn.
 fn turn(m: &mut Machine, e: &Setting<'_>, control: Control) -> Result<Turned, Stop>
     ensures leads { Leads e.now (λ env. means env m.old control) result m.new }
     ensures falls { IfOk result (λ turned. TurnFalls m.old control m.new turned) }
@@ -157,7 +157,7 @@ fn turn(m: &mut Machine, e: &Setting<'_>, control: Control) -> Result<Turned, St
     }
 }
 
-// Turns until a step is paid for, or the end.
+// Makes turns until a step is paid for, or until the machine ends or waits.
 fn stretch(m: &mut Machine, e: &Setting<'_>, control: Control) -> Result<Turned, Stop>
     ensures leads { Leads e.now (λ env. means env m.old control) result m.new }
     ensures fewer { IfOk result (λ turned. StepsFall m.old m.new turned) }
@@ -177,7 +177,7 @@ fn stretch(m: &mut Machine, e: &Setting<'_>, control: Control) -> Result<Turned,
     }
 }
 
-// Turns until the machine ends or waits.
+// Makes turns until the machine ends or waits, and gives objects back between them.
 fn stretches(m: &mut Machine, e: &Setting<'_>, control: Control) -> Result<Turned, Stop>
     ensures leads { Leads e.now (λ env. means env m.old control) result m.new }
     ensures over { IfOk result IsOver }
@@ -196,7 +196,7 @@ fn stretches(m: &mut Machine, e: &Setting<'_>, control: Control) -> Result<Turne
     }
 }
 
-/// Turns until the machine ends or waits.
+/// Makes turns until the machine ends or waits.
 pub fn go(m: &mut Machine, e: &Environment, control: Control) -> Result<Turned, Stop>
     ensures leads { Leads e.now (λ env. means env m.old control) result m.new }
     ensures over { IfOk result IsOver }

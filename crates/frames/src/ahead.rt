@@ -23,7 +23,7 @@ use std::sync::Arc;
 use texts::Memory;
 use tree::Stmt;
 
-// A statement that stops. Behind a fault no step is taken any more.
+// Stops in a line: no step is left. Returns the fault, or `Memory` where memory was refused.
 fn stopped(state: &mut State, line: usize, halt: Halt) -> Result<Once, Memory>
     ensures stops { IfOk result (StopsAs line halt) }
     ensures steps { state.new.heap.steps ≡ 0 }
@@ -35,7 +35,7 @@ fn stopped(state: &mut State, line: usize, halt: Halt) -> Result<Once, Memory>
     }
 }
 
-// Runs the statements of a suite at once, to the first that is not run so, or behind which objects are given back first.
+// Runs the statements of a suite at once, up to the first that cannot be run so, or until objects are to be given back.
 fn suite_once(state: &mut State, at: &Standing, ss: &Arc<Vec<Stmt>, Global>) -> Result<Once, Memory>
     ensures does { (env : Env) (n : ℕ) (running : List (List ℕ × List ℕ))
         → let here = here_of at.now at.now.line running in
@@ -118,7 +118,7 @@ fn once(state: &mut State, at: &Standing, stmt: &Stmt) -> Result<Once, Memory>
     }
 }
 
-/// Runs the statements of a suite from one on at once, as far as they can be, or until objects are to be given back.
+/// Runs the statements of a suite at once, from `next` on, as far as they can be or until objects are to be given back.
 pub fn ahead(
     state: &mut State,
     at: &Standing,
@@ -152,7 +152,7 @@ pub fn ahead(
     Ok(Ahead::Ended)
 }
 
-/// What is left of the statements of a suite, above the frames.
+/// Goes on with a suite whose statements were run ahead. Pushes a frame if one of them is left half done.
 pub fn lead(
     frames: &mut Vec<Frame>,
     ss: Arc<Vec<Stmt>, Global>,

@@ -17,7 +17,7 @@ use names::{Standing, State, read};
 use pieces::tick;
 use tree::{Expr, Literal};
 
-// The value of a word.
+// Returns the value of a literal word.
 fn literal(word: Literal) -> Val
     ensures { result ≡ e.literal word }
 {
@@ -28,7 +28,7 @@ fn literal(word: Literal) -> Val
     }
 }
 
-/// Begins an expression: with its value at once, where nothing in it can wait.
+/// Begins an expression, or evaluates it at once if nothing in it can wait.
 pub fn begin(
     state: &mut State,
     frames: &mut Vec<Frame>,

@@ -1,4 +1,4 @@
-//! What each frame does with the signal that it waits for.
+//! What each frame does with the end of a statement, with what is gathered, and with what a target aims at.
 ghost use Rattle.std.specs.Prelude.{◌≡◌, ◌<◌, ◌+◌, false};
 ghost use Rattle.names.specs.View.{world_of};
 ghost use Rattle.pieces.specs.View.{aim_of, gathered_of};
@@ -54,7 +54,7 @@ pub fn deliver_exit(
     }
 }
 
-/// What a call gives its caller, by the signal that its body ends with: where a statement ends, that is a value.
+/// Returns what a call gives its caller, by the signal that its body ends with. The end of a statement becomes a value.
 pub fn given_by(signal: Signal) -> Signal
     ensures { sig_of result ≡ given_by (sig_of signal) }
 {

@@ -28,7 +28,7 @@ use std::sync::Arc;
 use texts::Text;
 use tree::{BinaryOp, Clause, Expr, UnaryOp};
 
-/// The value of a string.
+/// Makes the value of a string.
 pub fn text_value(state: &mut State, x: &Text) -> Result<Control, Halt>
     ensures goes { (env : Env) (n line : ℕ) (here : Here) (frames : List Frame)
         → Goes (on env n here line).site
@@ -258,7 +258,7 @@ pub fn begin_dict_of(
     begin_comprehension(state, frames, line, item, clauses)
 }
 
-// A bound, shared.
+// Returns the same bound, shared.
 fn share_bound(bound: &Option<Arc<Expr, Global>>) -> Result<Option<Arc<Expr, Global>>, Halt>
     ensures ok { IfOk result (λ b. bound_tree b ≡ bound_tree bound.now) }
     ensures err { IsOkUnless result Memory }
@@ -304,7 +304,7 @@ fn begin_comprehension(
     }
 }
 
-// Whether an expression is `native`, before a dot.
+// Returns whether an expression before a dot is `native`.
 fn is_native(state: &State, at: &Standing, e: &Expr) -> bool
     ensures { (line : ℕ) (running : List (List ℕ × List ℕ)) → result ≡ is_native_name
         (tree_of e.now) (here_of at.now line running) (world_of state.now) }

@@ -21,7 +21,7 @@ use std::alloc::Global;
 use std::sync::Arc;
 use tree::{BinaryOp, Branch, Def, Expr, Stmt};
 
-/// The value of a key.
+/// Adds an entry, of a key and its value, to those that are done.
 pub fn entry_done(
     state: &mut State,
     line: usize,
@@ -40,7 +40,7 @@ pub fn entry_done(
     Ok(Control::Entries { line, pairs, next })
 }
 
-/// An index.
+/// Takes the item of a value at an index.
 pub fn index_done(state: &mut State, line: usize, v: Val, x: Val) -> Result<Control, Halt>
     ensures goes { LeadsOnAnywhere line
         (λ env n here frames. above env n here (frame_does env n here (f.Index line v) (a_value x))
@@ -50,7 +50,7 @@ pub fn index_done(state: &mut State, line: usize, v: Val, x: Val) -> Result<Cont
     Ok(Control::Signal(Signal::Value(index(&mut state.heap, v, x)?)))
 }
 
-/// The upper bound of a slice.
+/// Takes the slice of a value between two bounds.
 pub fn slice_done(state: &mut State, line: usize, v: Val, y: Val, x: Val) -> Result<Control, Halt>
     ensures goes { LeadsOnAnywhere line
         (λ env n here frames. above env n here (frame_does env n here (f.To line v y) (a_value x))
@@ -60,7 +60,7 @@ pub fn slice_done(state: &mut State, line: usize, v: Val, y: Val, x: Val) -> Res
     Ok(Control::Signal(Signal::Value(slice(&mut state.heap, v, y, x)?)))
 }
 
-/// The condition of a branch.
+/// Begins the body of a branch if its condition holds, and goes on with the other branches if not.
 pub fn branch_known(
     state: &State,
     ss: Arc<Vec<Stmt>, Global>,
@@ -88,7 +88,7 @@ pub fn branch_known(
     }
 }
 
-/// The condition of a clause.
+/// Goes on with the clause behind a condition if it holds, and ends the turn if not.
 pub fn clause_known(
     state: &State,
     line: usize,
@@ -115,7 +115,7 @@ pub fn clause_known(
     }
 }
 
-/// A member of a comprehension.
+/// Adds a member to what a comprehension gathers.
 pub fn member_gathered(line: usize, got: Box<Gathered>, x: Val) -> Result<Control, Halt>
     ensures goes { (env : Env) (n : ℕ) (here : Here) (frames : List Frame) (w : World)
         → Goes (on env n here line).site
@@ -130,7 +130,7 @@ pub fn member_gathered(line: usize, got: Box<Gathered>, x: Val) -> Result<Contro
     Ok(Control::Signal(Signal::Gathered(got)))
 }
 
-/// The value of a key in a comprehension.
+/// Adds an entry to what a comprehension gathers.
 pub fn entry_gathered(
     state: &mut State,
     line: usize,
@@ -148,7 +148,7 @@ pub fn entry_gathered(
     Ok(Control::Signal(Signal::Gathered(got)))
 }
 
-/// The value of a default.
+/// Adds the value of a default to those that are done.
 pub fn default_done(
     line: usize,
     def: Arc<Def, Global>,

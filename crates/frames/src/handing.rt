@@ -1,4 +1,4 @@
-//! What each frame does with the value that it waits for.
+//! What each frame does with a value, and with any signal.
 ghost use Rattle.std.specs.Prelude.{◌≡◌, ◌<◌, ◌+◌, ℕ, List, false, IfOk};
 ghost use Rattle.language.specs.Environment.{Env};
 ghost use Rattle.tree.specs.Tree as t;
@@ -258,7 +258,7 @@ pub fn deliver_value(
     }
 }
 
-/// Hands a frame the signal that it waits for.
+/// Hands a frame a signal. One that the frame does not wait for passes it by and goes to the frame below.
 pub fn deliver(
     state: &mut State,
     frames: &mut Vec<Frame>,

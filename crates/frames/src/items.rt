@@ -28,7 +28,7 @@ use std::sync::Arc;
 use texts::Text;
 use tree::Expr;
 
-// Calls a value: a function of a file, a built-in function or a package call; else fault 5.
+// Begins a call of a value: a function of a file, a built-in function or a package call. Any other value is fault 5.
 #[tactic(auto, unfolding(language::specs::Expressions::apply))]
 fn apply(line: usize, g: Val, xs: Vec<Val>, names: Arc<Vec<Text>, Global>) -> Result<Control, Halt>
     ensures goes { (env : Env) (n : ℕ) (here : Here) (w : World) (frames : List Frame)
@@ -67,7 +67,7 @@ fn apply(line: usize, g: Val, xs: Vec<Val>, names: Arc<Vec<Text>, Global>) -> Re
     }
 }
 
-// Calls a method: of `native` a package call; an unknown one is fault 5.
+// Begins a call of a method. A method of `native` is a package call; one that it does not have is fault 5.
 #[tactic(auto, unfolding(language::specs::Expressions::apply_method))]
 fn apply_method(
     line: usize,
@@ -105,7 +105,7 @@ fn apply_method(
     }
 }
 
-// What the values of several expressions are for.
+// Makes a tuple or a list of the values of several expressions, or begins a call with them.
 fn use_items(state: &mut State, line: usize, xs: Vec<Val>, p: Purpose) -> Result<Control, Halt>
     ensures goes { LeadsOnAnywhere line
         (λ env n here frames. above env n here (valued (use_items env n here p xs.items line))
@@ -121,7 +121,7 @@ fn use_items(state: &mut State, line: usize, xs: Vec<Val>, p: Purpose) -> Result
     }
 }
 
-/// Begins the arguments of a call, or its function where nothing in them can wait.
+/// Begins the arguments of a call, or the call itself if nothing in them can wait.
 pub fn begin_arguments(
     state: &mut State,
     at: &Standing,
@@ -146,7 +146,7 @@ pub fn begin_arguments(
     }
 }
 
-/// An expression that begins above a frame that waits for its value.
+/// Begins an expression above a frame that waits for its value.
 pub fn begin_above(
     state: &mut State,
     frames: &mut Vec<Frame>,
@@ -167,7 +167,7 @@ pub fn begin_above(
     begin(state, frames, at, line, e)
 }
 
-/// The same, where the expression begins with its first part.
+/// Begins an expression with its first part, above a frame that waits for its value.
 pub fn parts_above(
     state: &mut State,
     frames: &mut Vec<Frame>,

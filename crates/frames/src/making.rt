@@ -24,7 +24,7 @@ use std::alloc::Global;
 use std::sync::Arc;
 use tree::{Expr, Stmt};
 
-/// Several expressions, of which none is done.
+/// Makes a series of expressions, of which none is done.
 pub fn items_of(
     alloc: Global,
     line: usize,
@@ -49,7 +49,7 @@ pub fn items_of(
     })
 }
 
-/// The entries of a dictionary, of which none is done.
+/// Makes the entries of a dictionary, of which none is done.
 pub fn entries_of(
     alloc: Global,
     line: usize,
@@ -75,7 +75,7 @@ pub fn entries_of(
     })
 }
 
-/// A loop over the members of a value, before its first turn.
+/// Locks a value and makes a loop over its members, before its first turn.
 pub fn turns_over(
     state: &mut State,
     line: usize,
@@ -105,7 +105,7 @@ pub fn turns_over(
     Ok(Control::Turns(Box::new(state.heap.alloc, turns)?))
 }
 
-/// A further clause over the members of a value, before its first turn.
+/// Locks a value and makes a further clause over its members, before its first turn.
 pub fn clause_over(
     state: &mut State,
     line: usize,
@@ -135,7 +135,7 @@ pub fn clause_over(
     Ok(Control::Gather(Box::new(state.heap.alloc, turns)?, got))
 }
 
-/// The same loop, one member further.
+/// Returns the same loop, one member further.
 pub fn next_turns(turns: Box<Turns>) -> Box<Turns>
     requires { turns.value.next + 1 < 2 ^ 64 }
     ensures { result.value ≡ record turns.value { next = turns.value.next + 1 } }
@@ -145,7 +145,7 @@ pub fn next_turns(turns: Box<Turns>) -> Box<Turns>
     turns
 }
 
-/// The same clause, one member further.
+/// Returns the same clause, one member further.
 pub fn next_gathering(turns: Box<Gathering>) -> Box<Gathering>
     requires { turns.value.next + 1 < 2 ^ 64 }
     ensures { result.value ≡ record turns.value { next = turns.value.next + 1 } }

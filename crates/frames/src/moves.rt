@@ -16,7 +16,7 @@ use crate::stepping::step;
 use heap::Halt;
 use names::{Standing, State};
 
-// Whether one step goes on with a control.
+// Returns whether `step` goes on with a control.
 fn is_within(control: &Control) -> bool
     ensures { result ≡ is_within control.now }
 {
@@ -33,7 +33,7 @@ fn is_within(control: &Control) -> bool
     }
 }
 
-// Makes one step. A fault of it is what is next, with its line: behind it no step is left, and no frame matters.
+// Makes one step. A fault in it comes next, with its line: no step and no frame is left.
 fn stepped(
     state: &mut State,
     frames: &mut Vec<Frame>,
@@ -63,7 +63,7 @@ fn stepped(
     }
 }
 
-// Goes on with what is next by one step, where a step does so.
+// Goes on by one step, if `step` goes on with the control.
 fn onward(
     state: &mut State,
     frames: &mut Vec<Frame>,

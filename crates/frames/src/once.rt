@@ -24,7 +24,7 @@ use std::alloc::Global;
 use std::sync::Arc;
 use tree::{BinaryOp, Expr};
 
-/// The value of an expression in which nothing can wait; with another one nothing is done.
+/// Evaluates an expression in which nothing can wait. With any other, it does nothing and returns `None`.
 pub fn at_once(state: &mut State, at: &Standing, e: &Expr) -> Result<Option<Val>, Halt>
     ensures says { (env : Env) (n line : ℕ) (running : List (List ℕ × List ℕ))
         → let here = here_of at.now at.now.line running in AtOnce (on env n here line).site
@@ -40,7 +40,7 @@ pub fn at_once(state: &mut State, at: &Standing, e: &Expr) -> Result<Option<Val>
     }
 }
 
-/// A further item is done.
+/// Adds a value to the items that are done.
 pub fn item_done(line: usize, series: Box<Series>, x: Val) -> Result<Control, Halt>
     ensures ok { IfOk result (λ control. (env : Env) (n : ℕ) (here : Here) (frames : List Frame)
         (w : World) → above env n here
@@ -57,7 +57,7 @@ pub fn item_done(line: usize, series: Box<Series>, x: Val) -> Result<Control, Ha
     Ok(Control::Items { line, series })
 }
 
-/// The next item.
+/// Evaluates the next item at once, or begins it above a frame that waits for it.
 pub fn one_item(
     state: &mut State,
     frames: &mut Vec<Frame>,
@@ -83,7 +83,7 @@ pub fn one_item(
     }
 }
 
-/// Both operands are done.
+/// Applies an operator to its two operands.
 pub fn both_done(state: &mut State, op: BinaryOp, x: Val, y: Val) -> Result<Control, Halt>
     ensures goes { (env : Env) (n line : ℕ) (here : Here) (frames : List Frame)
         → Goes (on env n here line).site
@@ -96,7 +96,7 @@ pub fn both_done(state: &mut State, op: BinaryOp, x: Val, y: Val) -> Result<Cont
     Ok(Control::Signal(Signal::Value(both(&mut state.heap, op, x, y)?)))
 }
 
-/// The second operand, behind the first, where it is evaluated in any case.
+/// Evaluates the second operand and applies the operator, or begins the operand above a frame that waits for it.
 pub fn second_operand(
     state: &mut State,
     frames: &mut Vec<Frame>,
@@ -126,7 +126,8 @@ pub fn second_operand(
     }
 }
 
-/// An expression above a frame that waits for its value: with its value at once, or it is next.
+/// Pushes a frame that waits for the value of an expression. If nothing in the expression can wait, its value is known
+/// at once; if not, it comes next.
 pub fn value_above(
     state: &mut State,
     frames: &mut Vec<Frame>,

@@ -21,7 +21,7 @@ use std::alloc::Global;
 use std::sync::Arc;
 use tree::{BinaryOp, Expr, UnaryOp};
 
-/// An operator before a value.
+/// Applies an operator to the value behind it.
 pub fn unary_done(state: &mut State, op: UnaryOp, x: Val) -> Result<Control, Halt>
     ensures goes { (env : Env) (n : ℕ) (here : Here) (line : ℕ) (frames : List Frame)
         → Goes (on env n here line).site
@@ -36,7 +36,7 @@ pub fn unary_done(state: &mut State, op: UnaryOp, x: Val) -> Result<Control, Hal
     }
 }
 
-/// The second operand, behind the first.
+/// Begins the second operand, unless the first decides an `and` or an `or`.
 pub fn right_operand(
     state: &mut State,
     frames: &mut Vec<Frame>,
@@ -72,7 +72,7 @@ pub fn right_operand(
     }
 }
 
-/// One of two expressions, by a condition.
+/// Begins one of two expressions, by a condition.
 pub fn choose(
     state: &mut State,
     frames: &mut Vec<Frame>,
@@ -96,7 +96,7 @@ pub fn choose(
     begin(state, frames, at, line, b)
 }
 
-/// The upper bound of a slice, behind the lower one.
+/// Begins the upper bound of a slice, or takes the slice if there is none.
 pub fn slice_to(
     state: &mut State,
     frames: &mut Vec<Frame>,
@@ -154,7 +154,7 @@ pub fn next_entry(
     Ok(Control::Signal(Signal::Value(make_dict(&mut state.heap, pairs.done)?)))
 }
 
-/// The value of a key.
+/// Begins the value of a key, or makes the dictionary if no value is left.
 pub fn entry_value(
     state: &mut State,
     frames: &mut Vec<Frame>,
@@ -187,7 +187,7 @@ pub fn entry_value(
     Ok(Control::Signal(Signal::Value(make_dict(&mut state.heap, pairs.done)?)))
 }
 
-/// The lower bound of a slice.
+/// Begins the lower bound of a slice, or goes on with the upper one if there is none.
 pub fn slice_from(
     state: &mut State,
     frames: &mut Vec<Frame>,

@@ -7,7 +7,7 @@ use crate::frame::{Control, Frame};
 use crate::statements::line_of;
 use tree::{Branch, File, Stmt, Top};
 
-/// The line of the statement that a frame stands in; `base` where the frame has none.
+/// Returns the line of the statement that a frame stands in, or `base` if the frame has none.
 pub fn frame_line(frame: &Frame, base: usize) -> usize
     ensures { result ≡ frame_line base frame.now }
 {
@@ -51,7 +51,7 @@ pub fn frame_line(frame: &Frame, base: usize) -> usize
     }
 }
 
-// The line of a suite from a place on.
+// Returns the line of the statement of a suite at a place, or 0 behind the last.
 fn line_in(ss: &Vec<Stmt>, next: usize) -> usize
     ensures { result ≡ suite_line (stmts_of (drop next ss.now.items)) }
 {
@@ -61,7 +61,7 @@ fn line_in(ss: &Vec<Stmt>, next: usize) -> usize
     }
 }
 
-// The line of branches from a place on.
+// Returns the line of the branch at a place, or 0 behind the last.
 fn line_among(bs: &Vec<Branch>, next: usize) -> usize
     ensures { result ≡ first_line (branch_trees (drop next bs.now.items)) }
 {
@@ -71,7 +71,7 @@ fn line_among(bs: &Vec<Branch>, next: usize) -> usize
     }
 }
 
-// The line of a file's statements from a place on.
+// Returns the line of the statement of a file at a place, or 0 behind the last.
 fn line_of_tops(file: &File, next: usize) -> usize
     ensures { result ≡ tops_line (map top_of (drop next file.now.tops.items)) }
 {
@@ -82,7 +82,7 @@ fn line_of_tops(file: &File, next: usize) -> usize
     }
 }
 
-/// The line of the statement that a control stands in; `base` where it is a signal.
+/// Returns the line of the statement that a control stands in, or `base` if it is a signal.
 pub fn control_line(control: &Control, base: usize) -> usize
     ensures { result ≡ control_line base control.now }
 {

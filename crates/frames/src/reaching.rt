@@ -6,7 +6,7 @@ use names::reach_blocks;
 use pieces::{Aim, Gathered, reach_aim, reach_aims, reach_gathered};
 use texts::Memory;
 
-// What the values of several expressions are for.
+// Marks the value that a purpose holds as reached.
 fn reach_purpose(reached: &mut Reached, purpose: &Purpose) -> Result<(), Memory> {
     match purpose {
         Purpose::Call(f, _) => reached.add(*f),
@@ -15,31 +15,31 @@ fn reach_purpose(reached: &mut Reached, purpose: &Purpose) -> Result<(), Memory>
     }
 }
 
-// Several expressions.
+// Marks the values of several expressions, and of their purpose, as reached.
 fn reach_series(reached: &mut Reached, series: &Series) -> Result<(), Memory> {
     reached.add_all(series.done.as_slice())?;
     reach_purpose(reached, &series.purpose)
 }
 
-// A loop, with the value of its turn.
+// Marks the values of a loop, and the value of its turn, as reached.
 fn reach_turn(reached: &mut Reached, turns: &Turns, x: Val) -> Result<(), Memory> {
     reached.add(x)?;
     reach_turns(reached, turns)
 }
 
-// A loop.
+// Marks the values of a loop as reached.
 fn reach_turns(reached: &mut Reached, turns: &Turns) -> Result<(), Memory> {
     reached.add(turns.over)?;
     reached.add_all(turns.items.as_slice())
 }
 
-// A clause of a comprehension.
+// Marks the values of a clause of a comprehension as reached.
 fn reach_gathering(reached: &mut Reached, gathering: &Gathering) -> Result<(), Memory> {
     reached.add(gathering.over)?;
     reached.add_all(gathering.items.as_slice())
 }
 
-// A clause of a comprehension, and what is gathered.
+// Marks the values of a clause of a comprehension, and the gathered ones, as reached.
 fn reach_clause(
     reached: &mut Reached,
     gathering: &Gathering,
@@ -49,25 +49,25 @@ fn reach_clause(
     reach_gathered(reached, got)
 }
 
-// A value, and what is gathered.
+// Marks a value, and the gathered ones, as reached.
 fn reach_one_more(reached: &mut Reached, x: Val, got: &Gathered) -> Result<(), Memory> {
     reached.add(x)?;
     reach_gathered(reached, got)
 }
 
-// A target, and a value for it.
+// Marks the values of a target, and a value for it, as reached.
 fn reach_change(reached: &mut Reached, aim: &Aim, x: Val) -> Result<(), Memory> {
     reached.add(x)?;
     reach_aim(reached, aim)
 }
 
-// A value, and arguments.
+// Marks a value, and arguments, as reached.
 fn reach_arguments(reached: &mut Reached, x: Val, xs: &[Val]) -> Result<(), Memory> {
     reached.add(x)?;
     reached.add_all(xs)
 }
 
-// How a statement ends.
+// Marks the value that a statement ends with as reached.
 fn reach_exit(reached: &mut Reached, exit: &Exit) -> Result<(), Memory> {
     match exit {
         Exit::Returns(x) => reached.add(*x),
@@ -75,7 +75,7 @@ fn reach_exit(reached: &mut Reached, exit: &Exit) -> Result<(), Memory> {
     }
 }
 
-// What ended.
+// Marks the values of a signal as reached.
 fn reach_signal(reached: &mut Reached, signal: &Signal) -> Result<(), Memory> {
     match signal {
         Signal::Value(x) => reached.add(*x),
@@ -85,7 +85,7 @@ fn reach_signal(reached: &mut Reached, signal: &Signal) -> Result<(), Memory> {
     }
 }
 
-// What waits for a value of an expression, of a target or of a statement. Each frame that holds a value stands here.
+// Marks the values that a frame holds as reached. Each frame that holds a value stands here.
 fn reach_frame(reached: &mut Reached, frame: &Frame) -> Result<(), Memory> {
     match frame {
         Frame::Items { series, .. } => reach_series(reached, series),
@@ -130,7 +130,7 @@ fn reach_frame(reached: &mut Reached, frame: &Frame) -> Result<(), Memory> {
     }
 }
 
-/// The values that frames hold are reached.
+/// Marks the values that frames hold as reached.
 pub fn reach_frames(reached: &mut Reached, frames: &[Frame]) -> Result<(), Memory> {
     for frame in frames {
         reach_frame(reached, frame)?;
@@ -138,13 +138,13 @@ pub fn reach_frames(reached: &mut Reached, frames: &[Frame]) -> Result<(), Memor
     Ok(())
 }
 
-// A target and two values for it.
+// Marks the values of a target, and two values for it, as reached.
 fn reach_sum(reached: &mut Reached, aim: &Aim, x: Val, y: Val) -> Result<(), Memory> {
     reached.add(y)?;
     reach_change(reached, aim, x)
 }
 
-/// The values that a machine goes on with are reached.
+/// Marks the values that a machine goes on with as reached.
 pub fn reach_control(reached: &mut Reached, control: &Control) -> Result<(), Memory> {
     match control {
         Control::Signal(signal) => reach_signal(reached, signal),

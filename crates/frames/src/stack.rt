@@ -13,7 +13,7 @@ use std::alloc::Global;
 use std::sync::Arc;
 use tree::Expr;
 
-/// One more frame.
+/// Pushes a frame.
 #[tactic(auto, using(crate::proofs::Bind::stack_push))]
 pub fn push(frames: &mut Vec<Frame>, frame: Frame) -> Result<(), Halt>
     ensures ok { OnOk result ((env : Env) (n : ℕ) (here : Here)
@@ -28,7 +28,7 @@ pub fn push(frames: &mut Vec<Frame>, frame: Frame) -> Result<(), Halt>
     Ok(())
 }
 
-/// An expression, above a frame that waits for its value.
+/// Pushes a frame that waits for the value of an expression, which comes next.
 pub fn eval_above(
     frames: &mut Vec<Frame>,
     frame: Frame,

@@ -19,7 +19,7 @@ use std::alloc::Global;
 use std::sync::Arc;
 use tree::{Branch, Expr, Stmt};
 
-// An expression of a statement, begun above a frame that waits for its value.
+// Begins an expression of a statement above a frame that waits for its value.
 fn part_above(
     state: &mut State,
     frames: &mut Vec<Frame>,
@@ -138,7 +138,7 @@ pub fn begin_stmt(
     }
 }
 
-/// The line of a statement.
+/// Returns the line of a statement.
 pub fn line_of(stmt: &Stmt) -> usize
     ensures { result ≡ stmt_line (stmt_of stmt.now) }
 {

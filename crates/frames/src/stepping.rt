@@ -16,8 +16,8 @@ use crate::tops::{next_default, next_top};
 use heap::Halt;
 use names::{Standing, State};
 
-/// One step of what goes on within a function or a file. A signal, a call and the beginning of a comprehension's block are
-/// handed back.
+/// Makes one step within a function or a file. Signals, calls, `+=` on two values, the binding of a function and the
+/// beginning of a comprehension's block are handed back.
 pub fn step(
     state: &mut State,
     frames: &mut Vec<Frame>,

@@ -22,7 +22,7 @@ use std::sync::Arc;
 use std::sync::atomic::Ordering;
 use tree::Expr;
 
-/// A target, above a frame that waits for what it aims at.
+/// Pushes a frame that waits for what a target aims at. The target comes next.
 pub fn aim_above(
     frames: &mut Vec<Frame>,
     frame: Frame,

@@ -36,7 +36,7 @@ impl<R: Rules> Model for Job<R> {
 }
 
 impl<R: Rules> Job<R> {
-    /// The next turn of a key from these answers, with no kept state.
+    /// Returns the job of the next turn of a key from these answers, with no kept state.
     pub fn new(key: Key, answers: Vec<Arc<Value>>) -> Job<R>
         ensures key { result.key ≡ key }
         ensures answers { result.answers ≡ values answers.items }
@@ -48,7 +48,7 @@ impl<R: Rules> Job<R> {
         }
     }
 
-    /// The same from a state that waited, which fits the key and the answers.
+    /// Returns the job of the next turn from a state that waited, which fits the key and the answers.
     pub(crate) fn from_state(key: Key, state: R::State, answers: Vec<Arc<Value>>) -> Job<R>
         requires { R.fits state key (values answers.items) }
         ensures key { result.key ≡ key }
@@ -61,22 +61,22 @@ impl<R: Rules> Job<R> {
         }
     }
 
-    /// Whose turn it is.
+    /// Returns whose turn it is.
     pub fn key(&self) -> &Key
         ensures { result.now ≡ self.now.key }
     {
         &self.key
     }
 
-    /// All answers so far, in the order asked.
+    /// Returns all answers so far, in the order asked.
     pub fn answers(&self) -> &[Arc<Value>]
         ensures { values result.now ≡ self.now.answers }
     {
         self.answers.as_slice()
     }
 
-    /// Makes the turn, or keeps its refusal. The rules' count of turns grows by one, and where there was no kept state
-    /// and none could be made for want of memory, not at all.
+    /// Makes the turn, or keeps its refusal. The rules' count of turns grows by one. It does not grow if there was no
+    /// kept state and memory for a new one was refused.
     pub fn make(self, rules: &mut R) -> Turned<R>
         ensures same { result.asked ≡ self }
         ensures counted { R.turns rules.new ≡ R.turns rules.old + turns_made result.ending }

@@ -34,7 +34,7 @@ pub enum Key {
 }
 
 impl Key {
-    /// What a pattern finds below a directory. The pattern may have ` dirs` behind it.
+    /// Makes the key of what a pattern finds below a directory. The pattern may have ` dirs` behind it.
     pub fn glob_of(alloc: Global, directory: &str, pattern: &str) -> Result<Key, Memory>
         ensures { IfOk result (λ k. k ≡ glob_key directory.now pattern.now) }
     {
@@ -44,7 +44,7 @@ impl Key {
         Ok(Key::Glob(Text::from_string(alloc, text)?))
     }
 
-    /// The same key, its text shared.
+    /// Returns the same key, its text shared.
     pub fn share(&self) -> Result<Key, Memory>
         ensures { IfOk result (λ k. k ≡ self.now) }
     {
@@ -59,7 +59,7 @@ impl Key {
         }
     }
 
-    // The place of the kind in the order.
+    // Returns the place of the kind in the order.
     fn kind(&self) -> u8
         ensures { result ≡ kind self.now }
     {
@@ -74,7 +74,7 @@ impl Key {
         }
     }
 
-    // The kind's word, and what stands before the name.
+    // Returns the kind's word, and what stands before the name.
     fn prefix(&self) -> &'static str
         ensures { result.now ≡ prefix self.now }
     {
@@ -89,8 +89,8 @@ impl Key {
         }
     }
 
-    /// The path, or the name of the directory or the package; of a glob the directory's name, a space and the pattern,
-    /// perhaps with ` dirs`; of a module its label.
+    /// Returns the path, or the name of the directory or the package. For a glob it is the directory's name, a space
+    /// and the pattern, perhaps with ` dirs`; for a module it is the label.
     pub fn name(&self) -> &Text
         ensures { result.now ≡ name_of self.now }
     {
@@ -105,8 +105,8 @@ impl Key {
         }
     }
 
-    /// The key as it is written: `file PATH`, `listing //DIRECTORY`, `lookup //PACKAGE`, `glob //DIRECTORY PATTERN`
-    /// or `glob //DIRECTORY PATTERN dirs`, `module LABEL`, `package //PACKAGE` or `under //DIRECTORY`.
+    /// Returns the key as it is written: `file PATH`, `listing //DIRECTORY`, `lookup //PACKAGE`, `glob //DIRECTORY
+    /// PATTERN` or `glob //DIRECTORY PATTERN dirs`, `module LABEL`, `package //PACKAGE` or `under //DIRECTORY`.
     pub fn text(&self, alloc: Global) -> Result<String, Memory>
         ensures { IfOk result (λ t. string_bytes t ≡ key_text self.now) }
     {

@@ -36,12 +36,13 @@ pub trait Rules {
     /// The state may go on for the key with these answers.
     ghost fits: { Self.State → Key → List Value → Type 0 };
 
-    /// A state with nothing kept, from which a turn can be made with any answers. `Memory` where a growth was refused.
+    /// Makes a state with nothing kept, from which a turn can be made with any answers. Returns `Memory` if an
+    /// allocation fails.
     fn begin(&self, key: &Key) -> Result<Self::State, Memory>
         ensures { IfOk result (λ state. (answers : List Value) → fits state key.now answers) };
 
-    /// One turn, from all answers so far, in the order asked. `Memory` where a growth was refused: that turn counts
-    /// too.
+    /// Makes one turn, from all answers so far, in the order asked. Returns `Memory` if an allocation fails: that turn
+    /// counts too.
     fn turn(
         &mut self,
         state: Self::State,

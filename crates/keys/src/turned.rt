@@ -61,7 +61,7 @@ pub enum Step<R: Rules> {
 }
 
 impl<R: Rules> Turned<R> {
-    // What came of the turn of this key from these answers.
+    // Makes the record of a turn of this key from these answers, with what came of it.
     pub(crate) fn new(key: Key, answers: Vec<Arc<Value>>, answer: Answer<R::State>) -> Turned<R>
         requires { IsAnswer R.fits R.next key (values answers.items) answer }
         ensures key { result.asked.key ≡ key }
@@ -75,21 +75,21 @@ impl<R: Rules> Turned<R> {
         }
     }
 
-    /// Whose turn it was.
+    /// Returns whose turn it was.
     pub fn key(&self) -> &Key
         ensures { result.now ≡ self.now.asked.key }
     {
         &self.key
     }
 
-    /// The answers that the turn was made from, in the order asked.
+    /// Returns the answers that the turn was made from, in the order asked.
     pub fn answers(&self) -> &[Arc<Value>]
         ensures { values result.now ≡ self.now.asked.answers }
     {
         self.answers.as_slice()
     }
 
-    /// Whether the turn was made, and not refused for memory.
+    /// Returns whether the turn was made, and not refused for memory.
     pub fn is_made(&self) -> bool
         ensures { Decides result (self.now.ending ≡ Made) }
     {
@@ -100,7 +100,7 @@ impl<R: Rules> Turned<R> {
         }
     }
 
-    /// What the turn leads to, or `Memory` where it was refused.
+    /// Returns what the turn leads to, or `Memory` if it was not made.
     pub fn settle(self) -> Result<Step<R>, Memory>
         ensures made { IsOk result ↔ (self.ending ≡ Made) }
         ensures step { IfOk result (IsStep R.next self.asked) }

@@ -54,14 +54,14 @@ impl Model for Names {
 }
 
 impl Names {
-    /// The texts of the list.
+    /// Makes names from the texts of a list.
     pub fn new(items: Vec<Text>) -> Names
         ensures { result ≡ items.items }
     {
         Names { items }
     }
 
-    /// The texts.
+    /// Returns the texts.
     pub fn as_slice(&self) -> &[Text]
         ensures { result.now ≡ self.now }
     {
@@ -99,7 +99,7 @@ impl Model for DirectoryNames {
 }
 
 impl DirectoryNames {
-    /// The names of files and of subdirectories.
+    /// Makes the names in a directory from the names of its files and subdirectories.
     pub fn new(files: Vec<Text>, directories: Vec<Text>) -> DirectoryNames
         ensures files { result.files ≡ files.items }
         ensures directories { result.directories ≡ directories.items }
@@ -110,14 +110,14 @@ impl DirectoryNames {
         }
     }
 
-    /// The names of the files.
+    /// Returns the names of the files.
     pub fn files(&self) -> &[Text]
         ensures { result.now ≡ self.now.files }
     {
         self.files.as_slice()
     }
 
-    /// The names of the subdirectories.
+    /// Returns the names of the subdirectories.
     pub fn directories(&self) -> &[Text]
         ensures { result.now ≡ self.now.directories }
     {
@@ -155,7 +155,7 @@ impl Model for Paths {
 }
 
 impl Paths {
-    /// The paths of the list.
+    /// Makes shared paths from a list.
     pub fn new(alloc: Global, items: Vec<Text>) -> Result<Paths, Memory>
         ensures { IfOk result (λ p. p ≡ items.items) }
     {
@@ -163,14 +163,14 @@ impl Paths {
         Ok(Paths { items })
     }
 
-    /// The paths.
+    /// Returns the paths.
     pub fn as_slice(&self) -> &[Text]
         ensures { result.now ≡ self.now }
     {
         self.items.as_slice()
     }
 
-    /// The same paths, shared.
+    /// Returns the same paths, shared.
     pub fn share_items(&self) -> Result<Arc<Vec<Text>, Global>, Memory>
         ensures { IfOk result (λ items. (arc_value items).items ≡ self.now) }
     {
@@ -206,7 +206,7 @@ pub struct Fault {
 }
 
 impl Fault {
-    /// The same fault, its text shared.
+    /// Returns the same fault, its text shared.
     pub fn share(&self) -> Result<Fault, Memory>
         ensures { IfOk result (λ f. f ≡ self.now) }
     {

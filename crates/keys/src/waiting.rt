@@ -36,7 +36,7 @@ impl<R: Rules> Model for Waiting<R> {
 }
 
 impl<R: Rules> Waiting<R> {
-    // A node that waits, with a state that fits the key and what comes after these answers.
+    // Makes a node that waits, with a state that fits the key and what comes after these answers.
     pub(crate) fn new(
         key: Key,
         state: R::State,
@@ -56,21 +56,22 @@ impl<R: Rules> Waiting<R> {
         }
     }
 
-    /// Whose turn comes next.
+    /// Returns whose turn comes next.
     pub fn key(&self) -> &Key
         ensures { result.now ≡ self.now.key }
     {
         &self.key
     }
 
-    /// The group that it waits for.
+    /// Returns the group that it waits for.
     pub fn group(&self) -> &[Key]
         ensures { result.now ≡ self.now.group }
     {
         self.group.as_slice()
     }
 
-    /// The next job, with the answers to the group. `Memory` where a growth was refused: the node is then given up.
+    /// Returns the next job, with the answers to the group. Returns `Memory` if an allocation fails; the node is then
+    /// given up.
     pub fn resume(self, mut found: Vec<Arc<Value>>) -> Result<Job<R>, Memory>
         ensures key { IfOk result (λ job. job.key ≡ self.key) }
         ensures answers { IfOk result (λ job. job.answers ≡ self.answers ++ values found.items) }

@@ -11,7 +11,7 @@ use std::alloc::Global;
 use std::collections::BTreeSet;
 use texts::{Memory, Text};
 
-/// The targets that were made, in byte order of their names.
+/// Returns the targets that were made, in byte order of their names.
 pub fn targets_made(alloc: Global, state: &State) -> Result<Targets, Memory>
     ensures { IfOk result
         (λ targets. targets ≡ in_order (λ x. x.name) (world_of state.now).targets) }
@@ -24,7 +24,7 @@ pub fn targets_made(alloc: Global, state: &State) -> Result<Targets, Memory>
     Ok(Targets::new(all))
 }
 
-// The set of these targets.
+// Returns the set of these targets.
 fn ordered(alloc: Global, targets: &[names::Target]) -> Result<BTreeSet<ByName>, Memory>
     ensures { IfOk result (λ set. set.keys ≡ in_order (λ x. x.name) (map target_of targets.now)) }
 {
@@ -38,7 +38,7 @@ fn ordered(alloc: Global, targets: &[names::Target]) -> Result<BTreeSet<ByName>,
     Ok(set)
 }
 
-// A target as the package has it.
+// Makes a target as the package has it.
 fn make_target(alloc: Global, target: &names::Target) -> Result<Target, Memory>
     ensures { IfOk result (λ t. t ≡ target_of target.now) }
 {
@@ -48,7 +48,7 @@ fn make_target(alloc: Global, target: &names::Target) -> Result<Target, Memory>
     Ok(Target::new(kind, name, attributes))
 }
 
-// The attributes of a target.
+// Makes the attributes of a target.
 fn make_attributes(
     alloc: Global,
     attributes: &[names::Attributed],
@@ -64,7 +64,7 @@ fn make_attributes(
     Ok(all)
 }
 
-// An attribute.
+// Makes an attribute.
 fn make_attribute(alloc: Global, value: &names::Attribute) -> Result<Attribute, Memory>
     ensures { IfOk result (λ a. a ≡ attribute_of value.now) }
 {
@@ -80,7 +80,7 @@ fn make_attribute(alloc: Global, value: &names::Attribute) -> Result<Attribute, 
     }
 }
 
-// The same strings, shared.
+// Returns the same strings, shared.
 fn copy_of(alloc: Global, texts: &[Bytes]) -> Result<Vec<Bytes>, Memory>
     ensures { IfOk result (λ v. v.items ≡ texts.now) }
 {

@@ -20,7 +20,7 @@ use pattern::Pattern;
 use std::alloc::Global;
 use texts::{Memory, Text};
 
-// The paths that a question finds, where it is answered.
+// Returns the paths that answer a question, if it has an answer.
 fn answer_to<'a>(answers: &'a [Answer], question: &Text) -> Option<&'a [Text]>
     ensures { option_map (λ paths. paths.now) result ≡ answer_to question.now
         (answers_of answers.now) }
@@ -33,7 +33,7 @@ fn answer_to<'a>(answers: &'a [Answer], question: &Text) -> Option<&'a [Text]>
     None
 }
 
-// Whether a text is among others.
+// Returns whether a text is among others.
 fn has_name(x: &Text, texts: &[Text]) -> bool
     ensures { result ≡ has_name x.now texts.now }
 {
@@ -45,7 +45,7 @@ fn has_name(x: &Text, texts: &[Text]) -> bool
     false
 }
 
-/// The questions that have no answer, in order and each once.
+/// Returns the questions that have no answer, in order and each once.
 pub fn unanswered(
     alloc: Global,
     answers: &[Answer],
@@ -61,7 +61,7 @@ pub fn unanswered(
     Ok(all)
 }
 
-// Adds a question that has no answer and is not there.
+// Adds a question, unless it has an answer or is there already.
 fn add_unanswered(all: &mut Vec<Text>, answers: &[Answer], question: &Text) -> Result<(), Memory>
     ensures { OnOk result (all.new.items ≡ with_unanswered question.now (answers_of answers.now)
         all.old.items) }
@@ -76,7 +76,8 @@ fn add_unanswered(all: &mut Vec<Text>, answers: &[Answer], question: &Text) -> R
     Ok(())
 }
 
-/// The paths that a call's questions find by their answers and that no exclude matches, in byte order and without repeats.
+/// Returns the paths that a call's questions find by their answers and that no exclude matches, in byte order and
+/// without repeats.
 pub fn found(
     alloc: Global,
     answers: &[Answer],
@@ -91,7 +92,7 @@ pub fn found(
     in_order(alloc, all.as_slice())
 }
 
-// The paths that some question finds and no exclude matches, as they are found.
+// Returns the paths that some question finds and no exclude matches, as they are found.
 fn gathered(
     alloc: Global,
     answers: &[Answer],
@@ -108,7 +109,7 @@ fn gathered(
     Ok(all)
 }
 
-// Adds what a question finds.
+// Adds the paths that a question finds and no exclude matches.
 fn add_found(
     all: &mut Vec<Text>,
     answers: &[Answer],
@@ -139,7 +140,7 @@ fn add_paths(all: &mut Vec<Text>, paths: &[Text], excludes: &[Pattern]) -> Resul
     Ok(())
 }
 
-// Whether some pattern matches a path.
+// Returns whether some pattern matches a path.
 fn some_matches(patterns: &[Pattern], path: &str) -> bool
     ensures { result ≡ some_matches (map segments patterns.now) path.now }
 {
@@ -151,7 +152,7 @@ fn some_matches(patterns: &[Pattern], path: &str) -> bool
     false
 }
 
-/// A new list of paths, or fault 22 or 13.
+/// Makes a new list of paths, or returns fault 22 or 13.
 pub fn make_paths(heap: &mut Heap, allow_empty: bool, paths: &[Text]) -> Result<Val, Halt>
     ensures { Says (makes_paths allow_empty paths.now (store_of heap.old)) result
         (store_of heap.new) }
@@ -166,7 +167,7 @@ pub fn make_paths(heap: &mut Heap, allow_empty: bool, paths: &[Text]) -> Result<
     heap.make_list(all)
 }
 
-// New strings, in order, or fault 13.
+// Makes new strings, in order, or returns fault 13.
 fn make_texts(heap: &mut Heap, texts: &[Text]) -> Result<Vec<Val>, Halt>
     ensures { SaysItems (makes_texts texts.now (store_of heap.old)) result (store_of heap.new) }
 {
@@ -180,7 +181,7 @@ fn make_texts(heap: &mut Heap, texts: &[Text]) -> Result<Vec<Val>, Halt>
     Ok(all)
 }
 
-/// A new string, or fault 13.
+/// Makes a new string, or returns fault 13.
 pub fn make_text(heap: &mut Heap, text: &Text) -> Result<Val, Halt>
     ensures { Says (makes_text text.now (store_of heap.old)) result (store_of heap.new) }
 {

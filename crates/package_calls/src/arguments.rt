@@ -9,14 +9,14 @@ use std::alloc::Global;
 use std::collections::HashSet;
 use texts::{Memory, Text};
 
-/// The plain arguments, where the last ones have these names.
+/// Returns the plain arguments: all but the last ones, which have these names.
 pub fn plain_part<'a>(xs: &'a [Val], names: &[Text]) -> &'a [Val]
     ensures { result.now ≡ plain_part xs.now names.now }
 {
     &xs[..xs.len().saturating_sub(names.len())]
 }
 
-/// The arguments by name.
+/// Returns the arguments by name, with their names.
 pub fn named_part(alloc: Global, xs: &[Val], names: &[Text]) -> Result<Vec<(Text, Val)>, Memory>
     ensures { IfOk result (λ v. v.items ≡ named_part xs.now names.now) }
 {
@@ -28,7 +28,7 @@ pub fn named_part(alloc: Global, xs: &[Val], names: &[Text]) -> Result<Vec<(Text
     Ok(all)
 }
 
-/// The arguments by name that are not None.
+/// Returns the arguments by name that are not None.
 pub fn not_none(alloc: Global, ns: &[(Text, Val)]) -> Result<Vec<(Text, Val)>, Memory>
     ensures { IfOk result (λ v. v.items ≡ not_none ns.now) }
 {
@@ -41,7 +41,7 @@ pub fn not_none(alloc: Global, ns: &[(Text, Val)]) -> Result<Vec<(Text, Val)>, M
     Ok(all)
 }
 
-/// The value of the first argument of a name.
+/// Returns the value of the first argument with this name, if there is one.
 pub fn value_named(name: &str, ns: &[(Text, Val)]) -> Option<Val>
     ensures { result ≡ value_named name.now ns.now }
 {
@@ -53,7 +53,7 @@ pub fn value_named(name: &str, ns: &[(Text, Val)]) -> Option<Val>
     None
 }
 
-/// Whether there is an argument of a name.
+/// Returns whether an argument has this name.
 pub fn is_named(name: &str, ns: &[(Text, Val)]) -> bool
     ensures { result ≡ is_named name.now ns.now }
 {
@@ -65,7 +65,7 @@ pub fn is_named(name: &str, ns: &[(Text, Val)]) -> bool
     false
 }
 
-/// Whether a name is given twice.
+/// Returns whether a name is given twice.
 pub fn is_twice(alloc: Global, ns: &[(Text, Val)]) -> Result<bool, Memory>
     ensures { IfOk result (λ b. b ≡ is_twice ns.now) }
 {

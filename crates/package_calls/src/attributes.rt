@@ -27,7 +27,7 @@ pub struct Given {
     pub value: Attribute,
 }
 
-/// The attributes that are given, in byte order, or fault 5.
+/// Returns the attributes that are given, in byte order, or fault 5.
 pub fn all_typed(heap: &Heap, fields: &[Field], ns: &[(Text, Val)]) -> Result<Vec<Given>, Halt>
     ensures { ChecksAs (λ v. map given_of v.items)
         (all_typed (shapes fields.now) ns.now (store_of heap.now)) result }
@@ -47,7 +47,7 @@ pub fn all_typed(heap: &Heap, fields: &[Field], ns: &[(Text, Val)]) -> Result<Ve
     Ok(all)
 }
 
-// The texts of an attribute, or fault 5.
+// Returns the texts of an attribute, or fault 5.
 fn typed(heap: &Heap, field: Field, x: Val) -> Result<Attribute, Halt>
     ensures { ChecksAs attribute_of (typed (field_shape field) x (store_of heap.now)) result }
 {
@@ -63,7 +63,7 @@ fn typed(heap: &Heap, field: Field, x: Val) -> Result<Attribute, Halt>
     }
 }
 
-/// The attributes with their labels read in the package, or fault 15.
+/// Returns the attributes with their labels read in the package, or fault 15.
 pub fn all_shaped(
     alloc: Global,
     package_name: &Text,
@@ -85,7 +85,7 @@ pub fn all_shaped(
     Ok(all)
 }
 
-// An attribute with its labels read in the package, or fault 15.
+// Returns an attribute with its labels read in the package, or fault 15.
 fn as_shape(alloc: Global, package_name: &Text, given: &Given) -> Result<Attribute, Halt>
     ensures { ChecksAs attribute_of (as_shape package_name.now (field_shape given.now.field)
         (attribute_of given.now.value)) result }
@@ -102,7 +102,7 @@ fn as_shape(alloc: Global, package_name: &Text, given: &Given) -> Result<Attribu
     }
 }
 
-// The same of a text.
+// Returns the text of an attribute, read in the package if it is a label, or fault 15.
 fn single_shaped(
     alloc: Global,
     package_name: &Text,
@@ -121,7 +121,7 @@ fn single_shaped(
     }
 }
 
-// The same of several texts.
+// Returns the texts of an attribute, or fault 15. Labels are read in the package, and outputs must be paths.
 fn several_shaped(
     alloc: Global,
     package_name: &Text,
@@ -149,7 +149,7 @@ fn several_shaped(
     }
 }
 
-// The texts of labels that are read in a package, or fault 15.
+// Returns the texts of labels that are read in a package, or fault 15.
 fn labels_in(alloc: Global, package_name: &Text, texts: &[Bytes]) -> Result<Vec<Bytes>, Halt>
     ensures { ChecksItems (labels_in package_name.now texts.now) result }
 {
@@ -163,7 +163,7 @@ fn labels_in(alloc: Global, package_name: &Text, texts: &[Bytes]) -> Result<Vec<
     Ok(all)
 }
 
-// Whether all are paths.
+// Returns whether all texts are paths.
 fn are_paths(texts: &[Bytes]) -> bool
     ensures { result ≡ list_all paths.is_path texts.now }
 {
@@ -175,7 +175,7 @@ fn are_paths(texts: &[Bytes]) -> bool
     true
 }
 
-// The same texts, shared.
+// Returns the same texts, shared.
 fn copy_of(alloc: Global, texts: &[Bytes]) -> Result<Vec<Bytes>, Memory>
     ensures { IfOk result (λ v. v.items ≡ texts.now) }
 {

@@ -34,7 +34,7 @@ const ALIAS: [Field; 3] = [Field::Actual, Field::Tags, Field::Visibility];
 
 const TEST_SUITE: [Field; 3] = [Field::Tags, Field::Tests, Field::Visibility];
 
-/// The attributes of a rule beside `name`, in byte order.
+/// Returns the attributes of a rule beside `name`, in byte order.
 pub fn fields_of(f: Builtin) -> &'static [Field]
     ensures { shapes result.now ≡ shapes_of f }
 {
@@ -47,7 +47,7 @@ pub fn fields_of(f: Builtin) -> &'static [Field]
     }
 }
 
-/// The name of an attribute.
+/// Returns the name of an attribute.
 pub fn field_name(field: Field) -> &'static str
     ensures { result.now ≡ field_name field }
 {

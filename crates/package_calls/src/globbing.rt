@@ -40,7 +40,7 @@ pub struct Written {
     pub directories: bool,
 }
 
-/// What a call asks for, or fault 25, 5 or 21.
+/// Reads what a call asks for, or returns fault 25, 5 or 21.
 pub fn read_call(heap: &Heap, xs: &[Val], ns: &[(Text, Val)]) -> Result<Asked, Halt>
     ensures { ChecksAs asked_of (globs.read_call xs.now ns.now (store_of heap.now)) result }
 {
@@ -51,7 +51,7 @@ pub fn read_call(heap: &Heap, xs: &[Val], ns: &[(Text, Val)]) -> Result<Asked, H
     with_patterns(heap.alloc, &written)
 }
 
-// Whether the arguments are those of `glob`.
+// Returns whether `glob` takes these arguments, by their number and names.
 fn are_arguments(alloc: Global, xs: &[Val], ns: &[(Text, Val)]) -> Result<bool, Memory>
     ensures { IfOk result (λ b. b ≡ globs.are_arguments xs.now ns.now) }
 {
@@ -67,7 +67,7 @@ fn are_arguments(alloc: Global, xs: &[Val], ns: &[(Text, Val)]) -> Result<bool, 
     Ok(argument(0, "include", xs, ns).is_some())
 }
 
-// Whether each name is that of a parameter.
+// Returns whether each name is the name of a parameter.
 fn are_known(ns: &[(Text, Val)]) -> bool
     ensures { result ≡ globs.are_known ns.now parameters }
 {
@@ -79,7 +79,7 @@ fn are_known(ns: &[(Text, Val)]) -> bool
     true
 }
 
-// Whether a name is that of a parameter.
+// Returns whether a name is the name of a parameter.
 fn is_parameter(name: &str) -> bool
     ensures { result ≡ has_name name.now parameters }
 {
@@ -95,7 +95,7 @@ fn is_parameter(name: &str) -> bool
     name == "exclude_directories"
 }
 
-// Whether a plain argument's parameter is named too.
+// Returns whether a parameter is given both by its place and by its name.
 fn is_given_twice(xs: &[Val], ns: &[(Text, Val)]) -> bool
     ensures { result ≡ globs.given_twice xs.now plain_parameters ns.now }
 {
@@ -107,7 +107,7 @@ fn is_given_twice(xs: &[Val], ns: &[(Text, Val)]) -> bool
     }
 }
 
-// Whether one of the first two parameters is named.
+// Returns whether one of the first two parameters is named.
 fn names_two(ns: &[(Text, Val)]) -> bool
     ensures { result ≡ (is_named (codes "include") ns.now || is_named (codes "exclude") ns.now) }
 {
@@ -117,7 +117,7 @@ fn names_two(ns: &[(Text, Val)]) -> bool
     is_named("exclude", ns)
 }
 
-// Whether one of the three parameters is named.
+// Returns whether one of the first three parameters is named.
 fn names_three(ns: &[(Text, Val)]) -> bool
     ensures { result ≡ ((is_named (codes "include") ns.now || is_named (codes "exclude") ns.now)
         || is_named (codes "allow_empty") ns.now) }
@@ -128,7 +128,7 @@ fn names_three(ns: &[(Text, Val)]) -> bool
     is_named("allow_empty", ns)
 }
 
-// An argument, by its place or its name.
+// Returns an argument by its place, or else by its name.
 fn argument(i: usize, name: &str, xs: &[Val], ns: &[(Text, Val)]) -> Option<Val>
     ensures { result ≡ globs.argument i name.now xs.now ns.now }
 {
@@ -138,7 +138,7 @@ fn argument(i: usize, name: &str, xs: &[Val], ns: &[(Text, Val)]) -> Option<Val>
     }
 }
 
-// The arguments as texts, or fault 5.
+// Reads the arguments of a call, with its patterns as texts, or returns fault 5 or 25.
 fn typed(heap: &Heap, xs: &[Val], ns: &[(Text, Val)]) -> Result<Written, Halt>
     ensures { ChecksAs written_of (globs.typed xs.now ns.now (store_of heap.now)) result }
 {
@@ -155,7 +155,7 @@ fn typed(heap: &Heap, xs: &[Val], ns: &[(Text, Val)]) -> Result<Written, Halt>
     })
 }
 
-// The texts of a list, none where it is not given, or fault 5.
+// Returns the texts of a list, none if it is not given, or fault 5.
 fn texts_or_none(heap: &Heap, x: Option<Val>) -> Result<Vec<Bytes>, Halt>
     ensures { ChecksItems (texts_or_none x (store_of heap.now)) result }
 {
@@ -165,7 +165,7 @@ fn texts_or_none(heap: &Heap, x: Option<Val>) -> Result<Vec<Bytes>, Halt>
     }
 }
 
-// A truth value, another where it is not given, or fault 5.
+// Returns a truth value, another one if it is not given, or fault 5.
 fn truth_or(other: bool, x: Option<Val>) -> Result<bool, Halt>
     ensures { Checks (truth_or other x) result }
 {
@@ -176,7 +176,7 @@ fn truth_or(other: bool, x: Option<Val>) -> Result<bool, Halt>
     }
 }
 
-// An int, another where it is not given, or fault 5.
+// Returns an int, another one if it is not given, or fault 5.
 fn int_or(other: i64, x: Option<Val>) -> Result<i64, Halt>
     ensures { Checks (int_or other x) result }
 {
@@ -187,7 +187,7 @@ fn int_or(other: i64, x: Option<Val>) -> Result<i64, Halt>
     }
 }
 
-// Whether directories are found too: 1 leaves them out, and 0 does not. Any other number is fault 25.
+// Returns whether directories are found too: 1 leaves them out, and 0 does not. Any other number is fault 25.
 fn with_directories(n: i64) -> Result<bool, Halt>
     ensures { Checks (globs.with_directories n) result }
 {
@@ -200,7 +200,7 @@ fn with_directories(n: i64) -> Result<bool, Halt>
     Err(Halt::Code(faults::WRONG_ARGUMENTS))
 }
 
-// The texts as patterns, or fault 21.
+// Reads the texts as patterns, or returns fault 21.
 fn with_patterns(alloc: Global, written: &Written) -> Result<Asked, Halt>
     ensures { ChecksAs asked_of (globs.with_patterns (written_of written.now)) result }
 {
@@ -214,7 +214,7 @@ fn with_patterns(alloc: Global, written: &Written) -> Result<Asked, Halt>
     })
 }
 
-// Texts as patterns, or fault 21.
+// Reads texts as patterns, or returns fault 21.
 fn all_patterns(alloc: Global, texts: &[Bytes]) -> Result<Vec<Pattern>, Halt>
     ensures { ChecksItems (if list_all is_pattern texts.now then good texts.now else bad 21)
         result }
@@ -229,7 +229,7 @@ fn all_patterns(alloc: Global, texts: &[Bytes]) -> Result<Vec<Pattern>, Halt>
     Ok(all)
 }
 
-/// What is asked for each pattern, in their order: the pattern, and with directories a space and `dirs` behind it.
+/// Returns the question of each pattern, in order: the pattern, and with directories a space and `dirs` behind it.
 pub fn questions(
     alloc: Global,
     directories: bool,
@@ -244,7 +244,7 @@ pub fn questions(
     Ok(all)
 }
 
-// What is asked for a pattern.
+// Returns the question of a pattern.
 fn question(alloc: Global, directories: bool, pattern: &Text) -> Result<Text, Memory>
     ensures { IfOk result (λ t. t ≡ question directories pattern.now) }
 {

@@ -6,7 +6,7 @@ use std::alloc::Global;
 use std::collections::BTreeSet;
 use texts::{Memory, Text};
 
-/// Texts in byte order, each once.
+/// Returns texts in byte order, each once.
 pub fn in_order(alloc: Global, texts: &[Text]) -> Result<Vec<Text>, Memory>
     ensures { IfOk result (λ v. v.items ≡ in_order (λ text. text) texts.now) }
 {
@@ -18,7 +18,7 @@ pub fn in_order(alloc: Global, texts: &[Text]) -> Result<Vec<Text>, Memory>
     Ok(all)
 }
 
-// The set of these texts.
+// Returns the set of these texts.
 fn ordered(alloc: Global, texts: &[Text]) -> Result<BTreeSet<Text>, Memory>
     ensures { IfOk result (λ set. set.keys ≡ in_order (λ text. text) texts.now) }
 {

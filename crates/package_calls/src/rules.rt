@@ -32,9 +32,9 @@ use names::{State, Target};
 use std::alloc::Global;
 use texts::{Memory, Text, beside};
 
-/// A package call. The last arguments have the names. It gives a value, or waits for the answers to questions: then nothing
-/// has changed, and the same call is made again once they are answered. Faults 23 in a .bzl file; 25, 5, 15 and 20 of a
-/// rule; 25, 5, 21, 13 and 22 of `glob`; 25 and 13 of `package_name`.
+/// Makes a package call, whose last arguments have the names. It gives a value, or waits for the answers to questions.
+/// Where it waits, nothing has changed, and the same call is made again once they are answered. Returns fault 23 in a
+/// .bzl file. A rule has faults 25, 5, 15 and 20; `glob` has 25, 5, 21, 13 and 22; `package_name` has 25 and 13.
 pub fn package_call(
     state: &mut State,
     known: &Package,
@@ -58,7 +58,7 @@ pub fn package_call(
     }
 }
 
-// A call in a BUILD file.
+// Makes a package call in a BUILD file.
 fn in_package(
     state: &mut State,
     known: &Package,
@@ -85,7 +85,7 @@ fn in_package(
     }
 }
 
-// The name of the package, or fault 25 or 13.
+// Returns the name of the package, or fault 25 or 13.
 fn package_name(heap: &mut Heap, name: &Text, xs: &[Val], ns: &[(Text, Val)]) -> Result<Val, Halt>
     ensures says { Says (named_package name.now xs.now ns.now (store_of heap.old)) result
         (store_of heap.new) }
@@ -98,7 +98,7 @@ fn package_name(heap: &mut Heap, name: &Text, xs: &[Val], ns: &[(Text, Val)]) ->
     Ok(made)
 }
 
-// A call of `glob`.
+// Calls `glob`.
 fn glob(heap: &mut Heap, answers: &[Answer], xs: &[Val], ns: &[(Text, Val)]) -> Result<Called, Halt>
     ensures says { (here : Here) (w : World) → w.store ≡ store_of heap.old → EndsAs here.site
         (glob (answers_of answers.now) xs.now ns.now here w) result
@@ -127,7 +127,7 @@ fn glob(heap: &mut Heap, answers: &[Answer], xs: &[Val], ns: &[(Text, Val)]) -> 
     }
 }
 
-/// A call of a rule: it makes a target and gives None. Faults 25, 5, 15 and 20, in this order.
+/// Calls a rule, which makes a target and gives None. Faults 25, 5, 15 and 20, in this order.
 pub fn rule(
     state: &mut State,
     f: Builtin,
@@ -150,7 +150,7 @@ pub fn rule(
     Ok(Val::Nothing)
 }
 
-// The target that a call describes, or fault 25, 5 or 15.
+// Returns the target that a call describes, or fault 25, 5 or 15.
 fn target_of(
     heap: &Heap,
     f: Builtin,
@@ -169,7 +169,7 @@ fn target_of(
     described(heap, f, package_name, given.as_slice(), fields)
 }
 
-// The target that arguments by name describe, of a rule with these attributes, or fault 25, 5 or 15.
+// Returns the target that arguments by name describe, of a rule with these attributes, or fault 25, 5 or 15.
 fn described(
     heap: &Heap,
     f: Builtin,
@@ -187,7 +187,7 @@ fn described(
     make_target(heap.alloc, f, package_name, name, typed.as_slice())
 }
 
-// Whether the arguments are those of a rule with these attributes, where `given` are those by name that are not None.
+// Returns whether a rule with these attributes takes the arguments, where `given` are those by name that are not None.
 fn are_arguments(
     alloc: Global,
     xs: &[Val],
@@ -207,7 +207,7 @@ fn are_arguments(
     Ok(are_attributes(given, fields) && is_named("name", given))
 }
 
-// Whether each name is `name` or that of an attribute.
+// Returns whether each name is `name` or the name of an attribute.
 fn are_attributes(given: &[(Text, Val)], fields: &[Field]) -> bool
     ensures { result ≡ are_attributes given.now (shapes fields.now) }
 {
@@ -219,7 +219,7 @@ fn are_attributes(given: &[(Text, Val)], fields: &[Field]) -> bool
     true
 }
 
-// Whether a name is `name` or that of an attribute.
+// Returns whether a name is `name` or the name of an attribute.
 fn is_known(name: &str, fields: &[Field]) -> bool
     ensures { result ≡ has_name name.now (known_names (shapes fields.now)) }
 {
@@ -234,7 +234,7 @@ fn is_known(name: &str, fields: &[Field]) -> bool
     false
 }
 
-// The name of a target, or fault 25 or 5.
+// Returns the name of a target, or fault 25 or 5.
 fn name_in(heap: &Heap, given: &[(Text, Val)]) -> Result<Bytes, Halt>
     ensures { Checks (name_text (value_named (codes "name") given.now) (store_of heap.now)) result }
 {
@@ -244,7 +244,7 @@ fn name_in(heap: &Heap, given: &[(Text, Val)]) -> Result<Bytes, Halt>
     }
 }
 
-// The target with a name and attributes, or fault 15.
+// Makes the target with a name and attributes, or returns fault 15.
 fn make_target(
     alloc: Global,
     f: Builtin,

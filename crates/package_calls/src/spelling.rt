@@ -13,7 +13,7 @@ use pattern::{BadPattern, Pattern};
 use std::alloc::Global;
 use texts::Text;
 
-/// Whether bytes are a path.
+/// Returns whether bytes are a path.
 pub fn is_path(bytes: &[u8]) -> bool
     ensures { result ≡ paths.is_path bytes.now }
 {
@@ -23,7 +23,7 @@ pub fn is_path(bytes: &[u8]) -> bool
     }
 }
 
-/// The text of a label that is read in a package, or fault 15.
+/// Returns the text of a label that is read in a package, or fault 15.
 #[tactic(auto, using(crate::proofs::Spelled::spelled, crate::proofs::Spelled::misspelled))]
 pub fn label_in(alloc: Global, package_name: &Text, bytes: &[u8]) -> Result<Bytes, Halt>
     ensures { Checks (label_in package_name.now bytes.now) result }
@@ -38,7 +38,7 @@ pub fn label_in(alloc: Global, package_name: &Text, bytes: &[u8]) -> Result<Byte
     }
 }
 
-/// A pattern, or fault 21.
+/// Reads a pattern, or returns fault 21.
 pub fn pattern_of(alloc: Global, bytes: &[u8]) -> Result<Pattern, Halt>
     ensures { Checks (if is_pattern bytes.now then good bytes.now else bad 21) result }
 {

@@ -6,7 +6,7 @@ ghost use Rattle.heap.specs.View.{store_of, Checks, ChecksItems};
 use heap::{Bytes, Halt, Heap, Object, Val};
 use meaning::faults;
 
-/// The bytes of a string, or fault 5.
+/// Returns the bytes of a string, or fault 5.
 pub fn text_in(heap: &Heap, x: Val) -> Result<Bytes, Halt>
     ensures { Checks (bytes_of x (store_of heap.now)) result }
 {
@@ -22,7 +22,7 @@ pub fn text_in(heap: &Heap, x: Val) -> Result<Bytes, Halt>
     }
 }
 
-/// The bytes of the strings in a list, or fault 5.
+/// Returns the bytes of the strings in a list, or fault 5.
 pub fn texts_in(heap: &Heap, x: Val) -> Result<Vec<Bytes>, Halt>
     ensures { ChecksItems (texts_in x (store_of heap.now)) result }
 {
@@ -35,7 +35,7 @@ pub fn texts_in(heap: &Heap, x: Val) -> Result<Vec<Bytes>, Halt>
     }
 }
 
-// The bytes of strings, or fault 5.
+// Returns the bytes of strings, or fault 5.
 fn all_texts(heap: &Heap, xs: &[Val]) -> Result<Vec<Bytes>, Halt>
     ensures { ChecksItems (all_texts xs.now (store_of heap.now)) result }
 {
