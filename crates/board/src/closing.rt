@@ -20,7 +20,7 @@ pub struct Left<R: Rules> {
     next: usize,
 }
 
-// How much was left at a place. It is given up.
+// Returns how much was left at a place, and gives it up.
 fn count_of<R: Rules>(entry: Slot<R>) -> usize
     ensures count { result ≡ count_in entry }
     ensures few { result ≤ 1 }
@@ -64,7 +64,7 @@ impl<R: Rules> Board<R> {
 }
 
 impl<R: Rules> Left<R> {
-    /// Takes what is left at the next place that has something: a job, or its turn.
+    /// Takes the job or the turn that is left at the next place that has one, with the place.
     pub fn next(&mut self) -> Option<(usize, Entry<Job<R>, Turned<R>>)>
         requires { HasRest (slots_filled self.old.closed.slots) self.old.next
             (slots_len self.old.closed.slots) }

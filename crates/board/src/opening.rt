@@ -30,8 +30,8 @@ impl From<AllocError> for OpenError {
 }
 
 impl<R: Rules> Board<R> {
-    /// Opens a board with this many places, and gives its host and so many hands. `Range` exactly where there are not 1 to
-    /// 64 places and 1 to 16 hands; `Memory` where a growth was refused.
+    /// Opens a board with this many places, and returns its host and so many hands. Returns `Range` exactly if there
+    /// are not 1 to 64 places and 1 to 16 hands, and `Memory` if an allocation fails.
     pub fn open(
         alloc: Global,
         capacity: usize,

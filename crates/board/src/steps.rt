@@ -22,7 +22,8 @@ const HELD: u64 = 2;
 const ANSWERED: u64 = 3;
 
 impl<R: Rules> Board<R> {
-    // Whether the place is empty, by one look. The host has its slot then. Neither a job nor a turn is moved for a look.
+    // Returns whether the place is empty, by one look. If so, the host has its slot. Neither a job nor a turn is moved
+    // for a look.
     pub(crate) fn finds_empty(&self, seat: &mut Seat<Slot<R>, SeatView<R>>, place: usize) -> bool
         requires { (seat.old.table_id ≡ self.now.table.shared.table_id) × (seat.old.id ≡ 0)
             × IsAtRest seat.old.me × (place < self.now.capacity) }
@@ -54,7 +55,7 @@ impl<R: Rules> Board<R> {
         words.store::<Post>(seat, place, READY);
     }
 
-    // Claims the place, where it is ready. The hand has its slot then.
+    // Claims the place if it is ready, and returns whether it was. If so, the hand has its slot.
     pub(crate) fn claims(&self, seat: &mut Seat<Slot<R>, SeatView<R>>, place: usize) -> bool
         requires { (seat.old.table_id ≡ self.now.table.shared.table_id)
             × (seat.old.me.0.is_host ≡ false) × (seat.old.me.0.live ≡ 1) × IsAtRest seat.old.me
@@ -113,7 +114,7 @@ impl<R: Rules> Board<R> {
         words.store::<Answer>(seat, place, ANSWERED);
     }
 
-    // Whether the place is answered, by one look. The host has its slot then.
+    // Returns whether the place is answered, by one look. If so, the host has its slot.
     pub(crate) fn finds_turn(&self, seat: &mut Seat<Slot<R>, SeatView<R>>, place: usize) -> bool
         requires { (seat.old.table_id ≡ self.now.table.shared.table_id) × (seat.old.id ≡ 0)
             × IsAtRest seat.old.me × (place < self.now.capacity) }

@@ -32,7 +32,7 @@ pub enum Went {
     Goes { outcome: Outcome, used: usize },
 }
 
-// The keys of the globs of patterns.
+// Returns the keys of the globs of patterns.
 fn glob_keys(alloc: Global, package_name: &Text, patterns: &[Text]) -> Result<Vec<Key>, Memory>
     ensures { IfOk result (λ v. v.items ≡ specs.glob_keys package_name.now patterns.now) }
 {
@@ -44,7 +44,7 @@ fn glob_keys(alloc: Global, package_name: &Text, patterns: &[Text]) -> Result<Ve
     Ok(keys)
 }
 
-// The paths of an answer, shared.
+// Returns the paths of an answer, shared.
 fn paths_at(alloc: Global, answer: Option<&Value>) -> Result<Arc<Vec<Text>, Global>, Memory>
     ensures { IfOk result
         (λ a. shared_texts a ≡ specs.paths_or_none (option_map (λ v. v.now) answer.entry)) }
@@ -58,7 +58,7 @@ fn paths_at(alloc: Global, answer: Option<&Value>) -> Result<Arc<Vec<Text>, Glob
     }
 }
 
-// The paths that each key finds, by the keys' places.
+// Returns the paths that each key finds, by the keys' places.
 fn paths_in(
     alloc: Global,
     places: &BTreeMap<Key, usize>,
@@ -75,7 +75,7 @@ fn paths_in(
     Ok(all)
 }
 
-// The paths that each key finds by the answers of a group.
+// Returns the paths that each key finds by the answers of a group.
 fn paths_by(
     alloc: Global,
     group: &[Key],
@@ -103,7 +103,7 @@ enum Heard {
     },
 }
 
-// What the answers are good for, where an evaluation waits for globs of a package.
+// Returns what the answers are good for, where an evaluation waits for globs of a package.
 fn hear(
     alloc: Global,
     package_name: &Text,
@@ -189,7 +189,7 @@ fn go_on(
     }
 }
 
-// What the answers lead an outcome to.
+// Returns what the answers lead an outcome to.
 fn rounds(
     alloc: Global,
     package_name: &Text,
@@ -216,7 +216,7 @@ fn rounds(
     }
 }
 
-/// What the answers lead a paused evaluation to.
+/// Returns what the answers lead a paused evaluation to.
 pub fn go_further(alloc: Global, paused: Paused, answers: &[Arc<Value>]) -> Result<Reply, Memory>
     requires { IsWaiting paused }
     ensures { IfOk result (IsMade (led (env_in paused)) (values answers.now)) }
@@ -231,7 +231,7 @@ pub fn go_further(alloc: Global, paused: Paused, answers: &[Arc<Value>]) -> Resu
     }
 }
 
-// What the evaluation of a file is given, with no glob answered.
+// Makes what the evaluation of a file is given, with no glob answered.
 fn environment(
     alloc: Global,
     source: &Source,
@@ -255,7 +255,7 @@ fn environment(
     })
 }
 
-/// What the evaluation of a file asks or ends with, from the answers to its globs.
+/// Returns what the evaluation of a file asks or ends with, from the answers to its globs.
 pub fn evaluated(
     alloc: Global,
     source: &Source,

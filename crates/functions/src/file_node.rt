@@ -40,7 +40,7 @@ pub struct Source {
     pub package_name: Text,
 }
 
-/// A fault of a file.
+/// Makes a fault of a file.
 pub fn fault_at(code: u8, path: &Text, line: usize) -> Result<Fault, Memory>
     ensures { IfOk result (λ f. f ≡ specs.fault_at code path.now line) }
 {
@@ -51,7 +51,7 @@ pub fn fault_at(code: u8, path: &Text, line: usize) -> Result<Fault, Memory>
     })
 }
 
-/// The tree of a file, or the fault of its text.
+/// Returns the tree of a file, or the fault of its text.
 pub fn read_tree(alloc: Global, source: &Source, text: &Text) -> Result<Result<File, Fault>, Memory>
     ensures { IfOk result (IsParsed source.now.path (parse_of source.now.kind text.now)) }
 {
@@ -62,7 +62,7 @@ pub fn read_tree(alloc: Global, source: &Source, text: &Text) -> Result<Result<F
     }
 }
 
-// The key of the module that a load names, or fault 15.
+// Returns the key of the module that a load names, or fault 15.
 fn load_key(alloc: Global, source: &Source, load: &LoadStmt) -> Result<Result<Key, Fault>, Memory>
     ensures { IfOk result (λ r. r ≡ specs.load_key source.now (load_of load.now)) }
 {
@@ -79,7 +79,7 @@ fn load_key(alloc: Global, source: &Source, load: &LoadStmt) -> Result<Result<Ke
     }
 }
 
-/// The keys of the modules that loads name, in order, or fault 15 of the first that names none.
+/// Returns the keys of the modules that loads name, in order, or fault 15 of the first that names none.
 pub fn load_keys(
     alloc: Global,
     source: &Source,
@@ -98,7 +98,7 @@ pub fn load_keys(
     Ok(Ok(all))
 }
 
-// The same module with those that it reaches, shared.
+// Returns the same module with those that it reaches, shared.
 fn share_loaded(alloc: Global, loaded: &Loaded) -> Result<Loaded, Memory>
     ensures { IfOk result (λ l. l ≡ loaded.now) }
 {
@@ -109,7 +109,7 @@ fn share_loaded(alloc: Global, loaded: &Loaded) -> Result<Loaded, Memory>
     Ok(Loaded::new(loaded.body().share()?, reached))
 }
 
-// The module that a load gives, or its fault, as it is.
+// Returns the module that a load gives, or its fault, as it is.
 fn module_in(
     alloc: Global,
     path: &Text,
@@ -125,7 +125,7 @@ fn module_in(
     }
 }
 
-// The modules of loads, in order, by the keys' places, or the fault of the first faulty one.
+// Returns the modules of loads, in order, by the keys' places, or the fault of the first faulty one.
 fn modules_in(
     alloc: Global,
     path: &Text,
@@ -146,7 +146,7 @@ fn modules_in(
     Ok(Ok(all))
 }
 
-/// The modules of loads, in order, or the fault of the first faulty one.
+/// Returns the modules of loads, in order, or the fault of the first faulty one.
 pub fn all_modules(
     alloc: Global,
     path: &Text,
@@ -180,7 +180,8 @@ fn ask_modules(group: Vec<Key>, parsed: Parsed, answers: &[Arc<Value>]) -> Reply
     Reply::Ask(group)
 }
 
-/// What comes after the keys of a file's loads are known. Where none of their modules is there, the file's tree is kept.
+/// Returns what comes once the keys of a file's loads are known. If none of their modules is there, the file's tree is
+/// kept.
 pub fn after_loads(alloc: Global, parsed: Parsed, answers: &[Arc<Value>]) -> Result<Reply, Memory>
     ensures { IfOk result (IsMade (table_of (continuation.Loads parsed)) (values answers.now)) }
 {
@@ -202,7 +203,7 @@ pub fn after_loads(alloc: Global, parsed: Parsed, answers: &[Arc<Value>]) -> Res
     }
 }
 
-// What comes after the text of a file.
+// Returns what comes after the text of a file.
 fn after_text(
     alloc: Global,
     source: Source,
@@ -225,7 +226,7 @@ fn after_text(
     }
 }
 
-// The text of a file that is there.
+// Returns the text of a file that is there.
 fn text_in(answer: &Value) -> Option<&Text>
     ensures { option_map (λ t. t.now) result ≡ specs.text_in answer.now }
 {
@@ -235,7 +236,7 @@ fn text_in(answer: &Value) -> Option<&Text>
     }
 }
 
-// What a file asks and ends with, from its text on.
+// Returns what a file asks or ends with, from its text on.
 fn by_file(alloc: Global, source: Source, answers: &[Arc<Value>]) -> Result<Reply, Memory>
     ensures { IfOk result (IsMade (specs.by_file source) (values answers.now)) }
 {
@@ -262,7 +263,7 @@ fn add_lookups(keys: &mut Vec<Key>, names: &[Text]) -> Result<(), Memory>
     Ok(())
 }
 
-// The look-ups of the package of a label, and of the directories between it and the file.
+// Returns the look-ups of the package of a label, and of the directories between it and the file.
 fn lookups(alloc: Global, label: &Label) -> Result<Vec<Key>, Memory>
     ensures { IfOk result (λ v. v.items ≡ modules.lookups label.now) }
 {
@@ -273,7 +274,7 @@ fn lookups(alloc: Global, label: &Label) -> Result<Vec<Key>, Memory>
     once(alloc, keys.as_slice())
 }
 
-// Whether some look-up found a BUILD file.
+// Returns whether some look-up found a BUILD file.
 fn some_build(looks: &[Arc<Value>]) -> bool
     ensures { result ≡ list_any holds_build (values looks.now) }
 {
@@ -285,7 +286,7 @@ fn some_build(looks: &[Arc<Value>]) -> bool
     false
 }
 
-// Whether the first look-up found a BUILD file.
+// Returns whether the first look-up found a BUILD file.
 fn is_in_package(looks: &[Arc<Value>]) -> bool
     ensures { result ≡ modules.is_in_package (values looks.now) }
 {
@@ -295,7 +296,7 @@ fn is_in_package(looks: &[Arc<Value>]) -> bool
     }
 }
 
-// Whether a look-up behind the first found a BUILD file.
+// Returns whether a look-up behind the first found a BUILD file.
 fn is_crossed(looks: &[Arc<Value>]) -> bool
     ensures { result ≡ modules.is_crossed (values looks.now) }
 {
@@ -305,7 +306,7 @@ fn is_crossed(looks: &[Arc<Value>]) -> bool
     }
 }
 
-// The .bzl file of a label.
+// Returns the .bzl file of a label.
 fn source_of(label: &Label) -> Result<Source, Memory>
     ensures { IfOk result (λ s. s ≡ modules.source_of label.now) }
 {
@@ -317,7 +318,7 @@ fn source_of(label: &Label) -> Result<Source, Memory>
     })
 }
 
-// What a module asks and ends with after its look-ups.
+// Returns what a module asks or ends with after its look-ups.
 fn after_lookups(
     alloc: Global,
     label: &Label,
@@ -336,7 +337,7 @@ fn after_lookups(
     by_file(alloc, source_of(label)?, answers)
 }
 
-// What the module of a label asks and ends with.
+// Returns what the module of a label asks or ends with.
 fn by_lookups(alloc: Global, label: &Label, answers: &[Arc<Value>]) -> Result<Reply, Memory>
     ensures { IfOk result (IsMade (modules.by_lookups label.now) (values answers.now)) }
 {
@@ -348,7 +349,7 @@ fn by_lookups(alloc: Global, label: &Label, answers: &[Arc<Value>]) -> Result<Re
     after_lookups(alloc, label, &answers[..count], &answers[count..])
 }
 
-/// What a module asks or ends with.
+/// Returns what a module asks or ends with.
 pub fn of_module(alloc: Global, label: &Text, answers: &[Arc<Value>]) -> Result<Reply, Memory>
     ensures { IfOk result (IsMade (modules.next label.now) (values answers.now)) }
 {
@@ -359,7 +360,7 @@ pub fn of_module(alloc: Global, label: &Text, answers: &[Arc<Value>]) -> Result<
     }
 }
 
-// The BUILD file that a look-up found.
+// Returns the BUILD file that a look-up found.
 fn build_in(answer: &Value) -> Option<BuildName>
     ensures { result ≡ packages.build_in answer.now }
 {
@@ -369,7 +370,7 @@ fn build_in(answer: &Value) -> Option<BuildName>
     }
 }
 
-// The BUILD file of a package.
+// Returns the BUILD file of a package.
 fn build_source(alloc: Global, name: &Text, build: BuildName) -> Result<Source, Memory>
     ensures { IfOk result (λ s. s ≡ packages.source_of name.now build) }
 {
@@ -382,7 +383,7 @@ fn build_source(alloc: Global, name: &Text, build: BuildName) -> Result<Source, 
     })
 }
 
-/// What a package asks or ends with.
+/// Returns what a package asks or ends with.
 pub fn of_package(alloc: Global, name: &Text, answers: &[Arc<Value>]) -> Result<Reply, Memory>
     ensures { IfOk result (IsMade (packages.next name.now) (values answers.now)) }
 {

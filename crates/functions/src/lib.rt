@@ -34,21 +34,21 @@ mod reply;
 
 pub use loading::{LoadRules, Loading};
 
-/// The law of the leaves and the look-ups: at each state of the files a file's node holds its text or none, a listing's
-/// the names in the directory or none, and a look-up's which BUILD file wins, or none.
+/// States the law of the leaves and the look-ups, at each state of the files. A file's node holds its text or none, and
+/// a listing's node the names in the directory or none. A look-up's node holds which BUILD file wins, or none.
 pub fn leaves_and_look_ups_hold()
     ensures { NamesHold }
 {}
 
-/// The law of the globs: at files whose names are paths the node of a directory and a question holds the paths that the
-/// question finds among all paths of the files, below the directory and into no package on the way, in byte order. Where
-/// it asks for directories, those that are no packages are found too.
+/// States the law of the globs, at files whose names are paths. The node of a directory and a question holds the paths
+/// that the question finds among all paths of the files, in byte order. It finds below the directory, and into no
+/// package on the way. Where it asks for directories, those that are no packages are found too.
 pub fn globs_hold_what_they_find()
     ensures { GlobsHold }
 {}
 
-/// The law of the packages below a directory: at files whose names are paths the node of a directory holds the names of
-/// all packages at and below it, in byte order.
+/// States the law of the packages below a directory, at files whose names are paths. The node of a directory holds the
+/// names of all packages at and below it, in byte order.
 pub fn packages_below_are_held()
     ensures { PackagesHold }
 {}

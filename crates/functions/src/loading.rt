@@ -41,7 +41,7 @@ pub struct Kept {
     held: Option<Box<Held>>,
 }
 
-// The reply of a node that goes by directories, of which nothing waits.
+// Returns the reply of a node that goes by directories, of which nothing waits.
 fn plain(reply: walks::Reply) -> Reply
     ensures { (next : Table) (answers : List Value) → IsWalked (next answers) reply
         → IsMade next answers result }
@@ -52,7 +52,7 @@ fn plain(reply: walks::Reply) -> Reply
     }
 }
 
-// A turn of a node of which nothing is kept.
+// Makes a turn of a node of which nothing is kept.
 fn from_start(alloc: Global, key: &Key, answers: &[Arc<Value>]) -> Result<Reply, Memory>
     ensures { IfOk result (IsMade (table.next key.now) (values answers.now)) }
 {
@@ -67,7 +67,7 @@ fn from_start(alloc: Global, key: &Key, answers: &[Arc<Value>]) -> Result<Reply,
     }
 }
 
-// A turn of a node, from what waits.
+// Makes a turn of a node, from what waits.
 fn go_on(alloc: Global, continuation: Continuation, answers: &[Arc<Value>]) -> Result<Reply, Memory>
     requires { MayGoOn continuation }
     ensures { IfOk result (IsMade (table_of continuation) (values answers.now)) }
@@ -78,7 +78,7 @@ fn go_on(alloc: Global, continuation: Continuation, answers: &[Arc<Value>]) -> R
     }
 }
 
-// A turn of a node, from what is held of it.
+// Makes a turn of a node, from the state that is held of it.
 fn reply_of(
     alloc: Global,
     key: &Key,
@@ -108,7 +108,7 @@ pub struct Loading {
 }
 
 impl Loading {
-    /// The node functions, with no turn made. They grow by the allocator that they are made with.
+    /// Makes the node functions, with no turn made. They grow by the allocator that they are made with.
     pub fn new(alloc: Global) -> Loading
         ensures { result.made ≡ 0 }
     {

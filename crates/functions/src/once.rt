@@ -13,7 +13,7 @@ use std::collections::{BTreeMap, BTreeSet};
 use std::sync::Arc;
 use texts::Memory;
 
-// Whether a key is in a set.
+// Returns whether a key is in a set.
 fn is_among(set: &BTreeSet<Key>, key: &Key) -> bool
     ensures { result ≡ contains key_cmp set.now key.now }
 {
@@ -28,7 +28,7 @@ fn add(set: &mut BTreeSet<Key>, key: Key) -> Result<(), Memory>
     Ok(())
 }
 
-/// The keys, each at its first place.
+/// Returns the keys, each at its first place.
 pub fn once(alloc: Global, keys: &[Key]) -> Result<Vec<Key>, Memory>
     ensures { IfOk result (λ v. v.items ≡ specs.once keys.now) }
 {
@@ -44,7 +44,7 @@ pub fn once(alloc: Global, keys: &[Key]) -> Result<Vec<Key>, Memory>
     Ok(all)
 }
 
-// Whether a key has a place.
+// Returns whether a key has a place.
 fn has_place(places: &BTreeMap<Key, usize>, key: &Key) -> bool
     ensures { result ≡ is_some (get key_cmp places.now key.now) }
 {
@@ -59,7 +59,7 @@ fn set_place(places: &mut BTreeMap<Key, usize>, key: Key, place: usize) -> Resul
     Ok(())
 }
 
-/// Each key's first place in a group.
+/// Returns each key's first place in a group.
 pub fn first_places(alloc: Global, group: &[Key]) -> Result<BTreeMap<Key, usize>, Memory>
     ensures { IfOk result (λ places. ArePlaces places group.now) }
 {
@@ -73,7 +73,7 @@ pub fn first_places(alloc: Global, group: &[Key]) -> Result<BTreeMap<Key, usize>
     Ok(places)
 }
 
-/// The answer of a key, by the keys' places.
+/// Returns the answer of a key, by the keys' places.
 pub fn answer_of<'a>(
     key: &Key,
     places: &BTreeMap<Key, usize>,

@@ -11,7 +11,7 @@ use keys::{DirectoryNames, Key, Value};
 use std::alloc::Global;
 use texts::Memory;
 
-/// Whether the key is a leaf, whose value is read from the files.
+/// Returns whether the key is a leaf, whose value is read from the files.
 pub fn is_leaf(key: &Key) -> bool
     ensures { result ≡ specs.is_leaf key.now }
 {
@@ -26,7 +26,7 @@ pub fn is_leaf(key: &Key) -> bool
     }
 }
 
-// The names in a directory, or none where there is no such directory.
+// Returns the names in a directory, or none if there is no such directory.
 fn read_listing(tree: &Tree, directory: &str) -> Result<Option<DirectoryNames>, Memory>
     ensures { IfOk result (λ l. l ≡ option_map specs.listed_of (listing tree.now directory.now)) }
 {
@@ -39,9 +39,9 @@ fn read_listing(tree: &Tree, directory: &str) -> Result<Option<DirectoryNames>, 
     }
 }
 
-/// The value of a leaf in the files: of a file its text, shared, or none where there is no such file, and of a listing
-/// the names in the directory, or none where there is no such directory. That the key is a leaf is the caller's
-/// condition. `Memory` where a growth was refused.
+/// Reads the value of a leaf from the files. A file has its text, shared, and a listing the names in its directory;
+/// either has none if there is no such file or directory. That the key is a leaf is the caller's condition. Returns
+/// `Memory` if an allocation fails.
 pub fn read_leaf(_alloc: Global, tree: &Tree, key: &Key) -> Result<Value, Memory>
     requires { IsTrue (specs.is_leaf key.now) }
     ensures { IfOk result (λ v. specs.read tree.now key.now ≡ Some v) }

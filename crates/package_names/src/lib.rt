@@ -11,15 +11,14 @@ mod node;
 
 pub use node::package_names;
 
-/// The law of the node: take any table of turns that has these, and by which look-ups hold what they are to hold. At
-/// files whose names are paths the node holds the names of all packages at and below its directory, whatever the
+/// States the law of the node, for any table of turns that has these, and by which look-ups hold what they are to hold.
+/// At files whose names are paths the node holds the names of all packages at and below its directory, whatever the
 /// directory.
 pub fn packages_are_held()
     ensures { HoldsPackages }
 {}
 
-/// The law of the names: at files whose names are paths each name of a package at and below a directory is a package
-/// name, whatever the directory.
+/// States the law of the names: at files whose names are paths, a package at or below any directory has a package name.
 pub fn packages_have_package_names()
     ensures { HavePackageNames }
 {}

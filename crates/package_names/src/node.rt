@@ -11,7 +11,7 @@ use std::sync::Arc;
 use texts::{Memory, Text};
 use walks::{Reply, directories_in, has_build, in_order, path_in};
 
-// The look-up and the listing of the directory.
+// Returns the look-up and the listing of the directory.
 fn first_group(alloc: Global, directory: &Text) -> Result<Vec<Key>, Memory>
     ensures { IfOk result (λ g. g.items ≡ specs.first_group directory.now) }
 {
@@ -20,7 +20,7 @@ fn first_group(alloc: Global, directory: &Text) -> Result<Vec<Key>, Memory>
     Ok(vec![in alloc; lookup, listing]?)
 }
 
-// The names at and below each subdirectory.
+// Returns the keys of the names at and below each subdirectory.
 fn keys_below(alloc: Global, directory: &Text, names: &[Text]) -> Result<Vec<Key>, Memory>
     ensures { IfOk result (λ g. g.items ≡ specs.keys_below directory.now names.now) }
 {
@@ -32,7 +32,7 @@ fn keys_below(alloc: Global, directory: &Text, names: &[Text]) -> Result<Vec<Key
     Ok(group)
 }
 
-// The names that an answer holds.
+// Returns the names that an answer holds.
 fn names_of(answer: &Value) -> &[Text]
     ensures { result.now ≡ walks_specs.paths_of answer.now }
 {
@@ -42,7 +42,7 @@ fn names_of(answer: &Value) -> &[Text]
     }
 }
 
-// The directory's own name, if it is a package.
+// Returns the directory's own name, if it is a package.
 fn own_name(alloc: Global, directory: &Text, lookup: &Value) -> Result<Vec<Text>, Memory>
     ensures { IfOk result (λ v. v.items ≡ specs.own_name directory.now lookup.now) }
 {
@@ -73,7 +73,7 @@ fn add_answers(all: &mut Vec<Text>, answers: &[Arc<Value>]) -> Result<(), Memory
     Ok(())
 }
 
-// What comes after the first group.
+// Returns what comes after the first group.
 fn after_listing(
     alloc: Global,
     directory: &Text,
@@ -93,7 +93,7 @@ fn after_listing(
     Ok(Reply::Done(Value::Paths(Paths::new(alloc, names)?)))
 }
 
-/// What the node of the packages at and below a directory asks or ends with.
+/// Returns what the node of the packages at and below a directory asks or ends with.
 pub fn package_names(
     alloc: Global,
     directory: &Text,

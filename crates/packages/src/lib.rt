@@ -9,45 +9,48 @@
 ghost use Rattle.packages.specs.Loaded.{ModulesHold, PackagesHold};
 ghost use Rattle.packages.specs.LoadedLaws.{CyclesHaveNoModule, CyclesHaveNoPackage, SomeModuleHeld, SomePackageHeld, OneCycle, OneModule, OneModuleHeld, OnePackage, OnePackageHeld};
 
-/// The law of the modules: at files whose names are paths the value of the node of a module's label is the module that
-/// the files mean, or its fault, or, where a walk along its loads meets a module twice, the cycle to which they lead.
+/// States the law of the modules, at files whose names are paths. The node of a module's label holds the module that
+/// the files mean, or its fault. Where a walk along its loads meets a module twice, it holds the cycle to which they
+/// lead.
 pub fn modules_are_those_of_the_files()
     ensures { ModulesHold }
 {}
 
-/// The law of the packages: the value of the node of a package's name is the list of targets that the files mean, or
-/// its fault, or likewise the cycle to which its loads lead. What a glob of its BUILD file gives is told by all paths of
-/// the files.
+/// States the law of the packages, at files whose names are paths. The node of a package's name holds the targets that
+/// the files mean, or its fault, or likewise the cycle to which its loads lead. What a glob of its BUILD file gives is
+/// told by all paths of the files.
 pub fn packages_are_those_of_the_files()
     ensures { PackagesHold }
 {}
 
-/// The law of one value: the files mean one module at most for a label, and one package at most for a name, by
-/// whatever right answers to its globs a BUILD file is evaluated.
+/// States the law of one value: the files mean one module at most for a label, and one package at most for a name. It
+/// does not matter by which right answers to its globs a BUILD file is evaluated.
 pub fn each_has_one_value()
     ensures module { OneModule }
     ensures package { OnePackage }
 {}
 
-/// The law of cycles: what is shown a cycle has no value at the files, and no fault either.
+/// States the law of cycles: a module or a package that is shown a cycle has no value at the files, and no fault
+/// either.
 pub fn cycles_have_no_value()
     ensures module { CyclesHaveNoModule }
     ensures package { CyclesHaveNoPackage }
 {}
 
-/// The law of one cycle: a module or a package is shown one cycle at most, wherever its loop is entered.
+/// States the law of one cycle: a module or a package is shown one cycle at most, wherever its loop is entered.
 pub fn one_cycle_is_shown()
     ensures { OneCycle }
 {}
 
-/// The law of one answer: the files determine what the node of a module holds, and what the node of a package does.
+/// States the law of one answer: the files determine what the node of a module holds, and what the node of a package
+/// holds.
 pub fn files_determine_what_nodes_hold()
     ensures module { OneModuleHeld }
     ensures package { OnePackageHeld }
 {}
 
-/// The law of existence: at any files each label has a module, a fault or a cycle, and each name has a package, a fault
-/// or a cycle. Right answers to its globs that let the evaluation of a BUILD file end are part of it.
+/// States the law of existence, at any files. Each label has a module, a fault or a cycle, and each name has a package,
+/// a fault or a cycle. Right answers to its globs that let the evaluation of a BUILD file end are part of it.
 pub fn each_has_a_value()
     ensures module { SomeModuleHeld }
     ensures package { SomePackageHeld }

@@ -5,14 +5,14 @@ use crate::keeper::Keeper;
 use crate::reader::{Reader, Told};
 use std::sync::Wait;
 
-// A value of any type that may go to another thread.
+// Returns the same value, of any type that may go to another thread.
 fn crossing<T: Send>(value: T) -> T
     ensures { result ≡ value }
 {
     value
 }
 
-// A value of any type that several threads may share.
+// Returns the same value, of any type that several threads may share.
 fn shared<T: Send + Sync>(value: T) -> T
     ensures { result ≡ value }
 {

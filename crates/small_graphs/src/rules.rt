@@ -33,7 +33,7 @@ pub struct SmallGraphs {
     made: Count,
 }
 
-// The value with the text of a value.
+// Returns the value of a file with the text of a value, or without one.
 fn same_text(value: &Value) -> Result<Value, Memory>
     ensures { IfOk result (λ v. v ≡ specs.with_text (specs.text_of value.now)) }
 {
@@ -54,7 +54,7 @@ fn asking(group: Vec<Key>) -> Reply
     }
 }
 
-// What a look-up asks or ends with.
+// Returns what a look-up asks or ends with.
 fn lookup_reply(alloc: Global, name: &Text, answers: &[Arc<Value>]) -> Result<Reply, Memory>
     ensures { IfOk result (specs.IsReply (specs.lookup name.now (values answers.now))) }
 {
@@ -72,7 +72,7 @@ fn lookup_reply(alloc: Global, name: &Text, answers: &[Arc<Value>]) -> Result<Re
 }
 
 impl SmallGraphs {
-    /// The node functions, with no turn made.
+    /// Makes the node functions, with no turn made.
     pub fn new(alloc: Global) -> SmallGraphs
         ensures { result.made ≡ 0 }
     {

@@ -7,14 +7,14 @@ use keys::{Key, Value};
 use std::alloc::Global;
 use texts::{Memory, Text};
 
-// A group of one look-up.
+// Makes a group of one look-up.
 fn one(alloc: Global, name: &str) -> Result<Vec<Key>, Memory>
     ensures { IfOk result (λ group. group.items ≡ key.Lookup name.now ∷ []) }
 {
     Ok(vec![in alloc; Key::Lookup(Text::new(alloc, name)?)]?)
 }
 
-// A group of two look-ups.
+// Makes a group of two look-ups.
 fn two(alloc: Global, first: &str, second: &str) -> Result<Vec<Key>, Memory>
     ensures { IfOk result (λ group. group.items ≡ key.Lookup first.now ∷ key.Lookup second.now
         ∷ []) }
@@ -25,14 +25,14 @@ fn two(alloc: Global, first: &str, second: &str) -> Result<Vec<Key>, Memory>
     ]?)
 }
 
-// A group of one file.
+// Makes a group of one file.
 fn file(alloc: Global, path: &str) -> Result<Vec<Key>, Memory>
     ensures { IfOk result (λ group. group.items ≡ key.File path.now ∷ []) }
 {
     Ok(vec![in alloc; Key::File(Text::new(alloc, path)?)]?)
 }
 
-// What the nodes of the chain and of the diamonds ask first.
+// Returns what the nodes of the chain and of the diamonds ask first.
 fn first_of_trees(alloc: Global, name: &str) -> Result<Vec<Key>, Memory>
     ensures { IfOk result (λ group. group.items ≡ specs.first_of_trees name.now) }
 {

@@ -14,7 +14,7 @@ static BOTH: [BuildName; 2] = [BuildName::BuildBazel, BuildName::Build];
 
 static SHORTER: [BuildName; 1] = [BuildName::Build];
 
-// The name of the file.
+// Returns the name of the file.
 fn file_name(name: BuildName) -> &'static str
     ensures name { result.now ≡ specs.file_name name }
     ensures short { length result.now ≤ 11 }
@@ -25,7 +25,7 @@ fn file_name(name: BuildName) -> &'static str
     }
 }
 
-/// Where the file of the package is.
+/// Returns the path of this BUILD file of a package.
 pub fn build_path(alloc: Global, directory: &Text, name: BuildName) -> Result<String, Memory>
     ensures { IfOk result (λ p. string_bytes p ≡ specs.build_path directory.now name) }
 {
@@ -37,7 +37,7 @@ pub fn build_path(alloc: Global, directory: &Text, name: BuildName) -> Result<St
     Ok(path)
 }
 
-// Whether that path is short enough to be one.
+// Returns whether that path is short enough to be one.
 fn is_short(directory: &Text, name: BuildName) -> bool
     ensures { result ≡ specs.is_short directory.now name }
 {
@@ -50,7 +50,7 @@ fn is_short(directory: &Text, name: BuildName) -> bool
     }
 }
 
-/// The files that are asked for, the one that wins first.
+/// Returns the files that are asked for, the one that wins first.
 pub fn candidates(directory: &Text) -> &'static [BuildName]
     ensures { result.now ≡ specs.candidates directory.now }
 {

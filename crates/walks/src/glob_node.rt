@@ -15,7 +15,7 @@ use std::alloc::Global;
 use std::sync::Arc;
 use texts::{Memory, Text};
 
-// The names of the files in a listing.
+// Returns the names of the files in a listing.
 fn files_in(listing: &Value) -> &[Text]
     ensures { result.now ≡ specs.files_in listing.now }
 {
@@ -25,7 +25,7 @@ fn files_in(listing: &Value) -> &[Text]
     }
 }
 
-/// The names of the subdirectories in a listing.
+/// Returns the names of the subdirectories in a listing.
 pub fn directories_in(listing: &Value) -> &[Text]
     ensures { result.now ≡ specs.directories_in listing.now }
 {
@@ -35,7 +35,7 @@ pub fn directories_in(listing: &Value) -> &[Text]
     }
 }
 
-/// Whether a look-up found a BUILD file.
+/// Returns whether a look-up found a BUILD file.
 pub fn has_build(answer: &Value) -> bool
     ensures { result ≡ specs.has_build answer.now }
 {
@@ -45,7 +45,7 @@ pub fn has_build(answer: &Value) -> bool
     }
 }
 
-// The paths that a glob found.
+// Returns the paths that a glob found.
 fn paths_of(answer: &Value) -> &[Text]
     ensures { result.now ≡ specs.paths_of answer.now }
 {
@@ -55,7 +55,7 @@ fn paths_of(answer: &Value) -> &[Text]
     }
 }
 
-// The look-ups of subdirectories.
+// Returns the look-ups of subdirectories.
 fn lookups(alloc: Global, directory: &str, names: &[Text]) -> Result<Vec<Key>, Memory>
     ensures { IfOk result (λ g. g.items ≡ specs.lookups directory.now names.now) }
 {
@@ -67,7 +67,7 @@ fn lookups(alloc: Global, directory: &str, names: &[Text]) -> Result<Vec<Key>, M
     Ok(group)
 }
 
-// The subdirectories that are no packages.
+// Returns the subdirectories that are no packages.
 fn open_names(alloc: Global, names: &[Text], answers: &[Arc<Value>]) -> Result<Vec<Text>, Memory>
     ensures { IfOk result (λ v. v.items ≡ specs.open_names names.now (values answers.now)) }
 {
@@ -83,7 +83,7 @@ fn open_names(alloc: Global, names: &[Text], answers: &[Arc<Value>]) -> Result<V
     Ok(all)
 }
 
-// The globs of a question below subdirectories, behind those of a group.
+// Adds the globs of a question below subdirectories to a group.
 fn add_globs(
     alloc: Global,
     group: &mut Vec<Key>,
@@ -101,7 +101,7 @@ fn add_globs(
     Ok(())
 }
 
-// The globs that a glob asks.
+// Returns the globs that a glob asks.
 fn globs(alloc: Global, search: Search<'_>, names: &[Text]) -> Result<Vec<Key>, Memory>
     ensures { IfOk result
         (λ g. g.items ≡ specs.globs search.entry.directory.now search.entry.directories
@@ -171,7 +171,7 @@ fn add_found(
     }
 }
 
-// What comes after the look-ups, from the subdirectories that are no packages and those that are gone into.
+// Returns what comes after the look-ups, from the subdirectories that are no packages and those that are gone into.
 fn after_lookups(
     alloc: Global,
     search: Search<'_>,
@@ -194,7 +194,8 @@ fn after_lookups(
     Ok(Reply::Done(Value::Paths(Paths::new(alloc, paths)?)))
 }
 
-// What comes after the look-ups, from the subdirectories that are no packages. Without directories all are gone into.
+// Returns what comes after the look-ups, from the subdirectories that are no packages. Without directories all of them
+// are gone into.
 fn by_open(
     alloc: Global,
     search: Search<'_>,
@@ -213,7 +214,7 @@ fn by_open(
     after_lookups(alloc, search, files, free, names.as_slice(), answers)
 }
 
-// What comes after the listing.
+// Returns what comes after the listing.
 fn after_listing(
     alloc: Global,
     search: Search<'_>,
@@ -238,7 +239,7 @@ fn after_listing(
     )
 }
 
-/// What a glob asks or ends with.
+/// Returns what a glob asks or ends with.
 pub fn glob(alloc: Global, text: &Text, answers: &[Arc<Value>]) -> Result<Reply, Memory>
     ensures { IfOk result (IsReply (specs.next text.now (values answers.now))) }
 {

@@ -14,7 +14,7 @@ use pattern::{is_double_star, segment_matches};
 use std::alloc::Global;
 use texts::{Memory, Text};
 
-// The first segment of a pattern, and the pattern of the others.
+// Splits a pattern into its first segment and the pattern of the others.
 fn split_pattern(pattern: &str) -> (&str, Option<&str>)
     ensures first { result.0.now ≡ specs.first_segment pattern.now }
     ensures others { option_copied result.1 ≡ specs.other_segments pattern.now }
@@ -25,21 +25,21 @@ fn split_pattern(pattern: &str) -> (&str, Option<&str>)
     }
 }
 
-// Whether a segment stands for any number of segments.
+// Returns whether a segment stands for any number of segments.
 fn is_any(segment: &str) -> bool
     ensures { result ≡ patterns.is_double_star segment.now }
 {
     is_double_star(segment)
 }
 
-// Whether all segments of a pattern stand for any number of segments.
+// Returns whether all segments of a pattern stand for any number of segments.
 fn are_any(pattern: &str) -> bool
     ensures { result ≡ list_all patterns.is_double_star (segments pattern.now) }
 {
     pattern.split('/').all(is_any)
 }
 
-// Whether no segment is left but `**`.
+// Returns whether no segment is left but `**`.
 fn ends_here(rest: Option<&str>) -> bool
     ensures { result ≡ specs.ends_here (option_copied rest.entry) }
 {
@@ -49,14 +49,14 @@ fn ends_here(rest: Option<&str>) -> bool
     }
 }
 
-// Whether the first segment is `**`.
+// Returns whether the first segment is `**`.
 fn is_deep(pattern: &str) -> bool
     ensures { result ≡ specs.is_deep pattern.now }
 {
     is_double_star(split_pattern(pattern).0)
 }
 
-// Whether a pattern takes a name in the directory by its first segment.
+// Returns whether a pattern takes a name in the directory by its first segment.
 fn takes(pattern: &str, name: &str) -> bool
     ensures { result ≡ specs.takes pattern.now name.now }
 {
@@ -64,28 +64,28 @@ fn takes(pattern: &str, name: &str) -> bool
     ends_here(others) && segment_matches(first, name)
 }
 
-// Whether a pattern has more than one segment.
+// Returns whether a pattern has more than one segment.
 fn has_others(pattern: &str) -> bool
     ensures { result ≡ is_some (specs.other_segments pattern.now) }
 {
     split_pattern(pattern).1.is_some()
 }
 
-// Whether a pattern goes into a subdirectory that is no package.
+// Returns whether a pattern goes into a subdirectory that is no package.
 fn enters(pattern: &str, name: &str) -> bool
     ensures { result ≡ specs.enters pattern.now name.now }
 {
     is_deep(pattern) || (has_others(pattern) && segment_matches(split_pattern(pattern).0, name))
 }
 
-/// Whether the others of a pattern are looked for in the directory itself too.
+/// Returns whether the other segments of a pattern are looked for in the directory itself too.
 pub fn asks_here(pattern: &str) -> bool
     ensures { result ≡ specs.asks_here pattern.now }
 {
     is_deep(pattern) && has_others(pattern)
 }
 
-/// The pattern of the segments behind the first, or the empty text.
+/// Returns the pattern of the segments behind the first, or the empty text.
 pub fn others_of(pattern: &str) -> &str
     ensures { result.now ≡ specs.text_or_none (specs.other_segments pattern.now) }
 {
@@ -95,7 +95,7 @@ pub fn others_of(pattern: &str) -> &str
     }
 }
 
-/// The pattern that is looked for below a subdirectory.
+/// Returns the pattern that is looked for below a subdirectory.
 pub fn pattern_below(pattern: &str) -> &str
     ensures { result.now ≡ specs.pattern_below pattern.now }
 {
@@ -142,7 +142,8 @@ fn add_own(all: &mut Vec<Text>, pattern: &str, names: &[Text]) -> Result<(), Mem
     add_all(all, names)
 }
 
-/// The names in the directory that a search finds there, of its files and of its subdirectories that are no packages.
+/// Returns the names in the directory that a search finds there, of its files and of its subdirectories that are no
+/// packages.
 pub fn own_found(
     alloc: Global,
     search: Search<'_>,
@@ -161,7 +162,7 @@ pub fn own_found(
     Ok(all)
 }
 
-/// The names that a pattern goes into.
+/// Returns the names that a pattern goes into.
 pub fn all_entered(alloc: Global, pattern: &str, names: &[Text]) -> Result<Vec<Text>, Memory>
     ensures { IfOk result (λ v. v.items ≡ filter (specs.enters pattern.now) names.now) }
 {
@@ -174,7 +175,7 @@ pub fn all_entered(alloc: Global, pattern: &str, names: &[Text]) -> Result<Vec<T
     Ok(all)
 }
 
-// Whether a search has to know of a subdirectory whether it is a package.
+// Returns whether a search has to know of a subdirectory whether it is a package.
 fn asks(search: Search<'_>, name: &str) -> bool
     ensures { result ≡ specs.enters search.entry.pattern.now name.now || search.entry.directories
         && specs.takes search.entry.pattern.now name.now }
@@ -182,7 +183,7 @@ fn asks(search: Search<'_>, name: &str) -> bool
     enters(search.pattern, name) || (search.directories && takes(search.pattern, name))
 }
 
-// The names of these subdirectories.
+// Returns the subdirectories of which a search has to know whether they are packages.
 fn all_asked(alloc: Global, search: Search<'_>, names: &[Text]) -> Result<Vec<Text>, Memory>
     ensures { IfOk result
         (λ v. v.items ≡ filter (λ name. specs.enters search.entry.pattern.now name
@@ -197,7 +198,7 @@ fn all_asked(alloc: Global, search: Search<'_>, names: &[Text]) -> Result<Vec<Te
     Ok(all)
 }
 
-/// The subdirectories of which a search has to know whether they are packages, in byte order.
+/// Returns the subdirectories of which a search has to know whether they are packages, in byte order.
 pub fn asked_names(alloc: Global, search: Search<'_>, names: &[Text]) -> Result<Vec<Text>, Memory>
     ensures { IfOk result
         (λ v. v.items ≡ specs.asked_names search.entry.directories search.entry.pattern.now
@@ -207,7 +208,7 @@ pub fn asked_names(alloc: Global, search: Search<'_>, names: &[Text]) -> Result<
     in_order(alloc, all.as_slice())
 }
 
-/// A name in a directory; the root's name is empty.
+/// Returns the path of a name in a directory; the root's name is empty.
 pub fn path_in(alloc: Global, directory: &str, name: &str) -> Result<String, Memory>
     ensures { IfOk result (λ p. string_bytes p ≡ path_in directory.now name.now) }
 {

@@ -29,16 +29,16 @@ pub use lookup_node::lookup;
 pub use ordering::in_order;
 pub use reply::Reply;
 
-/// The law of the look-ups: at each state of the files a look-up's node holds which BUILD file wins, or none. It holds
-/// for any node functions whose look-ups are those of this crate.
+/// States the law of the look-ups: at each state of the files a look-up's node holds which BUILD file wins, or none. It
+/// holds for any node functions whose look-ups are those of this crate.
 pub fn look_ups_hold()
     ensures { LookupsHold }
 {}
 
-/// The law of the globs: at files whose names are paths the node of a directory and a question holds what the question
-/// finds among all paths of the files, below the directory and into no package on the way, in byte order. Where it asks
-/// for directories, those that are no packages are found too. It holds for any node functions whose look-ups and globs
-/// are those of this crate.
+/// States the law of the globs, at files whose names are paths. The node of a directory and a question holds what the
+/// question finds among all paths of the files, in byte order. It finds below the directory, and into no package on the
+/// way. Where it asks for directories, those that are no packages are found too. The law holds for any node functions
+/// whose look-ups and globs are those of this crate.
 pub fn globs_hold_what_they_find()
     ensures { GlobsHold }
 {}

@@ -11,7 +11,7 @@ use std::alloc::Global;
 use std::sync::Arc;
 use texts::{Memory, Text};
 
-// The group that a look-up asks.
+// Returns the group that a look-up asks.
 fn lookup_group(alloc: Global, directory: &Text) -> Result<Vec<Key>, Memory>
     ensures { IfOk result (λ g. g.items ≡ specs.lookup_group directory.now) }
 {
@@ -24,7 +24,7 @@ fn lookup_group(alloc: Global, directory: &Text) -> Result<Vec<Key>, Memory>
     Ok(group)
 }
 
-// Whether the answer is a file that is there.
+// Returns whether the answer is a file that is there.
 fn is_there(answer: &Value) -> bool
     ensures { result ≡ specs.is_there answer.now }
 {
@@ -34,7 +34,7 @@ fn is_there(answer: &Value) -> bool
     }
 }
 
-// The first of the names whose answer is a file.
+// Returns the first of the names whose answer is a file.
 fn first_there(names: &[BuildName], answers: &[Arc<Value>]) -> Option<BuildName>
     ensures { result ≡ specs.first_there names.now (values answers.now) }
 {
@@ -49,7 +49,7 @@ fn first_there(names: &[BuildName], answers: &[Arc<Value>]) -> Option<BuildName>
     None
 }
 
-/// What a look-up asks or ends with.
+/// Returns what a look-up asks or ends with.
 pub fn lookup(alloc: Global, directory: &Text, answers: &[Arc<Value>]) -> Result<Reply, Memory>
     ensures { IfOk result (IsReply (specs.next directory.now (values answers.now))) }
 {

@@ -6,7 +6,7 @@ use std::alloc::Global;
 use std::collections::BTreeSet;
 use texts::{Memory, Text};
 
-// The set of these texts.
+// Returns the set of these texts.
 fn set_of(alloc: Global, texts: &[Text]) -> Result<BTreeSet<Text>, Memory>
     ensures { IfOk result (λ set. set.keys ≡ sorted_names texts.now) }
 {
@@ -19,7 +19,7 @@ fn set_of(alloc: Global, texts: &[Text]) -> Result<BTreeSet<Text>, Memory>
     Ok(set)
 }
 
-// The same texts, shared.
+// Returns the same texts, shared.
 fn shared(alloc: Global, texts: &[Text]) -> Result<Vec<Text>, Memory>
     ensures { IfOk result (λ v. v.items ≡ texts.now) }
 {
@@ -30,7 +30,7 @@ fn shared(alloc: Global, texts: &[Text]) -> Result<Vec<Text>, Memory>
     Ok(all)
 }
 
-// Texts in byte order, each once, by way of a set.
+// Returns texts in byte order, each once, by way of a set.
 fn by_set(alloc: Global, texts: &[Text]) -> Result<Vec<Text>, Memory>
     ensures { IfOk result (λ v. v.items ≡ sorted_names texts.now) }
 {
@@ -42,7 +42,7 @@ fn by_set(alloc: Global, texts: &[Text]) -> Result<Vec<Text>, Memory>
     Ok(all)
 }
 
-/// Texts in byte order, each once.
+/// Returns texts in byte order, each once.
 pub fn in_order(alloc: Global, texts: &[Text]) -> Result<Vec<Text>, Memory>
     ensures { IfOk result (λ v. v.items ≡ sorted_names texts.now) }
 {

@@ -19,7 +19,7 @@ pub struct Search<'a> {
     pub pattern: &'a str,
 }
 
-// The directory and the question that the text of a glob's key names.
+// Splits the text of a glob's key into the directory and the question.
 fn split_text(text: &str) -> (&str, &str)
     ensures directory { result.0.now ≡ specs.directory_of text.now }
     ensures question { result.1.now ≡ specs.question_of text.now }
@@ -30,7 +30,7 @@ fn split_text(text: &str) -> (&str, &str)
     }
 }
 
-// The pattern of a question, and whether it asks for directories too.
+// Splits a question into its pattern and whether it asks for directories too.
 fn split_question(question: &str) -> (&str, bool)
     ensures pattern { result.0.now ≡ pattern_in question.now }
     ensures directories { result.1 ≡ asks_directories question.now }
@@ -41,7 +41,7 @@ fn split_question(question: &str) -> (&str, bool)
     }
 }
 
-/// What the text of a glob's key asks for.
+/// Reads what the text of a glob's key asks for.
 pub fn search_of(text: &str) -> Search<'_>
     ensures directory { result.directory.now ≡ specs.directory_of text.now }
     ensures directories { result.directories ≡ asks_directories (specs.question_of text.now) }
@@ -56,7 +56,7 @@ pub fn search_of(text: &str) -> Search<'_>
     }
 }
 
-/// The question of a pattern. Without directories nothing is copied.
+/// Returns the question of a pattern. Without directories nothing is copied.
 pub fn question_of<'a>(
     alloc: Global,
     directories: bool,

@@ -35,8 +35,8 @@ pub enum OpenError {
 pub struct Shelf;
 
 impl Shelf {
-    /// Opens a shelf with an empty list, with so many readers. `Range` exactly where they are not 1 to 16, `Memory` where a
-    /// growth was refused, `NoPlace` where the kit's `left_right` had no place for a reader.
+    /// Opens a shelf with an empty list, with so many readers. Returns `Range` exactly if they are not 1 to 16, and
+    /// `Memory` if an allocation fails. Returns `NoPlace` if the kit's `left_right` had no place for a reader.
     pub fn open<R: Wait + Drop>(
         alloc: Global,
         rt: R,

@@ -26,8 +26,9 @@ impl<R: Wait + Drop> Keeper<R> {
     }
 
     /// Publishes all entries at once, at a version that is not below the last one. It waits for readers that are still
-    /// reading the copy from before the last call. `Memory` where a growth was refused. Readers find then what they found
-    /// before, and the list is as before or has this publish at its end: it was taken up, and a later publish shows it.
+    /// reading the copy from before the last call. Returns `Memory` if an allocation fails; readers then find what they
+    /// found before. The list is as before, or has this publish at its end: it was taken up, and a later publish shows
+    /// it.
     pub fn publish(&mut self, version: u64, entries: Vec<(Text, Text)>) -> Result<Told, Memory>
         requires { version_of (published_by self.old) ≤ version }
         ensures shelf { shelf_of self.new ≡ shelf_of self.old }
