@@ -112,7 +112,7 @@ fn link_all(alloc: Global, records: &mut Records, entries: &[Entry]) -> Result<(
     Ok(())
 }
 
-// Makes each entry's key no user of the members of its groups, but of those in the groups of its record.
+// Takes each entry's key out of the users of its groups' members, but not of those in the groups of its record.
 fn cut_all(records: &mut Records, entries: &[Entry])
     requires there { AreRecorded (seen records.old) entries.now }
     requires asks { AsksNumbers records.old }
@@ -172,8 +172,8 @@ fn write_all(records: &mut Records, mut entries: Vec<Entry>, mut flats: Vec<Flat
     }
 }
 
-/// Stores the records of the entries, and the reverse edges with them. Where a growth was refused, the records are as
-/// before.
+/// Stores the records of the entries, and the reverse edges with them. Returns `Memory` if an allocation fails; the
+/// records are then as before.
 pub fn store_all(
     alloc: Global,
     records: &mut Records,

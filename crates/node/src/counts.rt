@@ -13,7 +13,7 @@ pub struct Counts {
     pub edges: Option<u64>,
 }
 
-/// The members of the groups of all records, and none where they are more than a `u64` can count.
+/// Returns how many members the groups of all records have, or `None` if they are more than a `u64` can count.
 pub fn edges(records: &Records) -> Option<u64>
     ensures some { IfSome result (λ n. n ≡ kept_edges records.now) }
     ensures none { IfNone result (u64.MAX < kept_edges records.now) }

@@ -43,7 +43,7 @@ fn remove_user(list: &mut Vec<Number>, user: Number)
     list.retain(|n| n.place() != user.place());
 }
 
-// Whether a key is in a set.
+// Returns whether a key is in a set.
 fn has(set: &BTreeSet<Key>, key: &Key) -> bool
     ensures { IsTrue result ↔ In key.now set.now.keys }
 {
@@ -64,7 +64,7 @@ fn link(records: &mut Records, member: &Key, user: Number) -> Result<(), Memory>
     Ok(())
 }
 
-// Makes the record with a number no user of the member.
+// Takes the record with a number out of the users of the member.
 fn unlink(records: &mut Records, member: &Key, user: Number)
     ensures users { HasUnlinked (numbers_of records.old) (numbers_of records.new) member.now user }
     ensures same { KeepsRecords records.old records.new }
@@ -117,7 +117,7 @@ pub fn link_groups(
     Ok(())
 }
 
-// Whether the member is the key of one of these numbers.
+// Returns whether the member is the key of one of these numbers.
 fn is_named(records: &Records, numbers: &[Number], member: &Key) -> bool
     requires { All (λ n. n < length records.now) numbers.now }
     ensures { result ≡ list_any (λ k. key_eq k member.now) (members_in records.now numbers.now) }
@@ -130,7 +130,7 @@ fn is_named(records: &Records, numbers: &[Number], member: &Key) -> bool
     false
 }
 
-// Whether the record with a number has the member in a group.
+// Returns whether the record with a number has the member in a group.
 fn asks(records: &Records, user: Number, member: &Key) -> bool
     requires within { user < length records.now }
     requires distinct { AreDistinct records.now }
@@ -141,7 +141,7 @@ fn asks(records: &Records, user: Number, member: &Key) -> bool
     is_named(records, records.value_at(user).groups.members(), member)
 }
 
-// Makes the record with a number no user of the members of a group, but of those that it has in a group itself.
+// Takes the record with a number out of the users of a group's members, but not of those that it has in a group itself.
 fn cut_group(records: &mut Records, group: &[Key], user: Number)
     requires within { user < length records.old }
     requires distinct { AreDistinct records.old }
@@ -158,7 +158,8 @@ fn cut_group(records: &mut Records, group: &[Key], user: Number)
     }
 }
 
-/// Makes the record with a number no user of the members of the groups, but of those that it has in a group itself.
+/// Takes the record with a number out of the users of the groups' members, but not of those that it has in a group
+/// itself.
 pub fn cut(records: &mut Records, groups: &[Vec<Key>], user: Number)
     requires within { user < length records.old }
     requires distinct { AreDistinct records.old }
@@ -211,7 +212,7 @@ pub fn members_with(
     Ok(set)
 }
 
-/// The members of the new groups, where there are old members.
+/// Returns the members of the new groups, if there are old members.
 pub fn members_beside(
     alloc: Global,
     old: &[Number],
@@ -227,7 +228,7 @@ pub fn members_beside(
     Ok(Some(members_of(alloc, new)?))
 }
 
-// Makes the record with a number no user of the member with a number.
+// Takes the record with a number out of the users of the member with a number.
 fn unlink_at(records: &mut Records, member: Number, user: Number)
     requires within { member < length records.old }
     requires distinct { AreDistinct records.old }
@@ -238,8 +239,7 @@ fn unlink_at(records: &mut Records, member: Number, user: Number)
     remove_user(&mut records.value_mut(member).users, user);
 }
 
-/// Makes the record with a number no user of the members with these numbers, but of those that it has in a group
-/// itself.
+/// Takes the record with a number out of the users of these members, but not of those that it has in a group itself.
 pub fn cut_with(records: &mut Records, members: &[Number], user: Number)
     requires within { user < length records.old }
     requires numbers { All (λ n. n < length records.old) members.now }
@@ -257,7 +257,7 @@ pub fn cut_with(records: &mut Records, members: &[Number], user: Number)
     }
 }
 
-// Makes the record with a number no user of the members with these numbers, but of those in the set.
+// Takes the record with a number out of the users of these members, but not of those in the set.
 fn cut_others(records: &mut Records, members: &[Number], keep: &BTreeSet<Key>, user: Number)
     requires numbers { All (λ n. n < length records.old) members.now }
     requires distinct { AreDistinct records.old }
@@ -272,8 +272,8 @@ fn cut_others(records: &mut Records, members: &[Number], keep: &BTreeSet<Key>, u
     }
 }
 
-/// Makes the record with a number no user of the members with these numbers, but of those in the set. Without a set
-/// nothing is cut.
+/// Takes the record with a number out of the users of these members, but not of those in the set. Without a set nothing
+/// is cut.
 pub fn cut_beside(
     records: &mut Records,
     members: &[Number],

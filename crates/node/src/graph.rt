@@ -57,7 +57,7 @@ impl Model for Graph {
 }
 
 impl Graph {
-    /// A graph without records, at version 0. It grows by the allocator that it is made with.
+    /// Makes a graph without records, at version 0. It grows by the allocator that it is made with.
     pub fn new(alloc: Global) -> Graph
         ensures version { result.version ≡ 0 }
         ensures records { result.records ≡ [] }
@@ -66,7 +66,7 @@ impl Graph {
         Graph::new_at(alloc, 0)
     }
 
-    /// A graph without records, at the version.
+    /// Makes a graph without records, at the version.
     pub fn new_at(alloc: Global, version: u32) -> Graph
         ensures version { result.version ≡ version }
         ensures records { result.records ≡ [] }
@@ -79,14 +79,14 @@ impl Graph {
         }
     }
 
-    /// The version.
+    /// Returns the version.
     pub fn version(&self) -> u32
         ensures { result ≡ self.now.version }
     {
         self.version
     }
 
-    // What is kept of a key.
+    // Returns the record that is kept of a key.
     fn kept(&self, key: &Key) -> Option<&Kept>
         ensures { option_map (λ e. record_of (keys_of_records self.now.records) e.now) result
             ≡ record_at self.now key.now }
@@ -94,7 +94,7 @@ impl Graph {
         self.records.get(key)
     }
 
-    /// The value of a key, and None without a record and while it is dirty.
+    /// Returns the value of a key, or `None` without a record and while it is dirty.
     pub fn get(&self, key: &Key) -> Option<&Arc<Value>>
         ensures { option_map (λ v. arc_value v.now) result ≡ present (record_at self.now key.now) }
     {
@@ -104,7 +104,8 @@ impl Graph {
         }
     }
 
-    /// The groups of a key's record, dirty or not, and None without one. `Memory` where a growth was refused.
+    /// Returns the groups of a key's record, dirty or not, or `None` without one. Returns `Memory` if an allocation
+    /// fails.
     pub fn groups(&self, alloc: Global, key: &Key) -> Result<Option<Vec<Vec<Key>>>, Memory>
         ensures { IfOk result (λ found. option_map (λ groups. items_of groups.items) found
             ≡ option_map (λ r. r.groups) (record_at self.now key.now)) }
@@ -115,9 +116,10 @@ impl Graph {
         }
     }
 
-    /// How the check of a key's record goes on that passed so many of its groups: whether the next one is settled, and
-    /// whether a member's value has changed since the record was settled. Over without a record and where no group is
-    /// left. It takes memory for the members alone that are not settled; `Memory` where that was refused.
+    /// Returns how the check of a key's record goes on behind the groups that it passed. It tells whether the next
+    /// group is settled, and whether a member's value has changed since the record was settled. The check is over
+    /// without a record and if no group is left. It takes memory for the members alone that are not settled; returns
+    /// `Memory` if that was refused.
     pub fn compare(&self, alloc: Global, key: &Key, passed: usize) -> Result<Compared, Memory>
         ensures { IfOk result (Compares (record_at self.now) (record_at self.now key.now) passed) }
     {
@@ -127,7 +129,7 @@ impl Graph {
         }
     }
 
-    /// The version at which a key's record was last settled, dirty or not, and None without one.
+    /// Returns the version at which a key's record was last settled, dirty or not, or `None` without one.
     pub fn settled_at(&self, key: &Key) -> Option<u32>
         ensures { result ≡ option_map (λ r. r.settled_at) (record_at self.now key.now) }
     {
@@ -137,7 +139,7 @@ impl Graph {
         }
     }
 
-    /// The version at which the value of a key's record last changed, dirty or not, and None without one.
+    /// Returns the version at which the value of a key's record last changed, dirty or not, or `None` without one.
     pub fn changed_at(&self, key: &Key) -> Option<u32>
         ensures { result ≡ option_map (λ r. r.changed_at) (record_at self.now key.now) }
     {
@@ -147,8 +149,8 @@ impl Graph {
         }
     }
 
-    /// How many records and recorded edges there are: an edge for each member of the recorded groups. It goes over all
-    /// records, and takes no memory.
+    /// Returns how many records and recorded edges there are: an edge for each member of the recorded groups. It goes
+    /// over all records, and takes no memory.
     pub fn counts(&self) -> Counts
         ensures records { result.records ≡ length self.now.records }
         ensures edges { IfSome result.edges (λ n. n ≡ edges_of self.now) }
@@ -160,9 +162,10 @@ impl Graph {
         }
     }
 
-    /// The keys whose records an edit of these paths is to mark: not dirty so far, and they reach a leaf which the edit
-    /// touches. These leaves are the file of each path, and the listing of each directory that it lies below, the root
-    /// among them. The cost follows what is reached. Nothing changes. `Memory` where a growth was refused.
+    /// Returns the keys whose records an edit of these paths is to mark: those that are not dirty and reach a leaf
+    /// which it touches. These leaves are the file of each path, and the listing of each directory that it lies below,
+    /// the root among them. The cost follows the records that are reached. Nothing changes. Returns `Memory` if an
+    /// allocation fails.
     pub fn reached_by(&mut self, paths: &[&str]) -> Result<Vec<Key>, Memory>
         ensures reached { IfOk result
             (λ keys. AreReached (record_at self.old) (IsTouched (paths_seen paths.now))
@@ -178,10 +181,10 @@ impl Graph {
         Ok(keys)
     }
 
-    /// Takes in an edit: one version more, and the records of these keys are marked. They must be what `reached_by`
-    /// answers for the edit's paths at the present graph. Nothing else changes, and no memory is taken. A graph that is
-    /// lawful for a history of the files is lawful for the history with this edit. That the version is below its last
-    /// value is the caller's condition. The new version.
+    /// Takes in an edit: the version grows by one, and the records of these keys are marked. Returns the new version.
+    /// The keys must be what `reached_by` answers for the edit's paths at the present graph. Nothing else changes, and
+    /// no memory is taken. A graph that is lawful for a history of the files is lawful for the history with this edit.
+    /// That the version is below its last value is the caller's condition.
     pub fn mark(&mut self, reached: &[Key]) -> u32
         requires below { self.old.version < u32.MAX }
         requires reached { (paths : List (List ℕ)) × AreReached (record_at self.old)
@@ -198,10 +201,11 @@ impl Graph {
         self.version
     }
 
-    /// Takes in an edit of these paths together: what `reached_by` answers is marked. One version more, and each record
-    /// is marked that reaches a leaf which the edit touches. Nothing else changes. A graph that is lawful for a history
-    /// of the files is lawful for the history with this edit. That the version is below its last value is the caller's
-    /// condition. The new version, or `Memory` where a growth was refused, and then nothing has changed.
+    /// Takes in an edit of these paths together: the version grows by one, and the records that `reached_by` answers
+    /// are marked. Each record is then marked that reaches a leaf which the edit touches. Nothing else changes. A graph
+    /// that is lawful for a history of the files is lawful for the history with this edit. That the version is below
+    /// its last value is the caller's condition. Returns the new version, or `Memory` if an allocation fails; the graph
+    /// is then unchanged.
     pub fn touch_all(&mut self, paths: &[&str]) -> Result<u32, Memory>
         requires { self.old.version < u32.MAX }
         ensures version { IfOk result (λ v. v ≡ self.old.version + 1) }
@@ -230,7 +234,7 @@ impl Graph {
         Ok(version)
     }
 
-    // Whether each member of a group is the key or has a record that is not dirty.
+    // Returns whether each member of a group is the key or has a record that is not dirty.
     fn is_ready_group(&self, key: &Key, group: &[Key]) -> bool
         ensures { result ≡ is_ready_group (record_at self.now) key.now group.now }
     {
@@ -242,8 +246,8 @@ impl Graph {
         true
     }
 
-    /// Whether each member of the groups is the key or has a record that is not dirty, so that the key can be recorded
-    /// with these groups.
+    /// Returns whether each member of the groups is the key or has a record that is not dirty. If so, the key can be
+    /// recorded with these groups.
     pub fn is_ready(&self, key: &Key, groups: &[Vec<Key>]) -> bool
         ensures test { result ≡ are_ready (record_at self.now) key.now (items_of groups.now) }
         ensures ready { IsTrue result → HasReadyMembers (record_at self.now) key.now
@@ -258,10 +262,10 @@ impl Graph {
     }
 
     /// Stores the record of a key that was settled at the present version with this value, after it asked these groups.
-    /// The version at which its value last changed is kept where an equal value was there, and is the present one
-    /// otherwise. No other record changes. Where the value and the groups are those of the present files, a lawful graph
-    /// stays lawful. That each member of the groups is the key or has a record that is not dirty
-    /// is the caller's condition. `Memory` where a growth was refused, and then nothing has changed.
+    /// The version at which its value last changed is kept if an equal value was there, and is the present one
+    /// otherwise. No other record changes. If the value and the groups are those of the present files, a lawful graph
+    /// stays lawful. That each member of the groups is the key or has a record that is not dirty is the caller's
+    /// condition. Returns `Memory` if an allocation fails; the graph is then unchanged.
     pub fn record(
         &mut self,
         key: Key,
@@ -283,9 +287,9 @@ impl Graph {
     }
 
     /// Stores the records of several keys that were settled together at the present version, as `record` does each, all
-    /// or none: members of a loop are in one another's groups, so that none of them can be recorded first. That no key
-    /// is among the entries twice, and that each member of their groups is one of their keys or has a record that is
-    /// not dirty, is the caller's condition. `Memory` where a growth was refused, and then nothing has changed.
+    /// or none. The members of a loop are in one another's groups, so that none of them can be recorded first. Two
+    /// conditions are the caller's. No key is among the entries twice. Each member of their groups is one of their keys
+    /// or has a record that is not dirty. Returns `Memory` if an allocation fails; the graph is then unchanged.
     pub fn record_all(&mut self, entries: Vec<Entry>) -> Result<(), Memory>
         requires differ { AllDiffer (keys_of entries.items) }
         requires ready { HasReadyEntries (record_at self.old) entries.items }

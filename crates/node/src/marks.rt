@@ -18,7 +18,7 @@ use numbered::Number;
 use std::alloc::Global;
 use texts::{Memory, Text};
 
-// The listings of the directories that the path lies below, but the root, the longest name first.
+// Returns the listings of the directories that the path lies below, but the root, the longest name first.
 fn listings_above(alloc: Global, path: &str) -> Result<Vec<Key>, Memory>
     ensures { IfOk result (λ ks. reverse ks.items ≡ map kind.Listing (ancestors path.now)) }
 {
@@ -31,7 +31,7 @@ fn listings_above(alloc: Global, path: &str) -> Result<Vec<Key>, Memory>
     Ok(listings)
 }
 
-// The leaves that an edit of the path touches: its file, and the listing of each directory that it lies below.
+// Returns the leaves that an edit of the path touches: its file, and the listing of each directory that it lies below.
 fn touched_by(alloc: Global, path: &str) -> Result<Vec<Key>, Memory>
     ensures { IfOk result (λ ks. ks.items ≡ leaves_of path.now) }
 {
@@ -42,7 +42,7 @@ fn touched_by(alloc: Global, path: &str) -> Result<Vec<Key>, Memory>
     Ok(leaves)
 }
 
-/// The leaves that edits of these paths touch.
+/// Returns the leaves that edits of these paths touch.
 pub fn touched(alloc: Global, paths: &[&str]) -> Result<Vec<Key>, Memory>
     ensures { IfOk result (λ ks. ks.items ≡ touched_leaves (paths_seen paths.now)) }
 {
@@ -168,7 +168,7 @@ fn reach_users(
     Ok(())
 }
 
-// Marks what is reached from the listed keys, and lists it too.
+// Marks the records that are reached from the listed ones, and lists their numbers too.
 fn spread(records: &mut Records, marked: &mut Vec<Number>) -> Result<(), Memory>
     requires within { All (λ n. n < length records.old) marked.old.items }
     requires distinct { AreDistinct records.old }
@@ -222,7 +222,7 @@ pub fn keys_with(alloc: Global, records: &Records, numbers: &[Number]) -> Result
     Ok(keys)
 }
 
-/// Marks what is reached from the leaves and not dirty yet, and lists its numbers.
+/// Marks the records that are reached from the leaves and not dirty yet, and lists their numbers.
 pub fn mark_from(
     records: &mut Records,
     marked: &mut Vec<Number>,

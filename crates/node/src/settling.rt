@@ -46,7 +46,7 @@ fn changed_at(kept: &Kept, value: &Value, version: u32) -> u32
     }
 }
 
-/// Writes a value and groups into a record that is settled at the version; the old groups.
+/// Writes a value and groups into a record that is settled at the version, and returns the old groups.
 pub fn write(
     records: &mut Records,
     key: &Key,
@@ -70,7 +70,7 @@ pub fn write(
     }
 }
 
-/// The members of the groups that are kept of a key.
+/// Returns the members of the groups that are kept of a key.
 pub fn kept_members<'a>(records: &'a Records, key: &Key) -> &'a [Number]
     ensures { result.now ≡ asked_of (kept_at records.now key.now) }
 {
@@ -107,8 +107,8 @@ pub fn place(
     Ok(())
 }
 
-/// Writes a value and groups into the record of a key that has one, and the reverse edges with it. Where a growth was
-/// refused, no record has changed, and each key has the users that it had.
+/// Writes a value and groups into the record of a key that has one, and the reverse edges with it. Returns `Memory` if
+/// an allocation fails. No record has then changed, and each key has the users that it had.
 pub fn rewrite(
     alloc: Global,
     records: &mut Records,
@@ -144,7 +144,8 @@ pub fn rewrite(
     Ok(())
 }
 
-/// Stores a record of a key, and the reverse edges with it. Where a growth was refused, the records are as before.
+/// Stores a record of a key, and the reverse edges with it. Returns `Memory` if an allocation fails; the records are
+/// then as before.
 pub fn store(
     alloc: Global,
     records: &mut Records,

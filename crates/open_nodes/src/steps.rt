@@ -17,7 +17,7 @@ use std::collections::BTreeSet;
 use texts::Memory;
 
 impl Table {
-    /// Nothing is wanted yet.
+    /// Makes a table in which nothing is wanted yet.
     pub fn new(alloc: Global) -> Table
         ensures nodes { result.nodes.entries ≡ [] }
         ensures ready { result.ready.keys ≡ [] }
@@ -34,7 +34,7 @@ impl Table {
     }
 }
 
-// A node comes in.
+// Adds a node to the open ones.
 fn enter(alloc: Global, nodes: &mut Nodes, key: Key, phase: Phase) -> Result<(), Memory>
     ensures { OnOk result (HasEntered nodes.old nodes.new key phase) }
 {
@@ -47,7 +47,7 @@ fn enter(alloc: Global, nodes: &mut Nodes, key: Key, phase: Phase) -> Result<(),
     Ok(())
 }
 
-/// The node is to be looked at, after those that are.
+/// Adds the node to those that are to be looked at, behind the others.
 pub fn look_again(table: &mut Table, key: &Key) -> Result<(), Memory>
     ensures pends { OnOk result (Pends table.old table.new key.now) }
     ensures nodes { table.new.nodes ≡ table.old.nodes }
@@ -57,7 +57,7 @@ pub fn look_again(table: &mut Table, key: &Key) -> Result<(), Memory>
     Ok(())
 }
 
-// The key is put into the set.
+// Adds the key to the set.
 fn put_in(set: &mut BTreeSet<Key>, key: Key) -> Result<(), Memory>
     ensures { OnOk result (IsAdded set.old.keys set.new.keys key) }
 {
@@ -65,7 +65,7 @@ fn put_in(set: &mut BTreeSet<Key>, key: Key) -> Result<(), Memory>
     Ok(())
 }
 
-/// The node's next turn can be handed out.
+/// Adds the node to those whose next turn can be handed out.
 pub fn put_ready(table: &mut Table, key: &Key) -> Result<(), Memory>
     ensures readies { OnOk result (Readies table.old table.new key.now) }
     ensures nodes { table.new.nodes ≡ table.old.nodes }
@@ -74,7 +74,7 @@ pub fn put_ready(table: &mut Table, key: &Key) -> Result<(), Memory>
     put_in(&mut table.ready, key.share()?)
 }
 
-/// A node comes in whose record is to be checked.
+/// Opens a node whose record is to be checked.
 pub fn begin_check(alloc: Global, table: &mut Table, key: &Key) -> Result<(), Memory>
     ensures pends { OnOk result (Pends table.old table.new key.now) }
     ensures entered { OnOk result (HasEntered table.old.nodes table.new.nodes key.now
@@ -86,7 +86,7 @@ pub fn begin_check(alloc: Global, table: &mut Table, key: &Key) -> Result<(), Me
     Ok(())
 }
 
-/// A node comes in that wants its first turn.
+/// Opens a node that wants its first turn.
 pub fn begin_run(alloc: Global, table: &mut Table, key: &Key) -> Result<(), Memory>
     ensures readies { OnOk result (Readies table.old table.new key.now) }
     ensures entered { OnOk result
@@ -98,7 +98,7 @@ pub fn begin_run(alloc: Global, table: &mut Table, key: &Key) -> Result<(), Memo
     Ok(())
 }
 
-// What a node does from now on.
+// Sets what a node does from now on.
 fn set_phase(nodes: &mut Nodes, key: &Key, phase: Phase)
     ensures { HasPhase nodes.old nodes.new key.now phase }
 {
@@ -107,7 +107,7 @@ fn set_phase(nodes: &mut Nodes, key: &Key, phase: Phase)
     }
 }
 
-/// A check has passed this many groups, and goes on.
+/// Notes how many groups a check has passed, and lets it go on.
 pub fn pass(table: &mut Table, key: &Key, passed: usize) -> Result<(), Memory>
     ensures pends { OnOk result (Pends table.old table.new key.now) }
     ensures phase { OnOk result (HasPhase table.old.nodes table.new.nodes key.now
@@ -119,7 +119,7 @@ pub fn pass(table: &mut Table, key: &Key, passed: usize) -> Result<(), Memory>
     Ok(())
 }
 
-/// A check came to a group with a changed member: the node wants its first turn.
+/// Makes a node want its first turn, since its check came to a group with a changed member.
 pub fn run_anew(table: &mut Table, key: &Key) -> Result<(), Memory>
     ensures readies { OnOk result (Readies table.old table.new key.now) }
     ensures phase { OnOk result (HasPhase table.old.nodes table.new.nodes key.now phase.Running) }
@@ -130,7 +130,7 @@ pub fn run_anew(table: &mut Table, key: &Key) -> Result<(), Memory>
     Ok(())
 }
 
-// The node waits for the member.
+// Makes the node wait for the member.
 fn add_watcher(nodes: &mut Nodes, member: &Key, key: Key) -> Result<(), Memory>
     ensures { OnOk result (HasWatcher nodes.old nodes.new member.now key) }
 {
@@ -140,7 +140,7 @@ fn add_watcher(nodes: &mut Nodes, member: &Key, key: Key) -> Result<(), Memory>
     Ok(())
 }
 
-/// The node waits for the member.
+/// Makes the node wait for the member.
 pub fn watch(table: &mut Table, member: &Key, key: &Key) -> Result<(), Memory>
     ensures watches { OnOk result (HasWatcher table.old.nodes table.new.nodes member.now key.now) }
     ensures pends { OnOk result (pending table.new ≡ pending table.old) }
@@ -152,7 +152,7 @@ pub fn watch(table: &mut Table, member: &Key, key: &Key) -> Result<(), Memory>
     Ok(())
 }
 
-/// The node leaves, and those that wait for it are to be looked at. The groups that it asked.
+/// Takes the node out, so that those that wait for it are looked at. Returns the groups that it asked.
 pub fn leave(alloc: Global, table: &mut Table, key: &Key) -> Result<Vec<Vec<Key>>, Memory>
     ensures left { OnOk result ((n : Node) → node_at table.old.nodes key.now ≡ Some n
         → HasLeft table.old table.new key.now n) }
@@ -174,7 +174,7 @@ pub fn leave(alloc: Global, table: &mut Table, key: &Key) -> Result<Vec<Vec<Key>
     }
 }
 
-/// A run is noted.
+/// Notes a run.
 pub fn note(table: &mut Table, key: &Key, version: u32, turns: u64) -> Result<(), Memory>
     ensures { OnOk result
         (HasNoted table.old table.new
@@ -188,14 +188,14 @@ pub fn note(table: &mut Table, key: &Key, version: u32, turns: u64) -> Result<()
     Ok(())
 }
 
-// The key is taken out of the set.
+// Takes the key out of the set.
 fn take_out(set: &mut BTreeSet<Key>, key: &Key)
     ensures { IsRemoved set.old.keys set.new.keys key.now }
 {
     let _was_there = set.remove(key);
 }
 
-/// The node's job is out.
+/// Notes that the node's job is out.
 pub fn set_out(table: &mut Table, key: &Key)
     ensures phase { HasPhase table.old.nodes table.new.nodes key.now phase.Out }
     ensures ready { IsRemoved table.old.ready.keys table.new.ready.keys key.now }
@@ -207,7 +207,7 @@ pub fn set_out(table: &mut Table, key: &Key)
     set_phase(&mut table.nodes, key, Phase::Out);
 }
 
-// A group is put behind those that a node asked.
+// Adds a group behind those that a node asked, and lets the node run.
 fn add_group(nodes: &mut Nodes, key: &Key, group: Vec<Key>) -> Result<(), Memory>
     ensures { OnOk result (HasAsked nodes.old nodes.new key.now group.items) }
 {
@@ -218,7 +218,7 @@ fn add_group(nodes: &mut Nodes, key: &Key, group: Vec<Key>) -> Result<(), Memory
     Ok(())
 }
 
-/// The node's turn asked the group.
+/// Notes that the node's turn asked the group.
 pub fn ask(table: &mut Table, key: &Key, group: Vec<Key>) -> Result<(), Memory>
     ensures pends { OnOk result (Pends table.old table.new key.now) }
     ensures asked { OnOk result (HasAsked table.old.nodes table.new.nodes key.now group.items) }

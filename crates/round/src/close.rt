@@ -14,8 +14,8 @@ use open_nodes::Table;
 use std::alloc::Global;
 use texts::Memory;
 
-/// Settles all open nodes at a stall, each with the value of the loop to which it leads. Where a growth is refused the
-/// graph is as before.
+/// Settles all open nodes at a stall, each with the value of the loop to which it leads. Returns `Memory` if an
+/// allocation fails; the graph is then as before.
 pub fn close_cycles(alloc: Global, graph: &mut Graph, table: &mut Table) -> Result<(), Memory>
     requires whole { IsWholeNow graph.old table.old }
     requires idle { IsIdle table.old }

@@ -40,7 +40,7 @@ pub struct Stall {
     pub stops: BTreeMap<Key, Key>,
 }
 
-// The groups of a key's record, up to the one at a place.
+// Returns the groups of a key's record, up to the one at a place.
 fn groups_up_to(alloc: Global, graph: &Graph, key: &Key, at: usize) -> Result<Vec<Vec<Key>>, Memory>
     ensures { IfOk result (λ groups. (r : Record Key Value) → record_at graph.now key.now ≡ Some r
         → items_of groups.items ≡ take (at + 1) r.groups) }
@@ -55,7 +55,7 @@ fn groups_up_to(alloc: Global, graph: &Graph, key: &Key, at: usize) -> Result<Ve
     Ok(groups)
 }
 
-// The groups of a node up to the one that it waits for, and whether its turns asked them.
+// Returns the groups of a node up to the one that it waits for, and whether its turns asked them.
 fn groups_to_close(
     alloc: Global,
     graph: &Graph,
@@ -78,7 +78,7 @@ fn groups_to_close(
     }
 }
 
-// The last of some groups.
+// Returns the last of some groups, or an empty one.
 fn last_of<'a>(groups: &'a [Vec<Key>]) -> &'a [Key]
     ensures { IsLastGroup (items_of groups.now) result.now }
 {
@@ -88,7 +88,7 @@ fn last_of<'a>(groups: &'a [Vec<Key>]) -> &'a [Key]
     }
 }
 
-// The first member of the last group that is not settled with a value, or that is settled as a cycle.
+// Returns the first member of the last group that is not settled with a value, or that is settled as a cycle.
 fn stop_in(graph: &Graph, groups: &[Vec<Key>]) -> Result<Option<Key>, Memory>
     ensures { IfOk result (StopsIn (record_at graph.now) (items_of groups.now)) }
 {
@@ -118,7 +118,7 @@ fn note_turned(
     Ok(())
 }
 
-// The member at which a node stops is put into the map, if there is one.
+// Puts the member at which a node stops into the map, if there is one.
 fn put_stop(stops: &mut BTreeMap<Key, Key>, key: &Key, stop: Option<Key>) -> Result<(), Memory>
     ensures { OnOk result (PutsStop stops.old stops.new key.now stop) }
 {
@@ -128,7 +128,7 @@ fn put_stop(stops: &mut BTreeMap<Key, Key>, key: &Key, stop: Option<Key>) -> Res
     Ok(())
 }
 
-// A node is put among those that are closed.
+// Puts a node among those that are closed.
 fn put_closing(
     stall: &mut Stall,
     key: Key,
@@ -169,7 +169,7 @@ fn take_last(nodes: &mut Nodes) -> Option<(Key, Node)>
     nodes.pop()
 }
 
-// Takes the least of the open nodes out, which stands last; false where there is none.
+// Takes the least of the open nodes out, which stands last. Returns whether there was one.
 fn close_next(
     alloc: Global,
     graph: &Graph,

@@ -57,14 +57,14 @@ fn read(
     Ok(())
 }
 
-// Whether a key has a record.
+// Returns whether a key has a record.
 fn has_record(graph: &Graph, key: &Key) -> bool
     ensures { result ≡ is_some (record_at graph.now key.now) }
 {
     graph.settled_at(key).is_some()
 }
 
-/// Whether a key is open.
+/// Returns whether a key is open.
 pub fn is_open(nodes: &Nodes, key: &Key) -> bool
     ensures { result ≡ is_some (node_at nodes.now key.now) }
 {
@@ -89,7 +89,8 @@ fn begin(alloc: Global, graph: &Graph, table: &mut Table, key: &Key) -> Result<(
     Ok(())
 }
 
-/// The key is wanted: a leaf is read, a node with a record is to be checked, and another one makes turns.
+/// Wants a key. If it is neither settled nor open, a leaf is read, a node with a record is to be checked, and another
+/// one makes turns.
 pub fn want(
     alloc: Global,
     graph: &mut Graph,
@@ -117,7 +118,7 @@ pub fn want(
     Ok(())
 }
 
-/// All keys are wanted.
+/// Wants all keys.
 pub fn want_all(
     alloc: Global,
     graph: &mut Graph,
@@ -182,7 +183,7 @@ pub fn end(
     Ok(())
 }
 
-// The members of a group are wanted, and the node waits for the last that is not settled then.
+// Wants the members of a group, and makes the node wait for the last that is not settled then.
 fn wait_for(
     alloc: Global,
     graph: &mut Graph,
@@ -240,7 +241,7 @@ fn check(
     Ok(())
 }
 
-// The last group that a node's turns asked.
+// Returns the last group that a node's turns asked.
 fn last_group<'a>(nodes: &'a Nodes, key: &Key) -> &'a [Key]
     ensures { (n : Node) → node_at nodes.now key.now ≡ Some n
         → IsLastGroup (groups_of n) result.now }
@@ -287,7 +288,7 @@ fn look_running(
     }
 }
 
-// How many groups a check passed, of a node whose record is checked.
+// Returns how many groups the check of a node passed, if its record is checked.
 fn passed_of(nodes: &Nodes, key: &Key) -> Option<usize>
     ensures some { IfSome result (λ at. (n : Node) × (node_at nodes.now key.now ≡ Some n)
         × (n.phase ≡ phase.Checking at)) }
@@ -303,7 +304,7 @@ fn passed_of(nodes: &Nodes, key: &Key) -> Option<usize>
     }
 }
 
-// Whether a node makes turns and its job is not out.
+// Returns whether a node makes turns and its job is not out.
 fn is_running(nodes: &Nodes, key: &Key) -> bool
     ensures yes { IsTrue result → (n : Node) × (node_at nodes.now key.now ≡ Some n)
         × (n.phase ≡ phase.Running) }
@@ -346,7 +347,7 @@ fn look(
     Ok(())
 }
 
-// The next key that is to be looked at.
+// Takes the next key that is to be looked at.
 fn next_key(table: &mut Table) -> Result<Option<Key>, Memory>
     ensures { IfOk result (IsNextKey table.old table.new) }
 {
@@ -358,7 +359,7 @@ fn next_key(table: &mut Table) -> Result<Option<Key>, Memory>
     Ok(Some(key))
 }
 
-// Looks at the next node that is to be looked at; false where there is none.
+// Looks at the next node that is to be looked at. Returns whether there was one.
 fn look_next(
     alloc: Global,
     graph: &mut Graph,

@@ -42,7 +42,7 @@ fn walk(
     }
 }
 
-// The part of a path from the key on.
+// Returns the part of a path from the key on.
 fn from_key<'a>(path: &'a [Key], key: &Key) -> &'a [Key]
     ensures { IsFrom path.now key.now result.now }
 {
@@ -54,7 +54,7 @@ fn from_key<'a>(path: &'a [Key], key: &Key) -> &'a [Key]
     &[]
 }
 
-// The label by which a loop names a key, which only modules have.
+// Returns the label by which a loop names a key, which only modules have.
 fn label(key: &Key) -> Option<&Text>
     ensures { option_map (λ t. t.now) result ≡ label_of key.now }
 {
@@ -69,7 +69,7 @@ fn label(key: &Key) -> Option<&Text>
     }
 }
 
-// The labels of a loop's members, of those that have one.
+// Returns the labels of a loop's members, of those that have one.
 fn labels_of(alloc: Global, members: &[Key]) -> Result<Vec<Text>, Memory>
     ensures { IfOk result (λ labels. labels.items ≡ filter_map label_of members.now) }
 {
@@ -83,14 +83,14 @@ fn labels_of(alloc: Global, members: &[Key]) -> Result<Vec<Text>, Memory>
     Ok(labels)
 }
 
-// Whether a text is not after another by bytes.
+// Returns whether a text is not after another by bytes.
 fn is_not_after(a: &Text, b: &Text) -> bool
     ensures { result ≡ text_le a.now b.now }
 {
     a <= b
 }
 
-// The place of the first least label, and 0 where there is none.
+// Returns the place of the first least label, or 0 if there is none.
 fn least_place(labels: &[Text]) -> usize
     ensures within { result ≤ length labels.now }
     ensures least { rotated labels.now ≡ drop result labels.now ++ take result labels.now }
@@ -107,7 +107,7 @@ fn least_place(labels: &[Text]) -> usize
     best
 }
 
-// The labels from the least one on, and then those before it.
+// Returns the labels from the least one on, and then those before it.
 fn rotate(mut labels: Vec<Text>) -> Vec<Text>
     ensures { result.items ≡ rotated labels.items }
 {
@@ -116,7 +116,7 @@ fn rotate(mut labels: Vec<Text>) -> Vec<Text>
     labels
 }
 
-// The value that the members of a loop share.
+// Returns the value that the members of a loop share.
 fn loop_value(alloc: Global, members: &[Key]) -> Result<Value, Memory>
     ensures { IfOk result (λ v. v ≡ cycle members.now) }
 {
@@ -124,7 +124,7 @@ fn loop_value(alloc: Global, members: &[Key]) -> Result<Value, Memory>
     Ok(Value::Cycle(Names::new(rotate(labels))))
 }
 
-// What a path shows that comes to the key.
+// Returns the value that a path which comes to the key shows.
 fn end_value(
     alloc: Global,
     graph: &Graph,
@@ -146,7 +146,7 @@ fn end_value(
     Ok(Arc::new(alloc, value)?)
 }
 
-// The keys of a path show the value.
+// Makes the keys of a path show the value.
 fn show_all(
     shown: &mut BTreeMap<Key, Arc<Value>>,
     path: &[Key],
@@ -160,7 +160,7 @@ fn show_all(
     Ok(())
 }
 
-// The value that a node shows.
+// Returns the value that a node shows.
 fn value_of(
     alloc: Global,
     graph: &Graph,
@@ -179,7 +179,7 @@ fn value_of(
     Ok(value)
 }
 
-/// The entries of closed nodes, each with the value that it shows.
+/// Returns the entries of closed nodes, each with the value that it shows.
 pub fn entries_of(alloc: Global, graph: &Graph, stall: Stall) -> Result<Vec<Entry>, Memory>
     ensures { IfOk result (λ entries. IsStall (stop_at stall.stops) (record_at graph.now)
         → ((c : Closing) → In c stall.closing.items → (j : Key)

@@ -13,7 +13,7 @@ use std::alloc::Global;
 use std::sync::Arc;
 use texts::Memory;
 
-/// Shared copies of keys.
+/// Returns shared copies of keys.
 pub fn share_all(alloc: Global, keys: &[Key]) -> Result<Vec<Key>, Memory>
     ensures { IfOk result (λ shared. shared.items ≡ keys.now) }
 {
@@ -24,14 +24,14 @@ pub fn share_all(alloc: Global, keys: &[Key]) -> Result<Vec<Key>, Memory>
     Ok(shared)
 }
 
-/// Whether a key is settled.
+/// Returns whether a key is settled.
 pub fn is_settled(graph: &Graph, key: &Key) -> bool
     ensures { result ≡ is_some (present (record_at graph.now key.now)) }
 {
     graph.get(key).is_some()
 }
 
-/// The members of a group that are not settled.
+/// Returns the members of a group that are not settled.
 pub fn unsettled(alloc: Global, graph: &Graph, group: &[Key]) -> Result<Vec<Key>, Memory>
     ensures { IfOk result (λ missing. specs.IsMissing (record_at graph.now) group.now
         missing.items) }
@@ -46,8 +46,8 @@ pub fn unsettled(alloc: Global, graph: &Graph, group: &[Key]) -> Result<Vec<Key>
     Ok(missing)
 }
 
-/// The last of the keys that is not settled. Turns are handed out in the order of keys, so where the keys ascend, most
-/// others are settled before it.
+/// Returns the last of the keys that is not settled. Turns are handed out in the order of keys, so if the keys ascend,
+/// most others are settled before it.
 pub fn last_unsettled<'a>(graph: &Graph, keys: &'a [Key]) -> Option<&'a Key>
     ensures { specs.FindsUnsettled (record_at graph.now) keys.now (option_map (λ k. k.now) result) }
 {
@@ -60,7 +60,7 @@ pub fn last_unsettled<'a>(graph: &Graph, keys: &'a [Key]) -> Option<&'a Key>
     None
 }
 
-/// Whether a value is that of a cycle.
+/// Returns whether a value is a cycle.
 fn is_cycle(value: &Value) -> bool
     ensures { result ≡ specs.is_cycle value.now }
 {
@@ -70,7 +70,7 @@ fn is_cycle(value: &Value) -> bool
     }
 }
 
-// The value of a key that is settled, and not as a cycle.
+// Returns the value of a key that is settled, and not as a cycle.
 fn plain_value<'a>(graph: &'a Graph, key: &Key) -> Option<&'a Arc<Value>>
     ensures { option_map (λ v. arc_value v.now) result ≡ specs.plain_value
         (record_at graph.now key.now) }
@@ -81,14 +81,14 @@ fn plain_value<'a>(graph: &'a Graph, key: &Key) -> Option<&'a Arc<Value>>
     }
 }
 
-// Whether a key is settled, and not as a cycle.
+// Returns whether a key is settled, and not as a cycle.
 fn is_plain(graph: &Graph, key: &Key) -> bool
     ensures { result ≡ is_some (specs.plain_value (record_at graph.now key.now)) }
 {
     plain_value(graph, key).is_some()
 }
 
-/// The first member of a group that is not settled with a value, or that is settled as a cycle.
+/// Returns the first member of a group that is not settled with a value, or that is settled as a cycle.
 pub fn first_stop<'a>(graph: &Graph, group: &'a [Key]) -> Option<&'a Key>
     ensures { specs.IsStop (record_at graph.now) group.now (option_map (λ k. k.now) result) }
 {
@@ -100,7 +100,8 @@ pub fn first_stop<'a>(graph: &Graph, group: &'a [Key]) -> Option<&'a Key>
     None
 }
 
-// The values of the members of a group are put behind the answers; false where one has none.
+// Adds the values of a group's members to the answers, up to the first member without one. Returns whether each has
+// one.
 fn answer_group(graph: &Graph, group: &[Key], answers: &mut Vec<Arc<Value>>) -> Result<bool, Memory>
     ensures { IfOk result (specs.AnswersGroup (record_at graph.now) group.now
         (values answers.old.items) (values answers.new.items)) }
@@ -114,7 +115,7 @@ fn answer_group(graph: &Graph, group: &[Key], answers: &mut Vec<Arc<Value>>) -> 
     Ok(true)
 }
 
-/// The values of the members of groups, in order. None where a member has none.
+/// Returns the values of the members of groups, in order, or `None` if a member has none.
 pub fn answers_to(
     alloc: Global,
     graph: &Graph,

@@ -74,7 +74,7 @@ impl<R: Rules> From<Memory> for NotTaken<R> {
     }
 }
 
-// The key is put among those whose jobs are out.
+// Adds the key to those whose jobs are out.
 fn put_out(out: &mut BTreeSet<Key>, key: Key) -> Result<(), Memory>
     ensures added { OnOk result (IsAdded out.old.keys out.new.keys key) }
     ensures refused { OnErr result (out.new.keys ≡ out.old.keys) }
@@ -83,14 +83,14 @@ fn put_out(out: &mut BTreeSet<Key>, key: Key) -> Result<(), Memory>
     Ok(())
 }
 
-// The key is taken from those whose jobs are out.
+// Takes the key from those whose jobs are out.
 fn take_from(out: &mut BTreeSet<Key>, key: &Key)
     ensures { IsRemoved out.old.keys out.new.keys key.now }
 {
     let _was_there = out.remove(key);
 }
 
-// The state is kept, if there is one.
+// Keeps the state, if there is one.
 fn keep<R: Rules>(
     kept: &mut IndexMap<Key, Waiting<R>>,
     key: Key,
@@ -104,7 +104,7 @@ fn keep<R: Rules>(
     Ok(())
 }
 
-// The state that was kept of a key is given up; false where there is none.
+// Gives up the state that was kept of a key. Returns whether there was one.
 fn give_up<R: Rules>(kept: &mut IndexMap<Key, Waiting<R>>, key: &Key) -> bool
     ensures given { Decides result (HasState kept.old key.now) }
     ensures drops { DropsState kept.old kept.new key.now result }
@@ -112,7 +112,7 @@ fn give_up<R: Rules>(kept: &mut IndexMap<Key, Waiting<R>>, key: &Key) -> bool
     kept.swap_remove(key).is_some()
 }
 
-// Whether one of the keys is open.
+// Returns whether one of the keys is open.
 fn any_open(nodes: &Nodes, keys: &[Key]) -> bool
     ensures open { IsTrue result → (k : Key) × In k keys.now × IsOpen nodes.now k }
     ensures none { result ≡ false → (k : Key) → In k keys.now → IsOpen nodes.now k → ⊥ }
@@ -126,8 +126,8 @@ fn any_open(nodes: &Nodes, keys: &[Key]) -> bool
 }
 
 impl<R: Rules> Round<R> {
-    /// Opens a round: the roots are wanted, leaves among them are read, and what can be settled without a turn is.
-    /// `Memory` where a growth was refused; the graph is then lawful still, as after a stop.
+    /// Opens a round: the roots are wanted, leaves among them are read, and each node that needs no turn is settled.
+    /// Returns `Memory` if an allocation fails; the graph is then lawful still, as after a stop.
     pub fn open(
         alloc: Global,
         graph: &mut Graph,
@@ -157,7 +157,7 @@ impl<R: Rules> Round<R> {
         })
     }
 
-    /// The least key whose next turn can be handed out. It takes no memory.
+    /// Returns the least key whose next turn can be handed out. It takes no memory.
     pub fn ready(&self) -> Option<&Key>
         ensures some { IfSome result (λ k. In k.now (standing self.now).table.ready.keys) }
         ensures none { IfNone result ((standing self.now).table.ready.keys ≡ []) }
@@ -170,16 +170,16 @@ impl<R: Rules> Round<R> {
         }
     }
 
-    /// How many keys' next turns can be handed out. It takes no memory.
+    /// Returns how many keys' next turns can be handed out. It takes no memory.
     pub fn ready_count(&self) -> usize
         ensures { result ≡ length (standing self.now).table.ready.keys }
     {
         self.table.ready.len()
     }
 
-    /// Hands out the next turn of a key, with all answers so far. None exactly where it is not ready: it does not run, or
-    /// is settled, or its job is out, or the last group that it asked is not settled with values. `Memory` where a growth
-    /// was refused, and then nothing has changed, but that a kept state may be given up.
+    /// Hands out the next turn of a key, with all answers so far. Returns `None` exactly if the key is not ready. It
+    /// then does not run, or is settled, or its job is out, or the last group that it asked is not settled with values.
+    /// Returns `Memory` if an allocation fails. Nothing has then changed, but that a kept state may be given up.
     pub fn hand_out(&mut self, graph: &Graph, key: &Key) -> Result<Option<Job<R>>, Memory>
         requires { StandsBeside graph.now self.old }
         ensures beside { StandsBeside graph.now self.new }
@@ -206,9 +206,9 @@ impl<R: Rules> Round<R> {
         Ok(Some(job))
     }
 
-    /// Takes a turn back: its node is settled, or asks its next group; then what can be settled without a turn is.
-    /// `Stranger` exactly where its key and answers are of no job that is out. `Memory` where a growth was refused, in the
-    /// turn or now: the round can only be given up then, and the graph is as after a stop.
+    /// Takes a turn back: its node is settled, or asks its next group. Then each node that needs no turn is settled.
+    /// Returns `Stranger` exactly if its key and answers are of no job that is out. Returns `Memory` if an allocation
+    /// failed, in the turn or now. The round can then only be given up, and the graph is as after a stop.
     pub fn take_back(
         &mut self,
         graph: &mut Graph,
@@ -238,8 +238,9 @@ impl<R: Rules> Round<R> {
         Ok(())
     }
 
-    /// Takes a turn back that the caller knows to be of a job that is out, without comparing its answers. `Memory` where a
-    /// growth was refused, in the turn or now: the round can only be given up then, and the graph is as after a stop.
+    /// Takes a turn back that the caller knows to be of a job that is out, without comparing its answers. Returns
+    /// `Memory` if an allocation failed, in the turn or now. The round can then only be given up, and the graph is as
+    /// after a stop.
     pub fn take_known(
         &mut self,
         graph: &mut Graph,
@@ -269,8 +270,8 @@ impl<R: Rules> Round<R> {
         Ok(())
     }
 
-    /// Gives up the state that was kept of a node: its next turn begins anew then, with all answers. Answers whether it did:
-    /// exactly where a state is kept and the round is not at a stall. Else nothing changes. It takes no memory.
+    /// Gives up the state that was kept of a node: its next turn begins anew then, with all answers. Returns whether it
+    /// did: exactly if a state is kept and the round is not at a stall. If not, nothing changes. It takes no memory.
     pub fn drop_state(&mut self, key: &Key) -> bool
         ensures dropped { Decides result (CanDrop (standing self.old) self.old.kept key.now) }
         ensures not_out { (graph : Recorded) → StandsBeside graph self.old → IsTrue result
@@ -294,7 +295,7 @@ impl<R: Rules> Round<R> {
         give_up(&mut self.kept, key)
     }
 
-    /// Whether no turn can be handed out and no job is out. It takes no memory.
+    /// Returns whether no turn can be handed out and no job is out. It takes no memory.
     pub fn stalled(&self) -> bool
         ensures { Decides result (IsStalled (standing self.now)) }
     {
@@ -302,8 +303,8 @@ impl<R: Rules> Round<R> {
     }
 
     /// Settles all open nodes at a stall, each with the loop to which it leads, all or none. That the round is stalled
-    /// is the caller's condition. `Memory` where a growth was refused: the round can only be given up then, and the graph
-    /// is as before.
+    /// is the caller's condition. Returns `Memory` if an allocation fails. The round can then only be given up, and the
+    /// graph is as before.
     pub fn close_cycles(&mut self, graph: &mut Graph) -> Result<(), Memory>
         requires beside { StandsBeside graph.old self.old }
         requires stalled { IsStalled (standing self.old) }
@@ -321,7 +322,8 @@ impl<R: Rules> Round<R> {
         Ok(())
     }
 
-    /// The runs in the order of settling, where no root is open any more; else the round again. It takes no memory.
+    /// Returns the runs in the order of settling if no root is open any more, and the round again if one is. It takes
+    /// no memory.
     pub fn finish(self) -> Result<Vec<Run>, Round<R>>
         ensures done { IfOk result (λ runs. EndsWith (standing self) (Ok runs.items)) }
         ensures open { IfErr result (λ round. EndsWith (standing self) (Err (standing round))) }
@@ -340,7 +342,7 @@ impl<R: Rules> Round<R> {
     }
 }
 
-// The runs of a table.
+// Returns the runs of a table.
 fn runs_of(table: Table) -> Vec<Run>
     ensures { result.items ≡ table.runs.items }
 {
@@ -354,8 +356,8 @@ fn runs_of(table: Table) -> Vec<Run>
     runs
 }
 
-/// The least key whose next turn can be handed out, as one of its own; None where there is none. `Memory` where a growth was
-/// refused.
+/// Returns a copy of the least key whose next turn can be handed out, or `None` if there is none. Returns `Memory` if
+/// an allocation fails.
 pub fn next_key<R: Rules>(round: &Round<R>) -> Result<Option<Key>, Memory>
     ensures some { IfOk result
         (λ k. IfSome k (λ key. In key (standing round.now).table.ready.keys)) }
@@ -369,7 +371,7 @@ pub fn next_key<R: Rules>(round: &Round<R>) -> Result<Option<Key>, Memory>
     }
 }
 
-/// Whether the next turn of a key can be handed out. It takes no memory.
+/// Returns whether the next turn of some key can be handed out. It takes no memory.
 pub fn has_ready<R: Rules>(round: &Round<R>) -> bool
     ensures yes { IsTrue result → (k : Key) × In k (standing round.now).table.ready.keys }
     ensures no { result ≡ false → (standing round.now).table.ready.keys ≡ [] }
@@ -377,9 +379,9 @@ pub fn has_ready<R: Rules>(round: &Round<R>) -> bool
     round.ready().is_some()
 }
 
-/// Makes the next turn of a key by these rules, on this thread: it is handed out, made and taken back. That the key is ready
-/// is the caller's condition. `Memory` where a growth was refused: the round can only be given up then, and the graph is as
-/// after a stop.
+/// Makes the next turn of a key by these rules, on this thread: it is handed out, made and taken back. That the key is
+/// ready is the caller's condition. Returns `Memory` if an allocation fails. The round can then only be given up, and
+/// the graph is as after a stop.
 pub fn turn<R: Rules>(
     round: &mut Round<R>,
     graph: &mut Graph,
@@ -406,8 +408,8 @@ pub fn turn<R: Rules>(
     }
 }
 
-/// Gives the runs of a round at a stall, after it has closed what is open. That the round is at a stall is the caller's
-/// condition. `Memory` where a growth was refused: the graph is then as after a stop.
+/// Closes the open nodes of a round at a stall, and returns its runs. That the round is at a stall is the caller's
+/// condition. Returns `Memory` if an allocation fails; the graph is then as after a stop.
 pub fn close_stall<R: Rules>(mut round: Round<R>, graph: &mut Graph) -> Result<Vec<Run>, Memory>
     requires beside { StandsBeside graph.old round }
     requires stalled { IsStalled (standing round) }
@@ -428,15 +430,16 @@ pub fn close_stall<R: Rules>(mut round: Round<R>, graph: &mut Graph) -> Result<V
 }
 
 /// Evaluates the roots over the graph on one thread, in at most `budget` turns of the rules. Each root is settled then
-/// with its value at the tree's files; the runs are those of this call, in the order in which their nodes were settled.
+/// with its value at the tree's files. Returns the runs of this call, in the order in which their nodes were settled.
 ///
-/// A node with a record that is marked checks the groups of its record in their order: where no member has changed since,
-/// it is settled without a turn, and at the first group with a changed member it runs. Where no turn can be made any
-/// more, the open nodes lead into loops, and are settled with these.
+/// A node with a record that is marked checks the groups of its record in their order. If no member has changed since,
+/// it is settled without a turn, and at the first group with a changed member it runs. If no turn can be made any more,
+/// the open nodes lead into loops, and are settled with these.
 ///
-/// `Stop::Budget` where the budget is spent and a further turn is to be made: what is left is no stall, and a root is
-/// still open. `Stop::Memory` where a growth was refused. After a stop the graph is lawful for the same history, no record is lost, and only nodes that were settled have new ones.
-/// That the tree is the last of the history for which the graph is lawful is the caller's condition.
+/// Returns `Stop::Budget` if the budget is spent and a further turn is to be made: the round is at no stall, and a root
+/// is still open. Returns `Stop::Memory` if an allocation fails. After a stop the graph is lawful for the same history,
+/// no record is lost, and only nodes that were settled have new ones. That the tree is the last of the history for
+/// which the graph is lawful is the caller's condition.
 pub fn evaluate_here<R: Rules>(
     alloc: Global,
     graph: &mut Graph,

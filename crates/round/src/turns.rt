@@ -35,7 +35,7 @@ use std::collections::BTreeSet;
 use std::sync::Arc;
 use texts::Memory;
 
-// The groups that a node's turns asked.
+// Returns the groups that a node's turns asked.
 fn asked_groups<'a>(nodes: &'a Nodes, key: &Key) -> &'a [Vec<Key>]
     ensures { (n : Node) → node_at nodes.now key.now ≡ Some n → items_of result.now ≡ groups_of n }
 {
@@ -45,14 +45,14 @@ fn asked_groups<'a>(nodes: &'a Nodes, key: &Key) -> &'a [Vec<Key>]
     }
 }
 
-// Whether a key is in the set.
+// Returns whether a key is in the set.
 fn is_among(set: &BTreeSet<Key>, key: &Key) -> bool
     ensures { result ≡ contains key_cmp set.now key.now }
 {
     set.contains(key)
 }
 
-/// The next turn of a node that is ready, with all answers so far.
+/// Returns the next turn of a node if it is ready, with all answers so far.
 pub fn job_of<R: Rules>(
     alloc: Global,
     graph: &Graph,
@@ -71,7 +71,7 @@ pub fn job_of<R: Rules>(
     }
 }
 
-// The values of the members of the last group that a node asked.
+// Returns the values of the members of the last group that a node asked.
 fn last_answers(
     alloc: Global,
     graph: &Graph,
@@ -88,7 +88,7 @@ fn last_answers(
     Ok(found)
 }
 
-// The next job of a node that is ready, from a state of it.
+// Returns the next job of a node that is ready, from a state of it.
 fn resumed<R: Rules>(
     alloc: Global,
     graph: &Graph,
@@ -107,7 +107,7 @@ fn resumed<R: Rules>(
     }
 }
 
-/// The next turn of a node that is ready, from the state that was kept of it or anew, with all answers so far.
+/// Returns the next turn of a node if it is ready, from its kept state or anew, with all answers so far.
 pub fn next_job<R: Rules>(
     alloc: Global,
     graph: &Graph,
@@ -131,14 +131,14 @@ pub fn next_job<R: Rules>(
     }
 }
 
-// Whether the values are the same, one by one.
+// Returns whether the values are the same, one by one.
 fn same_values(a: &[Arc<Value>], b: &[Arc<Value>]) -> bool
     ensures { Decides result (values a.now ≡ values b.now) }
 {
     a == b
 }
 
-// Whether a node's job is out.
+// Returns whether a node's job is out.
 fn is_out(nodes: &Nodes, key: &Key) -> bool
     ensures yes { IsTrue result → (n : Node) × (node_at nodes.now key.now ≡ Some n)
         × (n.phase ≡ phase.Out) }
@@ -154,7 +154,7 @@ fn is_out(nodes: &Nodes, key: &Key) -> bool
     }
 }
 
-/// Whether the key's job is out with these answers.
+/// Returns whether the key's job is out with these answers.
 pub fn is_out_with<R: Rules>(
     alloc: Global,
     graph: &Graph,
