@@ -145,7 +145,7 @@ pub fn open_file(
     bind_loads(state, at, file.loads.as_slice(), modules)
 }
 
-/// Returns the outcome of a fault, or `Memory` where memory was refused.
+/// Returns the outcome of a fault, or `Memory` if memory was refused.
 pub fn stopped(stop: Stop) -> Result<Outcome, Memory>
     ensures { Shows stop result }
 {

@@ -23,7 +23,7 @@ use std::sync::Arc;
 use texts::Memory;
 use tree::Stmt;
 
-// Stops in a line: no step is left. Returns the fault, or `Memory` where memory was refused.
+// Stops in a line: no step is left. Returns the fault, or `Memory` if memory was refused.
 fn stopped(state: &mut State, line: usize, halt: Halt) -> Result<Once, Memory>
     ensures stops { IfOk result (StopsAs line halt) }
     ensures steps { state.new.heap.steps ≡ 0 }

@@ -17,7 +17,7 @@ pub struct ReaderInput<R: Read> {
 }
 
 impl<R: Read> ReaderInput<R> {
-    /// Nothing is read yet.
+    /// Makes an input of which nothing is read yet.
     pub fn new(reader: R) -> ReaderInput<R> {
         ReaderInput {
             reader,
@@ -38,7 +38,7 @@ impl<R: Read> ReaderInput<R> {
         Failed
     }
 
-    // One read that was not interrupted.
+    // Reads once, and tries again after an interruption.
     fn read_once(&mut self, buffer: &mut [u8]) -> Result<usize, Failed>
         ensures count { IfOk result (λ n. n ≤ length buffer.new) }
         ensures told { self.new.told ≡ self.old.told }
@@ -95,7 +95,7 @@ pub struct WriterOutput<W: Write> {
 }
 
 impl<W: Write> WriterOutput<W> {
-    /// Nothing is written yet.
+    /// Makes an output to which nothing is written yet.
     pub fn new(writer: W) -> WriterOutput<W> {
         WriterOutput {
             writer,
@@ -112,7 +112,7 @@ impl<W: Write> WriterOutput<W> {
         Failed
     }
 
-    // One write that was not interrupted, of some of the bytes.
+    // Writes some of the bytes, and tries again after an interruption.
     fn write_some(&mut self, bytes: &[u8]) -> Result<usize, Failed>
         ensures count { IfOk result (λ n. n ≤ length bytes.now) }
         ensures held { IfOk result (λ n. self.new.held ≡ self.old.held ++ take n bytes.now) }
@@ -136,7 +136,7 @@ impl<W: Write> WriterOutput<W> {
         Err(self.fail())
     }
 
-    // One flush that was not interrupted.
+    // Flushes once, and tries again after an interruption.
     fn flush(&mut self) -> Result<(), Failed>
         ensures held { self.new.held ≡ self.old.held }
         ensures ok { OnOk result (self.new.failures ≡ self.old.failures) }

@@ -21,8 +21,8 @@ pub(crate) struct Crew<'s, R: Rules> {
     pub(crate) hands: Vec<Hand<R>>,
 }
 
-// Makes a thread for the next hand, if one is left. `Memory` where no thread could be made: the board is shut then, and the
-// hand is back.
+// Makes a thread for the next hand, if one is left. Returns `Memory` if no thread could be made: the board is shut
+// then, and the hand is back.
 pub(crate) fn hire<'s, E, R: Rules + Send + Drop + 's, T: Wait + Sync>(
     scope: &Scope<'s, E>,
     rt: &'s T,

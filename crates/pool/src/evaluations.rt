@@ -40,7 +40,7 @@ struct Ran<R: Rules> {
     ended: Result<Vec<Run>, Stop>,
 }
 
-// Room for so many.
+// Makes a list with room for so many.
 fn with_room<X>(alloc: Global, count: usize) -> Result<Vec<X>, Memory>
     ensures { IfOk result (λ v. (v.items ≡ []) × (count ≤ vec_capacity v)) }
 {
@@ -108,7 +108,7 @@ fn run<'s, E, R: Rules + Send + Drop + 's, T: Threads + Wait + Sync>(
     }
 }
 
-// The same, in a scope that ends when the last worker has.
+// Evaluates as `run` does, in a scope that ends when the last worker has.
 fn scoped<R: Rules + Send + Drop, T: Threads + Wait + Sync>(
     rt: &T,
     alloc: Global,
@@ -159,7 +159,7 @@ fn scoped<R: Rules + Send + Drop, T: Threads + Wait + Sync>(
     )
 }
 
-// Goes on with an evaluation of which the first turns were made, since the graph was that of the entry, by workers.
+// Goes on by workers with an evaluation of which the first turns were made since the graph was the entry's.
 fn by_workers<R: Rules + Send + Drop, T: Threads + Wait + Sync>(
     rt: &T,
     alloc: Global,
@@ -212,15 +212,15 @@ fn by_workers<R: Rules + Send + Drop, T: Threads + Wait + Sync>(
     }
 }
 
-/// Evaluates the roots over the graph as `evaluate_here` does, in at most `budget` turns, by worker threads. Each has one
-/// of the hands. The first turns are made on the caller's thread, as long as one alone can be made at a time. A thread is
-/// made only where more jobs are out than there are threads. What is promised does not hang on the order in which jobs
-/// are taken, made and collected.
+/// Evaluates the roots over the graph as `evaluate_here` does, in at most `budget` turns, by worker threads. Each has
+/// one of the hands. The first turns are made on the caller's thread, as long as one alone can be made at a time. A
+/// thread is made only if more jobs are out than there are threads. No promise hangs on the order in which jobs are
+/// taken, made and collected.
 ///
-/// `Stop::Budget` where so many turns were made, all jobs are back, and a further turn is to be made. `Stop::Memory` where
-/// a growth was refused or a thread could not be made. After a stop the graph is as after a stop of `evaluate_here`, and
-/// the hands are given up. Whatever it answers, each job came back, and no thread runs on. That there are 1 to 16 hands is
-/// the caller's condition.
+/// Returns `Stop::Budget` if so many turns were made, all jobs are back, and a further turn is to be made. Returns
+/// `Stop::Memory` if an allocation fails or a thread could not be made. After a stop the graph is as after a stop of
+/// `evaluate_here`, and the hands are given up. Whatever it returns, each job came back, and no thread runs on. That
+/// there are 1 to 16 hands is the caller's condition.
 pub fn evaluate<R: Rules + Send + Drop, T: Threads + Wait + Sync>(
     rt: &T,
     alloc: Global,

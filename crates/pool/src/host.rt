@@ -24,8 +24,8 @@ use std::sync::Wait;
 use std::thread::Scope;
 use texts::Memory;
 
-// Has somebody take the job that was posted last: a new worker, where more jobs are out than there are workers and a hand
-// is left; else one that sleeps.
+// Has somebody take the job that was posted last. It is a new worker if more jobs are out than there are workers and a
+// hand is left, and else one that sleeps.
 fn staff<'s, E, R: Rules + Send + Drop + 's, T: Wait + Sync>(
     scope: &Scope<'s, E>,
     rt: &'s T,
@@ -55,8 +55,8 @@ fn staff<'s, E, R: Rules + Send + Drop + 's, T: Wait + Sync>(
     Ok(())
 }
 
-// Goes on with the evaluation by the turns that the workers of the board make, until no turn can be made any more. All jobs
-// are back then, and so they are where the budget is spent. The first turns were made since the graph was that of the entry.
+// Goes on with the evaluation by the turns that the workers of the board make, until no turn can be made any more. All
+// jobs are back then, and also if the budget is spent. The first turns were made since the graph was the entry's.
 pub(crate) fn serve<'s, E, R: Rules + Send + Drop + 's, T: Wait + Sync>(
     scope: &Scope<'s, E>,
     rt: &'s T,

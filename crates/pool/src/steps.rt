@@ -51,7 +51,7 @@ pub(crate) fn give<R: Rules>(
     }
 }
 
-// Collects a turn and takes it back, if one is answered, and says whether one was.
+// Collects a turn and takes it back, if one is answered. Returns whether one was.
 pub(crate) fn take<R: Rules>(
     round: &mut Round<R>,
     graph: &mut Graph,

@@ -15,7 +15,7 @@ use node::Graph;
 use round::{Round, Stop};
 use texts::Memory;
 
-// Where the turn of a key stands among those that did not come back.
+// Returns where the turn of a key stands among those that did not come back.
 fn place_of<R: Rules>(turns: &[Turned<R>], key: &Key) -> Option<usize>
     ensures { HasPlace turns.now key.now result }
 {
@@ -27,7 +27,7 @@ fn place_of<R: Rules>(turns: &[Turned<R>], key: &Key) -> Option<usize>
     None
 }
 
-// The turn is put among those that did not come back.
+// Puts the turn among those that did not come back.
 fn put_turn<R: Rules>(turns: &mut Vec<Turned<R>>, turned: Turned<R>) -> Result<(), Memory>
     ensures { OnOk result (turns.new.items ≡ turns.old.items ++ turned ∷ []) }
 {
@@ -35,8 +35,8 @@ fn put_turn<R: Rules>(turns: &mut Vec<Turned<R>>, turned: Turned<R>) -> Result<(
     Ok(())
 }
 
-/// Hands the next turn of a key out and makes it; false where that is not possible. A budget that is spent is told where
-/// the turn could be handed out. `Memory` also for a turn that was refused memory.
+/// Hands the next turn of a key out and makes it. Returns whether that was possible. Returns `Stop::Budget` if it was,
+/// but the budget is spent, and `Stop::Memory` if an allocation fails, in the turn too.
 pub fn hand<R: Rules>(
     round: &mut Round<R>,
     turns: &mut Vec<Turned<R>>,
@@ -78,7 +78,7 @@ pub fn hand<R: Rules>(
     }
 }
 
-/// The turn of a key comes back; false where its job is not out.
+/// Takes the turn of a key back. Returns whether its job was out.
 pub fn back<R: Rules>(
     round: &mut Round<R>,
     turns: &mut Vec<Turned<R>>,
@@ -105,7 +105,7 @@ pub fn back<R: Rules>(
     }
 }
 
-/// The state of a key is dropped; false where that is not possible.
+/// Drops the state of a key. Returns whether that was possible.
 pub fn drop_state<R: Rules>(round: &mut Round<R>, key: &Key) -> bool
     ensures playing { (graph : Recorded) (turns : List Outcome) → IsPlaying graph round.old turns
         → IsPlaying graph round.new turns }

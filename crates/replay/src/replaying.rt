@@ -15,7 +15,7 @@ use node::Graph;
 use round::{Round, Stop, close_stall};
 use std::alloc::Global;
 
-// How many turns a choice hands out.
+// Returns how many turns a choice hands out.
 fn hands_in(choice: &Choice) -> u64
     ensures { result ≡ hand_of choice.now }
 {
@@ -26,7 +26,7 @@ fn hands_in(choice: &Choice) -> u64
     }
 }
 
-// Makes one choice; false where it is not possible.
+// Makes one choice. Returns whether it was possible.
 fn choose<R: Rules>(
     round: &mut Round<R>,
     turns: &mut Vec<Turned<R>>,
@@ -61,15 +61,15 @@ fn choose<R: Rules>(
     }
 }
 
-/// Evaluates the roots by these choices, one after another, in at most `budget` turns of the rules. A turn is made when it
-/// is handed out. Where no turn can be handed out and none is out, the open nodes are closed by themselves. As soon as
-/// all roots are settled the answer is `Done`, and choices that are left over are not read.
+/// Evaluates the roots by these choices, one after another, in at most `budget` turns of the rules. A turn is made when
+/// it is handed out. If no turn can be handed out and none is out, the open nodes are closed without a choice. As soon
+/// as all roots are settled the answer is `Done`, and choices that are left over are not read.
 ///
-/// `NotLegal` for the first choice that was not possible after those before it. `ChoicesEnded` where all were possible and
-/// a root is still open. `Stop::Budget` where the budget's turns were made and a further one could be handed out.
-/// `Stop::Memory` where a growth was refused, in a turn too. After each of these the graph is lawful for the same history,
-/// no record is lost, and only nodes that were settled have new ones. That the tree is the last of the history for which
-/// the graph is lawful is the caller's condition.
+/// Returns `NotLegal` for the first choice that was not possible after those before it. Returns `ChoicesEnded` if all
+/// were possible and a root is still open. Returns `Stop::Budget` if the budget's turns were made and a further one
+/// could be handed out. Returns `Stop::Memory` if an allocation fails, in a turn too. After each of these the graph is
+/// lawful for the same history, no record is lost, and only nodes that were settled have new ones. That the tree is the
+/// last of the history for which the graph is lawful is the caller's condition.
 pub fn replay<R: Rules>(
     alloc: Global,
     graph: &mut Graph,

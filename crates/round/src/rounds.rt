@@ -436,10 +436,10 @@ pub fn close_stall<R: Rules>(mut round: Round<R>, graph: &mut Graph) -> Result<V
 /// it is settled without a turn, and at the first group with a changed member it runs. If no turn can be made any more,
 /// the open nodes lead into loops, and are settled with these.
 ///
-/// Returns `Stop::Budget` if the budget is spent and a further turn is to be made: the round is at no stall, and a root
-/// is still open. Returns `Stop::Memory` if an allocation fails. After a stop the graph is lawful for the same history,
-/// no record is lost, and only nodes that were settled have new ones. That the tree is the last of the history for
-/// which the graph is lawful is the caller's condition.
+/// Returns `Stop::Budget` if the budget is spent and a further turn is to be made. The round is then at no stall, and a
+/// root is still open. Returns `Stop::Memory` if an allocation fails. After a stop the graph is lawful for the same
+/// history, no record is lost, and only nodes that were settled have new ones. That the tree is the last of the history
+/// for which the graph is lawful is the caller's condition.
 pub fn evaluate_here<R: Rules>(
     alloc: Global,
     graph: &mut Graph,

@@ -86,8 +86,8 @@ pub fn text_of(value: &Value) -> Option<&Text>
     }
 }
 
-/// Returns the group that the chooser asks behind its file: the end of the chain where the file is there, and else the
-/// bottom of the diamond.
+/// Returns the group that the chooser asks behind its file. It is the end of the chain if the file is there, and else
+/// the bottom of the diamond.
 pub fn second_group(alloc: Global, file: &Value) -> Result<Vec<Key>, Memory>
     ensures { IfOk result (λ group. group.items ≡ specs.second_group (specs.text_of file.now)) }
 {
