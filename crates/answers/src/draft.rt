@@ -32,7 +32,7 @@ impl Model for Draft {
 }
 
 impl Draft {
-    /// Nothing so far.
+    /// Makes a draft without tokens.
     pub fn new(alloc: Global) -> Draft
         ensures { result ≡ [] }
     {
@@ -41,7 +41,7 @@ impl Draft {
         }
     }
 
-    /// The text. Where the tokens are those of a value, it is that value's.
+    /// Returns the text. If the tokens are those of a value, it is that value's text.
     pub fn into_text(self) -> String
         ensures print { string_bytes result ≡ print self }
         ensures value { (d : Data) → self ≡ tokens_of d → string_bytes result ≡ compact_text d }

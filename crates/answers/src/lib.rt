@@ -16,23 +16,23 @@ pub use package_json::{
     begin_packages, end_packages, write_cyclic_package, write_faulty_package, write_package,
 };
 
-/// The law that the attributes of a target are shown in byte order of their names, whatever their order, and one of each
+/// States that the attributes of a target are shown in byte order of their names, whatever their order, and one of each
 /// name.
 pub fn attributes_rise()
     ensures { AttributesRise }
 {}
 
-/// The law that the names which a module exports are shown in byte order, each once.
+/// States that the names which a module exports are shown in byte order, each once.
 pub fn exports_rise()
     ensures { ExportsRise }
 {}
 
-/// The law that a string which is text is shown as it is. The strings of files are ASCII.
+/// States that a string which is text is shown as it is. The strings of files are ASCII.
 pub fn texts_stay()
     ensures { TextsStay }
 {}
 
-/// The law that no answer has a number that is no integer, so that its text is told byte for byte.
+/// States that no answer has a number that is no integer, so that its text is told byte for byte.
 pub fn answers_are_plain()
     ensures { AnswersArePlain }
 {}

@@ -14,7 +14,7 @@ use std::alloc::Global;
 use std::collections::BTreeSet;
 use texts::{Memory, Text};
 
-// Whether a name is its file's own.
+// Returns whether a name is its file's own.
 fn is_private(name: &Text) -> bool
     ensures { result ≡ modules.is_private name.now }
 {
@@ -24,7 +24,7 @@ fn is_private(name: &Text) -> bool
     }
 }
 
-// The set of the names of bindings, without those that begin with `_`.
+// Returns the set of the names of bindings, without those that begin with `_`.
 fn public_names(alloc: Global, bindings: &[Binding]) -> Result<BTreeSet<Text>, Memory>
     ensures { IfOk result
         (λ set. set.keys ≡ in_order (λ x. x) (answers.public_names bindings.now)) }

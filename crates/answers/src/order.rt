@@ -21,7 +21,7 @@ pub struct Row<'a> {
     pub attribute: &'a Attribute,
 }
 
-// Bytes as text. What is text is not copied.
+// Returns bytes as text. Bytes that are text are not copied.
 fn text_of<'a>(alloc: Global, bytes: &'a Bytes) -> Result<CowStr<'a, Global>, Memory>
     ensures { IfOk result (λ text. cow_str_bytes text ≡ utf8_lossy bytes.now) }
 {
@@ -32,7 +32,7 @@ fn text_of<'a>(alloc: Global, bytes: &'a Bytes) -> Result<CowStr<'a, Global>, Me
     Ok(CowStr::Owned(text))
 }
 
-// How many rows have names below this one, from the first on.
+// Returns how many rows have names below this one, from the first on.
 fn place_of(rows: &[Row<'_>], name: &str) -> usize
     ensures { Passes name.now rows.now result }
 {
@@ -56,7 +56,7 @@ fn put_row<'a>(rows: &mut Vec<Row<'a>>, row: Row<'a>) -> Result<(), Memory>
     Ok(rows.insert(at, row)?)
 }
 
-/// Attributes in byte order of their names. Of several with one name the last stays.
+/// Returns attributes in byte order of their names. Of several with one name the last stays.
 pub fn rows_of<'a>(
     alloc: Global,
     attributes: &'a [(Bytes, Attribute)],

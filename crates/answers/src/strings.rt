@@ -9,7 +9,7 @@ use meaning::Bytes;
 use std::alloc::Global;
 use texts::{Memory, Text};
 
-/// Writes a string that an evaluation made. What is text is not copied.
+/// Writes a string that an evaluation made. Bytes that are text are not copied.
 pub fn write_string(alloc: Global, out: &mut Draft, bytes: &Bytes) -> Result<(), Memory>
     ensures { OnOk result (out.new ≡ out.old ++ tokens_of (string_data bytes.now)) }
 {

@@ -8,12 +8,12 @@ use std::io::ErrorKind;
 use std::process::ExitCode;
 use std::{env, io};
 
-// The words of the program, its own name first.
+// Reads the words of the program, its own name first.
 fn words(rt: &HostRuntime) -> io::Result<Vec<String>> {
     Ok(env::args(rt)?.collect(rt.alloc())?)
 }
 
-// The status where the words can't be read.
+// Tells why the words can't be read, and returns the exit status.
 fn no_words(rt: &HostRuntime, error: &io::Error) -> u8 {
     if error.kind() == ErrorKind::OutOfMemory {
         let _ = rt.eprintln("stop: memory");

@@ -16,7 +16,7 @@ use serde_json::Value;
 use std::alloc::Global;
 use texts::Memory;
 
-/// The JSON of a line, where it is any.
+/// Returns the JSON of a line, if it is any.
 pub fn data_of(alloc: Global, line: &[u8]) -> Result<Option<Value>, Memory>
     ensures { IfOk result (λ found. option_map view found ≡ commands.data_of line.now) }
 {
@@ -38,7 +38,7 @@ fn text_at<'a>(value: &'a Value, key: &str) -> Option<&'a str>
     value.get(key).and_then(Value::as_str)
 }
 
-// The texts of an array, where all its items are texts.
+// Returns the texts of an array, if all its items are texts.
 fn texts_of<'a>(alloc: Global, items: &'a [Value]) -> Result<Option<Vec<&'a str>>, Memory>
     ensures { IfOk result (λ found. option_map (λ texts. texts_seen texts.items) found
         ≡ commands.texts_of (items_view items.now)) }
@@ -87,7 +87,7 @@ fn del_in(value: &Value) -> Option<Change<'_>>
     Some(Change::Del(path))
 }
 
-// The change with exactly these members.
+// Returns the change with exactly these members, if there is one.
 fn change_in(value: &Value) -> Option<Change<'_>>
     ensures { option_map change_seen result ≡ commands.change_in (view value.now) }
 {
@@ -102,7 +102,7 @@ fn change_in(value: &Value) -> Option<Change<'_>>
     None
 }
 
-// The command that makes a change, where there is one.
+// Returns the command that makes a change, if there is one.
 fn to_make(change: Option<Change<'_>>) -> Option<Command<'_>>
     ensures { option_map command_seen result ≡ option_map commands.one_change
         (option_map change_seen change.entry) }
@@ -113,7 +113,7 @@ fn to_make(change: Option<Change<'_>>) -> Option<Command<'_>>
     }
 }
 
-// The changes of an array, where all its items are changes.
+// Returns the changes of an array, if all its items are changes.
 fn changes_in(alloc: Global, items: &[Value]) -> Result<Option<Vec<Change<'_>>>, Memory>
     ensures { IfOk result (λ found. option_map (λ changes. changes_seen changes.items) found
         ≡ commands.changes_in (items_view items.now)) }
@@ -172,7 +172,7 @@ fn under_in(value: &Value) -> Option<Command<'_>>
     Some(Command::Ask(Request::Under(directory)))
 }
 
-/// The command with exactly these members.
+/// Returns the command with exactly these members, if there is one.
 pub fn command_of(alloc: Global, value: &Value) -> Result<Option<Command<'_>>, Memory>
     ensures { IfOk result (λ found. option_map command_seen found ≡ commands.command_of
         (view value.now)) }
@@ -208,7 +208,7 @@ pub fn command_of(alloc: Global, value: &Value) -> Result<Option<Command<'_>>, M
 // How many packages one request may ask for.
 const MOST_NAMES: usize = 256;
 
-// 5 for a text that is no package name.
+// Returns 5 for a text that is no package name.
 fn name_refusal(name: &str) -> Option<u64>
     ensures { result ≡ (if is_package_name name.now then None else Some BAD_NAME) }
 {
@@ -219,7 +219,7 @@ fn name_refusal(name: &str) -> Option<u64>
     }
 }
 
-// Why packages of these names are not loaded: 9 where there are not 1 to 256, then 5 for one that is no package name.
+// Returns why packages of these names are not loaded: 9 if there are not 1 to 256, else 5 if one is no package name.
 fn load_refusal(names: &[&str]) -> Option<u64>
     ensures { result ≡ refusals.load_refusal (texts_seen names.now) }
 {
@@ -234,7 +234,7 @@ fn load_refusal(names: &[&str]) -> Option<u64>
     None
 }
 
-/// The label of a module, by a text that begins with `//`. A request by another text is refused with 5.
+/// Returns the label of a module, by a text that begins with `//`. A request by another text is refused with 5.
 pub fn module_label(alloc: Global, text: &str) -> Result<Option<Label>, Memory>
     ensures { IfOk result (λ found. found ≡ refusals.module_label text.now) }
 {
@@ -254,8 +254,9 @@ pub fn module_label(alloc: Global, text: &str) -> Result<Option<Label>, Memory>
     }
 }
 
-/// The first refusal of a request: of names 9 where there are not 1 to 256, then 5 for one that is no package name; 5 for a
-/// label that does not begin with `//`, or is no module's; 5 for the name of a directory that can be no package's name.
+/// Returns the first refusal of a request. Of names it is 9 if there are not 1 to 256, then 5 for one that is no
+/// package name. It is 5 for a label that does not begin with `//`, or is no module's. It is also 5 for the name of a
+/// directory that can be no package's name.
 pub fn refusal(alloc: Global, request: &Request<'_>) -> Result<Option<u64>, Memory>
     ensures { IfOk result (λ n. n ≡ refusals.request_refusal (request_seen request.now)) }
 {

@@ -25,14 +25,14 @@ impl Model for Accepted {
 }
 
 impl Accepted {
-    /// None so far.
+    /// Makes a list without edits.
     pub fn new() -> Accepted
         ensures { result ≡ [] }
     {
         Accepted { log: Log::new() }
     }
 
-    /// One more.
+    /// Adds an edit.
     pub fn add(&mut self, edit: &Edit<'_>)
         ensures { self.new ≡ self.old ++ edit_seen edit.now ∷ [] }
     {

@@ -23,7 +23,7 @@ impl Model for Changes {
     ghost view = { λ a. map change_of a.log.items };
 }
 
-// The bytes of a text.
+// Returns the bytes of a text.
 fn history_of(text: &str) -> History
     ensures { result ≡ text.now }
 {
@@ -33,14 +33,14 @@ fn history_of(text: &str) -> History
 }
 
 impl Changes {
-    /// None so far.
+    /// Makes a list without changes.
     pub(crate) fn new() -> Changes
         ensures { result ≡ [] }
     {
         Changes { log: Log::new() }
     }
 
-    /// One more.
+    /// Adds a change.
     pub(crate) fn add(&mut self, change: &Change<'_>)
         ensures { self.new ≡ self.old ++ change_seen change.now ∷ [] }
     {
@@ -52,7 +52,7 @@ impl Changes {
         self.log = self.log.and(&path, &text);
     }
 
-    /// More, in their order.
+    /// Adds changes, in their order.
     pub(crate) fn add_all(&mut self, changes: &[Change<'_>])
         ensures { self.new ≡ self.old ++ changes_seen changes.now }
     {

@@ -56,8 +56,8 @@ fn change_all(tree: &mut Tree, changes: &[Change<'_>]) -> Result<(), EditError>
     }
 }
 
-/// Makes an edit of the files, or leaves them as they are: a batch is refused with 10 where it has not 1 to 256 changes,
-/// and else at its first change that is refused on the files after those before it.
+/// Makes an edit of the files, or leaves them as they are. A batch is refused with 10 if it has not 1 to 256 changes.
+/// Else it is refused at its first change that is refused on the files after those before it.
 pub fn edit_files(tree: &mut Tree, edit: &Edit<'_>) -> Result<(), EditError>
     ensures { specs.EditsFiles (edit_seen edit.now) tree.old tree.new result }
 {
@@ -68,8 +68,8 @@ pub fn edit_files(tree: &mut Tree, edit: &Edit<'_>) -> Result<(), EditError>
     }
 }
 
-/// Why an edit of these files is refused where no version is left for it: its first refusal by the files, or else 8.
-/// `Memory` where a growth was refused.
+/// Returns why an edit of these files is refused if no version is left for it: its first refusal by the files, or else
+/// 8. Returns `Memory` if an allocation fails.
 pub fn refusal_at_limit(tree: &Tree, edit: &Edit<'_>) -> EditError
     ensures { specs.TellsRefusal
         (specs.or_version_refusal (specs.files_refusal (edit_seen edit.now) tree.now)
@@ -84,7 +84,7 @@ pub fn refusal_at_limit(tree: &Tree, edit: &Edit<'_>) -> EditError
     }
 }
 
-// The paths of changes, in their order.
+// Returns the paths of changes, in their order.
 fn paths_in<'a>(alloc: Global, changes: &'a [Change<'_>]) -> Result<Vec<&'a str>, Memory>
     ensures { IfOk result (λ paths. texts_seen paths.items ≡ map commands.path_of
         (changes_seen changes.now)) }
@@ -96,7 +96,7 @@ fn paths_in<'a>(alloc: Global, changes: &'a [Change<'_>]) -> Result<Vec<&'a str>
     Ok(paths)
 }
 
-/// The paths of the files that an edit changes, in their order.
+/// Returns the paths of the files that an edit changes, in their order.
 pub fn edited_paths<'a>(alloc: Global, edit: &'a Edit<'_>) -> Result<Vec<&'a str>, Memory>
     ensures { IfOk result (λ paths. texts_seen paths.items ≡ commands.paths_of
         (edit_seen edit.now)) }

@@ -1,21 +1,22 @@
 //! Laws of answers and of what serving writes.
 ghost use Rattle.loader.specs.Laws.{OneAnswer, OneAnswerEach, OneOutput, SomeAnswer, SomeAnswerEach, StopsInOutput};
 
-/// The law of one answer: a line has one answer at most from each state, and lines have one list of answers at most.
+/// States the law of one answer: a line has one answer at most from each state, and lines have one list of answers at
+/// most.
 pub fn lines_determine_answers()
     ensures line { OneAnswer }
     ensures lines { OneAnswerEach }
 {}
 
-/// The law of existence: a line has an answer from each state, and lines have a list of answers. So the answers are a
-/// function of the lines.
+/// States the law of existence: a line has an answer from each state, and lines have a list of answers. So the answers
+/// are a function of the lines.
 pub fn lines_have_answers()
     ensures line { SomeAnswer }
     ensures lines { SomeAnswerEach }
 {}
 
-/// The law of one output: two servings of one input write the same bytes. A serving that stopped wrote a beginning of
-/// what the serving of any longer input writes, or of its own input where the reader had told its end.
+/// States the law of one output: two servings of one input write the same bytes. A serving that stopped wrote a
+/// beginning of what the serving of any longer input writes. If the reader had told its end, that input is its own.
 pub fn input_determines_output()
     ensures served { OneOutput }
     ensures stopped { StopsInOutput }

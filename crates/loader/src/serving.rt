@@ -131,7 +131,7 @@ impl Model for Unkept {
 }
 
 impl Unkept {
-    /// None so far.
+    /// Begins with no run.
     pub fn new() -> Unkept
         ensures { result ≡ [] }
     {
@@ -148,7 +148,7 @@ impl Runs for Unkept {
     }
 }
 
-// Whether the input ended with no byte of a line.
+// Returns whether the input ended with no byte of a line.
 fn is_end(ended: bool, line: &Line) -> bool
     ensures { (whole : List ℕ) → Keeps line.now.bytes.items line.now.too_long whole
         → result ≡ (not ended && (length whole == 0)) }
@@ -156,7 +156,7 @@ fn is_end(ended: bool, line: &Line) -> bool
     !ended && line.is_empty()
 }
 
-// Answers one more line. Tells whether more may come.
+// Answers one more line, and returns whether more may come.
 fn serve_line<R: Input, W: Output, J: Runs>(
     alloc: Global,
     reader: &mut R,
@@ -194,7 +194,7 @@ fn serve_line<R: Input, W: Output, J: Runs>(
     Ok(ended)
 }
 
-// The same by worker threads. After a stop the hands are given up.
+// Answers one more line by worker threads, and returns whether more may come. After a stop the hands are given up.
 fn serve_line_with<
     H: LoadRules + Send + Drop,
     T: Threads + Wait + Sync,
@@ -249,8 +249,8 @@ fn serve_line_with<
 /// Answers all lines of the reader up to its first end, one at a time, beginning with no files. Each answer is written
 /// before more is read. A request has at most `budget` turns of node functions.
 ///
-/// On Ok the reader has told its end, the bytes written are exactly the answers to the bytes read, and `journal`, which
-/// had no runs before, took those of the lines: each item is justified, none is missing, and no request has more turns
+/// On Ok the reader has told its end, and the bytes written are exactly the answers to the bytes read. `journal`, which
+/// had no runs before, took those of the lines. Each item is justified, none is missing, and no request has more turns
 /// than `budget`. After any stop what was written is a beginning of the answers.
 pub fn serve_into<R: Input, W: Output, J: Runs>(
     alloc: Global,
@@ -287,9 +287,9 @@ pub fn serve_into<R: Input, W: Output, J: Runs>(
 /// Answers all lines of the reader up to its first end, one at a time, beginning with no files. Each answer is written
 /// before more is read. A request has at most `budget` turns of node functions.
 ///
-/// On Ok the reader has told its end, the bytes written are exactly the answers to the bytes read, and the journal is
-/// that of the lines: each item is justified, none is missing, and no request has more turns than `budget`. After any
-/// stop what was written is a beginning of the answers.
+/// On Ok the reader has told its end, and the bytes written are exactly the answers to the bytes read. The journal has
+/// the runs of the lines. Each item is justified, none is missing, and no request has more turns than `budget`. After
+/// any stop what was written is a beginning of the answers.
 pub fn serve_here<R: Input, W: Output>(
     alloc: Global,
     reader: &mut R,
@@ -359,11 +359,11 @@ pub fn serve_with<
     Ok(crew)
 }
 
-/// Serves as `serve_here` does, by worker threads, each with one of the hands, which it keeps over all requests and gives
-/// back with the journal. Whatever the order in which workers take and make turns: on Ok the bytes written are the answers
-/// that one thread gets by evaluating the present files from nothing. Each run in the journal is of a node never settled
-/// before, or with a recorded dependency whose value has differed since. The hands' turns have grown by the journal's.
-/// After a stop the hands are given up. That there are 1 to 16 hands is the caller's condition.
+/// Serves as `serve_here` does, by worker threads, each with one of the hands, which it keeps over all requests and
+/// gives back with the journal. On Ok the bytes written are the answers that one thread gets by evaluating the present
+/// files from nothing. The order in which workers take and make turns does not matter. Each run in the journal is of a
+/// node never settled before, or with a recorded dependency whose value has differed since. The hands' turns have grown
+/// by the journal's. After a stop the hands are given up. That there are 1 to 16 hands is the caller's condition.
 pub fn serve<H: LoadRules + Send + Drop, T: Threads + Wait + Sync, R: Input, W: Output>(
     runtime: &T,
     alloc: Global,
@@ -392,7 +392,7 @@ pub fn serve<H: LoadRules + Send + Drop, T: Threads + Wait + Sync, R: Input, W: 
 /// Turns of node functions that one request may have.
 pub const BUDGET: u64 = 10_000_000;
 
-// What the words of the program say.
+// Reads the words of the program.
 fn read_words<'a, S: AsStr>(alloc: Global, words: &'a [S]) -> Result<ArgMatches<'a>, clap::Error> {
     let workers = Arg::new(alloc, "workers")
         .long("workers")
@@ -417,7 +417,7 @@ fn read_words<'a, S: AsStr>(alloc: Global, words: &'a [S]) -> Result<ArgMatches<
     loader.try_get_matches_from(words)
 }
 
-// Whether the words want the journal.
+// Returns whether the words want the journal.
 fn wants_runs(matches: &ArgMatches<'_>) -> bool {
     match matches.subcommand() {
         Some((_, run)) => run.get_flag("runs"),
@@ -425,7 +425,7 @@ fn wants_runs(matches: &ArgMatches<'_>) -> bool {
     }
 }
 
-// How many workers the words want.
+// Returns how many workers the words want.
 fn workers_of(matches: &ArgMatches<'_>) -> usize
     ensures { (1 ≤ result) × (result ≤ 16) }
 {
@@ -436,7 +436,7 @@ fn workers_of(matches: &ArgMatches<'_>) -> usize
     usize::from(told).max(1).min(16)
 }
 
-// So many hands, which have made no turn.
+// Makes so many hands, which have made no turn.
 fn hands_of(alloc: Global, count: usize) -> Result<Vec<Loading>, AllocError>
     ensures { IfOk result (λ hands. length hands.items ≡ count) }
 {
@@ -447,8 +447,8 @@ fn hands_of(alloc: Global, count: usize) -> Result<Vec<Loading>, AllocError>
     Ok(hands)
 }
 
-// A line for each item of a journal: `read V KEY` for a leaf that was read at version V, else `run V KEY`. A fault of
-// `errors` is passed over.
+// Writes a line for each item of a journal: `read V KEY` for a leaf that was read at version V, and else `run V KEY`. A
+// fault of `errors` is passed over.
 fn tell_runs<E: Write>(alloc: Global, errors: &mut E, journal: &[Run]) -> Result<(), Memory> {
     for run in journal {
         let key = run.key.text(alloc)?;
@@ -458,7 +458,7 @@ fn tell_runs<E: Write>(alloc: Global, errors: &mut E, journal: &[Run]) -> Result
     Ok(())
 }
 
-// Tells why serving stopped. A fault of `errors` is passed over.
+// Tells why serving stopped, and returns the exit status. A fault of `errors` is passed over.
 fn tell_stop<E: Write>(errors: &mut E, stop: &ServeStop) -> u8
     ensures { result ≡ 3 }
 {
@@ -491,7 +491,7 @@ fn serve_lines<T: Threads + Wait + Sync, R: Input, W: Output, J: Runs>(
     Ok(())
 }
 
-// Serves, tells the journal, and answers the exit status.
+// Serves, tells the journal, and returns the exit status.
 fn serve_and_tell<T: Threads + Wait + Sync, R: Input, W: Output, E: Write>(
     runtime: &T,
     alloc: Global,
@@ -520,7 +520,7 @@ fn serve_and_tell<T: Threads + Wait + Sync, R: Input, W: Output, E: Write>(
     }
 }
 
-// Serves, and answers the exit status. The runs are not kept.
+// Serves, and returns the exit status. The runs are not kept.
 fn serve_alone<T: Threads + Wait + Sync, R: Input, W: Output, E: Write>(
     runtime: &T,
     alloc: Global,
@@ -544,11 +544,11 @@ fn serve_alone<T: Threads + Wait + Sync, R: Input, W: Output, E: Write>(
     }
 }
 
-/// The program `loader`: `words` are its words, its own name first. It serves the lines of `reader` to `writer` and
-/// answers the exit status: 0 where the reader has told its end, and then the flag `--runs` tells the journal on
-/// `errors`, one line an item, `run V KEY` or for a leaf `read V KEY`; 2 for bad words, found before any input is read,
-/// with the text of the fault on `errors`; 3 for a stop, with a line `stop: read`, `stop: write`, `stop: budget` or
-/// `stop: memory` on `errors`. A fault of `errors` is passed over.
+/// Runs the program `loader`: `words` are its words, its own name first. It serves the lines of `reader` to `writer`
+/// and returns the exit status. The status is 0 if the reader has told its end. The flag `--runs` then tells the
+/// journal on `errors`, one line an item, `run V KEY` or for a leaf `read V KEY`. The status is 2 for bad words, found
+/// before any input is read, with the text of the fault on `errors`. It is 3 for a stop, with a line `stop: read`,
+/// `stop: write`, `stop: budget` or `stop: memory` on `errors`. A fault of `errors` is passed over.
 pub fn command<T: Threads + Wait + Sync, S: AsStr, R: Input, W: Output, E: Write>(
     runtime: &T,
     alloc: Global,

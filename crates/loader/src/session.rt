@@ -79,7 +79,7 @@ impl Model for Session {
 }
 
 impl Session {
-    /// No files, at version 0.
+    /// Makes a session without files, at version 0.
     pub fn new(alloc: Global) -> Session
         ensures state { state_of result ≡ state.start }
         ensures history { (result.began ≡ 0) × (result.edits ≡ []) }
@@ -89,7 +89,7 @@ impl Session {
         Session::new_at(alloc, 0)
     }
 
-    /// No files, at a version.
+    /// Makes a session without files, at a version.
     pub fn new_at(alloc: Global, version: u32) -> Session
         ensures state { state_of result ≡ state.start_at version }
         ensures history { (result.began ≡ version) × (result.edits ≡ []) }
@@ -105,16 +105,16 @@ impl Session {
         }
     }
 
-    /// How many edits were accepted, counted from the version at which the session began.
+    /// Returns how many edits were accepted, counted from the version at which the session began.
     pub fn version(&self) -> u32
         ensures { result ≡ (state_of self.now).version }
     {
         self.graph.version()
     }
 
-    /// Makes an edit, and answers the new version: one more, also for a batch. The records that reach a leaf which the edit
-    /// touches are marked as dirty. What is refused changes nothing: what is reached is found out first, then the files are changed in place,
-    /// and the marks take no memory.
+    /// Makes an edit, and returns the new version: one more, also for a batch. The records that reach a leaf which the
+    /// edit touches are marked as dirty. An edit that is refused changes nothing. The records that it reaches are found
+    /// out first, then the files are changed in place, and the marks take no memory.
     pub fn apply(&mut self, edit: &Edit<'_>) -> Result<u32, EditError>
         ensures applies { state.Applies (edit_seen edit.now) (state_of self.old) (state_of self.new)
             result }
@@ -136,7 +136,7 @@ impl Session {
         Ok(version)
     }
 
-    /// The answer to a request by its evaluation over the graph, in at most `budget` turns, and what that ran: a graph
+    /// Answers a request by its evaluation over the graph, in at most `budget` turns, and tells what that ran. A graph
     /// that is lawful stays so, and each run is justified. The files stay as they are, and after a stop too a later
     /// request is answered as from nothing.
     pub fn request(&mut self, request: &Request<'_>, budget: u64) -> Result<Reply, Stop>
@@ -163,9 +163,9 @@ impl Session {
         Ok(Reply { text, runs })
     }
 
-    /// The same by worker threads, each with one of the hands, and the hands with it, whose turns are those of the reply's
-    /// runs. What is answered does not hang on the order in which the workers make their turns. After a stop the hands are
-    /// given up. That there are 1 to 16 hands is the caller's condition.
+    /// Answers a request as `request` does, by worker threads, each with one of the hands. Returns the hands too, whose
+    /// turns have grown by those of the reply's runs. The answer does not hang on the order in which the workers make
+    /// their turns. After a stop the hands are given up. That there are 1 to 16 hands is the caller's condition.
     pub fn request_with<R: LoadRules + Send + Drop, T: Threads + Wait + Sync>(
         &mut self,
         runtime: &T,
@@ -202,8 +202,8 @@ impl Session {
         Ok((hands, Reply { text: line, runs }))
     }
 
-    // Evaluates what a request asks for, and then the packages that it names, both in one budget. Answers the keys of which
-    // it is told, and what both ran.
+    // Evaluates what a request asks for, and then the packages that it names, both in one budget. Returns the keys of
+    // which the answer tells, and what both ran.
     fn evaluated(
         &mut self,
         request: &Request<'_>,
@@ -233,7 +233,7 @@ impl Session {
         Ok((later, all))
     }
 
-    // The same by worker threads.
+    // Evaluates as `evaluated` does, by worker threads.
     fn evaluated_with<R: LoadRules + Send + Drop, T: Threads + Wait + Sync>(
         &mut self,
         runtime: &T,
@@ -270,8 +270,8 @@ impl Session {
         Ok((hands, later, all))
     }
 
-    // Evaluates keys over the graph, in at most `budget` turns, and answers what that ran. Each of them that has a value for
-    // the present files is then held with it.
+    // Evaluates keys over the graph, in at most `budget` turns, and returns what that ran. Each of them that has a
+    // value for the present files is then held with it.
     fn settle(&mut self, roots: &[Key], budget: u64) -> Result<Vec<Run>, Stop>
         ensures law { IfOk result
             (λ runs. Calls next (read (files_of self.old)) roots.now self.old.graph self.new.graph
@@ -295,7 +295,7 @@ impl Session {
         Ok(runs)
     }
 
-    // The same by worker threads.
+    // Evaluates keys as `settle` does, by worker threads.
     fn settle_with<R: LoadRules + Send + Drop, T: Threads + Wait + Sync>(
         &mut self,
         runtime: &T,
@@ -331,7 +331,7 @@ impl Session {
     }
 }
 
-/// Compact JSON.
+/// Writes an answer as compact JSON.
 pub fn written(alloc: Global, answer: &Value) -> Result<String, Memory>
     ensures { IfOk result (λ text. has_float (json_view answer.now) ≡ false → string_bytes text
         ≡ compact_text (json_view answer.now)) }
@@ -339,7 +339,7 @@ pub fn written(alloc: Global, answer: &Value) -> Result<String, Memory>
     Ok(answer.to_string(alloc)?)
 }
 
-/// The answer to what is refused.
+/// Makes the answer that tells a refusal.
 pub fn refused_answer(alloc: Global, n: u64) -> Result<Value, Memory>
     ensures { IfOk result (λ value. json_view value ≡ answers.refused n) }
 {
@@ -352,7 +352,7 @@ fn accepted_answer(alloc: Global, version: u32) -> Result<Value, Memory>
     Ok(json!(in alloc; {"ok": version})?)
 }
 
-/// The text of the answer to what is refused.
+/// Returns the text of the answer that tells a refusal.
 pub fn refused(alloc: Global, n: u64) -> Result<String, Memory>
     ensures { IfOk result (λ text. string_bytes text ≡ compact_text (answers.refused n)) }
 {
@@ -366,7 +366,7 @@ fn refused_at_answer(alloc: Global, at: usize, n: u64) -> Result<Value, Memory>
     Ok(json!(in alloc; {"edit": at, "refused": n})?)
 }
 
-/// The text of the answer to a batch of which a change is refused, by its place among them.
+/// Returns the text of the answer to a batch of which a change is refused, by its place among them.
 pub fn refused_at(alloc: Global, at: usize, n: u64) -> Result<String, Memory>
     ensures { IfOk result (λ text. string_bytes text ≡ compact_text (answers.refused_at at n)) }
 {
@@ -374,7 +374,7 @@ pub fn refused_at(alloc: Global, at: usize, n: u64) -> Result<String, Memory>
     written(alloc, &answer)
 }
 
-/// The answer to an edit that was made.
+/// Returns the text of the answer to an edit that was made.
 pub fn accepted(alloc: Global, version: u32) -> Result<String, Memory>
     ensures { IfOk result (λ text. string_bytes text ≡ compact_text (answers.accepted version)) }
 {
@@ -382,7 +382,7 @@ pub fn accepted(alloc: Global, version: u32) -> Result<String, Memory>
     written(alloc, &answer)
 }
 
-// The answer that tells a package's build file.
+// Makes the answer that tells a package's build file.
 fn build_answer(alloc: Global, found: Option<BuildName>) -> Result<Value, Memory>
     ensures { IfOk result (λ value. json_view value ≡ answers.one_member (text_codes "build")
         (answers.build_text found)) }
@@ -394,7 +394,7 @@ fn build_answer(alloc: Global, found: Option<BuildName>) -> Result<Value, Memory
     }
 }
 
-/// The text of the answer that tells a package's build file.
+/// Returns the text of the answer that tells a package's build file.
 pub fn build_text(alloc: Global, found: Option<BuildName>) -> Result<String, Memory>
     ensures { IfOk result
         (λ text. string_bytes text ≡ compact_text
@@ -431,7 +431,7 @@ fn edit_answer(alloc: Global, session: &mut Session, edit: &Edit<'_>) -> Result<
     }
 }
 
-// An answer that no evaluation led to.
+// Makes a reply that no evaluation led to.
 fn plain(alloc: Global, text: String) -> Reply
     ensures { (string_bytes result.text ≡ string_bytes text) × (result.runs.items ≡ []) }
 {
@@ -441,7 +441,8 @@ fn plain(alloc: Global, text: String) -> Reply
     }
 }
 
-// Makes the edit of a line, where it is one. `value` is the line's JSON, if it is any.
+// Answers a line that makes an edit or is no command, or returns the request that it asks. `value` is the line's JSON,
+// if it is any.
 fn begin<'a>(
     alloc: Global,
     session: &mut Session,
@@ -462,7 +463,7 @@ fn begin<'a>(
     }
 }
 
-// A text with byte 10 behind it.
+// Returns a text with byte 10 behind it.
 fn ended(text: String) -> Result<String, Memory>
     ensures { IfOk result (λ t. string_bytes t ≡ string_bytes text ++ 10 ∷ []) }
 {
@@ -471,7 +472,7 @@ fn ended(text: String) -> Result<String, Memory>
     Ok(text)
 }
 
-// An answer with byte 10 behind it.
+// Returns a reply with byte 10 behind its text.
 fn ended_reply(reply: Reply) -> Result<Reply, Memory>
     ensures { IfOk result (λ r. (string_bytes r.text ≡ string_bytes reply.text ++ 10 ∷ [])
         × (r.runs ≡ reply.runs)) }
@@ -482,8 +483,8 @@ fn ended_reply(reply: Reply) -> Result<Reply, Memory>
     })
 }
 
-/// The answer to a line, with its byte 10, and what its evaluation ran, in at most `budget` turns. A stop leaves the files
-/// as they were, or with the line's edit made and its answer lost.
+/// Answers a line, with byte 10 behind the answer, in at most `budget` turns, and tells what its evaluation ran. A stop
+/// leaves the files as they were, or with the line's edit made and its answer lost.
 pub fn answer(alloc: Global, session: &mut Session, line: &Line, budget: u64) -> Result<Reply, Stop>
     ensures answer { IfOk result (λ answer. (whole : List ℕ)
         → Keeps line.now.bytes.items line.now.too_long whole → AnswersLine whole session.old
@@ -505,7 +506,8 @@ pub fn answer(alloc: Global, session: &mut Session, line: &Line, budget: u64) ->
     }
 }
 
-/// The same by worker threads, each with one of the hands, and the hands with it. After a stop they are given up.
+/// Answers a line as `answer` does, by worker threads, each with one of the hands. Returns the hands too. After a stop
+/// they are given up.
 pub fn answer_with<H: LoadRules + Send + Drop, T: Threads + Wait + Sync>(
     runtime: &T,
     alloc: Global,

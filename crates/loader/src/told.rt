@@ -30,7 +30,7 @@ use std::alloc::Global;
 use std::sync::Arc;
 use texts::{Memory, Text};
 
-/// The key of each package.
+/// Returns the key of each package.
 pub fn package_keys(alloc: Global, names: &[&str]) -> Result<Vec<Key>, Memory>
     ensures { IfOk result (λ roots. roots.items ≡ map (λ name. keys.Package name)
         (texts_seen names.now)) }
@@ -42,7 +42,7 @@ pub fn package_keys(alloc: Global, names: &[&str]) -> Result<Vec<Key>, Memory>
     Ok(roots)
 }
 
-// The key of a module, where a label names one.
+// Returns the key of a module, if a label names one.
 fn module_keys(alloc: Global, label: &str) -> Result<Vec<Key>, Memory>
     ensures { IfOk result (λ keys. keys.items ≡ module_roots (module_label label.now)) }
 {
@@ -53,7 +53,7 @@ fn module_keys(alloc: Global, label: &str) -> Result<Vec<Key>, Memory>
     Ok(roots)
 }
 
-/// The keys that a request asks for.
+/// Returns the keys that a request asks for.
 pub fn roots_of(alloc: Global, request: &Request<'_>) -> Result<Vec<Key>, Memory>
     ensures { IfOk result (λ keys. keys.items ≡ request_roots (request_seen request.now)) }
 {
@@ -73,8 +73,8 @@ pub fn roots_of(alloc: Global, request: &Request<'_>) -> Result<Vec<Key>, Memory
     }
 }
 
-/// The keys that a request asks for then, by what is held of the first: of all packages at and below a directory their
-/// keys. Other requests ask for no more.
+/// Returns the keys that a request asks for next, by the value of its first key. For a directory they are the keys of
+/// all packages at and below it. Other requests ask for no more.
 pub fn later_roots(
     alloc: Global,
     graph: &Graph,
@@ -97,7 +97,7 @@ pub fn later_roots(
     }
 }
 
-// The key of each package.
+// Returns the key of each package.
 fn named_keys(alloc: Global, names: &[Text]) -> Result<Vec<Key>, Memory>
     ensures { IfOk result (λ roots. roots.items ≡ package_roots names.now) }
 {
@@ -108,7 +108,7 @@ fn named_keys(alloc: Global, names: &[Text]) -> Result<Vec<Key>, Memory>
     Ok(roots)
 }
 
-// The names that are held of the first of these keys.
+// Returns the names that are held of the first of these keys.
 fn names_held<'a>(graph: &'a Graph, roots: &[Key]) -> &'a [Text]
     ensures { (directory : List ℕ) (names : List (List ℕ)) → roots.now ≡ keys.Under directory ∷ []
         → present (record_at graph.now (keys.Under directory)) ≡ Some (values.Paths names)
@@ -120,7 +120,7 @@ fn names_held<'a>(graph: &'a Graph, roots: &[Key]) -> &'a [Text]
     }
 }
 
-// The names that a value holds.
+// Returns the names that a value holds.
 fn held_names(value: Option<&Arc<Value>>) -> &[Text]
     ensures { (names : List (List ℕ)) → option_map (λ v. arc_value v.now) value.entry
         ≡ Some (values.Paths names) → result.now ≡ names }
@@ -134,7 +134,7 @@ fn held_names(value: Option<&Arc<Value>>) -> &[Text]
     }
 }
 
-/// The text of the answer to a request that is not refused, by the values that are held of its keys.
+/// Returns the text of the answer to a request that is not refused, by the values that are held of its keys.
 pub fn told(
     alloc: Global,
     graph: &Graph,
@@ -154,7 +154,7 @@ pub fn told(
     }
 }
 
-// The packages that are held of these keys.
+// Returns the text of the packages that are held of these keys.
 fn packages_text(alloc: Global, graph: &Graph, roots: &[Key]) -> Result<String, Memory>
     ensures { IfOk result
         (λ text. string_bytes text ≡ compact_text
@@ -200,7 +200,7 @@ pub fn write_package_held(
     }
 }
 
-// The module that is held of the first of these keys.
+// Returns the text of the module that is held of the first of these keys.
 fn module_text(alloc: Global, graph: &Graph, roots: &[Key]) -> Result<String, Memory>
     ensures { IfOk result (λ text. (k : Key) → roots.now ≡ k ∷ [] → string_bytes text ≡ compact_text
         (module_told (present (record_at graph.now k)))) }
@@ -237,7 +237,7 @@ fn write_module_held(alloc: Global, out: &mut Draft, graph: &Graph, key: &Key) -
     }
 }
 
-// The build file that is held of the first of these keys.
+// Returns the build file that is held of the first of these keys.
 fn found_by(graph: &Graph, roots: &[Key]) -> Option<BuildName>
     ensures { (name : List ℕ) (found : Option BuildName) → roots.now ≡ keys.Lookup name ∷ []
         → present (record_at graph.now (keys.Lookup name)) ≡ Some (values.Lookup found)
@@ -246,7 +246,7 @@ fn found_by(graph: &Graph, roots: &[Key]) -> Option<BuildName>
     held_build(graph.get(roots.first()?))
 }
 
-// The build file that the value of a look-up holds.
+// Returns the build file that the value of a look-up holds.
 fn held_build(value: Option<&Arc<Value>>) -> Option<BuildName>
     ensures { (found : Option BuildName) → option_map (λ v. arc_value v.now) value.entry
         ≡ Some (values.Lookup found) → result ≡ found }

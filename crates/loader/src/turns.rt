@@ -5,7 +5,7 @@ ghost use Rattle.open_nodes.specs.Counted.{turns_of};
 use round::Run;
 use texts::Memory;
 
-/// How many turns are left of a budget that these runs did not exceed.
+/// Returns how many turns are left of a budget that these runs did not exceed.
 pub(crate) fn turns_left(budget: u64, runs: &[Run]) -> u64
     requires { turns_of runs.now ≤ budget }
     ensures { result + turns_of runs.now ≡ budget }
@@ -17,7 +17,7 @@ pub(crate) fn turns_left(budget: u64, runs: &[Run]) -> u64
     left
 }
 
-/// The runs of both, in their order.
+/// Returns the runs of both, in their order.
 pub(crate) fn joined(runs: Vec<Run>, more: Vec<Run>) -> Result<Vec<Run>, Memory>
     ensures { IfOk result (λ all. all.items ≡ runs.items ++ more.items) }
 {

@@ -21,11 +21,11 @@ use std::sync::Wait;
 use texts::Text;
 
 impl Session {
-    /// Answers a request as `request` does, and publishes the packages of a load that is not refused: one entry for each
-    /// distinct name, all at the present version. Its text is the JSON of that package. Then it returns what readers may
-    /// learn. Other requests publish nothing.
+    /// Answers a request as `request` does, and publishes the packages of a load that is not refused. There is one
+    /// entry for each distinct name, all at the present version. Its text is the JSON of that package. Then it returns
+    /// what readers may learn. Other requests publish nothing.
     ///
-    /// Returns `Budget` where the budget of turns is spent, and nothing is published. Returns `Memory` if an allocation
+    /// Returns `Budget` if the budget of turns is spent, and nothing is published. Returns `Memory` if an allocation
     /// fails. Nothing is shown to readers then, and the publish may be taken up: a later one shows it.
     pub fn request_published<R: Wait + Drop>(
         &mut self,
