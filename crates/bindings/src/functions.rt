@@ -1,8 +1,9 @@
 //! Functions with the names of a call.
-ghost use Rattle.std.specs.Prelude.{◌≡◌, ◌<◌, length, IfOk, map};
+ghost use Rattle.std.specs.Prelude.{◌≡◌, ◌≤◌, length, IfOk, map};
 ghost use Rattle.tree.specs.Bound.{differ};
 ghost use Rattle.tree.specs.Statements.{stmts_of, param_of, fn_of};
 ghost use Rattle.bindings.specs.Functions.{function};
+ghost use Rattle.bindings.specs.declared.finding.TheConstants.{FEW};
 
 use crate::names::{are_known_to_differ, function_names};
 use std::alloc::Global;
@@ -26,7 +27,7 @@ pub fn new_function(
     ensures function { IfOk result
         (λ d. fn_of d ≡ function line name (map param_of params.items) (stmts_of body.items)) }
     ensures once { IfOk result
-        (λ d. length d.names.items < 17 → d.once ≡ differ d.names.items) }
+        (λ d. length d.names.items ≤ FEW → d.once ≡ differ d.names.items) }
 {
     let names = function_names(alloc, params.as_slice(), body.as_slice())?;
     let once = are_known_to_differ(names.as_slice());

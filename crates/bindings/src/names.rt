@@ -1,10 +1,11 @@
 //! The names of functions, comprehensions and files.
-ghost use Rattle.std.specs.Prelude.{◌≡◌, ◌<◌, ◌++◌, [], length, true, IfOk, OnOk, map};
+ghost use Rattle.std.specs.Prelude.{◌≡◌, ◌≤◌, ◌++◌, [], length, true, IfOk, OnOk, map};
 ghost use Rattle.tree.specs.View.{clause_trees};
 ghost use Rattle.tree.specs.Statements.{stmts_of, param_of, top_of, file_of};
 ghost use Rattle.tree.specs.Bound.{names_once, differ};
 ghost use Rattle.tree.specs.Bound as bound;
 ghost use Rattle.bindings.specs.Found.{seen, SameNames, names_of_params};
+ghost use Rattle.bindings.specs.declared.finding.TheConstants.{FEW};
 
 use crate::finding::{FEW, Found, is_among, note, nothing_found};
 use crate::gathering::{find_clauses, find_loads, find_suite, find_tops};
@@ -96,10 +97,10 @@ pub fn top_names(alloc: Global, tops: &[Top]) -> Result<Vec<Text>, Memory>
     Ok(found.into_kept())
 }
 
-/// Returns whether these names are known to differ. More than sixteen are not compared.
+/// Returns whether these names are known to differ. More than `FEW` are not compared.
 pub fn are_known_to_differ(names: &[Text]) -> bool
     ensures some { result ≡ true → differ names.now ≡ true }
-    ensures few { length names.now < 17 → result ≡ differ names.now }
+    ensures few { length names.now ≤ FEW → result ≡ differ names.now }
 {
     if names.len() > FEW {
         return false;

@@ -1,10 +1,11 @@
 //! Changes of files, one or several together.
-ghost use Rattle.std.specs.Prelude.{◌≡◌, IfOk};
+ghost use Rattle.std.specs.Prelude.{◌≡◌};
 ghost use Rattle.filetree.specs.Changes as specs;
 ghost use Rattle.filetree.specs.Edits.{Edits, refusal_of};
 ghost use Rattle.filetree.specs.Shown.{change_seen, changes_seen};
 
 use crate::error::{BatchError, TreeError};
+use crate::refusals;
 use crate::tree::Tree;
 
 /// A change of one file.
@@ -33,10 +34,22 @@ fn refused_at(at: usize, error: &TreeError) -> BatchError
     ensures { result ≡ specs.error_at at (refusal_of error.now) }
 {
     match error {
-        TreeError::Code2 => BatchError::At { at, number: 2 },
-        TreeError::Code3 => BatchError::At { at, number: 3 },
-        TreeError::Code4 => BatchError::At { at, number: 4 },
-        TreeError::Code7 => BatchError::At { at, number: 7 },
+        TreeError::Code2 => BatchError::At {
+            at,
+            number: refusals::BAD_PATH,
+        },
+        TreeError::Code3 => BatchError::At {
+            at,
+            number: refusals::IN_THE_WAY,
+        },
+        TreeError::Code4 => BatchError::At {
+            at,
+            number: refusals::NO_FILE,
+        },
+        TreeError::Code7 => BatchError::At {
+            at,
+            number: refusals::TEXT_TOO_LONG,
+        },
         TreeError::Memory => BatchError::Memory,
     }
 }

@@ -1,5 +1,5 @@
 -- Lists that are made, or are too long.
-use Rattle.std.specs.Prelude.{◌≡◌, false, List, length, Option, Some, None, Result, Ok, Err}
+use Rattle.std.specs.Prelude.{◌≡◌, true, false, List, length, Option, Some, None, Result, Ok, Err}
 use Rattle.std.specs.declared.vec.Vec.{Vec}
 use Rattle.std.specs.declared.alloc.Global.{Global}
 use Rattle.meaning.specs.Heap.{is_sized}
@@ -7,9 +7,9 @@ use Rattle.meaning.specs.declared.faults.TheConstants.{TOO_LARGE, WRONG_TYPE}
 use Rattle.heap.specs.declared.halt.Halt.{Halt}
 use Rattle.heap.specs.declared.halt.Halt.TheVariants.{Code, Memory}
 
--- the list, where it is not too long, and else fault 13
+-- the list, where it is not too long, and fault 13 where it is
 abbrev pub SizedAs : {A : Type 0} → List A → Result (Vec A Global) Halt → Type 0
-SizedAs xs (Ok v) = v.items ≡ xs
+SizedAs xs (Ok v) = (v.items ≡ xs) × (is_sized (length xs) ≡ true)
 SizedAs xs (Err (Code c)) = (c ≡ TOO_LARGE) × (is_sized (length xs) ≡ false)
 SizedAs xs (Err Memory) = Unit {0}
 

@@ -11,7 +11,7 @@ use Rattle.heap.specs.declared.halt.Halt.TheVariants.{Code, Memory}
 
 -- more bytes behind those that were there, where they are not too many, and else fault 13
 abbrev pub Grows : List ℕ → List ℕ → Result (Unit {0}) Halt → List ℕ → Type 0
-Grows old more (Ok u) new = new ≡ old ++ more
+Grows old more (Ok u) new = (new ≡ old ++ more) × (is_sized (length new) ≡ true)
 Grows old more (Err (Code c)) new = (c ≡ TOO_LARGE) × (is_sized (length (old ++ more)) ≡ false)
 Grows old more (Err Memory) new = Unit {0}
 

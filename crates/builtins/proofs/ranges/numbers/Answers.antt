@@ -13,7 +13,7 @@ returns-then-len-ge-LONGEST c =
     let g : FitsSigned w64 c.args.to = c.ranges.to in
     let h : FitsSigned w64 c.args.step = c.ranges.step in
     let here = simp to_z-of_z at (sym c.lies_before.ensures ∙ c.loop-members-test.true) in
-    (refl, range_long c.loop-members.members.items _ (to_z w64 c.loop-members.next-bits) c.args.to c.args.step c.requires (simp to_z-of_z at c.loop-members.invariant) here (omega arith))
+    (refl, range_long c.loop-members.members.items _ (to_z w64 c.loop-members.next-bits) c.args.to c.args.step c.requires (simp to_z-of_z at c.loop-members.invariant.0) here (omega arith))
 
 pub loop-members-smaller : goal.loop-members-smaller
 loop-members-smaller c = omega (arith, ap length c.in_ok-push.ensures.items, length-append {A = Val})
@@ -26,7 +26,7 @@ loop-members-preserved c =
     let here = simp to_z-of_z at (sym c.lies_before.ensures ∙ c.loop-members-test.true) in
     let sum = simp to_z-of_z at c.in-Some.ensures in
     let k : FitsSigned w64 c.in-Some.n = subst (FitsSigned w64) (sym sum.1) sum.0 in
-    simp to_z-of_z (range_goes c.loop-members.members.items _ (to_z w64 c.loop-members.next-bits) c.args.to c.args.step c.requires (simp to_z-of_z at c.loop-members.invariant) c.push.new.self.items here c.in_ok-push.ensures.items c.in-Some.n sum.1)
+    simp to_z-of_z (range_goes c.loop-members.members.items _ (to_z w64 c.loop-members.next-bits) c.args.to c.args.step c.requires (simp to_z-of_z at c.loop-members.invariant.0) c.push.new.self.items here c.in_ok-push.ensures.items c.in-Some.n sum.1)
 
 pub returns-in-None : goal.returns-in-None
 returns-in-None c =
@@ -34,7 +34,7 @@ returns-in-None c =
     let g : FitsSigned w64 c.args.to = c.ranges.to in
     let h : FitsSigned w64 c.args.step = c.ranges.step in
     let here = simp to_z-of_z at (sym c.lies_before.ensures ∙ c.loop-members-test.true) in
-    range_last c.loop-members.members.items _ (to_z w64 c.loop-members.next-bits) c.args.to c.args.step c.requires (simp to_z-of_z at c.loop-members.invariant) c.push.new.self.items here c.in_ok-push.ensures.items
+    range_last c.loop-members.members.items _ (to_z w64 c.loop-members.next-bits) c.args.to c.args.step c.requires (simp to_z-of_z at c.loop-members.invariant.0) c.push.new.self.items here c.in_ok-push.ensures.items
     (past_the_end (to_z w64 c.loop-members.next-bits) c.args.to c.args.step (search rules) c.ranges.to c.requires (simp to_z-of_z at c.in-None.ensures))
 
 pub returns : goal.returns
@@ -43,4 +43,4 @@ returns c =
     let g : FitsSigned w64 c.args.to = c.ranges.to in
     let h : FitsSigned w64 c.args.step = c.ranges.step in
     let there = simp to_z-of_z at (sym c.lies_before.ensures ∙ c.loop-members-test.false) in
-    range_ends c.loop-members.members.items _ (to_z w64 c.loop-members.next-bits) c.args.to c.args.step c.requires (simp to_z-of_z at c.loop-members.invariant) there
+    range_ends c.loop-members.members.items _ (to_z w64 c.loop-members.next-bits) c.args.to c.args.step c.requires (simp to_z-of_z at c.loop-members.invariant.0) there
