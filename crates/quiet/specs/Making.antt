@@ -1,7 +1,7 @@
 -- How many values an expression makes that are not in its source: those of operators between operands, calls and
 -- slices. One of them may take some megabytes, and what an expression that is evaluated at once leaves is given back
 -- behind it alone. So only expressions that make few are evaluated so.
-use Rattle.std.specs.Prelude.{ℕ, ◌+◌, Bool, nat_le}
+use Rattle.std.specs.Prelude.{ℕ, ◌+◌, ◌-◌, Bool, cond, nat_le}
 use Rattle.tree.specs.Tree as t
 use Rattle.tree.specs.Tree.{Ex, Exs, Bound}
 
@@ -38,3 +38,7 @@ most_made = 8
 
 abbrev pub is_few : ℕ → Bool
 is_few n = nat_le n most_made
+
+-- how many more may be made behind a part, of so many; none behind a part that can wait
+abbrev pub room : (is_quiet : Bool) (made left : ℕ) → ℕ
+room is_quiet made left = cond is_quiet (left - made) 0

@@ -3,7 +3,6 @@
 #![tactic(auto)]
 
 mod evaluating;
-mod making;
 mod quiet;
 mod standing;
 mod statements;

@@ -10,8 +10,7 @@ ghost use Rattle.quiet.specs.Making.{making, makings, is_few};
 ghost use Rattle.quiet.specs.View.{free_at};
 
 use crate::evaluating::{value, values};
-use crate::making::{all_make_few, makes_few};
-use crate::quiet::{are_quiet, is_quiet};
+use crate::quiet::{are_quiet_and_few, is_quiet_and_few};
 use heap::{Halt, Val};
 use names::{Scope, Standing, State};
 use tree::Expr;
@@ -27,7 +26,7 @@ pub fn is_quiet_at(state: &State, at: &Standing, e: &Expr) -> bool
         files: state.files.as_slice(),
         at,
     };
-    is_quiet(&scope, e) && makes_few(e)
+    is_quiet_and_few(&scope, e)
 }
 
 /// Evaluates a quiet expression where it stands. The heap alone is changed.
@@ -59,7 +58,7 @@ pub fn are_quiet_at(state: &State, at: &Standing, es: &[Expr]) -> bool
         files: state.files.as_slice(),
         at,
     };
-    are_quiet(&scope, es) && all_make_few(es)
+    are_quiet_and_few(&scope, es)
 }
 
 /// Evaluates several quiet expressions where they stand, in order. The heap alone is changed.
