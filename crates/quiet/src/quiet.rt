@@ -41,7 +41,8 @@ fn is_word_native(e: &Expr) -> bool
 #[cycle(room)]
 #[tactic(auto, using(crate::proofs::Room::behind, crate::proofs::Room::between, crate::proofs::Room::one_of_three, crate::proofs::Room::one_more, crate::proofs::Room::nothing_left))]
 fn room_behind(scope: &Scope<'_>, e: &Expr, left: u64) -> u64
-    ensures { result ≡ room (quiet (is_free scope.now) (tree_of e.now)) (making (tree_of e.now)) left }
+    ensures { result ≡ room (quiet (is_free scope.now) (tree_of e.now)) (making (tree_of e.now))
+        left }
 {
     if left == 0 {
         return 0;
@@ -87,7 +88,8 @@ fn room_behind(scope: &Scope<'_>, e: &Expr, left: u64) -> u64
 // Returns the same of several expressions.
 #[cycle(room)]
 fn room_behind_all(scope: &Scope<'_>, es: &[Expr], left: u64) -> u64
-    ensures { result ≡ room (quiets (is_free scope.now) (trees_of es.now)) (makings (trees_of es.now)) left }
+    ensures { result ≡ room (quiets (is_free scope.now) (trees_of es.now))
+        (makings (trees_of es.now)) left }
 {
     let mut left = left;
     for e in es.iter() {
@@ -99,7 +101,8 @@ fn room_behind_all(scope: &Scope<'_>, es: &[Expr], left: u64) -> u64
 // Returns the same of a bound, which may be left out.
 #[cycle(room)]
 fn room_behind_bound(scope: &Scope<'_>, bound: &Option<Arc<Expr, Global>>, left: u64) -> u64
-    ensures { result ≡ room (quiet_bound (is_free scope.now) (bound_tree bound.now)) (bound_making (bound_tree bound.now)) left }
+    ensures { result ≡ room (quiet_bound (is_free scope.now) (bound_tree bound.now))
+        (bound_making (bound_tree bound.now)) left }
 {
     match bound {
         Some(e) => room_behind(scope, e, left),
@@ -109,14 +112,16 @@ fn room_behind_bound(scope: &Scope<'_>, bound: &Option<Arc<Expr, Global>>, left:
 
 /// Returns whether the evaluation of an expression can wait for nothing, and makes few values.
 pub fn is_quiet_and_few(scope: &Scope<'_>, e: &Expr) -> bool
-    ensures { result ≡ (quiet (is_free scope.now) (tree_of e.now) && is_few (making (tree_of e.now))) }
+    ensures { result ≡ (quiet (is_free scope.now) (tree_of e.now)
+        && is_few (making (tree_of e.now))) }
 {
     room_behind(scope, e, MOST_MADE + 1) > 0
 }
 
 /// Returns whether the evaluation of several expressions can wait for nothing, and makes few values together.
 pub fn are_quiet_and_few(scope: &Scope<'_>, es: &[Expr]) -> bool
-    ensures { result ≡ (quiets (is_free scope.now) (trees_of es.now) && is_few (makings (trees_of es.now))) }
+    ensures { result ≡ (quiets (is_free scope.now) (trees_of es.now)
+        && is_few (makings (trees_of es.now))) }
 {
     room_behind_all(scope, es, MOST_MADE + 1) > 0
 }
