@@ -134,3 +134,6 @@ past_the_end n to step f g nonzero wide = by (lies_before (n +ℤ step) to step)
     by : (b : Bool) → lies_before (n +ℤ step) to step ≡ b → b ≡ false
     by true h = absurd (wide (fits h (int_lt (pos 0) step) refl))
     by false h = refl
+
+pub sized : (n : ℕ) → n ≤ 65536 → is_sized n ≡ true
+sized n h = grind (arith, nat_tests)

@@ -1,11 +1,13 @@
-use Rattle.std.proofs.Common.{length, length-append, FitsSigned, w64, to_z, refl, sym, subst, ◌∙◌, ap, arith, rules}
+use Rattle.std.proofs.Common.{◌≡◌, ◌≤◌, true, List, length, length-append, FitsSigned, w64, to_z, refl, sym, subst, ◌∙◌, ap, arith, rules}
 use Rattle.std.proofs.lemmas.Int.{to_z-of_z}
 use Rattle.meaning.specs.declared.val.Val.{Val}
-use Rattle.builtins.proofs.Spanned.{range_ends, range_goes, range_last, range_long, past_the_end}
+use Rattle.meaning.specs.Heap.{is_sized}
+use Rattle.meaning.specs.Functions.{range_count, numbers}
+use Rattle.builtins.proofs.Spanned.{range_ends, range_goes, range_last, range_long, past_the_end, sized}
 use Rattle.builtins.proofs.ranges.numbers.Goals as goal
 
 pub loop-members-init : goal.loop-members-init
-loop-members-init c = rw c.new-members.ensures.items refl
+loop-members-init c = (rw c.new-members.ensures.items refl, omega (arith, ap (length {A = Val}) c.new-members.ensures.items))
 
 pub returns-then-len-ge-LONGEST : goal.returns-then-len-ge-LONGEST
 returns-then-len-ge-LONGEST c =
@@ -25,8 +27,10 @@ loop-members-preserved c =
     let h : FitsSigned w64 c.args.step = c.ranges.step in
     let here = simp to_z-of_z at (sym c.lies_before.ensures ∙ c.loop-members-test.true) in
     let sum = simp to_z-of_z at c.in-Some.ensures in
-    let k : FitsSigned w64 c.in-Some.n = subst (FitsSigned w64) (sym sum.1) sum.0 in
-    simp to_z-of_z (range_goes c.loop-members.members.items _ (to_z w64 c.loop-members.next-bits) c.args.to c.args.step c.requires (simp to_z-of_z at c.loop-members.invariant.0) c.push.new.self.items here c.in_ok-push.ensures.items c.in-Some.n sum.1)
+    let k : FitsSigned w64 c.in-Some.n = subst (FitsSigned w64) (sym sum.1) sum.0 in (
+      simp to_z-of_z (range_goes c.loop-members.members.items _ (to_z w64 c.loop-members.next-bits) c.args.to c.args.step c.requires (simp to_z-of_z at c.loop-members.invariant.0) c.push.new.self.items here c.in_ok-push.ensures.items c.in-Some.n sum.1),
+      omega (arith, ap (length {A = Val}) c.in_ok-push.ensures.items, length-append {A = Val}),
+    )
 
 pub returns-in-None : goal.returns-in-None
 returns-in-None c =
@@ -34,8 +38,10 @@ returns-in-None c =
     let g : FitsSigned w64 c.args.to = c.ranges.to in
     let h : FitsSigned w64 c.args.step = c.ranges.step in
     let here = simp to_z-of_z at (sym c.lies_before.ensures ∙ c.loop-members-test.true) in
-    range_last c.loop-members.members.items _ (to_z w64 c.loop-members.next-bits) c.args.to c.args.step c.requires (simp to_z-of_z at c.loop-members.invariant.0) c.push.new.self.items here c.in_ok-push.ensures.items
-    (past_the_end (to_z w64 c.loop-members.next-bits) c.args.to c.args.step (search rules) c.ranges.to c.requires (simp to_z-of_z at c.in-None.ensures))
+    let made : c.push.new.self.items ≡ numbers (range_count c.args.from c.args.to c.args.step) c.args.from c.args.step = range_last c.loop-members.members.items _ (to_z w64 c.loop-members.next-bits) c.args.to c.args.step c.requires (simp to_z-of_z at c.loop-members.invariant.0) c.push.new.self.items here c.in_ok-push.ensures.items
+    (past_the_end (to_z w64 c.loop-members.next-bits) c.args.to c.args.step (search rules) c.ranges.to c.requires (simp to_z-of_z at c.in-None.ensures)) in
+    let fits : length c.push.new.self.items ≤ 65536 = omega (arith, ap (length {A = Val}) c.in_ok-push.ensures.items, length-append {A = Val}) in
+    (made, subst (λ (l : List Val). is_sized (length l) ≡ true) made (sized (length c.push.new.self.items) fits))
 
 pub returns : goal.returns
 returns c =
@@ -43,4 +49,5 @@ returns c =
     let g : FitsSigned w64 c.args.to = c.ranges.to in
     let h : FitsSigned w64 c.args.step = c.ranges.step in
     let there = simp to_z-of_z at (sym c.lies_before.ensures ∙ c.loop-members-test.false) in
-    range_ends c.loop-members.members.items _ (to_z w64 c.loop-members.next-bits) c.args.to c.args.step c.requires (simp to_z-of_z at c.loop-members.invariant.0) there
+    let made : c.loop-members.members.items ≡ numbers (range_count c.args.from c.args.to c.args.step) c.args.from c.args.step = range_ends c.loop-members.members.items _ (to_z w64 c.loop-members.next-bits) c.args.to c.args.step c.requires (simp to_z-of_z at c.loop-members.invariant.0) there in
+    (made, subst (λ (l : List Val). is_sized (length l) ≡ true) made (sized (length c.loop-members.members.items) c.loop-members.invariant.1))
