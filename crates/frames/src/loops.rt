@@ -194,6 +194,7 @@ fn begin_named(
     }
     let body = Arc::try_clone(&turns.body)?;
     match ahead(state, at, &body, 0) {
+        Ok(Ahead::Ended) => Ok(Control::Turns(turns)),
         Ok(ahead) => {
             push(frames, Frame::Turns(turns))?;
             lead(frames, body, ahead)

@@ -8,7 +8,8 @@ use Rattle.names.specs.View.{world_of, here_of}
 use Rattle.frames.specs.declared.frame.Control.{Control}
 use Rattle.frames.specs.declared.frame.Turns.{Turns}
 use Rattle.frames.specs.Frames.{Sig, Goes, an_exit, on, body, shared_suite, turns_behind, stack_does, machine_does}
-use Rattle.frames.specs.Ahead.{exited_as}
+use Rattle.frames.specs.declared.frame.Ahead.{Ahead}
+use Rattle.frames.specs.Ahead.{LeadsTo, exited_as}
 use Rattle.frames.proofs.Suites.{stops4}
 use Rattle.frames.proofs.AtOnce.{led, handed_exit}
 use Rattle.frames.proofs.loops.begin_named.Goals as goal
@@ -22,6 +23,26 @@ returns-in-Err-clause-goes c = λ env n running.
     let frames = c.args.frames.now.items in
     let after = λ (control : Control). machine_does env n here control frames (world_of c.bind.new.state) in
     stops4 (bind c.args.name.now c.args.x h w) (λ _. body env n here (shared_suite c.args.turns.value.body)) (turns_behind env n here c.args.turns.value) (λ (x : s.Exit). pure (an_exit x)) (stack_does env n here frames) h.site c.in-Err.halt (world_of c.bind.new.state) after (c.in-Err.ensures.says line running)
+
+pub returns-in-Ok-Ended-clause-goes : goal.returns-in-Ok-Ended-clause-goes
+returns-in-Ok-Ended-clause-goes c = λ env n running.
+    let here = here_of c.args.at.now c.args.at.now.line running in
+    let u = c.args.turns.value in
+    let h = on env n here u.line in
+    let w = world_of c.args.state.now in
+    let bound = world_of c.bind.new.state in
+    let after = world_of c.ahead.new.state in
+    let j = stack_does env n here c.args.frames.now.items in
+    let p = λ (x : s.Exit). pure (an_exit x) in
+    let ss = c.in_ok-body.body in
+    let bound_is : bind c.args.name.now c.args.x h w ≡ ended tt bound = c.in_default.ensures.says u.line running in
+    let rest = turns_behind env n here u in
+    let says = body env n here (shared_suite ss) bound in
+    let ends : says ≡ ended s.goes_on after = subst (λ (a : Ahead). LeadsTo env n here ss says a after) c.in-Ok-Ended.field-0-is (c.in-Ok-Ended.ensures.leads env n running) in
+    ap (λ q. then_runs (then_runs (then_runs (then_runs q (λ _. body env n here (shared_suite u.body))) rest) p) j) bound_is
+    ∙ ap (λ (d : Turns). then_runs (then_runs (then_runs (body env n here (shared_suite d.body) bound) rest) p) j) (sym c.deref.ensures)
+    ∙ ap (λ (d : Vec Stmt Global). then_runs (then_runs (then_runs (body env n here (stmts_of d.items) bound) rest) p) j) (sym c.in_ok-body.ensures)
+    ∙ ap (λ q. then_runs (then_runs (then_runs q rest) p) j) ends
 
 pub returns-in_ok-push-in-Ok-clause-goes : goal.returns-in_ok-push-in-Ok-clause-goes
 returns-in_ok-push-in-Ok-clause-goes c = λ env n running.
