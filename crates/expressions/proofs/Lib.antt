@@ -1,2 +1,4 @@
 pub mod Turns
 pub mod ManyTargets
+pub mod Ends
+pub mod Alone

@@ -1,3 +1,4 @@
 pub mod View
 pub mod Nests
 pub mod Parts
+pub mod Alone

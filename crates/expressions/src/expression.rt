@@ -5,15 +5,11 @@ ghost use Rattle.grammar.specs.Expressions as spec;
 ghost use Rattle.grammar.specs.Front.{Part, and_then, gives, expect, is_at, tail};
 ghost use Rattle.grammar.specs.declared.kind.Kind.TheVariants as k;
 ghost use Rattle.tokens.specs.declared.symbol.Symbol.TheVariants as s;
-ghost use Rattle.tokens.specs.Token.{Lex};
 ghost use Rattle.tree.specs.Tree as tree;
-ghost use Rattle.tree.specs.Tree.{Ex};
 ghost use Rattle.expressions.specs.Nests.{Nests};
 ghost use Rattle.expressions.specs.Parts.{pairs_of, arguments_of};
 ghost use Rattle.expressions.specs.View.{left, Reads};
 ghost use Rattle.tree.specs.View.{tree_of, clause_of, bound_tree, clauses_of, exs_of, trees_of, clause_trees};
-ghost use Rattle.expressions.specs.declared.front.Stop.TheVariants.{Memory};
-ghost use Rattle.std.specs.Arc.{arc_value};
 
 use crate::front::{Stop, Tokens, fit, operator_at, take_comparison};
 use crate::making::{
@@ -749,12 +745,16 @@ impl<F: Fn(Global, &mut Tokens<'_, '_>, usize, Kind) -> Result<Expr, Stop>> Gram
         self.choice(t, first, condition)
     }
 
-    /// Reads an expression of a kind.
+    /// Reads an expression of a kind. A name, a number or a string that does not go on is one at once.
+    #[tactic(auto, using(crate::proofs::Alone::alone))]
     fn of_kind(&self, t: &mut Tokens<'_, '_>, kind: Kind) -> Result<Expr, Stop>
         requires { Nests self.now.depth (F.pre self.now.expr) (F.post self.now.expr) }
         ensures { Reads tree_of (spec.of_kind kind (spec.expr self.now.depth) (left t.old)) result
             (left t.new) }
     {
+        if t.is_alone() {
+            return self.atom(t);
+        }
         match kind {
             Kind::Test => self.test(t),
             Kind::Or => self.or_test(t),

@@ -1,8 +1,10 @@
 //! What stands at the front of the tokens that are left.
-ghost use Rattle.std.specs.Prelude.{◌≡◌, ◌&&◌, length, Ok, Err, IfOk, IfErr, if◌then◌else◌};
+ghost use Rattle.std.specs.Prelude.{◌≡◌, ◌&&◌, length, map, Ok, Err, IfOk, IfErr, if◌then◌else◌};
 ghost use Rattle.std.specs.Option.{option_map};
 ghost use Rattle.grammar.specs.Front.{code, same, is_at, tail, line_at, name_at, is_name_before, text_at, is_end, expect, a_name};
 ghost use Rattle.grammar.specs.Expressions.{operator_at, comparison_at};
+ghost use Rattle.tokens.specs.Token.{lex_of};
+ghost use Rattle.expressions.specs.Alone.{joins, goes_on, is_alone};
 ghost use Rattle.expressions.specs.Parts.{Compares};
 ghost use Rattle.expressions.specs.View.{left, Reads, Takes};
 ghost use Rattle.expressions.specs.declared.front.Stop.TheVariants.{Malformed, Memory};
@@ -107,6 +109,52 @@ fn same(a: Symbol, b: Symbol) -> bool
     code(a) == code(b)
 }
 
+/// Says whether an expression may go on with a symbol. Those are a dot, an opening bracket, a binary operator, the `not`
+/// of `not in` and the `if` of a choice.
+#[tactic(auto, unfolding(crate::specs::Alone::joins, grammar::specs::Front::same))]
+fn joins(symbol: Symbol) -> bool
+    ensures { result ≡ joins symbol }
+{
+    match symbol {
+        Symbol::Dot => true,
+        Symbol::LeftParen => true,
+        Symbol::LeftBracket => true,
+        Symbol::Or => true,
+        Symbol::And => true,
+        Symbol::If => true,
+        Symbol::Not => true,
+        Symbol::In => true,
+        Symbol::Plus => true,
+        Symbol::Minus => true,
+        Symbol::Star => true,
+        Symbol::SlashSlash => true,
+        Symbol::Percent => true,
+        Symbol::EqualEqual => true,
+        Symbol::NotEqual => true,
+        Symbol::Less => true,
+        Symbol::LessEqual => true,
+        Symbol::Greater => true,
+        Symbol::GreaterEqual => true,
+        _ => false,
+    }
+}
+
+/// Says whether an expression may go on with the next token.
+#[tactic(auto, unfolding(grammar::specs::Front::is_at, crate::specs::Alone::goes_on, crate::specs::Alone::joins))]
+fn goes_on(rest: &[Lexed<'_>]) -> bool
+    ensures { result ≡ goes_on (map lex_of rest.now) }
+{
+    match rest.split_first() {
+        Some((first, _)) => match first.token {
+            Token::Symbol(found) => joins(found),
+            Token::Name(_) => false,
+            Token::Int(_) => false,
+            Token::Text(_) => false,
+        },
+        None => false,
+    }
+}
+
 /// The tokens that are left.
 #[derive(Drop)]
 pub struct Tokens<'a, 't> {
@@ -133,6 +181,22 @@ impl<'a, 't> Tokens<'a, 't> {
                 Token::Name(_) => false,
                 Token::Int(_) => false,
                 Token::Text(_) => false,
+            },
+            None => false,
+        }
+    }
+
+    /// Says whether the next token is a whole expression: a name, a number or a string that does not go on.
+    #[tactic(auto, unfolding(crate::specs::Alone::is_alone))]
+    pub(crate) fn is_alone(&self) -> bool
+        ensures { result ≡ is_alone (left self.now) }
+    {
+        match self.left.split_first() {
+            Some((first, rest)) => match first.token {
+                Token::Symbol(_) => false,
+                Token::Name(_) => !goes_on(rest),
+                Token::Int(_) => !goes_on(rest),
+                Token::Text(_) => !goes_on(rest),
             },
             None => false,
         }
@@ -334,11 +398,14 @@ pub(crate) fn operator_at(t: &Tokens<'_, '_>, rank: Rank) -> Option<BinaryOp>
     }
 }
 
-/// Takes the operator of a comparison.
+/// Takes the operator of a comparison. Where the expression does not go on there is none.
 #[tactic(auto, unfolding(grammar::specs::Expressions::comparison_at))]
 pub(crate) fn take_comparison(t: &mut Tokens<'_, '_>) -> Option<BinaryOp>
     ensures { Compares (comparison_at (left t.old)) result (left t.old) (left t.new) }
 {
+    if !goes_on(t.left) {
+        return None;
+    }
     if t.eat(Symbol::EqualEqual) {
         return Some(BinaryOp::Equal);
     }

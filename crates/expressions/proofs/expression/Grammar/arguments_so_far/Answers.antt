@@ -32,6 +32,4 @@ loop-turn-preserved g c =
 
 pub returns : goal.returns
 unfolding arguments_after
-returns g c =
-    let e = after_turns (λ n. arguments_after (expr c.args.self.now.depth) n (arguments_of c.loop-turn.found) (left c.loop-turn.t)) _ c.loop-turn._turn c.loop-turn-test.false c.loop-turn.invariant in
-    first_of (search rules, grind (arith, common_steps))
+returns g c = after_turns (λ n. arguments_after (expr c.args.self.now.depth) n (arguments_of c.loop-turn.found) (left c.loop-turn.t)) _ c.loop-turn._turn c.loop-turn-test.false c.loop-turn.invariant

@@ -1,4 +1,4 @@
-use Rattle.std.proofs.Common.{map, rules, arith}
+use Rattle.std.proofs.Common.{map, arith}
 use Rattle.std.proofs.lemmas.Grind.{common_steps}
 use Rattle.tree.specs.View.{clause_of}
 use Rattle.expressions.specs.View.{left}
@@ -10,34 +10,32 @@ pub returns-in_err-next : goal.returns-in_err-next
 unfolding clauses_after
 returns-in_err-next g c =
     let e = in_turn (λ n. clauses_after (expr c.args.self.now.depth) n (map clause_of c.loop-turn.found.items) (left c.loop-turn.t)) _ c.loop-turn._turn c.loop-turn-test.true c.loop-turn.invariant in
-    first_of (search rules, grind (arith, common_steps))
+    grind (arith, common_steps)
 
 pub loop-turn-preserved-then-eat : goal.loop-turn-preserved-then-eat
 unfolding clauses_after
 loop-turn-preserved-then-eat g c =
     let e = in_turn (λ n. clauses_after (expr c.args.self.now.depth) n (map clause_of c.loop-turn.found.items) (left c.loop-turn.t)) _ c.loop-turn._turn c.loop-turn-test.true c.loop-turn.invariant in
-    first_of (search rules, grind (arith, common_steps))
+    grind (arith, common_steps)
 
 pub returns-in_err-condition : goal.returns-in_err-condition
 unfolding clauses_after
 returns-in_err-condition g c =
     let e = in_turn (λ n. clauses_after (expr c.args.self.now.depth) n (map clause_of c.loop-turn.found.items) (left c.loop-turn.t)) _ c.loop-turn._turn c.loop-turn-test.true c.loop-turn.invariant in
-    first_of (search rules, grind (arith, common_steps))
+    grind (arith, common_steps)
 
 pub loop-turn-preserved : goal.loop-turn-preserved
 unfolding clauses_after
 loop-turn-preserved g c =
     let e = in_turn (λ n. clauses_after (expr c.args.self.now.depth) n (map clause_of c.loop-turn.found.items) (left c.loop-turn.t)) _ c.loop-turn._turn c.loop-turn-test.true c.loop-turn.invariant in
-    first_of (search rules, grind (arith, common_steps))
+    grind (arith, common_steps)
 
 pub returns-in-loop-turn : goal.returns-in-loop-turn
 unfolding clauses_after
 returns-in-loop-turn g c =
     let e = in_turn (λ n. clauses_after (expr c.args.self.now.depth) n (map clause_of c.loop-turn.found.items) (left c.loop-turn.t)) _ c.loop-turn._turn c.loop-turn-test.true c.loop-turn.invariant in
-    first_of (search rules, grind (arith, common_steps))
+    grind (arith, common_steps)
 
 pub returns : goal.returns
 unfolding clauses_after
-returns g c =
-    let e = after_turns (λ n. clauses_after (expr c.args.self.now.depth) n (map clause_of c.loop-turn.found.items) (left c.loop-turn.t)) _ c.loop-turn._turn c.loop-turn-test.false c.loop-turn.invariant in
-    first_of (search rules, grind (arith, common_steps))
+returns g c = after_turns (λ n. clauses_after (expr c.args.self.now.depth) n (map clause_of c.loop-turn.found.items) (left c.loop-turn.t)) _ c.loop-turn._turn c.loop-turn-test.false c.loop-turn.invariant

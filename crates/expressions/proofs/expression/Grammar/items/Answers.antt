@@ -1,4 +1,4 @@
-use Rattle.std.proofs.Common.{map, rules, arith}
+use Rattle.std.proofs.Common.{map, arith}
 use Rattle.std.proofs.lemmas.Grind.{common_steps}
 use Rattle.tree.specs.View.{tree_of}
 use Rattle.expressions.specs.View.{left}
@@ -10,28 +10,26 @@ pub returns-then-not-eat : goal.returns-then-not-eat
 unfolding items_after
 returns-then-not-eat g c =
     let e = in_turn (λ n. items_after (expr c.args.self.now.depth) c.args.closer n (map tree_of c.loop-turn.found.items) (left c.loop-turn.t)) _ c.loop-turn._turn c.loop-turn-test.true c.loop-turn.invariant in
-    first_of (search rules, grind (arith, common_steps))
+    grind (arith, common_steps)
 
 pub returns-then-is_at : goal.returns-then-is_at
 unfolding items_after
 returns-then-is_at g c =
     let e = in_turn (λ n. items_after (expr c.args.self.now.depth) c.args.closer n (map tree_of c.loop-turn.found.items) (left c.loop-turn.t)) _ c.loop-turn._turn c.loop-turn-test.true c.loop-turn.invariant in
-    first_of (search rules, grind (arith, common_steps))
+    grind (arith, common_steps)
 
 pub returns-in_err-next : goal.returns-in_err-next
 unfolding items_after
 returns-in_err-next g c =
     let e = in_turn (λ n. items_after (expr c.args.self.now.depth) c.args.closer n (map tree_of c.loop-turn.found.items) (left c.loop-turn.t)) _ c.loop-turn._turn c.loop-turn-test.true c.loop-turn.invariant in
-    first_of (search rules, grind (arith, common_steps))
+    grind (arith, common_steps)
 
 pub loop-turn-preserved : goal.loop-turn-preserved
 unfolding items_after
 loop-turn-preserved g c =
     let e = in_turn (λ n. items_after (expr c.args.self.now.depth) c.args.closer n (map tree_of c.loop-turn.found.items) (left c.loop-turn.t)) _ c.loop-turn._turn c.loop-turn-test.true c.loop-turn.invariant in
-    first_of (search rules, grind (arith, common_steps))
+    grind (arith, common_steps)
 
 pub returns : goal.returns
 unfolding items_after
-returns g c =
-    let e = after_turns (λ n. items_after (expr c.args.self.now.depth) c.args.closer n (map tree_of c.loop-turn.found.items) (left c.loop-turn.t)) _ c.loop-turn._turn c.loop-turn-test.false c.loop-turn.invariant in
-    first_of (search rules, grind (arith, common_steps))
+returns g c = after_turns (λ n. items_after (expr c.args.self.now.depth) c.args.closer n (map tree_of c.loop-turn.found.items) (left c.loop-turn.t)) _ c.loop-turn._turn c.loop-turn-test.false c.loop-turn.invariant

@@ -50,6 +50,4 @@ returns-in-loop-turn g c =
 
 pub returns : goal.returns
 unfolding postfix_after
-returns g c =
-    let e = after_turns (λ n. postfix_after (expr c.args.self.now.depth) n (tree_of c.loop-turn.whole) (left c.loop-turn.t)) _ c.loop-turn._turn c.loop-turn-test.false c.loop-turn.invariant in
-    first_of (search rules, grind (arith, common_steps))
+returns g c = after_turns (λ n. postfix_after (expr c.args.self.now.depth) n (tree_of c.loop-turn.whole) (left c.loop-turn.t)) _ c.loop-turn._turn c.loop-turn-test.false c.loop-turn.invariant

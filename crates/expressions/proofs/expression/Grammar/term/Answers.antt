@@ -27,6 +27,4 @@ loop-turn-preserved g c =
 
 pub returns : goal.returns
 unfolding chain_after
-returns g c =
-    let e = after_turns (λ n. chain_after (unary (expr c.args.self.now.depth)) r.Term n (tree_of c.loop-turn.whole) (left c.loop-turn.t)) _ c.loop-turn._turn c.loop-turn-test.false c.loop-turn.invariant in
-    first_of (search rules, grind (arith, common_steps))
+returns g c = after_turns (λ n. chain_after (unary (expr c.args.self.now.depth)) r.Term n (tree_of c.loop-turn.whole) (left c.loop-turn.t)) _ c.loop-turn._turn c.loop-turn-test.false c.loop-turn.invariant
