@@ -1,5 +1,5 @@
 //! What stands at the front of the tokens that are left.
-ghost use Rattle.std.specs.Prelude.{◌≡◌, ◌&&◌, length, map, Ok, Err, IfOk, IfErr, if◌then◌else◌};
+ghost use Rattle.std.specs.Prelude.{◌≡◌, ◌&&◌, length, map, Ok, Err, if◌then◌else◌};
 ghost use Rattle.std.specs.Option.{option_map};
 ghost use Rattle.grammar.specs.Front.{code, same, is_at, tail, line_at, name_at, is_name_before, text_at, is_end, expect, a_name};
 ghost use Rattle.grammar.specs.Expressions.{operator_at, comparison_at};

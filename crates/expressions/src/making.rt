@@ -1,16 +1,15 @@
 //! Nodes of expressions, made of their parts.
-ghost use Rattle.std.specs.Prelude.{◌≡◌, ◌∷◌, ◌++◌, [], length, map, if◌then◌else◌, List, Option, IfOk, IsOkUnless};
+ghost use Rattle.std.specs.Prelude.{◌≡◌, ◌∷◌, [], List, Option, IfOk, IsOkUnless};
 ghost use Rattle.grammar.specs.Expressions as spec;
-ghost use Rattle.grammar.specs.Front.{Part, and_then, gives, expect, is_at, tail};
+ghost use Rattle.grammar.specs.Front.{Part, and_then, gives};
 ghost use Rattle.grammar.specs.declared.kind.Kind.TheVariants as k;
 ghost use Rattle.tokens.specs.declared.symbol.Symbol.TheVariants as s;
 ghost use Rattle.tokens.specs.Token.{Lex};
 ghost use Rattle.tree.specs.Tree as tree;
 ghost use Rattle.tree.specs.Tree.{Ex};
-ghost use Rattle.expressions.specs.Nests.{Nests};
-ghost use Rattle.expressions.specs.Parts.{pairs_of, arguments_of};
+ghost use Rattle.expressions.specs.Parts.{pairs_of};
 ghost use Rattle.expressions.specs.View.{left, Reads};
-ghost use Rattle.tree.specs.View.{tree_of, clause_of, bound_tree, clauses_of, exs_of, trees_of, clause_trees};
+ghost use Rattle.tree.specs.View.{tree_of, trees_of, clause_trees};
 ghost use Rattle.expressions.specs.declared.front.Stop.TheVariants.{Memory};
 ghost use Rattle.std.specs.Arc.{arc_value};
 
