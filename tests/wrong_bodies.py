@@ -95,7 +95,7 @@ def contracts_in(file):
         is_shown = lines[first].lstrip().startswith("pub ") or re.match(r"(pub )?trait |impl.* for ", around)
         lines[body if is_shown else it.first - 1 : it.last] = []
     shown = "\n".join(line for line in lines if line.strip() and not re.match(r" *(//|use |ghost use )", line))
-    return without_representations(shown)
+    return without_private_items(without_representations(shown))
 
 
 def without_representations(shown):
@@ -104,6 +104,15 @@ def without_representations(shown):
     for name in re.findall(r"(?m)^impl(?:<.*?>)? Model for (\w+)", shown):
         shown = re.sub(rf"(?m)(^pub struct {name}\b[^;{{]*\{{\n)((?:    .*\n)*)", lambda it: it[1] + public_lines(it[2]), shown)
     return re.sub(r"(?m)^    ghost view = \{(?:.*\};$|(?:.*\n)*?    \};$)\n?", "", shown)
+
+
+def without_private_items(shown):
+    """A source's items without the private types and constants that none of them names."""
+    for item in re.finditer(r"(?m)^(?:#\[.*\]\n)*(?:const|struct|enum) (\w+)\b(?:[^;{]*;|[^;{]*\{\n(?:    .*\n)*\})(?:\n|\Z)", shown):
+        rest = shown.replace(item[0], "", 1)
+        if not re.search(rf"\b{item[1]}\b", rest):
+            return without_private_items(rest)
+    return shown
 
 
 def public_lines(fields):
@@ -115,8 +124,15 @@ def imports_in(lines, shown):
     for line in lines:
         it = re.match(r" *ghost use ([^;{]+?)(?:\.\{(.*)\}| as (\S+))?;", line)
         for name in (it[2] or it[3] or it[1].rpartition(".")[2]).split(", ") if it else []:
-            if all(part in shown for part in name.rpartition(" as ")[2].split("◌")):
+            if is_named(name.rpartition(" as ")[2], shown):
                 yield it[1], name
+
+
+def is_named(name, text):
+    """Whether a text names a definition; an operator, by each of its parts."""
+    if "◌" in name:
+        return all(part in text for part in name.split("◌"))
+    return bool(re.search(rf"(?<![\w.]){re.escape(name)}(?!\w)", text))
 
 
 def imports_of(lines, shown):

@@ -37,8 +37,13 @@ const STEPS: u64 = 1000000;
 /// Returns where the statements of a file stand; each has its own line.
 pub fn level(e: &Environment) -> Result<Standing, Memory>
     ensures { IfOk result
-        (λ at. at
-        ≡ record { label = e.now.label; path = e.now.path; kind = e.now.package.kind; line = 0 }) }
+        (λ at. at ≡ record {
+          label = e.now.label;
+          path = e.now.path;
+          kind = e.now.package.kind;
+          line
+              = 0;
+        }) }
 {
     Ok(Standing {
         label: e.label.share()?,
