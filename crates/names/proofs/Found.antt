@@ -1,5 +1,5 @@
 -- The first item that passes a test: how a search goes on, and what it finds in blocks and files.
-use Rattle.std.proofs.Common.{◌≡◌, ◌<◌, ◌+◌, ◌++◌, ℕ, zero, suc, Bool, true, false, cond, List, [], ◌∷◌, length, take, get_or, map, Option, Some, None, is_some, refl, ap, sym, ◌∙◌, arith, add-one}
+use Rattle.std.proofs.Common.{◌≡◌, ◌<◌, ◌≤◌, ◌+◌, ◌++◌, ℕ, zero, suc, Bool, true, false, cond, List, [], ◌∷◌, length, take, get_or, map, Option, Some, None, is_some, refl, ap, sym, ◌∙◌, arith, add-one}
 use Rattle.std.specs.Prelude.{slice_set}
 use Rattle.meaning.specs.declared.val.Val.{Val}
 use Rattle.meaning.specs.declared.builtin.Builtin.{Builtin}
@@ -11,7 +11,7 @@ use Rattle.names.specs.declared.state.Slot.{Slot}
 use Rattle.names.specs.declared.state.Block as m
 use Rattle.names.specs.declared.state.FileNames.{FileNames}
 use Rattle.names.specs.View.{slot_of, slots_of, held, names_of}
-use Rattle.names.specs.Places.{NoneSo, is_slot, has_slot, is_file}
+use Rattle.names.specs.Places.{FirstSo, NoneSo, is_slot, has_slot, is_file}
 
 none_suc : {X : Type 0} → (test : X → Bool) (xs : List X) (i : ℕ) (d : X) → i < length xs → NoneSo test (take i xs) → test (get_or xs i d) ≡ false → NoneSo test (take (suc i) xs)
 none_suc test [] i d lt h e = absurd (omega arith)
@@ -22,6 +22,12 @@ none_suc test (x ∷ xs) (suc i) d lt h e = (h.0, none_suc test xs i d (omega ar
 pub none_more : {X : Type 0} → (test : X → Bool) (xs : List X) (i : ℕ) (d : X) → i < length xs → NoneSo test (take i xs) → test (get_or xs i d) ≡ false → NoneSo test (take (i + 1) xs)
 none_more test xs i d lt h e = rw add-one (none_suc test xs i d lt h e)
 
+-- none of so many that these are all
+pub none_of_all : {X : Type 0} → (test : X → Bool) (xs : List X) (i : ℕ) → length xs ≤ i → NoneSo test (take i xs) → NoneSo test xs
+none_of_all test [] i h none = tt
+none_of_all test (x ∷ xs) zero h none = absurd (omega (arith, h))
+none_of_all test (x ∷ xs) (suc i) h none = (none.0, none_of_all test xs i (omega (arith, h)) none.1)
+
 pub slot_none : (x : List ℕ) (slots : List Slot) → NoneSo (is_slot x) slots → slot_in x (slots_of slots) ≡ None
 slot_none x [] h = refl
 slot_none x (s ∷ ss) h = ap (λ t. cond t (Some s.value) (slot_in x (slots_of ss))) h.0 ∙ slot_none x ss h.1
@@ -30,6 +36,10 @@ pub slot_there : (x : List ℕ) (slots : List Slot) (i : ℕ) (d : Slot) → i <
 slot_there x [] i d lt h e = absurd (omega arith)
 slot_there x (s ∷ ss) zero d lt h e = ap (λ t. cond t (Some s.value) (slot_in x (slots_of ss))) e
 slot_there x (s ∷ ss) (suc i) d lt h e = ap (λ t. cond t (Some s.value) (slot_in x (slots_of ss))) h.0 ∙ slot_there x ss i d (omega arith) h.1 e
+
+pub has_first : (x : List ℕ) (slots : List Slot) (i : ℕ) → FirstSo (is_slot x) slots i → is_some (slot_in x (slots_of slots)) ≡ true
+has_first x [] i first = absurd (omega (arith, first.within))
+has_first x (s ∷ ss) i first = ap (λ o. is_some o) (slot_there x (s ∷ ss) i s first.within first.before (first.here s))
 
 pub bind_none : (x : List ℕ) (v : Val) (slots : List Slot) → NoneSo (is_slot x) slots → bind_in x v (slots_of slots) ≡ slots_of slots
 bind_none x v [] h = refl

@@ -2,7 +2,7 @@
 ghost use Rattle.std.specs.Prelude.{◌≡◌, false, map, is_some};
 ghost use Rattle.language.specs.Names.{slot_in, slot_among, bind_in, bind_among};
 ghost use Rattle.names.specs.View.{held};
-ghost use Rattle.names.specs.Places.{FirstPlace, has_slot, is_file};
+ghost use Rattle.names.specs.Places.{FirstPlace, FirstSo, is_slot, is_file};
 
 use crate::places::place_in;
 use crate::state::{Block, FileNames};
@@ -32,18 +32,6 @@ pub fn slot_among(blocks: &[Block], x: &Text, last: &AtomicUsize) -> Option<Opti
     None
 }
 
-// Returns the place of the innermost block that has a name.
-fn block_with(blocks: &[Block], x: &Text, last: &AtomicUsize) -> Option<usize>
-    ensures { FirstPlace (has_slot x.now) blocks.now result }
-{
-    for i in 0..blocks.len() {
-        if slot_in(&blocks[i], x, last).is_some() {
-            return Some(i);
-        }
-    }
-    None
-}
-
 /// Returns the place of the file with a label.
 pub fn file_at(files: &[FileNames], label: &Text) -> Option<usize>
     ensures { FirstPlace (is_file label.now) files.now result }
@@ -56,14 +44,22 @@ pub fn file_at(files: &[FileNames], label: &Text) -> Option<usize>
     None
 }
 
+// Binds the name that stands first at a place of a block.
+fn bind_at(block: &mut Block, x: &Text, place: usize, value: Val)
+    requires { FirstSo (is_slot x.now) block.old.slots.items place }
+    ensures { held block.new ≡ bind_in x.now value (held block.old) }
+{
+    if let Some(slot) = block.slots.get_mut(place) {
+        slot.value = Some(value);
+    }
+}
+
 /// Binds a name of a block, if the block has it.
 pub fn bind_in(block: &mut Block, x: &Text, last: &AtomicUsize, value: Val)
     ensures { held block.new ≡ bind_in x.now value (held block.old) }
 {
-    if let Some(i) = place_in(block, x, last) {
-        if let Some(slot) = block.slots.get_mut(i) {
-            slot.value = Some(value);
-        }
+    if let Some(place) = place_in(block, x, last) {
+        bind_at(block, x, place, value);
     }
 }
 
@@ -73,13 +69,13 @@ pub fn bind_among(blocks: &mut Vec<Block>, x: &Text, last: &AtomicUsize, value: 
     ensures bound { map held blocks.new.items ≡ bind_among x.now value (map held blocks.old.items) }
     ensures kept { result ≡ false → blocks.new ≡ blocks.old }
 {
-    match block_with(blocks.as_slice(), x, last) {
-        Some(i) => {
+    for i in 0..blocks.len() {
+        if let Some(place) = place_in(&blocks[i], x, last) {
             if let Some(block) = blocks.get_mut(i) {
-                bind_in(block, x, last, value);
+                bind_at(block, x, place, value);
             }
-            true
+            return true;
         }
-        None => false,
     }
+    false
 }
