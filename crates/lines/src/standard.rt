@@ -1,5 +1,5 @@
 //! Any reader of `std` as an input, and any writer as an output.
-ghost use Rattle.std.specs.Prelude.{◌≡◌, ◌+◌, ◌≤◌, ◌++◌, IfOk, OnOk, OnErr, length, take};
+ghost use Rattle.std.specs.Prelude.{◌≡◌, ◌+◌, ◌≤◌, ◌++◌, [], IfOk, OnOk, OnErr, length, take, slice_range};
 
 use crate::device::{Failed, Input, Output};
 use count::{Count, History};

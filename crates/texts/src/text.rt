@@ -1,10 +1,10 @@
 //! A shared text.
-ghost use Rattle.std.specs.Prelude.{◌≡◌, nat_eq, IfOk, Some, refl};
+ghost use Rattle.std.specs.Prelude.{◌≡◌, nat_eq, IfOk, IsTrue, Some, refl};
 ghost use Rattle.std.specs.String.{string_bytes};
 ghost use Rattle.std.specs.Hash as fed;
 ghost use Rattle.std.proofs.Common.{rules};
-ghost use Rattle.std.specs.Cmp.{partial_equiv_from_equiv};
-ghost use Rattle.std.specs.Cmp.Rules.{hashing};
+ghost use Rattle.std.specs.Cmp.{partial_equiv_from_equiv, partial_order_from_own_ties};
+ghost use Rattle.std.specs.Cmp.Rules.{comparing, hashing};
 ghost use Rattle.std.specs.Cmp.Lexicographic.{pointwise, slice_cmp, nat_list_eq_equiv, nat_list_cmp_total, texts_po, texts_ties};
 ghost use Rattle.std.specs.Ordering.{nat_cmp, as_partial_cmp};
 
