@@ -21,8 +21,7 @@ import sys
 ROOT = os.path.join(os.path.dirname(os.path.abspath(__file__)), "..")
 MOST_WORDS, MOST_LINES, MOST_FUNCTION = 25, 800, 60
 
-# What is still to be put in order, and how often it stands in the crates. Not each import is idle that nothing names: the
-# prover's search in the crates above goes by some. Take one out only where all that stands above is proved again.
+# What is still to be put in order, and how often it stands in the crates.
 LEFT = {
     "lines of clauses of over 100 columns": 0,
     "modules that a file imports from twice": 0,
