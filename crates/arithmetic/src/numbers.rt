@@ -1,5 +1,5 @@
 //! Whole numbers, with room for the negation of the least of 64 bits.
-ghost use Rattle.std.specs.Prelude.{◌≡◌, ◌<◌, ◌^◌, neg_ℤ, pos};
+ghost use Rattle.std.specs.Prelude.{◌≡◌, ◌<◌, neg_ℤ};
 ghost use Rattle.meaning.specs.Numbers.{floor_over, floor_div, left_over, floor_rem, unless_zero, fitting};
 ghost use Rattle.arithmetic.specs.Wide.{wide_value, IsNarrow, IsNonzero};
 ghost use Rattle.heap.specs.View.{Checks};

@@ -1,5 +1,5 @@
 //! The names that pieces of a file bind.
-ghost use Rattle.std.specs.Prelude.{◌≡◌, ℕ, List, OnOk, map};
+ghost use Rattle.std.specs.Prelude.{List, OnOk, map};
 ghost use Rattle.tree.specs.Bound.{target_names, targets_names, clause_names, stmt_names, suite_names, branches_names, branch_names, top_names, item_names, load_names};
 ghost use Rattle.tree.specs.View.{tree_of, trees_of, clause_trees};
 ghost use Rattle.tree.specs.Statements.{stmt_of, stmts_of, branch_of, branch_trees, top_of, item_of, load_of};

@@ -1,5 +1,5 @@
 //! `dict`.
-ghost use Rattle.std.specs.Prelude.{◌≡◌, [], map, IfOk};
+ghost use Rattle.std.specs.Prelude.{◌≡◌, [], IfOk};
 ghost use Rattle.meaning.specs.Heap.{at};
 ghost use Rattle.meaning.specs.declared.val.Val.TheVariants.{At};
 ghost use Rattle.meaning.specs.Functions.{dict_of, dict_from, entries_of, add_all, add_each, add_named, grows, pair_of, object_pair, two_of};

@@ -1,8 +1,7 @@
 //! Ints and strings in order: `min` and `max`.
-ghost use Rattle.std.specs.Prelude.{◌≡◌, ◌∷◌, Some, option_map, is_some, IfOk};
+ghost use Rattle.std.specs.Prelude.{◌≡◌, Some, option_map, is_some, IfOk};
 ghost use Rattle.std.specs.Ordering.{is_lt, is_gt};
-ghost use Rattle.meaning.specs.Heap.{at};
-ghost use Rattle.meaning.specs.Functions.{plain_order, texts_order, as_text, text_at, is_int, all_so, are_alike, best, best_of, extreme};
+ghost use Rattle.meaning.specs.Functions.{plain_order, as_text, is_int, all_so, are_alike, best, best_of, extreme};
 ghost use Rattle.heap.specs.View.{store_of, Says};
 ghost use Rattle.builtins.specs.Ranks.{is_better};
 

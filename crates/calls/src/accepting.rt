@@ -1,6 +1,6 @@
 //! The arguments of a call and the parameters of a function.
 ghost use Rattle.std.specs.Prelude.{◌≡◌, map, zip, drop};
-ghost use Rattle.meaning.specs.Functions.{is_named, is_twice};
+ghost use Rattle.meaning.specs.Functions.{is_twice};
 ghost use Rattle.language.specs.Arguments.{plain_part, named_part, value_named, is_parameter, are_parameters, next_default, other_defaults, given, arguments};
 ghost use Rattle.tree.specs.Statements.{fn_of, param_of};
 ghost use Rattle.heap.specs.View.{Checks};

@@ -5,7 +5,7 @@ ghost use Rattle.language.specs.Names.{new_block, all_unbound, clause_names, loa
 ghost use Rattle.language.specs.Arguments.{plain_part, named_part, arguments};
 ghost use Rattle.tree.specs.View.{clause_trees};
 ghost use Rattle.tree.specs.Statements.{fn_of, top_of, file_of};
-ghost use Rattle.names.specs.View.{block_of, slots_of};
+ghost use Rattle.names.specs.View.{block_of};
 ghost use Rattle.calls.specs.View.{Blocks, Enters};
 
 use crate::accepting::arguments;

@@ -1,5 +1,5 @@
 //! Changes of files, one or several together.
-ghost use Rattle.std.specs.Prelude.{◌≡◌, IfOk};
+ghost use Rattle.std.specs.Prelude.{◌≡◌};
 ghost use Rattle.filetree.specs.Changes as specs;
 ghost use Rattle.filetree.specs.Edits.{Edits, refusal_of};
 ghost use Rattle.filetree.specs.Shown.{change_seen, changes_seen};

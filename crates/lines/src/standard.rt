@@ -1,5 +1,5 @@
 //! Any reader of `std` as an input, and any writer as an output.
-ghost use Rattle.std.specs.Prelude.{◌≡◌, ◌+◌, ◌≤◌, ◌++◌, [], IfOk, OnOk, OnErr, length, take, slice_range};
+ghost use Rattle.std.specs.Prelude.{◌≡◌, ◌+◌, ◌≤◌, ◌++◌, IfOk, OnOk, OnErr, length, take};
 
 use crate::device::{Failed, Input, Output};
 use count::{Count, History};

@@ -1,5 +1,5 @@
 //! Targets as they stand in a package: in byte order of their names, one of each name.
-ghost use Rattle.std.specs.Prelude.{◌≡◌, nat_eq, refl};
+ghost use Rattle.std.specs.Prelude.{nat_eq, refl};
 ghost use Rattle.std.specs.Cmp.{partial_equiv_from_equiv, on_equiv, on_po};
 ghost use Rattle.std.specs.Cmp.Lexicographic.{pointwise, slice_cmp, nat_list_eq_equiv, texts_po, texts_ties, on_texts};
 ghost use Rattle.std.specs.Ordering.{nat_cmp, as_partial_cmp};

@@ -6,7 +6,7 @@ ghost use Rattle.tree.specs.Statements.{fn_of};
 ghost use Rattle.freezing.specs.View.{members_of};
 ghost use Rattle.same_trees.specs.Same.{same_fn};
 ghost use Rattle.same_trees.specs.SameLaws.{fns_equiv};
-ghost use Rattle.module_values.specs.Equal.{frozen_eq, defaults_eq, values_of};
+ghost use Rattle.module_values.specs.Equal.{frozen_eq, defaults_eq};
 ghost use Rattle.module_values.specs.EqualLaws.{frozen_equiv, defaults_equiv};
 
 use freezing::FrozenValue;

@@ -1,5 +1,5 @@
 //! The defaults of functions, kept for their calls.
-ghost use Rattle.std.specs.Prelude.{◌≡◌, IfOk};
+ghost use Rattle.std.specs.Prelude.{◌≡◌};
 ghost use Rattle.language.specs.World.{Here};
 ghost use Rattle.language.specs.Files.{keep_defaults};
 ghost use Rattle.names.specs.View.{world_of, Ran};

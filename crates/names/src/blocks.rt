@@ -2,7 +2,7 @@
 ghost use Rattle.std.specs.Prelude.{◌≡◌, false, map, is_some};
 ghost use Rattle.language.specs.Names.{slot_in, slot_among, bind_in, bind_among};
 ghost use Rattle.names.specs.View.{held};
-ghost use Rattle.names.specs.Places.{FirstPlace, FirstSo, is_slot, has_slot, is_file};
+ghost use Rattle.names.specs.Places.{FirstPlace, FirstSo, is_slot, is_file};
 
 use crate::places::place_in;
 use crate::state::{Block, FileNames};

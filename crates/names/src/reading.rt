@@ -1,6 +1,6 @@
 //! Reading and binding of names.
 ghost use Rattle.std.specs.Prelude.{◌≡◌, ℕ, List, map};
-ghost use Rattle.language.specs.Names.{or_else, slot_among, file_slot, names_at, read, read_slot, read_universal, bind, bind_global, is_native_name};
+ghost use Rattle.language.specs.Names.{or_else, slot_among, file_slot, names_at, read, read_universal, bind, bind_global, is_native_name};
 ghost use Rattle.names.specs.View.{world_of, here_of, held, names_of, Ran};
 ghost use Rattle.names.specs.Scope.{world_in};
 ghost use Rattle.meaning.specs.Heap.{Store};

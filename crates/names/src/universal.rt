@@ -1,5 +1,5 @@
 //! Universal names.
-ghost use Rattle.std.specs.Prelude.{◌≡◌, ◌++◌};
+ghost use Rattle.std.specs.Prelude.{◌≡◌};
 ghost use Rattle.meaning.specs.Builtins.{plain_functions, package_functions};
 ghost use Rattle.language.specs.Names.{first_named, universal, is_native};
 

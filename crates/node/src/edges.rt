@@ -1,5 +1,5 @@
 //! Reverse edges, from a key to those whose records have it in a group. They stand in the key's own record.
-ghost use Rattle.std.specs.Prelude.{◌≡◌, ◌<◌, All, List, [], ◌∷◌, ◌++◌, not, filter, length, map, OnOk, OnErr, IfOk, IfSome, IfNone, IsSome, IsTrue, Some, ◌↔◌, ◌==◌};
+ghost use Rattle.std.specs.Prelude.{◌≡◌, ◌<◌, All, [], ◌∷◌, ◌++◌, not, filter, length, OnOk, OnErr, IfOk, IfSome, IfNone, IsSome, IsTrue, Some, ◌↔◌, ◌==◌};
 ghost use Rattle.evaluation.specs.Value.{In, IsMember};
 ghost use Rattle.std.specs.List.{list_any};
 ghost use Rattle.numbered.specs.Tables.{AreDistinct, key_at};

@@ -1,5 +1,5 @@
 //! The graph of records.
-ghost use Rattle.std.specs.Prelude.{◌≡◌, ℕ, List, ◌+◌, ◌<◌, [], ◌∷◌, length, IfSome, IfNone, IfOk, OnOk, OnErr, IsSome, IsTrue, Some, false, slice_get};
+ghost use Rattle.std.specs.Prelude.{◌≡◌, ℕ, List, ◌+◌, ◌<◌, [], ◌∷◌, length, IfSome, IfNone, IfOk, OnOk, OnErr, IsSome, IsTrue, Some, false};
 ghost use Rattle.std.specs.Option.{option_map};
 ghost use Rattle.std.specs.Arc.{arc_value};
 ghost use Rattle.std.specs.Map.{keys_of as keys_of_records};
@@ -12,7 +12,7 @@ ghost use Rattle.node.specs.Compared.{Compares};
 ghost use Rattle.node.specs.Counts.{edges_of};
 ghost use Rattle.node.specs.Batches.{keys_of, HasReadyEntries, SetsAll};
 ghost use Rattle.node.specs.Laws.{IsAlwaysLawful, TouchKeepsLawful, SettlingKeepsLawful, BatchKeepsLawful};
-ghost use Rattle.node.specs.Writes.{HasReadyMembers, groups_at, stored, is_ready_group, are_ready};
+ghost use Rattle.node.specs.Writes.{HasReadyMembers, stored, is_ready_group, are_ready};
 ghost use Rattle.node.specs.Graphs.{record_at, present, IsTouched, paths_seen, AreReached, HasCleanMembers, Sets};
 
 use crate::batch::store_all;

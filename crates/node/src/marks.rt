@@ -1,5 +1,5 @@
 //! Dirty marks: the leaves that edits touch, and how marks spread from them along reverse edges.
-ghost use Rattle.std.specs.Prelude.{◌≡◌, ◌+◌, ◌<◌, ◌≤◌, [], ◌∷◌, ◌++◌, List, Some, None, true, false, All, IfOk, OnOk, OnErr, length, vec_len, map, reverse};
+ghost use Rattle.std.specs.Prelude.{◌≡◌, ◌+◌, ◌<◌, ◌≤◌, [], Some, None, true, false, All, IfOk, OnOk, OnErr, length, vec_len, map, reverse};
 ghost use Rattle.std.specs.Map.{keys_of};
 ghost use Rattle.labels.specs.Labels.{ancestors};
 ghost use Rattle.numbered.specs.Tables.{AreDistinct, Writes, key_at};
@@ -8,7 +8,7 @@ ghost use Rattle.keys.specs.declared.key.Key.{Key};
 ghost use Rattle.keys.specs.Touched.{leaves_of, touched_leaves};
 ghost use Rattle.keys.specs.declared.key.Key.TheVariants as kind;
 ghost use Rattle.node.specs.Kept.{Records, AreNumbers, kept_at, numbers_of, numbers_with, users_of, cleans, cost};
-ghost use Rattle.node.specs.Marks.{HasReached, HasReachedAll, HasReachedSome, HasSpread, HasPassed, IsDirty, Lists, Marked, SetsMarks};
+ghost use Rattle.node.specs.Marks.{HasReached, HasReachedAll, HasReachedSome, HasSpread, HasPassed, Lists, Marked, SetsMarks};
 ghost use Rattle.node.specs.declared.kept.Kept.{Kept};
 ghost use Rattle.node.specs.Graphs.{paths_seen};
 

@@ -7,7 +7,7 @@ ghost use Rattle.numbered.specs.Tables.{AreDistinct, Writes};
 ghost use Rattle.keys.specs.Values.{value_eq};
 ghost use Rattle.keys.specs.declared.key.Key.{Key};
 ghost use Rattle.node.specs.Kept.{kept_at, items_of, numbers_of, users_of, AreNumbers, AsksNumbers, KeepsRecords, asked_of};
-ghost use Rattle.node.specs.Writes.{written, stored, groups_at, HasPlaced, HasReadyMembers, SameSets};
+ghost use Rattle.node.specs.Writes.{written, stored, HasPlaced, HasReadyMembers, SameSets};
 ghost use Rattle.node.specs.Edges.{HasUsers};
 ghost use Rattle.node.specs.Graphs.{IsLinkedBy, Sets, seen};
 ghost use Rattle.node.specs.declared.kept.Kept.{Kept};

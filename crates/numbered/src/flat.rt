@@ -1,5 +1,5 @@
 //! Groups of numbers in one list.
-ghost use Rattle.std.specs.Prelude.{◌≡◌, ◌<◌, ◌+◌, ◌++◌, ◌∷◌, [], Some, length, map, slice_get, All, IfOk, OnOk};
+ghost use Rattle.std.specs.Prelude.{◌≡◌, ◌<◌, ◌+◌, ◌++◌, [], Some, length, map, slice_get, All, IfOk, OnOk};
 ghost use Rattle.std.specs.List.{concat};
 ghost use Rattle.numbered.specs.Flats.{items_of, HasNumber, HaveNumbers, numbers_in, groups_in, ends, start, sizes};
 

@@ -1,5 +1,5 @@
 //! One step of the table.
-ghost use Rattle.std.specs.Prelude.{◌≡◌, ◌∷◌, ◌++◌, [], OnOk, IfOk, Some, None};
+ghost use Rattle.std.specs.Prelude.{◌≡◌, [], OnOk, IfOk, Some, None};
 ghost use Rattle.keys.specs.declared.key.Key.{Key};
 ghost use Rattle.node.specs.Edges.{IsAdded, IsRemoved};
 ghost use Rattle.node.specs.Kept.{items_of};

@@ -1,5 +1,5 @@
 //! Calls that evaluate no expression of a file.
-ghost use Rattle.std.specs.Prelude.{◌≡◌, ◌≤◌, ◌-◌, ◌++◌, ℕ, List, IfOk, IsOkUnless, drop, zip, length};
+ghost use Rattle.std.specs.Prelude.{◌≡◌, ◌≤◌, ◌-◌, IfOk, IsOkUnless};
 ghost use Rattle.heap.specs.declared.halt.Halt.TheVariants.{Memory};
 ghost use Rattle.heap.specs.View.{store_of, Says};
 ghost use Rattle.meaning.specs.Functions as m;

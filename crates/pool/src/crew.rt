@@ -1,5 +1,5 @@
 //! The hands of a pool: those at work, and those not hired yet.
-ghost use Rattle.std.specs.Prelude.{◌≡◌, ◌⊎◌, ◌+◌, ◌<◌, ◌≤◌, All, length, OnOk};
+ghost use Rattle.std.specs.Prelude.{◌≡◌, ◌+◌, ◌<◌, ◌≤◌, All, length, OnOk};
 ghost use Rattle.board.specs.Places.{IsHostAtRest, IsHandAtRest, IsNewHand};
 ghost use Rattle.board.specs.Rule.{total};
 ghost use Rattle.pool.specs.Crews.{IsCrew, SameCrew};

@@ -1,5 +1,5 @@
 //! An evaluation by one worker thread a hand.
-ghost use Rattle.std.specs.Prelude.{◌≡◌, ℕ, ◌+◌, ◌<◌, ◌≤◌, List, [], All, length, vec_capacity, IfOk, IfErr, IsErrOf, Ok, Err};
+ghost use Rattle.std.specs.Prelude.{◌≡◌, ◌+◌, ◌<◌, ◌≤◌, [], All, length, vec_capacity, IfOk, IfErr, IsErrOf, Ok, Err};
 ghost use Rattle.board.specs.Places.{IsNewHost, IsNewHand};
 ghost use Rattle.board.specs.Rule.{total};
 ghost use Rattle.leaves.specs.Leaves as leaves;

@@ -1,5 +1,5 @@
 //! The host: it hands out what is ready, hires hands for it, and takes back what was made.
-ghost use Rattle.std.specs.Prelude.{◌≡◌, ◌⊎◌, ◌+◌, ◌<◌, ◌≤◌, [], All, length, IfOk, IfErr, IsErrOf, OnOk, Ok, Err};
+ghost use Rattle.std.specs.Prelude.{◌≡◌, ◌⊎◌, ◌+◌, ◌<◌, ◌≤◌, All, length, IfOk, IfErr, IsErrOf, OnOk, Ok, Err};
 ghost use Rattle.board.specs.Places.{IsHostAtRest, IsNewHost, IsNewHand};
 ghost use Rattle.leaves.specs.Leaves as leaves;
 ghost use Rattle.open_nodes.specs.Counted.{turns_of};

@@ -1,5 +1,5 @@
 //! What the host does in one step: it hands a job out, or takes a turn back.
-ghost use Rattle.std.specs.Prelude.{◌≡◌, ℕ, ◌+◌, ◌<◌, List, Option, [], length, true, false, IsTrue, IfOk, IfSome, IfNone, OnOk, OnErr};
+ghost use Rattle.std.specs.Prelude.{◌≡◌, ℕ, ◌+◌, ◌<◌, List, Option, length, true, false, IfOk, OnOk, OnErr};
 ghost use Rattle.board.specs.Places.{IsHostAtRest};
 ghost use Rattle.evaluation.specs.Reply.{Reply};
 ghost use Rattle.evaluation.specs.Value.{In};

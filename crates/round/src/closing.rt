@@ -1,5 +1,5 @@
 //! The nodes that a stall closes.
-ghost use Rattle.std.specs.Prelude.{◌≡◌, ◌+◌, ◌∷◌, ◌++◌, [], ℕ, true, false, IfOk, OnOk, Some, None, take, IsTrue, IsSome, IfSome, IfNone, if◌then◌else◌, ◌↔◌, ◌<◌};
+ghost use Rattle.std.specs.Prelude.{◌≡◌, ◌+◌, ◌∷◌, ◌++◌, [], true, false, IfOk, OnOk, Some, None, take, IsTrue, IsSome, IfSome, IfNone, if◌then◌else◌, ◌↔◌, ◌<◌};
 ghost use Rattle.indexmap.specs.IndexMap.{index_map_len, Updates};
 ghost use Rattle.std.specs.Option.{is_some};
 ghost use Rattle.keys.specs.Keys.{key_eq};

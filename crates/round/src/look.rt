@@ -1,23 +1,21 @@
 //! Wants nodes, looks at those that wait, and settles them.
-ghost use Rattle.std.specs.Prelude.{◌≡◌, ◌⊎◌, ◌+◌, ◌<◌, ◌^◌, [], ℕ, true, false, IfOk, OnOk, Some, IfSome, IfNone, IsTrue, Option, ◌∷◌, OnErr, None, List};
+ghost use Rattle.std.specs.Prelude.{◌≡◌, ◌+◌, ◌<◌, ◌^◌, [], ℕ, true, false, IfOk, OnOk, Some, IfSome, IfNone, IsTrue, Option, ◌∷◌, None, List};
 ghost use Rattle.std.specs.Option.{is_some};
-ghost use Rattle.evaluation.specs.Graph.{Record};
 ghost use Rattle.evaluation.specs.Value.{In};
 ghost use Rattle.evaluation.specs.Reply.{Reply, Done};
 ghost use Rattle.evaluation.specs.Choices.{Back};
 ghost use Rattle.filetree.specs.Files.{Files};
-ghost use Rattle.open_nodes.specs.Nodes.{IsClean, node_at, groups_of, AreOut, pending, IsUnsettled, IsWhole};
+ghost use Rattle.open_nodes.specs.Nodes.{IsClean, node_at, groups_of, pending, IsUnsettled};
 ghost use Rattle.leaves.specs.Leaves as leaves;
 ghost use Rattle.keys.specs.declared.key.Key.{Key};
 ghost use Rattle.keys.specs.declared.value.Value.{Value};
 ghost use Rattle.node.specs.Graphs.{record_at};
-ghost use Rattle.node.specs.Kept.{items_of};
 ghost use Rattle.open_nodes.specs.Counted.{MakesNone};
 ghost use Rattle.open_nodes.specs.declared.table.Node.{Node};
 ghost use Rattle.open_nodes.specs.declared.table.Phase.TheVariants as phase;
 ghost use Rattle.open_nodes.specs.Truths.{LeadsBy};
 ghost use Rattle.round.specs.Frames.{KeepsFrame, KeepsFrameBut};
-ghost use Rattle.round.specs.Looks.{IsAwaiting, IsChecking, IsLastGroup, IsRunning, IsRunningAt, IsNextKey, HasPassed};
+ghost use Rattle.round.specs.Looks.{IsAwaiting, IsChecking, IsLastGroup, IsRunning, IsNextKey, HasPassed};
 ghost use Rattle.round.specs.Moves.{KeepsTrue, IsWholeBut, IsWholeNow, KeepsOut, KeepsWanted, KeepsTrueOf, Wants, IsWanted};
 ghost use Rattle.round.specs.Turning.{IsOutWith, ComesBack};
 

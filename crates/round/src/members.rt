@@ -1,6 +1,6 @@
 //! What the graph holds of the members of a group.
-ghost use Rattle.std.specs.Prelude.{◌≡◌, IfOk, map};
-ghost use Rattle.std.specs.Option.{option_copied, option_map, is_some};
+ghost use Rattle.std.specs.Prelude.{◌≡◌, IfOk};
+ghost use Rattle.std.specs.Option.{option_map, is_some};
 ghost use Rattle.std.specs.Arc.{arc_value};
 ghost use Rattle.keys.specs.Turns.{values};
 ghost use Rattle.node.specs.Graphs.{record_at, present};

@@ -21,7 +21,7 @@ ghost use Rattle.evaluation.specs.Choices.{Back};
 ghost use Rattle.open_nodes.specs.declared.table.Node.{Node};
 ghost use Rattle.open_nodes.specs.declared.table.Phase.TheVariants as phase;
 ghost use Rattle.round.specs.Frames.{KeepsFrameBut};
-ghost use Rattle.round.specs.Moves.{KeepsTrue, KeepsWanted, IsWholeNow};
+ghost use Rattle.round.specs.Moves.{KeepsWanted, IsWholeNow};
 ghost use Rattle.round.specs.Turning.{IsOutWith, ComesBack, NextJob};
 
 use crate::look::end;

@@ -1,6 +1,5 @@
 //! Statements and functions that are one tree, line for line.
 ghost use Rattle.std.specs.Prelude.{◌≡◌, map};
-ghost use Rattle.std.specs.Bool.{Decides};
 ghost use Rattle.std.specs.Cmp.Lexicographic.{pointwise};
 ghost use Rattle.tree.specs.Statements.{stmt_of, branch_of, stmts_of, branch_trees, param_of, fn_of};
 ghost use Rattle.same_trees.specs.Same.{same_st, same_suite, same_branch, same_branches, same_param, same_fn};

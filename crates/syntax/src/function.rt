@@ -1,5 +1,5 @@
 //! Functions.
-ghost use Rattle.std.specs.Prelude.{◌≡◌, [], length, map};
+ghost use Rattle.std.specs.Prelude.{◌≡◌, map};
 ghost use Rattle.grammar.specs.Front.{and_then, gives, expect};
 ghost use Rattle.grammar.specs.Files as spec;
 ghost use Rattle.grammar.specs.Targets.{has_name, has_default};

@@ -1,5 +1,5 @@
 //! Load statements.
-ghost use Rattle.std.specs.Prelude.{◌≡◌, ◌∷◌, [], length, map};
+ghost use Rattle.std.specs.Prelude.{map};
 ghost use Rattle.grammar.specs.Front.{and_then, gives, expect};
 ghost use Rattle.grammar.specs.Files as spec;
 ghost use Rattle.expressions.specs.View.{left, Reads};

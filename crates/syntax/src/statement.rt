@@ -1,6 +1,6 @@
 //! Statements and files. What holds a statement one level down takes the parser of those as a parameter, so that each
 //! function is proved by itself.
-ghost use Rattle.std.specs.Prelude.{◌≡◌, ◌∷◌, ◌++◌, [], None, Some, length, map, if◌then◌else◌, ◌&&◌};
+ghost use Rattle.std.specs.Prelude.{◌≡◌, ◌∷◌, None, Some, map, if◌then◌else◌, ◌&&◌};
 ghost use Rattle.syntax.specs.Inners.{Holds};
 ghost use Rattle.syntax.specs.Answers.{Gives, Parses};
 ghost use Rattle.grammar.specs.Front.{and_then, gives, expect};

@@ -1,34 +1,45 @@
 //! A shared text.
-ghost use Rattle.std.specs.Prelude.{◌≡◌, nat_eq, IfOk, IsTrue, Some, refl};
+ghost use Rattle.std.specs.Prelude.{◌≡◌, nat_eq, IfOk, Some, refl};
 ghost use Rattle.std.specs.String.{string_bytes};
 ghost use Rattle.std.specs.Hash as fed;
 ghost use Rattle.std.proofs.Common.{rules};
-ghost use Rattle.std.specs.Cmp.{partial_equiv_from_equiv, partial_order_from_own_ties};
-ghost use Rattle.std.specs.Cmp.Rules.{comparing, hashing};
+ghost use Rattle.std.specs.Cmp.{partial_equiv_from_equiv};
+ghost use Rattle.std.specs.Cmp.Rules.{hashing};
 ghost use Rattle.std.specs.Cmp.Lexicographic.{pointwise, slice_cmp, nat_list_eq_equiv, nat_list_cmp_total, texts_po, texts_ties};
 ghost use Rattle.std.specs.Ordering.{nat_cmp, as_partial_cmp};
 
 use crate::memory::Memory;
+use arrayvec::ArrayString;
 use std::alloc::Global;
 use std::cmp::Ordering;
 use std::hash::{Hash, Hasher};
 use std::marker::Model;
 use std::sync::Arc;
 
-/// A shared text, which a contract sees as its bytes.
+/// So many bytes stand in one block of memory with their count.
+const SHORT: usize = 24;
+
+/// How the bytes of a text are held.
+#[derive(Drop)]
+enum Storage {
+    Short(ArrayString<SHORT>),
+    Long(String),
+}
+
+/// A shared text, which a contract sees as its bytes. A short one takes one allocation, a longer one two.
 #[derive(Drop)]
 pub struct Text {
-    inner: Arc<String>,
+    inner: Arc<Storage>,
 }
 
 impl Model for Text {
     ghost use Rattle.std.specs.Prelude.{ℕ, List};
     ghost use Rattle.std.specs.Arc.{arc_value};
-    ghost use Rattle.std.specs.String.{string_bytes};
+    ghost use Rattle.texts.specs.Bytes.{bytes_of};
 
     ghost Value = { List ℕ };
 
-    ghost view = { λ t. string_bytes (arc_value t.inner) };
+    ghost view = { λ t. bytes_of (arc_value t.inner) };
 }
 
 impl Text {
@@ -36,15 +47,22 @@ impl Text {
     pub fn new(alloc: Global, text: &str) -> Result<Text, Memory>
         ensures { IfOk result (λ t. t ≡ text.now) }
     {
-        let inner = Arc::new(alloc, String::from_str(alloc, text)?)?;
+        let storage = match ArrayString::from(text) {
+            Ok(short) => Storage::Short(short),
+            Err(_) => Storage::Long(String::from_str(alloc, text)?),
+        };
+        let inner = Arc::new(alloc, storage)?;
         Ok(Text { inner })
     }
 
-    /// Makes a shared text of a string, whose bytes are taken over and not copied.
+    /// Makes a shared text of a string. The bytes of a long one are taken over and not copied.
     pub fn from_string(alloc: Global, text: String) -> Result<Text, Memory>
         ensures { IfOk result (λ t. t ≡ string_bytes text) }
     {
-        let inner = Arc::new(alloc, text)?;
+        if text.len() <= SHORT {
+            return Text::new(alloc, text.as_str());
+        }
+        let inner = Arc::new(alloc, Storage::Long(text))?;
         Ok(Text { inner })
     }
 
@@ -52,7 +70,10 @@ impl Text {
     pub fn as_str(&self) -> &str
         ensures { result.now ≡ self.now }
     {
-        self.inner.as_str()
+        match &*self.inner {
+            Storage::Short(text) => text.as_str(),
+            Storage::Long(text) => text.as_str(),
+        }
     }
 
     /// Returns the same text, shared.

@@ -1,5 +1,5 @@
 //! How deep tokens are nested.
-ghost use Rattle.std.specs.Prelude.{◌≡◌, ◌+◌, ◌<◌, ◌≤◌, ◌^◌, map, IsOkUnless, IfOk, OnOk};
+ghost use Rattle.std.specs.Prelude.{◌≡◌, ◌+◌, ◌<◌, ◌≤◌, ◌^◌, map, IfOk, OnOk};
 ghost use Rattle.tokens.specs.Counts.{nesting_of, IsOrdered};
 ghost use Rattle.tokens.specs.Nesting.{role, role_of, with_role, depth, outermost, too_deep};
 ghost use Rattle.tokens.specs.declared.nesting.Role.TheVariants.{Counts, Opens, Closes, Separates, EndsLine, Indents, Dedents, Plain};

@@ -1,5 +1,5 @@
 //! The tokens of a text.
-ghost use Rattle.std.specs.Prelude.{◌≡◌, ◌≤◌, ◌+◌, length, map, IfNone};
+ghost use Rattle.std.specs.Prelude.{◌≡◌, ◌+◌, IfNone};
 ghost use Rattle.std.specs.Str.{IsAscii};
 ghost use Rattle.tokens.specs.Lines.{scan, start};
 ghost use Rattle.tokens.specs.Reading.{foreign, tokens_of, Reads};

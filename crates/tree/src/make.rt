@@ -1,5 +1,5 @@
 //! The nodes of expressions.
-ghost use Rattle.std.specs.Prelude.{◌≡◌, IfOk, pos};
+ghost use Rattle.std.specs.Prelude.{◌≡◌, IfOk};
 ghost use Rattle.tree.specs.Tree.{name, int, str, literal, tuple, list, dict, list_of, dict_of, unary, binary, choice, index, slice, call, method, for_in, only_if};
 ghost use Rattle.tree.specs.View.{tree_of, trees_of, clause_of, clause_trees, bound_tree, shared_tree};
 

@@ -1,5 +1,5 @@
 //! The node function of a look-up.
-ghost use Rattle.std.specs.Prelude.{◌≡◌, IfOk, map};
+ghost use Rattle.std.specs.Prelude.{◌≡◌, IfOk};
 ghost use Rattle.keys.specs.Turns.{values};
 ghost use Rattle.walks.specs.Lookups as specs;
 ghost use Rattle.walks.specs.Replies.{IsReply};
