@@ -15,7 +15,7 @@ use std::alloc::Global;
 use texts::Memory;
 use tree::File;
 
-// The module with these values.
+// Makes a module of these values.
 fn module_of(
     alloc: Global,
     at: &Standing,
@@ -44,12 +44,13 @@ fn module_of(
     Ok(m)
 }
 
-/// The module that the evaluation of a file leaves: its own globals in the order in which they were bound, the names
-/// that its loads bound, its functions and their defaults, and the modules that its loads reach, each once.
+/// Makes the module that the evaluation of a file leaves: its own globals in the order in which they were bound, the
+/// names that its loads bound, its functions and their defaults, and the modules that its loads reach, each once.
 ///
 /// # Errors
 ///
-/// Fault 4 for a global without a value, 11 or 12; `Halt::Memory` where memory is refused.
+/// Returns fault 4 for a global without a value, 11 if no step is left, and 12 for a value that is nested too deep.
+/// Returns `Halt::Memory` if an allocation fails.
 pub fn frozen_module(
     state: &mut State,
     at: &Standing,

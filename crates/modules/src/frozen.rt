@@ -2,11 +2,11 @@
 ghost use Rattle.std.specs.Prelude.{◌≡◌, ◌≤◌, IfOk, map};
 ghost use Rattle.meaning.specs.Freezing.{freezes};
 ghost use Rattle.language.specs.Names.{slot_in, names_at};
-ghost use Rattle.language.specs.Environment.{defs};
+ghost use Rattle.language.specs.Environment.{defs, defaults_among};
 ghost use Rattle.tree.specs.Statements.{top_of};
 ghost use Rattle.heap.specs.View.{store_of, Says, SaysItems};
 ghost use Rattle.names.specs.View.{held, names_of};
-ghost use Rattle.modules.specs.Frozen.{freeze_values, freeze_names, freeze_defaults, bound_value, block_among, slot_names, SaysFrozen};
+ghost use Rattle.modules.specs.Frozen.{freeze_values, freeze_names, freeze_defaults, bound_value, block_among, slot_names, SaysFrozen, SaysDefaults};
 
 use calls::{defaults_among, file_with};
 use freezing::FrozenValue;
@@ -16,9 +16,9 @@ use module_values::{Binding, Defaults};
 use names::{Block, FileNames, Slot, slot_in};
 use std::sync::atomic::AtomicUsize;
 use texts::Text;
-use tree::Top;
+use tree::{Def, Top};
 
-// A value, frozen.
+// Freezes a value.
 fn freeze_value(heap: &mut Heap, x: Val) -> Result<FrozenValue, Halt>
     ensures says { Says (freezes x (store_of heap.old)) result (store_of heap.new) }
     ensures steps { IfOk result (λ _. heap.new.steps ≤ heap.old.steps) }
@@ -26,7 +26,7 @@ fn freeze_value(heap: &mut Heap, x: Val) -> Result<FrozenValue, Halt>
     FrozenValue::freeze(heap, x)
 }
 
-// Values, frozen, in order.
+// Freezes values, in order.
 fn freeze_values(heap: &mut Heap, xs: &[Val]) -> Result<Vec<FrozenValue>, Halt>
     ensures says { SaysFrozen (freeze_values xs.now (store_of heap.old)) result
         (store_of heap.new) }
@@ -42,7 +42,7 @@ fn freeze_values(heap: &mut Heap, xs: &[Val]) -> Result<Vec<FrozenValue>, Halt>
     Ok(all)
 }
 
-// The value of a name of a block, where it has one. The name is looked for at the place first.
+// Returns the value of a name of a block, if it has one. The name is looked for at the place first.
 fn bound_value(block: &Block, x: &Text, place: usize) -> Option<Val>
     ensures { result ≡ bound_value (slot_in x.now (held block.now)) }
 {
@@ -52,7 +52,7 @@ fn bound_value(block: &Block, x: &Text, place: usize) -> Option<Val>
     }
 }
 
-// The values of names of a block, frozen in order: fault 4 for one without a value, 11 or 12.
+// Freezes the values of names of a block, in order. Returns fault 4 for a name without a value, 11 or 12.
 fn freeze_names(heap: &mut Heap, block: &Block, names: &[Slot]) -> Result<Vec<Binding>, Halt>
     ensures says { SaysItems (freeze_names (held block.now) (slot_names names.now)
         (store_of heap.old)) result (store_of heap.new) }
@@ -73,7 +73,7 @@ fn freeze_names(heap: &mut Heap, block: &Block, names: &[Slot]) -> Result<Vec<Bi
     Ok(all)
 }
 
-/// The values of globals of a file, frozen in order: fault 4 for one without a value, 11 or 12.
+/// Freezes the values of globals of a file, in order. Returns fault 4 for a global without a value, 11 or 12.
 pub fn freeze_globals(
     heap: &mut Heap,
     files: &[FileNames],
@@ -94,7 +94,27 @@ pub fn freeze_globals(
     }
 }
 
-/// The defaults of a file's functions, frozen in order: fault 11 or 12.
+// Freezes the defaults of a function, in order. Returns fault 11 or 12.
+fn freeze_of(
+    heap: &mut Heap,
+    files: &[FileNames],
+    label: &Text,
+    f: &Def,
+) -> Result<Defaults, Halt>
+    ensures says { SaysDefaults f.now.name (freeze_values
+        (defaults_among f.now.name (names_at label.now (map names_of files.now)))
+        (store_of heap.old)) result (store_of heap.new) }
+    ensures steps { IfOk result (λ _. heap.new.steps ≤ heap.old.steps) }
+{
+    let values = match freeze_values(heap, defaults_among(files, label, &f.name)) {
+        Ok(values) => values,
+        Err(halt) => return Err(halt),
+    };
+    let name = f.name.share()?;
+    Ok(Defaults::new(name, values))
+}
+
+/// Freezes the defaults of a file's functions, in order. Returns fault 11 or 12.
 pub fn freeze_defaults(
     heap: &mut Heap,
     files: &[FileNames],
@@ -108,12 +128,10 @@ pub fn freeze_defaults(
     let mut all = Vec::new(heap.alloc);
     for top in tops.iter() {
         if let Top::Def(f) = top {
-            let values = match freeze_values(heap, defaults_among(files, label, &f.name)) {
-                Ok(values) => values,
+            match freeze_of(heap, files, label, f) {
+                Ok(defaults) => all.push(defaults)?,
                 Err(halt) => return Err(halt),
-            };
-            let name = f.name.share()?;
-            all.push(Defaults::new(name, values))?;
+            }
         }
     }
     Ok(all)

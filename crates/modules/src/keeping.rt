@@ -9,7 +9,7 @@ use heap::{Halt, Val};
 use names::{FileNames, Kept, State};
 use texts::Text;
 
-// The place of the file with a label.
+// Returns the place of the file with a label.
 fn file_at(files: &[FileNames], label: &Text) -> Option<usize>
     ensures { FirstPlace (is_file label.now) files.now result }
 {

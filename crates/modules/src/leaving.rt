@@ -13,7 +13,7 @@ use std::alloc::Global;
 use texts::{Memory, Text};
 use tree::{LoadItem, LoadStmt, Top};
 
-// The values of a load's items, under their names, behind others.
+// Puts the values of a load's items, under their names, behind others.
 fn add_items(all: &mut Vec<Binding>, body: &Module, items: &[LoadItem]) -> Result<(), Memory>
     ensures { OnOk result (all.new.items ≡ all.old.items ++ frozen_items body.now
         (map item_of items.now)) }
@@ -28,7 +28,7 @@ fn add_items(all: &mut Vec<Binding>, body: &Module, items: &[LoadItem]) -> Resul
     Ok(())
 }
 
-/// The names that loads bind, with the values of the modules.
+/// Returns the names that loads bind, with the values of the modules.
 pub fn frozen_loads(
     alloc: Global,
     loads: &[LoadStmt],
@@ -43,7 +43,7 @@ pub fn frozen_loads(
     Ok(all)
 }
 
-/// The functions of a file, in its order.
+/// Returns the functions of a file, in its order.
 pub fn functions_of(alloc: Global, tops: &[Top]) -> Result<Vec<Function>, Memory>
     ensures { IfOk result (λ v. v.items ≡ defs (map top_of tops.now)) }
 {
@@ -56,7 +56,7 @@ pub fn functions_of(alloc: Global, tops: &[Top]) -> Result<Vec<Function>, Memory
     Ok(all)
 }
 
-// A module behind others, where none of them has its label.
+// Puts a module behind others if none of them has its label.
 fn add_once(all: &mut Vec<Module>, labels: &mut IndexSet<Text>, m: &Module) -> Result<(), Memory>
     requires { labels.old.keys ≡ labels_of all.old.items }
     ensures labelled { OnOk result (labels.new.keys ≡ labels_of all.new.items) }
@@ -86,7 +86,7 @@ fn add_each(
     Ok(())
 }
 
-/// The modules that loads reach, each once.
+/// Returns the modules that loads reach, each once.
 pub fn reached_once(alloc: Global, loads: &[Loaded]) -> Result<Vec<Module>, Memory>
     ensures { IfOk result (λ v. v.items ≡ each_once [] (all_bodies loads.now)) }
 {

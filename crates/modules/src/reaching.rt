@@ -6,7 +6,7 @@ use freezing::FrozenValue;
 use module_values::{Binding, Loaded, Module};
 use texts::Text;
 
-// The module with a label.
+// Returns the module with a label.
 fn module_at<'a>(modules: &'a [Module], label: &Text) -> Option<&'a Module>
     ensures { option_map (λ m. m.now) result ≡ body_at label.now modules.now }
 {
@@ -18,7 +18,7 @@ fn module_at<'a>(modules: &'a [Module], label: &Text) -> Option<&'a Module>
     None
 }
 
-// The module with a label, of those that a load reaches.
+// Returns the module with a label, of those that a load reaches.
 fn module_in<'a>(loaded: &'a Loaded, label: &Text) -> Option<&'a Module>
     ensures { let m = loaded.now in option_map (λ m. m.now) result ≡ body_at label.now
         (m.body ∷ m.reached) }
@@ -29,7 +29,7 @@ fn module_in<'a>(loaded: &'a Loaded, label: &Text) -> Option<&'a Module>
     module_at(loaded.reached(), label)
 }
 
-/// The module with a label, of those that loads reach.
+/// Returns the module with a label, of those that loads reach.
 pub fn reached<'a>(loads: &'a [Loaded], label: &Text) -> Option<&'a Module>
     ensures { option_map (λ m. m.now) result ≡ body_at label.now (all_bodies loads.now) }
 {
@@ -41,7 +41,7 @@ pub fn reached<'a>(loads: &'a [Loaded], label: &Text) -> Option<&'a Module>
     None
 }
 
-// The value of a name.
+// Returns the value of a name.
 fn frozen_at<'a>(bindings: &'a [Binding], x: &Text) -> Option<&'a FrozenValue>
     ensures { option_map (λ f. f.now) result ≡ frozen_at x.now bindings.now }
 {
@@ -53,7 +53,7 @@ fn frozen_at<'a>(bindings: &'a [Binding], x: &Text) -> Option<&'a FrozenValue>
     None
 }
 
-// Whether a name is its file's own.
+// Returns whether a name is its file's own.
 fn is_private(x: &Text) -> bool
     ensures { result ≡ is_private x.now }
 {
@@ -63,7 +63,8 @@ fn is_private(x: &Text) -> bool
     }
 }
 
-/// What a load of a name from a module gives: nothing for a name that begins with `_`, or that a load bound there.
+/// Returns what a load of a name from a module gives. That is nothing for a name that begins with `_`, or that a load
+/// bound there.
 pub fn exported<'a>(body: &'a Module, x: &Text) -> Option<&'a FrozenValue>
     ensures { option_map (λ f. f.now) result ≡ exported x.now body.now }
 {

@@ -11,7 +11,7 @@ use heap::{Halt, Heap, Val};
 use module_values::{Binding, Defaults};
 use names::{Kept, Slot};
 
-/// A frozen value on a heap.
+/// Puts a frozen value on a heap.
 pub fn thaw_value(heap: &mut Heap, f: &FrozenValue) -> Result<Val, Halt>
     ensures says { Says (thaw f.now (store_of heap.old)) result (store_of heap.new) }
     ensures steps { IfOk result (λ _. heap.new.steps ≡ heap.old.steps) }
@@ -19,7 +19,7 @@ pub fn thaw_value(heap: &mut Heap, f: &FrozenValue) -> Result<Val, Halt>
     thaw(heap, f.as_frozen())
 }
 
-// Frozen values on a heap, in order.
+// Puts frozen values on a heap, in order.
 fn thaw_values(heap: &mut Heap, values: &[FrozenValue]) -> Result<Vec<Val>, Halt>
     ensures says { SaysItems (thaw_members (members_of values.now) (store_of heap.old)) result
         (store_of heap.new) }
@@ -53,7 +53,7 @@ pub fn thaw_names(heap: &mut Heap, bindings: &[Binding], block: &mut Vec<Slot>) 
     Ok(())
 }
 
-/// The values of functions' defaults on a heap.
+/// Puts the values of functions' defaults on a heap.
 pub fn thaw_defaults(heap: &mut Heap, defaults: &[Defaults]) -> Result<Vec<Kept>, Halt>
     ensures says { SaysKept (thaw_defaults defaults.now (store_of heap.old)) result
         (store_of heap.new) }
