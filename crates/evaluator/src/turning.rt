@@ -9,7 +9,7 @@ use crate::entering::{enter, leave};
 use crate::machine::{Environment, Machine, Stop, Turned};
 use crate::setting::Setting;
 use crate::tidying::tidy;
-use frames::{Control, Frame, Signal, control_line, frame_line, hand_down, step};
+use frames::{Control, Frame, Signal, control_line, frame_line, go_on, hand_down};
 use heap::{Builtin, Halt, Val};
 use names::{Slot, Standing};
 use package_calls::{Called, package_call};
@@ -130,7 +130,7 @@ fn act(m: &mut Machine, e: &Setting<'_>, control: Control) -> Result<Control, Ha
             def,
             defaults: xs,
         } => define(&mut m.state, &m.at, line, &def, xs),
-        control => step(&mut m.state, &mut m.frames, &m.at, control),
+        control => go_on(&mut m.state, &mut m.frames, &m.at, control),
     }
 }
 

@@ -4,17 +4,20 @@ ghost use Rattle.language.specs.Environment.{Env};
 ghost use Rattle.names.specs.View.{world_of, here_of};
 ghost use Rattle.heap.specs.declared.halt.Halt.TheVariants.{Memory};
 ghost use Rattle.frames.specs.Going.{GetsLighter, LeadsOn};
-ghost use Rattle.frames.specs.Frames.{Goes, on, sig_of, frame_does, frame_line, is_leave, is_within, above, machine_does};
-ghost use Rattle.frames.specs.Weight.{frames_weight, frame_weight, control_weight};
+ghost use Rattle.frames.specs.Frames.{Goes, on, sig_of, frame_does, frame_line, control_line, is_leave, is_within, above, machine_does};
+ghost use Rattle.frames.specs.Weight.{Lighter, frames_weight, frame_weight, control_weight};
 ghost use Rattle.frames.specs.Ahead.{AsLight};
 ghost use Rattle.frames.specs.declared.frame.Control.TheVariants as c;
 
 use crate::frame::{Control, Frame, Signal};
 use crate::handing::deliver;
-use crate::places::control_line;
+use crate::places::{control_line, frame_line};
 use crate::stepping::step;
 use heap::Halt;
 use names::{Standing, State};
+
+/// So many moves are made at once, at most.
+const MOST_MOVES: usize = 1024;
 
 // Returns whether `step` goes on with a control.
 fn is_within(control: &Control) -> bool
@@ -30,6 +33,20 @@ fn is_within(control: &Control) -> bool
         Control::Add { .. } => false,
         Control::Define { .. } => false,
         _ => true,
+    }
+}
+
+// Returns whether a move leads on: a step, or a signal that is handed to a frame. The end of a call is the machine's own,
+// and a fault is shown by it.
+fn leads_on(frames: &[Frame], control: &Control) -> bool {
+    match control {
+        Control::Signal(_) => match frames.last() {
+            Some(Frame::Leave(_)) => false,
+            Some(_) => true,
+            None => false,
+        },
+        Control::Fault { .. } => false,
+        control => is_within(control),
     }
 }
 
@@ -63,7 +80,93 @@ fn stepped(
     }
 }
 
-// Goes on by one step, if `step` goes on with the control.
+// Hands a frame a signal. A fault in it comes next, with its line: no step and no frame is left.
+fn handed(
+    state: &mut State,
+    frames: &mut Vec<Frame>,
+    at: &Standing,
+    frame: Frame,
+    signal: Signal,
+) -> Result<Control, Halt>
+    requires { is_leave frame ≡ false }
+    ensures goes { (env : Env) (n : ℕ) (running : List (List ℕ × List ℕ))
+        → let here = here_of at.now at.now.line running in
+        IfOk result (λ next. above env n here (frame_does env n here frame (sig_of signal))
+        frames.old.items (world_of state.old)
+        ≡ machine_does env n here next frames.new.items (world_of state.new)) }
+    ensures err { IsOkUnless result Memory }
+    ensures lighter { IfOk result
+        (λ next. AsLight state.old.heap.steps (frames_weight frames.old.items + frame_weight frame)
+        state.new.heap.steps (frames_weight frames.new.items + control_weight next)) }
+{
+    let line = frame_line(&frame, at.line);
+    match deliver(state, frames, at, frame, signal) {
+        Ok(next) => Ok(next),
+        Err(Halt::Code(code)) => {
+            state.heap.steps = 0;
+            frames.clear();
+            Ok(Control::Fault { line, code })
+        }
+        Err(Halt::Memory) => Err(Halt::Memory),
+    }
+}
+
+// Hands a signal to the topmost frame, unless that ends a call.
+fn hand_over(
+    state: &mut State,
+    frames: &mut Vec<Frame>,
+    at: &Standing,
+    signal: Signal,
+) -> Result<Control, Halt>
+    ensures goes { (env : Env) (n : ℕ) (running : List (List ℕ × List ℕ))
+        → let here = here_of at.now at.now.line running in
+        IfOk result (λ next. machine_does env n here (c.Signal signal) frames.old.items
+        (world_of state.old)
+        ≡ machine_does env n here next frames.new.items (world_of state.new)) }
+    ensures err { IsOkUnless result Memory }
+    ensures lighter { IfOk result
+        (λ next. AsLight state.old.heap.steps (frames_weight frames.old.items)
+        state.new.heap.steps (frames_weight frames.new.items + control_weight next)) }
+{
+    match frames.pop() {
+        Some(Frame::Leave(caller)) => {
+            frames.push(Frame::Leave(caller))?;
+            Ok(Control::Signal(signal))
+        }
+        Some(frame) => handed(state, frames, at, frame, signal),
+        None => Ok(Control::Signal(signal)),
+    }
+}
+
+// Goes on by one move: a signal is handed over, or a step is made. Any other control is handed back.
+fn move_on(
+    state: &mut State,
+    frames: &mut Vec<Frame>,
+    at: &Standing,
+    control: Control,
+) -> Result<Control, Halt>
+    ensures goes { (env : Env) (n : ℕ) (running : List (List ℕ × List ℕ))
+        → let here = here_of at.now at.now.line running in
+        IfOk result (λ next. machine_does env n here control frames.old.items (world_of state.old)
+        ≡ machine_does env n here next frames.new.items (world_of state.new)) }
+    ensures err { IsOkUnless result Memory }
+    ensures lighter { IfOk result
+        (λ next. AsLight state.old.heap.steps
+        (frames_weight frames.old.items + control_weight control) state.new.heap.steps
+        (frames_weight frames.new.items + control_weight next)) }
+{
+    match control {
+        Control::Signal(signal) => hand_over(state, frames, at, signal),
+        control => {
+            if is_within(&control) {
+                return stepped(state, frames, at, control);
+            }
+            Ok(control)
+        }
+    }
+}
+
+// Goes on by moves, until what comes next belongs to the machine or objects are to be given back.
 fn onward(
     state: &mut State,
     frames: &mut Vec<Frame>,
@@ -80,8 +183,15 @@ fn onward(
         (frames_weight frames.old.items + control_weight control) state.new.heap.steps
         (frames_weight frames.new.items + control_weight next)) }
 {
-    if is_within(&control) {
-        return stepped(state, frames, at, control);
+    let mut control = control;
+    for _move in 0..MOST_MOVES {
+        if state.heap.is_full() || !leads_on(frames.as_slice(), &control) {
+            return Ok(control);
+        }
+        control = match move_on(state, frames, at, control) {
+            Ok(next) => next,
+            Err(halt) => return Err(halt),
+        };
     }
     Ok(control)
 }
@@ -123,4 +233,28 @@ pub fn hand_down(
         frames.new.items state.new }
 {
     hand_on(state, frames, at, frame, signal)
+}
+
+/// Makes a step within a function or a file, and goes on at once. Calls, `+=` on two values, the binding of a function,
+/// the beginning of a comprehension's block and the end of a call are handed back. So is what comes next where objects
+/// are to be given back.
+pub fn go_on(
+    state: &mut State,
+    frames: &mut Vec<Frame>,
+    at: &Standing,
+    control: Control,
+) -> Result<Control, Halt>
+    ensures goes { LeadsOn at.now (control_line at.now.line control)
+        (λ env n here. machine_does env n here control frames.old.items (world_of state.old)) result
+        frames.new.items state.new }
+    ensures lighter { is_within control ≡ true
+        → IfOk result
+        (λ next. Lighter state.old.heap.steps
+        (frames_weight frames.old.items + control_weight control) state.new.heap.steps
+        (frames_weight frames.new.items + control_weight next)) }
+{
+    match step(state, frames, at, control) {
+        Ok(next) => onward(state, frames, at, next),
+        Err(halt) => Err(halt),
+    }
 }

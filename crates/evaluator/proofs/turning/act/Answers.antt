@@ -73,9 +73,9 @@ returns-in-Define-clause-goes c = λ more knows.
 
 pub returns-in_default : goal.returns-in_default
 returns-in_default c = record {
-  goes = λ more knows. c.step.ensures.goes (with_answers more (env_of c.args.e.now)) c.args.m.now.left (running_of c.args.m.now.running.items);
+  goes = λ more knows. c.go_on.ensures.goes (with_answers more (env_of c.args.e.now)) c.args.m.now.left (running_of c.args.m.now.running.items);
   falls = λ acting.
       let k = c.in_default in
-      c.step.ensures.lighter (within c.args.control acting k.not-First k.not-Enter k.not-Builtin k.not-Method k.not-Add k.not-Define);
-  stands = nothing_moves c.step.result c.args.m.now.at;
+      c.go_on.ensures.lighter (within c.args.control acting k.not-First k.not-Enter k.not-Builtin k.not-Method k.not-Add k.not-Define);
+  stands = nothing_moves c.go_on.result c.args.m.now.at;
 }
