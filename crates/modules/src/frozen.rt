@@ -95,12 +95,7 @@ pub fn freeze_globals(
 }
 
 // Freezes the defaults of a function, in order. Returns fault 11 or 12.
-fn freeze_of(
-    heap: &mut Heap,
-    files: &[FileNames],
-    label: &Text,
-    f: &Def,
-) -> Result<Defaults, Halt>
+fn freeze_of(heap: &mut Heap, files: &[FileNames], label: &Text, f: &Def) -> Result<Defaults, Halt>
     ensures says { SaysDefaults f.now.name (freeze_values
         (defaults_among f.now.name (names_at label.now (map names_of files.now)))
         (store_of heap.old)) result (store_of heap.new) }
