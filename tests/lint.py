@@ -26,7 +26,7 @@ LEFT = {
     "lines of clauses of over 100 columns": 0,
     "modules that a file imports from twice": 0,
     "variants with a number or flag that has no name": 0,
-    "definitions that a file imports and does not name": 87,
+    "definitions that a file imports and does not name": 0,
 }
 
 # Words and phrases that say less than plain ones.
