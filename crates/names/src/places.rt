@@ -15,7 +15,7 @@ use texts::{Memory, Text};
 /// So many names are compared with each other; for more a set is made.
 const FEW: usize = 16;
 
-// Returns whether two names are the same. Most that differ do so in their lengths or first bytes.
+// Returns whether two names are the same. Names are short, so their bytes are compared one by one.
 fn is_same(x: &Text, y: &Text) -> bool
     ensures { result ≡ same_text x.now y.now }
 {
@@ -24,10 +24,12 @@ fn is_same(x: &Text, y: &Text) -> bool
     if a.len() != b.len() {
         return false;
     }
-    if a.len() > 0 && a[0] != b[0] {
-        return false;
+    for i in 0..a.len() {
+        if a[i] != b[i] {
+            return false;
+        }
     }
-    *x == *y
+    true
 }
 
 // Returns the first place of a name.
