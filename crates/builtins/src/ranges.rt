@@ -47,12 +47,23 @@ fn make_range(heap: &mut Heap, from: i64, to: i64, step: i64) -> Result<Val, Hal
     Ok(made)
 }
 
+// Returns for how many numbers room is made at first: all, where they lie side by side.
+fn room(from: i64, to: i64, step: i64) -> usize {
+    if step != 1 {
+        return 0;
+    }
+    match usize::try_from(to.saturating_sub(from)) {
+        Ok(n) => n.min(LONGEST),
+        Err(_) => 0,
+    }
+}
+
 // Returns the numbers of a range, or fault 13.
 fn numbers(alloc: Global, from: i64, to: i64, step: i64) -> Result<Vec<Val>, Halt>
     requires { IsNonzero step }
     ensures { SizedAs (numbers (range_count from to step) from step) result }
 {
-    let mut members = Vec::new(alloc);
+    let mut members = Vec::with_capacity(alloc, room(from, to, step))?;
     let mut next = from;
     while lies_before(next, to, step) {
         if members.len() >= LONGEST {

@@ -7,7 +7,7 @@ use Rattle.builtins.proofs.Spanned.{range_ends, range_goes, range_last, range_lo
 use Rattle.builtins.proofs.ranges.numbers.Goals as goal
 
 pub loop-members-init : goal.loop-members-init
-loop-members-init c = (rw c.new-members.ensures.items refl, omega (arith, ap (length {A = Val}) c.new-members.ensures.items))
+loop-members-init c = (rw c.in_ok-members.ensures.items refl, omega (arith, ap (length {A = Val}) c.in_ok-members.ensures.items))
 
 pub returns-then-len-ge-LONGEST : goal.returns-then-len-ge-LONGEST
 returns-then-len-ge-LONGEST c =
