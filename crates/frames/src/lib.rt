@@ -28,7 +28,8 @@ pub use frame::{
     Caller, Comprehension, Control, Exit, Frame, Gathering, Item, Pairs, Purpose, Receiver, Series,
     Signal, Turns,
 };
-pub use moves::{go_on, hand_down};
+pub use moves::hand_down;
 pub use places::{control_line, frame_line};
 pub use reaching::{reach_control, reach_frames};
 pub use stack::push;
+pub use stepping::go_on;

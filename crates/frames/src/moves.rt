@@ -4,8 +4,8 @@ ghost use Rattle.language.specs.Environment.{Env};
 ghost use Rattle.names.specs.View.{world_of, here_of};
 ghost use Rattle.heap.specs.declared.halt.Halt.TheVariants.{Memory};
 ghost use Rattle.frames.specs.Going.{GetsLighter, LeadsOn};
-ghost use Rattle.frames.specs.Frames.{Goes, on, sig_of, frame_does, frame_line, control_line, is_leave, is_within, above, machine_does};
-ghost use Rattle.frames.specs.Weight.{Lighter, frames_weight, frame_weight, control_weight};
+ghost use Rattle.frames.specs.Frames.{Goes, on, sig_of, frame_does, frame_line, is_leave, is_within, above, machine_does};
+ghost use Rattle.frames.specs.Weight.{frames_weight, frame_weight, control_weight};
 ghost use Rattle.frames.specs.Ahead.{AsLight};
 ghost use Rattle.frames.specs.declared.frame.Control.TheVariants as c;
 
@@ -80,7 +80,8 @@ fn stepped(
     }
 }
 
-// Hands a frame a signal. A fault in it comes next, with its line: no step and no frame is left.
+// Hands a signal to the topmost frame, which was taken off the others. A fault in it comes next, with its line: no step
+// and no frame is left.
 fn handed(
     state: &mut State,
     frames: &mut Vec<Frame>,
@@ -91,12 +92,12 @@ fn handed(
     requires { is_leave frame ≡ false }
     ensures goes { (env : Env) (n : ℕ) (running : List (List ℕ × List ℕ))
         → let here = here_of at.now at.now.line running in
-        IfOk result (λ next. above env n here (frame_does env n here frame (sig_of signal))
-        frames.old.items (world_of state.old)
+        IfOk result (λ next. machine_does env n here (c.Signal signal)
+        (frames.old.items ++ frame ∷ []) (world_of state.old)
         ≡ machine_does env n here next frames.new.items (world_of state.new)) }
     ensures err { IsOkUnless result Memory }
     ensures lighter { IfOk result
-        (λ next. AsLight state.old.heap.steps (frames_weight frames.old.items + frame_weight frame)
+        (λ next. AsLight state.old.heap.steps (frames_weight (frames.old.items ++ frame ∷ []))
         state.new.heap.steps (frames_weight frames.new.items + control_weight next)) }
 {
     let line = frame_line(&frame, at.line);
@@ -128,13 +129,16 @@ fn hand_over(
         (λ next. AsLight state.old.heap.steps (frames_weight frames.old.items)
         state.new.heap.steps (frames_weight frames.new.items + control_weight next)) }
 {
-    match frames.pop() {
-        Some(Frame::Leave(caller)) => {
+    let frame = match frames.pop() {
+        Some(frame) => frame,
+        None => return Ok(Control::Signal(signal)),
+    };
+    match frame {
+        Frame::Leave(caller) => {
             frames.push(Frame::Leave(caller))?;
             Ok(Control::Signal(signal))
         }
-        Some(frame) => handed(state, frames, at, frame, signal),
-        None => Ok(Control::Signal(signal)),
+        frame => handed(state, frames, at, frame, signal),
     }
 }
 
@@ -166,8 +170,8 @@ fn move_on(
     }
 }
 
-// Goes on by moves, until what comes next belongs to the machine or objects are to be given back.
-fn onward(
+/// Goes on by moves, until what comes next belongs to the machine or objects are to be given back.
+pub fn onward(
     state: &mut State,
     frames: &mut Vec<Frame>,
     at: &Standing,
@@ -233,28 +237,4 @@ pub fn hand_down(
         frames.new.items state.new }
 {
     hand_on(state, frames, at, frame, signal)
-}
-
-/// Makes a step within a function or a file, and goes on at once. Calls, `+=` on two values, the binding of a function,
-/// the beginning of a comprehension's block and the end of a call are handed back. So is what comes next where objects
-/// are to be given back.
-pub fn go_on(
-    state: &mut State,
-    frames: &mut Vec<Frame>,
-    at: &Standing,
-    control: Control,
-) -> Result<Control, Halt>
-    ensures goes { LeadsOn at.now (control_line at.now.line control)
-        (λ env n here. machine_does env n here control frames.old.items (world_of state.old)) result
-        frames.new.items state.new }
-    ensures lighter { is_within control ≡ true
-        → IfOk result
-        (λ next. Lighter state.old.heap.steps
-        (frames_weight frames.old.items + control_weight control) state.new.heap.steps
-        (frames_weight frames.new.items + control_weight next)) }
-{
-    match step(state, frames, at, control) {
-        Ok(next) => onward(state, frames, at, next),
-        Err(halt) => Err(halt),
-    }
 }

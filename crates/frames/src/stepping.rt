@@ -10,6 +10,7 @@ use crate::frame::{Control, Frame};
 use crate::gather::{next_clause, next_gather};
 use crate::items::next_item;
 use crate::loops::{next_branch, next_stmt, next_turn};
+use crate::moves::onward;
 use crate::operands::next_entry;
 use crate::targets::{begin_aim, next_aim};
 use crate::tops::{next_default, next_top};
@@ -18,7 +19,7 @@ use names::{Standing, State};
 
 /// Makes one step within a function or a file. Signals, calls, `+=` on two values, the binding of a function and the
 /// beginning of a comprehension's block are handed back.
-pub fn step(
+pub(crate) fn step(
     state: &mut State,
     frames: &mut Vec<Frame>,
     at: &Standing,
@@ -66,5 +67,29 @@ pub fn step(
         } => next_default(state, frames, at, line, def, next, done),
         Control::Fault { code, .. } => Err(Halt::Code(code)),
         control => Ok(control),
+    }
+}
+
+/// Makes a step within a function or a file, and goes on at once. Calls, `+=` on two values, the binding of a function,
+/// the beginning of a comprehension's block and the end of a call are handed back. So is what comes next where objects
+/// are to be given back.
+pub fn go_on(
+    state: &mut State,
+    frames: &mut Vec<Frame>,
+    at: &Standing,
+    control: Control,
+) -> Result<Control, Halt>
+    ensures goes { LeadsOn at.now (control_line at.now.line control)
+        (λ env n here. machine_does env n here control frames.old.items (world_of state.old)) result
+        frames.new.items state.new }
+    ensures lighter { is_within control ≡ true
+        → IfOk result
+        (λ next. Lighter state.old.heap.steps
+        (frames_weight frames.old.items + control_weight control) state.new.heap.steps
+        (frames_weight frames.new.items + control_weight next)) }
+{
+    match step(state, frames, at, control) {
+        Ok(next) => onward(state, frames, at, next),
+        Err(halt) => Err(halt),
     }
 }

@@ -1,5 +1,6 @@
 //! The node functions.
 ghost use Rattle.std.specs.Prelude.{◌≡◌, IfOk};
+ghost use Rattle.evaluation.specs.Reply.{Done};
 ghost use Rattle.keys.specs.Turns.{values};
 ghost use Rattle.small_graphs.specs.Next as specs;
 
@@ -43,6 +44,14 @@ fn same_text(value: &Value) -> Result<Value, Memory>
     }
 }
 
+// Returns the end of a look-up with the text of a value, or without one.
+fn ending(value: &Value) -> Result<Reply, Memory>
+    ensures { IfOk result
+        (specs.IsReply (Done (specs.with_text (specs.text_of value.now)))) }
+{
+    Ok(Reply::Done(same_text(value)?))
+}
+
 // Asks a group; an empty one is not asked, and the node ends without a text.
 fn asking(group: Vec<Key>) -> Reply
     ensures { specs.IsReply (specs.asking group.items) result }
@@ -64,10 +73,10 @@ fn lookup_reply(alloc: Global, name: &Text, answers: &[Arc<Value>]) -> Result<Re
             if name.as_str() == "chooser" {
                 Ok(Reply::Ask(second_group(alloc, file)?))
             } else {
-                Ok(Reply::Done(same_text(file)?))
+                ending(file)
             }
         }
-        [first, ..] => Ok(Reply::Done(same_text(first)?)),
+        [first, ..] => ending(first),
     }
 }
 
