@@ -10,13 +10,16 @@ use Rattle.language.specs.World.{World, Ends, ended, failed, then_runs, pure}
 use Rattle.language.specs.Environment.{Env}
 use Rattle.language.specs.Files as l
 use Rattle.language.specs.Files.{a_module, a_fault, file_level, frozen_module, leaves, outcome_of}
-use Rattle.evaluator.specs.Files.{level_of}
 use Rattle.evaluator.specs.declared.machine.Stop.{Stop}
 use Rattle.evaluator.specs.declared.machine.Stop.TheVariants as stops
 use Rattle.evaluator.specs.declared.outcome.Outcome.{Outcome}
 use Rattle.evaluator.specs.declared.outcome.Outcome.TheVariants as answers
 use Rattle.evaluator.specs.Machines.{Stops, site_at}
 use Rattle.evaluator.specs.Evaluated.{IsLeft, Shows}
+
+-- where the statements of a file stand, in memory
+abbrev pub level_of : Env → Standing
+level_of env = record { label = env.label; path = env.path; kind = env.kind; line = 0 }
 
 -- what a part ends with that stops
 abbrev pub Stopped : {A : Type 0} → Ends A → Stop → Type 0

@@ -29,9 +29,10 @@ use Rattle.evaluator.specs.declared.machine.Stop.TheVariants as stops
 use Rattle.evaluator.specs.declared.outcome.Outcome.{Outcome}
 use Rattle.evaluator.specs.declared.outcome.Outcome.TheVariants as answers
 use Rattle.evaluator.specs.Machines.{env_of, here_in, means, site_at}
-use Rattle.evaluator.specs.Files.{opens, Opened, left_behind, Stands, level_of}
+use Rattle.evaluator.specs.Files.{opens, Opened, left_behind, Stands}
 use Rattle.evaluator.specs.Evaluated.{IsLeft, Evaluates, Shows}
 use Rattle.evaluator.proofs.Levels.{tops_same}
+use Rattle.evaluator.proofs.Ending.{level_of}
 
 -- the file's outcome, by what stands before its statements
 pub opened_outcome : (env : Env) (o : Ends (Unit {0})) → opens env.file env.loads (file_level env) (start all_steps env) ≡ o → evaluate env ≡ outcome_of (then_runs (then_runs o (λ _. tops env env.file.tops (file_level env))) (λ _. leaves env.kind env (file_level env)))

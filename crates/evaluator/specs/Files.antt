@@ -11,7 +11,6 @@ use Rattle.language.specs.World.{World, Here, at_line, Ends, ended, failed, Runs
 use Rattle.language.specs.Environment.{Env}
 use Rattle.language.specs.Laws.{with_answers}
 use Rattle.language.specs.Files.{Outcome, a_need, leading, load_items, loads, file_level, leaves, outcome_of, evaluate}
-use Rattle.names.specs.declared.state.Standing.{Standing}
 use Rattle.frames.specs.declared.frame.Control.{Control}
 use Rattle.frames.specs.Frames.{Sig}
 use Rattle.evaluator.specs.declared.machine.Environment.{Environment}
@@ -19,10 +18,6 @@ use Rattle.evaluator.specs.declared.machine.Machine.{Machine}
 use Rattle.evaluator.specs.declared.machine.Stop.{Stop}
 use Rattle.evaluator.specs.declared.machine.Stop.TheVariants as s
 use Rattle.evaluator.specs.Machines.{env_of, means, Under, site_at}
-
--- where the statements of a file stand, in memory
-abbrev pub level_of : Env → Standing
-level_of env = record { label = env.label; path = env.path; kind = env.kind; line = 0 }
 
 -- a load statement: a step, and what it binds
 abbrev pub load_does : Body → Ld → Here → Runs (Unit {0})

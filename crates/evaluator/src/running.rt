@@ -6,7 +6,7 @@ ghost use Rattle.language.specs.Files.{all_steps, start, loads, leaves, file_lev
 ghost use Rattle.names.specs.View.{world_of, here_of, Ran};
 ghost use Rattle.package_calls.specs.View.{answers_of};
 ghost use Rattle.evaluator.specs.Machines.{env_of, Stops};
-ghost use Rattle.evaluator.specs.Files.{Stands, answered, shared_texts, level_of, load_does, opens, Opened};
+ghost use Rattle.evaluator.specs.Files.{Stands, answered, shared_texts, load_does, opens, Opened};
 ghost use Rattle.evaluator.specs.Evaluated.{Evaluates, IsLeft, Shows};
 
 use crate::machine::{Environment, Machine, Stop, Turned};
@@ -36,7 +36,14 @@ const STEPS: u64 = 1000000;
 
 /// Returns where the statements of a file stand; each has its own line.
 pub fn level(e: &Environment) -> Result<Standing, Memory>
-    ensures { IfOk result (λ at. at ≡ level_of (env_of e.now)) }
+    ensures { IfOk result
+        (λ at. at ≡ record {
+          label = e.now.label;
+          path = e.now.path;
+          kind = e.now.package.kind;
+          line
+              = 0;
+        }) }
 {
     Ok(Standing {
         label: e.label.share()?,

@@ -4,9 +4,9 @@ use Rattle.calls.specs.declared.functions.Open.{Open}
 use Rattle.calls.specs.View.{running_of}
 use Rattle.names.specs.declared.state.Standing.{Standing}
 use Rattle.names.specs.View.{world_of, here_of}
-use Rattle.evaluator.specs.Files.{level_of}
 use Rattle.evaluator.specs.declared.machine.Machine.{Machine}
 use Rattle.evaluator.specs.Machines.{env_of}
+use Rattle.evaluator.proofs.Ending.{level_of}
 use Rattle.evaluator.proofs.Started.{opens_same, opens_faulty, stop_evaluates, stands_first}
 use Rattle.evaluator.proofs.running.run.Goals as goal
 
