@@ -1,6 +1,6 @@
 -- The first item that passes a test: how a search goes on, and what it finds in blocks and files.
 use Rattle.std.proofs.Common.{◌≡◌, ◌<◌, ◌≤◌, ◌+◌, ◌++◌, ℕ, zero, suc, Bool, true, false, cond, List, [], ◌∷◌, length, take, get_or, map, Option, Some, None, is_some, refl, ap, sym, ◌∙◌, arith, add-one}
-use Rattle.std.specs.Prelude.{slice_set}
+use Rattle.std.specs.Prelude.{slice_set, IfSome}
 use Rattle.meaning.specs.declared.val.Val.{Val}
 use Rattle.meaning.specs.declared.builtin.Builtin.{Builtin}
 use Rattle.meaning.specs.Builtins.{builtin_name}
@@ -136,3 +136,8 @@ global_refused label x value files u here i d o is lt h e there n = ap (λ o. bi
 
 pub global_absent : (label x : List ℕ) (value : Val) (files : List FileNames) (u : World) (here : Here) → u.files ≡ map names_of files → NoneSo (is_file label) files → bind_global (file_slot x (names_at label u.files)) x value here u ≡ failed 26 here.site
 global_absent label x value files u here is none = ap (λ fs. bind_global (file_slot x (names_at label fs)) x value here u) is ∙ ap (λ o. bind_global (file_slot x o) x value here u) (names_none label files none)
+
+-- a place that may hold a value
+pub if_bound : (o : Option Val) (p : Option (Option Val)) → p ≡ Some o → IfSome o (λ v. p ≡ Some (Some v))
+if_bound None p e = tt
+if_bound (Some v) p e = e

@@ -1,13 +1,13 @@
 //! Blocks of names.
-ghost use Rattle.std.specs.Prelude.{◌≡◌, false, map, is_some};
+ghost use Rattle.std.specs.Prelude.{◌≡◌, true, false, map, is_some, Some, IfSome};
 ghost use Rattle.language.specs.Names.{slot_in, slot_among, bind_in, bind_among};
 ghost use Rattle.names.specs.View.{held};
 ghost use Rattle.names.specs.Places.{FirstPlace, FirstSo, is_slot, is_file};
 
-use crate::places::place_in;
+use crate::places::{is_at, place_in};
 use crate::state::{Block, FileNames};
 use heap::Val;
-use std::sync::atomic::AtomicUsize;
+use std::sync::atomic::{AtomicUsize, Ordering};
 use texts::Text;
 
 /// Returns what a block has at a name, if it has the name: a value, or none if the name is not bound.
@@ -16,6 +16,29 @@ pub fn slot_in(block: &Block, x: &Text, last: &AtomicUsize) -> Option<Option<Val
 {
     match place_in(block, x, last) {
         Some(i) => Some(block.slots[i].value),
+        None => None,
+    }
+}
+
+// Returns the value of a name of a block, if the name stands where it was found last and is bound.
+fn value_there(block: &Block, x: &Text, last: &AtomicUsize) -> Option<Val>
+    ensures { IfSome result (λ v. slot_in x.now (held block.now) ≡ Some (Some v)) }
+{
+    let place = last.load(Ordering::Relaxed);
+    if is_at(block, x, place) {
+        block.slots[place].value
+    } else {
+        None
+    }
+}
+
+/// Returns the value of a name that the innermost block has where the name was found last, if it is bound there. That is
+/// how most names are found; nothing is said of the others.
+pub fn innermost(blocks: &[Block], x: &Text, last: &AtomicUsize) -> Option<Val>
+    ensures { IfSome result (λ v. slot_among x.now (map held blocks.now) ≡ Some (Some v)) }
+{
+    match blocks.first() {
+        Some(block) => value_there(block, x, last),
         None => None,
     }
 }
@@ -63,8 +86,28 @@ pub fn bind_in(block: &mut Block, x: &Text, last: &AtomicUsize, value: Val)
     }
 }
 
-/// Binds a name in the innermost block that has it, and returns whether there is one.
-pub fn bind_among(blocks: &mut Vec<Block>, x: &Text, last: &AtomicUsize, value: Val) -> bool
+// Binds a name of the innermost block, if the name stands where it was found last. Returns whether it does.
+fn bind_innermost(blocks: &mut Vec<Block>, x: &Text, last: &AtomicUsize, value: Val) -> bool
+    ensures had { result ≡ true → is_some (slot_among x.now (map held blocks.old.items)) ≡ true }
+    ensures bound { result ≡ true
+        → map held blocks.new.items ≡ bind_among x.now value (map held blocks.old.items) }
+    ensures kept { result ≡ false → blocks.new ≡ blocks.old }
+{
+    let place = last.load(Ordering::Relaxed);
+    if blocks.is_empty() {
+        return false;
+    }
+    if !is_at(&blocks[0], x, place) {
+        return false;
+    }
+    if let Some(block) = blocks.get_mut(0) {
+        bind_at(block, x, place, value);
+    }
+    true
+}
+
+// Binds a name in the first block that has it, and returns whether there is one.
+fn bind_first(blocks: &mut Vec<Block>, x: &Text, last: &AtomicUsize, value: Val) -> bool
     ensures had { result ≡ is_some (slot_among x.now (map held blocks.old.items)) }
     ensures bound { map held blocks.new.items ≡ bind_among x.now value (map held blocks.old.items) }
     ensures kept { result ≡ false → blocks.new ≡ blocks.old }
@@ -78,4 +121,17 @@ pub fn bind_among(blocks: &mut Vec<Block>, x: &Text, last: &AtomicUsize, value: 
         }
     }
     false
+}
+
+/// Binds a name in the innermost block that has it, and returns whether there is one. Most names stand in the innermost
+/// block, where they were found last.
+pub fn bind_among(blocks: &mut Vec<Block>, x: &Text, last: &AtomicUsize, value: Val) -> bool
+    ensures had { result ≡ is_some (slot_among x.now (map held blocks.old.items)) }
+    ensures bound { map held blocks.new.items ≡ bind_among x.now value (map held blocks.old.items) }
+    ensures kept { result ≡ false → blocks.new ≡ blocks.old }
+{
+    if bind_innermost(blocks, x, last, value) {
+        return true;
+    }
+    bind_first(blocks, x, last, value)
 }

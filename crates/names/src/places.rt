@@ -44,8 +44,8 @@ fn first_place(slots: &[Slot], x: &Text) -> Option<usize>
     None
 }
 
-// Returns whether a name is known to stand first at a place.
-fn is_at(block: &Block, x: &Text, place: usize) -> bool
+/// Returns whether a name is known to stand first at a place.
+pub fn is_at(block: &Block, x: &Text, place: usize) -> bool
     ensures { result ≡ true → FirstSo (is_slot x.now) block.now.slots.items place }
 {
     if !block.once || place >= block.slots.len() {

@@ -8,7 +8,7 @@ ghost use Rattle.module_values.specs.Values.{Target};
 ghost use Rattle.language.specs.World.{World};
 ghost use Rattle.tree.specs.Tree as tree;
 
-use crate::blocks::{bind_among, bind_in, file_at, slot_among, slot_in};
+use crate::blocks::{bind_among, bind_in, file_at, innermost, slot_among, slot_in};
 use crate::state::{FileNames, Scope, Standing, State};
 use crate::universal::{is_native, universal};
 use heap::{Halt, Val};
@@ -73,6 +73,9 @@ pub fn read_in_scope(scope: &Scope<'_>, x: &Text, last: &AtomicUsize) -> Result<
         → let here = here_of scope.now.at.now line running in let w = world_in store scope.now
         targets in Ran here.site (read x.now here w) result w }
 {
+    if let Some(value) = innermost(scope.blocks, x, last) {
+        return Ok(value);
+    }
     match slot_in_scope(scope, x, last) {
         Some(Some(value)) => Ok(value),
         Some(None) => Err(Halt::Code(faults::NOT_BOUND)),

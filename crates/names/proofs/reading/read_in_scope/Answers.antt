@@ -1,5 +1,5 @@
 use Rattle.std.proofs.Common.{Some, sym, ap, ◌∙◌}
-use Rattle.language.specs.Names.{read_slot}
+use Rattle.language.specs.Names.{or_else, file_slot, names_at, read_slot}
 use Rattle.names.specs.View.{here_of}
 use Rattle.names.specs.Scope.{world_in}
 use Rattle.names.proofs.Found.{read_is}
@@ -13,3 +13,6 @@ returns-in-Some-None c = λ line running store targets. let here = here_of c.arg
 
 pub returns-in-None : goal.returns-in-None
 returns-in-None c = λ line running store targets. let here = here_of c.args.scope.now.at.now line running in let w = world_in store c.args.scope.now targets in rw (read_is c.args.x.now here w ∙ ap (λ o. read_slot o c.args.x.now here w) (sym c.slot_in_scope.ensures ∙ c.in-None.is)) (c.read_universal.ensures line running w)
+
+pub returns-in-Some : goal.returns-in-Some
+returns-in-Some c = λ line running store targets. let here = here_of c.args.scope.now.at.now line running in let w = world_in store c.args.scope.now targets in read_is c.args.x.now here w ∙ ap (λ o. read_slot (or_else o (file_slot c.args.x.now (names_at here.label w.files))) c.args.x.now here w) c.in-Some.ensures
