@@ -1,4 +1,4 @@
-pub mod Exported
+pub mod Exports
 pub mod Rising
 pub mod Plain
 mod Placing

@@ -10,7 +10,7 @@ use crate::fault_json::{write_cycle, write_fault};
 use crate::order::rows_of;
 use crate::strings::{write_string, write_strings};
 use meaning::Bytes;
-use module_values::{Attribute, Held, Target, Targets};
+use module_values::{Attribute, AttributeValue, Target, Targets};
 use std::alloc::Global;
 use texts::{Memory, Text};
 
@@ -19,8 +19,8 @@ fn write_attribute(alloc: Global, out: &mut Draft, attribute: &Attribute) -> Res
     ensures { OnOk result (out.new ≡ out.old ++ tokens_of (answers.attribute_data attribute.now)) }
 {
     match attribute.held() {
-        Held::Single(text) => write_string(alloc, out, text),
-        Held::Several(texts) => write_strings(alloc, out, texts.as_slice()),
+        AttributeValue::Single(text) => write_string(alloc, out, text),
+        AttributeValue::Several(texts) => write_strings(alloc, out, texts.as_slice()),
     }
 }
 

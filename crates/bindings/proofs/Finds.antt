@@ -6,9 +6,9 @@ use Rattle.std.specs.List.{list_any}
 use Rattle.std.specs.Cmp.Lexicographic.{pointwise}
 use lib.Pointwise.{bytes_decides}
 use Rattle.indexmap.specs.IndexSet.{insert_key}
-use Rattle.tree.specs.Bound.{has_name, names_once, differ}
-use Rattle.bindings.specs.Found.{seen, SameNames, kept_with, Finds}
-use Rattle.bindings.specs.declared.finding.Found.{Found}
+use Rattle.tree.specs.Bindings.{has_name, names_once, differ}
+use Rattle.bindings.specs.NameSets.{seen, SameNames, kept_with, Finds}
+use Rattle.bindings.specs.declared.finding.NameSet.{NameSet}
 
 abbrev same_text : List ℕ → List ℕ → Bool
 same_text = pointwise nat_eq
@@ -28,11 +28,11 @@ once_same (n ∷ ns) ds es h =
     ∙ ap (λ l. cond (has_name n es) l (n ∷ names_once (n ∷ ds) ns)) (once_same ns ds es h)
     ∙ ap (λ l. cond (has_name n es) (names_once es ns) (n ∷ l)) (once_same ns (n ∷ ds) (n ∷ es) (λ y. ap (λ b. cond (same_text y n) true b) (h y)))
 
-pub finds_again : (f : Found) (x : List ℕ) → has_name x (seen f) ≡ true → Finds f (x ∷ []) f
+pub finds_again : (f : NameSet) (x : List ℕ) → has_name x (seen f) ≡ true → Finds f (x ∷ []) f
 unfolding kept_with
 finds_again f x e = record { then_others = λ others. ap (λ b. f.kept.items ++ cond b (names_once (seen f) others) (x ∷ names_once (x ∷ seen f) others)) (sym e) }
 
-pub finds_new : (f g : Found) (x : List ℕ) → has_name x (seen f) ≡ false → SameNames (seen g) (x ∷ seen f) → g.kept.items ≡ f.kept.items ++ x ∷ [] → Finds f (x ∷ []) g
+pub finds_new : (f g : NameSet) (x : List ℕ) → has_name x (seen f) ≡ false → SameNames (seen g) (x ∷ seen f) → g.kept.items ≡ f.kept.items ++ x ∷ [] → Finds f (x ∷ []) g
 unfolding kept_with
 finds_new f g x e same kept = record {
   then_others = λ others.
@@ -42,14 +42,14 @@ finds_new f g x e same kept = record {
       ∙ ap (λ b. f.kept.items ++ cond b (names_once (seen f) others) (x ∷ names_once (x ∷ seen f) others)) (sym e);
 }
 
-pub finds_nothing : (f : Found) → Finds f [] f
+pub finds_nothing : (f : NameSet) → Finds f [] f
 finds_nothing f = record { then_others = λ others. refl }
 
-pub finds_both : (f g h : Found) (xs ys : List (List ℕ)) → Finds f xs g → Finds g ys h → Finds f (xs ++ ys) h
+pub finds_both : (f g h : NameSet) (xs ys : List (List ℕ)) → Finds f xs g → Finds g ys h → Finds f (xs ++ ys) h
 finds_both f g h xs ys p q = record { then_others = λ others. q.then_others others ∙ p.then_others (ys ++ others) ∙ ap (λ l. kept_with f l) (sym (append_assoc xs ys others)) }
 
 -- the names that are kept at the end
-pub kept_at_last : (f g : Found) (xs done names : List (List ℕ)) → SameNames (seen f) done → f.kept.items ≡ names → Finds f xs g → g.kept.items ≡ names ++ names_once done xs
+pub kept_at_last : (f g : NameSet) (xs done names : List (List ℕ)) → SameNames (seen f) done → f.kept.items ≡ names → Finds f xs g → g.kept.items ≡ names ++ names_once done xs
 unfolding kept_with
 kept_at_last f g xs done names same begun h =
     sym (append-nil g.kept.items)
@@ -58,23 +58,23 @@ kept_at_last f g xs done names same begun h =
     ∙ ap (λ l. f.kept.items ++ l) (once_same xs (seen f) done same.same)
     ∙ ap (λ (l : List (List ℕ)). l ++ names_once done xs) begun
 
-pub none_seen : (f : Found) → seen f ≡ [] → SameNames (seen f) []
+pub none_seen : (f : NameSet) → seen f ≡ [] → SameNames (seen f) []
 none_seen f e = record { same = λ x. ap (λ l. has_name x l) e }
 
 pub only_these : (xs ys zs : List (List ℕ)) → SameNames xs (ys ++ zs) → zs ≡ [] → SameNames xs ys
 only_these xs ys zs h e = record { same = λ x. h.same x ∙ ap (λ l. has_name x (ys ++ l)) e ∙ ap (λ l. has_name x l) (append-nil ys) }
 
 -- of these names the rest is left to be found
-pub record Left (old : Found) (names : List (List ℕ)) (now : Found) (rest : List (List ℕ)) : Type 0 where
+pub record Left (old : NameSet) (names : List (List ℕ)) (now : NameSet) (rest : List (List ℕ)) : Type 0 where
   pub then_others : (others : List (List ℕ)) → kept_with now (rest ++ others) ≡ kept_with old (names ++ others)
 
-pub left_all : (f : Found) (names : List (List ℕ)) → Left f names f names
+pub left_all : (f : NameSet) (names : List (List ℕ)) → Left f names f names
 left_all f names = record { then_others = λ others. refl }
 
-pub left_none : (old now : Found) (names : List (List ℕ)) → Left old names now [] → Finds old names now
+pub left_none : (old now : NameSet) (names : List (List ℕ)) → Left old names now [] → Finds old names now
 left_none old now names h = record { then_others = h.then_others }
 
-pub left_more : (old now next : Found) (names xs rest : List (List ℕ)) → Left old names now (xs ++ rest) → Finds now xs next → Left old names next rest
+pub left_more : (old now next : NameSet) (names xs rest : List (List ℕ)) → Left old names now (xs ++ rest) → Finds now xs next → Left old names next rest
 left_more old now next names xs rest h p = record { then_others = λ others. p.then_others (rest ++ others) ∙ ap (λ l. kept_with now l) (sym (append_assoc xs rest others)) ∙ h.then_others others }
 
 -- one more name, before or behind the others

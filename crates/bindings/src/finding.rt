@@ -1,7 +1,7 @@
 //! Names found one after another, each of which is kept once.
 ghost use Rattle.std.specs.Prelude.{◌≡◌, ◌∷◌, [], OnOk};
-ghost use Rattle.tree.specs.Bound.{has_name};
-ghost use Rattle.bindings.specs.Found.{seen, SameNames, Finds};
+ghost use Rattle.tree.specs.Bindings.{has_name};
+ghost use Rattle.bindings.specs.NameSets.{seen, SameNames, Finds};
 
 use indexmap::IndexSet;
 use std::alloc::Global;
@@ -12,14 +12,14 @@ pub const FEW: usize = 16;
 
 /// The names that were found, and those of them that are kept.
 #[derive(Drop)]
-pub struct Found {
+pub struct NameSet {
     // The first names, and those behind them.
     few: Vec<Text>,
     more: IndexSet<Text>,
     kept: Vec<Text>,
 }
 
-impl Found {
+impl NameSet {
     /// Returns the names that are kept.
     pub fn into_kept(self) -> Vec<Text>
         ensures { result ≡ self.kept }
@@ -29,11 +29,11 @@ impl Found {
 }
 
 /// Makes a record in which no name was found, and these are kept already.
-pub fn nothing_found(alloc: Global, kept: Vec<Text>) -> Found
+pub fn nothing_found(alloc: Global, kept: Vec<Text>) -> NameSet
     ensures names { seen result ≡ [] }
     ensures kept { result.kept ≡ kept }
 {
-    Found {
+    NameSet {
         few: Vec::new(alloc),
         more: IndexSet::new(alloc),
         kept,
@@ -53,14 +53,14 @@ pub fn is_among(names: &[Text], x: &Text) -> bool
 }
 
 // Returns whether a name was found.
-fn is_found(found: &Found, x: &Text) -> bool
+fn is_found(found: &NameSet, x: &Text) -> bool
     ensures { result ≡ has_name x.now (seen found.now) }
 {
     is_among(found.few.as_slice(), x) || found.more.contains(x)
 }
 
 /// Marks a name as found, without keeping it.
-pub fn note(found: &mut Found, x: &Text) -> Result<(), Memory>
+pub fn note(found: &mut NameSet, x: &Text) -> Result<(), Memory>
     ensures names { OnOk result (SameNames (seen found.new) (x.now ∷ seen found.old)) }
     ensures kept { found.new.kept ≡ found.old.kept }
 {
@@ -74,7 +74,7 @@ pub fn note(found: &mut Found, x: &Text) -> Result<(), Memory>
 }
 
 /// Finds a name, which is kept if it is found for the first time.
-pub fn find(found: &mut Found, x: &Text) -> Result<(), Memory>
+pub fn find(found: &mut NameSet, x: &Text) -> Result<(), Memory>
     ensures { OnOk result (Finds found.old (x.now ∷ []) found.new) }
 {
     if is_found(found, x) {

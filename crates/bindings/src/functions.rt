@@ -1,6 +1,6 @@
 //! Functions with the names of a call.
 ghost use Rattle.std.specs.Prelude.{◌≡◌, ◌≤◌, length, IfOk, map};
-ghost use Rattle.tree.specs.Bound.{differ};
+ghost use Rattle.tree.specs.Bindings.{differ};
 ghost use Rattle.tree.specs.Statements.{stmts_of, param_of, fn_of};
 ghost use Rattle.bindings.specs.Functions.{function};
 ghost use Rattle.bindings.specs.declared.finding.TheConstants.{FEW};

@@ -1,17 +1,17 @@
 //! The names that pieces of a file bind.
 ghost use Rattle.std.specs.Prelude.{List, OnOk, map};
-ghost use Rattle.tree.specs.Bound.{target_names, targets_names, clause_names, stmt_names, suite_names, branches_names, branch_names, top_names, item_names, load_names};
+ghost use Rattle.tree.specs.Bindings.{target_names, targets_names, clause_names, stmt_names, suite_names, branches_names, branch_names, top_names, item_names, load_names};
 ghost use Rattle.tree.specs.View.{tree_of, trees_of, clause_trees};
 ghost use Rattle.tree.specs.Statements.{stmt_of, stmts_of, branch_of, branch_trees, top_of, item_of, load_of};
-ghost use Rattle.bindings.specs.Found.{Finds};
+ghost use Rattle.bindings.specs.NameSets.{Finds};
 
-use crate::finding::{Found, find};
+use crate::finding::{NameSet, find};
 use texts::Memory;
 use tree::{Branch, Clause, Expr, LoadItem, LoadStmt, Stmt, Top};
 
 /// Finds the names that an assignment to a target binds.
 #[cycle(targets)]
-pub fn find_target(found: &mut Found, target: &Expr) -> Result<(), Memory>
+pub fn find_target(found: &mut NameSet, target: &Expr) -> Result<(), Memory>
     ensures { OnOk result (Finds found.old (target_names (tree_of target.now)) found.new) }
 {
     match target {
@@ -25,7 +25,7 @@ pub fn find_target(found: &mut Found, target: &Expr) -> Result<(), Memory>
 
 // Finds the names that an assignment to several targets binds.
 #[cycle(targets)]
-fn find_targets(found: &mut Found, targets: &[Expr]) -> Result<(), Memory>
+fn find_targets(found: &mut NameSet, targets: &[Expr]) -> Result<(), Memory>
     ensures { OnOk result (Finds found.old (targets_names (trees_of targets.now)) found.new) }
 {
     for target in targets.iter() {
@@ -35,7 +35,7 @@ fn find_targets(found: &mut Found, targets: &[Expr]) -> Result<(), Memory>
 }
 
 /// Finds the names of a comprehension.
-pub fn find_clauses(found: &mut Found, clauses: &[Clause]) -> Result<(), Memory>
+pub fn find_clauses(found: &mut NameSet, clauses: &[Clause]) -> Result<(), Memory>
     ensures { OnOk result (Finds found.old (clause_names (clause_trees clauses.now)) found.new) }
 {
     for clause in clauses.iter() {
@@ -48,7 +48,7 @@ pub fn find_clauses(found: &mut Found, clauses: &[Clause]) -> Result<(), Memory>
 
 // Finds the names that a statement binds.
 #[cycle(statements)]
-fn find_stmt(found: &mut Found, stmt: &Stmt) -> Result<(), Memory>
+fn find_stmt(found: &mut NameSet, stmt: &Stmt) -> Result<(), Memory>
     ensures { OnOk result (Finds found.old (stmt_names (stmt_of stmt.now)) found.new) }
 {
     match stmt {
@@ -75,7 +75,7 @@ fn find_stmt(found: &mut Found, stmt: &Stmt) -> Result<(), Memory>
 
 /// Finds the names that statements bind.
 #[cycle(statements)]
-pub fn find_suite(found: &mut Found, suite: &[Stmt]) -> Result<(), Memory>
+pub fn find_suite(found: &mut NameSet, suite: &[Stmt]) -> Result<(), Memory>
     ensures { OnOk result (Finds found.old (suite_names (stmts_of suite.now)) found.new) }
 {
     for stmt in suite.iter() {
@@ -86,7 +86,7 @@ pub fn find_suite(found: &mut Found, suite: &[Stmt]) -> Result<(), Memory>
 
 // Finds the names that branches bind.
 #[cycle(statements)]
-fn find_branches(found: &mut Found, branches: &[Branch]) -> Result<(), Memory>
+fn find_branches(found: &mut NameSet, branches: &[Branch]) -> Result<(), Memory>
     ensures { OnOk result (Finds found.old (branches_names (branch_trees branches.now)) found.new) }
 {
     for branch in branches.iter() {
@@ -97,14 +97,14 @@ fn find_branches(found: &mut Found, branches: &[Branch]) -> Result<(), Memory>
 
 // Finds the names that a branch binds.
 #[cycle(statements)]
-fn find_branch(found: &mut Found, branch: &Branch) -> Result<(), Memory>
+fn find_branch(found: &mut NameSet, branch: &Branch) -> Result<(), Memory>
     ensures { OnOk result (Finds found.old (branch_names (branch_of branch.now)) found.new) }
 {
     find_suite(found, branch.body.as_slice())
 }
 
 /// Finds the names that a file's own statements bind at file level.
-pub fn find_tops(found: &mut Found, tops: &[Top]) -> Result<(), Memory>
+pub fn find_tops(found: &mut NameSet, tops: &[Top]) -> Result<(), Memory>
     ensures { OnOk result (Finds found.old (top_names (map top_of tops.now)) found.new) }
 {
     for top in tops.iter() {
@@ -117,7 +117,7 @@ pub fn find_tops(found: &mut Found, tops: &[Top]) -> Result<(), Memory>
 }
 
 // Finds the names that a load binds.
-fn find_items(found: &mut Found, items: &[LoadItem]) -> Result<(), Memory>
+fn find_items(found: &mut NameSet, items: &[LoadItem]) -> Result<(), Memory>
     ensures { OnOk result (Finds found.old (item_names (map item_of items.now)) found.new) }
 {
     for item in items.iter() {
@@ -127,7 +127,7 @@ fn find_items(found: &mut Found, items: &[LoadItem]) -> Result<(), Memory>
 }
 
 /// Finds the names that loads bind.
-pub fn find_loads(found: &mut Found, loads: &[LoadStmt]) -> Result<(), Memory>
+pub fn find_loads(found: &mut NameSet, loads: &[LoadStmt]) -> Result<(), Memory>
     ensures { OnOk result (Finds found.old (load_names (map load_of loads.now)) found.new) }
 {
     for load in loads.iter() {

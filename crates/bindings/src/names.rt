@@ -2,12 +2,12 @@
 ghost use Rattle.std.specs.Prelude.{◌≡◌, ◌≤◌, ◌++◌, [], length, true, IfOk, OnOk, map};
 ghost use Rattle.tree.specs.View.{clause_trees};
 ghost use Rattle.tree.specs.Statements.{stmts_of, param_of, top_of, file_of};
-ghost use Rattle.tree.specs.Bound.{names_once, differ};
-ghost use Rattle.tree.specs.Bound as bound;
-ghost use Rattle.bindings.specs.Found.{seen, SameNames, names_of_params};
+ghost use Rattle.tree.specs.Bindings.{names_once, differ};
+ghost use Rattle.tree.specs.Bindings as bound;
+ghost use Rattle.bindings.specs.NameSets.{seen, SameNames, names_of_params};
 ghost use Rattle.bindings.specs.declared.finding.TheConstants.{FEW};
 
-use crate::finding::{FEW, Found, is_among, note, nothing_found};
+use crate::finding::{FEW, NameSet, is_among, note, nothing_found};
 use crate::gathering::{find_clauses, find_loads, find_suite, find_tops};
 use std::alloc::Global;
 use texts::{Memory, Text};
@@ -25,7 +25,7 @@ fn names_of(alloc: Global, params: &[Param]) -> Result<Vec<Text>, Memory>
 }
 
 // Marks the names of these parameters as found, without keeping them.
-fn note_params(found: &mut Found, params: &[Param]) -> Result<(), Memory>
+fn note_params(found: &mut NameSet, params: &[Param]) -> Result<(), Memory>
     ensures names { OnOk result
         (SameNames (seen found.new) (names_of_params params.now ++ seen found.old)) }
     ensures kept { found.new.kept ≡ found.old.kept }

@@ -1,5 +1,5 @@
-pub mod Spanned
-pub mod Zipped
-pub mod Paired
+pub mod RangeNumbers
+pub mod Rows
+pub mod Pairs
 pub mod Stable
-pub mod Ordered
+pub mod SortOrder

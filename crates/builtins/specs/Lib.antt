@@ -1,4 +1,4 @@
-pub mod Seen
+pub mod Results
 pub mod Parts
 pub mod Spans
 pub mod Ranks

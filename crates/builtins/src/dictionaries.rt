@@ -4,7 +4,7 @@ ghost use Rattle.meaning.specs.Heap.{at};
 ghost use Rattle.meaning.specs.declared.val.Val.TheVariants.{At};
 ghost use Rattle.meaning.specs.Functions.{dict_of, dict_from, entries_of, add_all, add_each, add_named, grows, pair_of, object_pair, two_of};
 ghost use Rattle.heap.specs.View.{store_of, Says, Checks};
-ghost use Rattle.builtins.specs.Seen.{SaysEntries, pairs_of};
+ghost use Rattle.builtins.specs.Results.{SaysEntries, pairs_of};
 
 use crate::names::is_twice;
 use comparing::hash;
@@ -62,7 +62,7 @@ fn add_object(heap: &mut Heap, entries: &mut IndexMap<Key, Entry>, place: usize)
 }
 
 // Returns the keys of a dictionary with their values.
-#[tactic(auto, using(crate::proofs::Paired::pairs_more, crate::proofs::Paired::pairs_end, crate::proofs::Paired::pairs_last))]
+#[tactic(auto, using(crate::proofs::Pairs::pairs_more, crate::proofs::Pairs::pairs_end, crate::proofs::Pairs::pairs_last))]
 fn pairs(alloc: Global, entries: &IndexMap<Key, Entry>) -> Result<Vec<(Val, Val)>, Memory>
     ensures { IfOk result (λ v. v.items ≡ pairs_of entries.now.entries) }
 {

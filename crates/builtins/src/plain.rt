@@ -5,7 +5,7 @@ ghost use Rattle.meaning.specs.Heap.{at};
 ghost use Rattle.meaning.specs.Operators.{is_true};
 ghost use Rattle.meaning.specs.Functions.{len, length_of, type_of, object_type, truth_of};
 ghost use Rattle.heap.specs.View.{store_of, Says, Checks};
-ghost use Rattle.builtins.specs.Seen.{ChecksBytes};
+ghost use Rattle.builtins.specs.Results.{ChecksBytes};
 ghost use Rattle.builtins.specs.Parts.{type_text};
 
 use arithmetic::is_true;

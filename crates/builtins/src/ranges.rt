@@ -2,7 +2,7 @@
 ghost use Rattle.std.specs.Prelude.{◌≡◌};
 ghost use Rattle.meaning.specs.Functions.{range, range_by, range_list, range_count, numbers};
 ghost use Rattle.heap.specs.View.{store_of, Says};
-ghost use Rattle.heap.specs.Sized.{SizedAs};
+ghost use Rattle.heap.specs.ListSizes.{SizedAs};
 ghost use Rattle.builtins.specs.Spans.{lies_before, IsNonzero};
 
 use heap::{Halt, Heap, LONGEST, Val};

@@ -3,7 +3,7 @@ ghost use Rattle.std.specs.Prelude.{◌≡◌, map, drop, IfOk};
 ghost use Rattle.meaning.specs.Functions.{each_items, zipped, makes_tuples, heads};
 ghost use Rattle.heap.specs.View.{store_of, Says, SaysItems};
 ghost use Rattle.builtins.specs.Parts.{zip_from};
-ghost use Rattle.builtins.specs.Seen.{SaysLists, lists_of, items_seen};
+ghost use Rattle.builtins.specs.Results.{SaysLists, lists_of, items_seen};
 
 use heap::{Halt, Heap, Val, val_at};
 use indexing::items;

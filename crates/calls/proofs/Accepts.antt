@@ -4,58 +4,58 @@ use Rattle.std.proofs.lemmas.List.{take_all}
 use Rattle.std.specs.Prelude.{zip, min, slice_get}
 use Rattle.meaning.specs.declared.val.Val.{Val}
 use Rattle.meaning.specs.declared.val.Val.TheVariants as v
-use Rattle.meaning.specs.Outcome.{Checked, good, bad, then_checked}
+use Rattle.meaning.specs.Outcome.{ValueOrFault, good, bad, then_checked}
 use Rattle.meaning.specs.Comparing.{same_text}
-use Rattle.meaning.specs.Functions.{Named, is_named, is_twice}
+use Rattle.meaning.specs.Functions.{KeywordArguments, is_named, is_twice}
 use Rattle.tree.specs.Tree.{Pa, Fn}
 use Rattle.language.specs.World.{Block}
 use Rattle.language.specs.Arguments.{value_named, is_parameter, are_parameters, other_defaults, with_parameter, given, arguments}
-use Rattle.calls.specs.Accepted.{taken}
+use Rattle.calls.specs.ParameterValue.{taken}
 
 -- a block before what is to come
-abbrev pub before : Block → Checked Block → Checked Block
+abbrev pub before : Block → ValueOrFault Block → ValueOrFault Block
 before b c = then_checked c (λ rest. good (b ++ rest))
 
 named_test : (b : Bool) (x : Val) (o : Option Val) → cond b true (is_some o) ≡ is_some (cond b (Some x) o)
 named_test true x o = refl
 named_test false x o = refl
 
-pub named_some : (x : List ℕ) (ns : Named) → is_named x ns ≡ is_some (value_named x ns)
+pub named_some : (x : List ℕ) (ns : KeywordArguments) → is_named x ns ≡ is_some (value_named x ns)
 named_some x [] = refl
 named_some x (n ∷ ns) = ap (λ b. cond (same_text x n.0) true b) (named_some x ns) ∙ named_test (same_text x n.0) n.1 (value_named x ns)
 
-one_more : (b : Block) (p : Pa) (x : Val) (c : Checked Block) → before b (with_parameter p x c) ≡ before (b ++ (p.name, Some x) ∷ []) c
+one_more : (b : Block) (p : Pa) (x : Val) (c : ValueOrFault Block) → before b (with_parameter p x c) ≡ before (b ++ (p.name, Some x) ∷ []) c
 one_more b p x (good rest) = ap good (sym (append_assoc b ((p.name, Some x) ∷ []) rest))
 one_more b p x (bad c) = refl
 
-plainly : (t : Bool) (x y : Val) (p : Pa) (c : Checked Block) → cond t (bad 25) (good y) ≡ good x → cond t (bad 25) (with_parameter p y c) ≡ with_parameter p x c
+plainly : (t : Bool) (x y : Val) (p : Pa) (c : ValueOrFault Block) → cond t (bad 25) (good y) ≡ good x → cond t (bad 25) (with_parameter p y c) ≡ with_parameter p x c
 plainly true x y p c e = cc
 plainly false x y p c e = let same : y ≡ x = cc in ap (λ z. with_parameter p z c) same
 
 -- the value of a parameter, and then those behind it
-pub given_more : (b : Block) (p : Pa) (ps : List Pa) (xs : List Val) (ns : Named) (ds : List Val) (x : Val) → taken p xs ns ds ≡ good x → before b (given (p ∷ ps) xs ns ds) ≡ before (b ++ (p.name, Some x) ∷ []) (given ps (drop 1 xs) ns (other_defaults p ds))
+pub given_more : (b : Block) (p : Pa) (ps : List Pa) (xs : List Val) (ns : KeywordArguments) (ds : List Val) (x : Val) → taken p xs ns ds ≡ good x → before b (given (p ∷ ps) xs ns ds) ≡ before (b ++ (p.name, Some x) ∷ []) (given ps (drop 1 xs) ns (other_defaults p ds))
 given_more b p ps [] ns ds x e = ap (λ c. before b (then_checked c (λ y. with_parameter p y (given ps [] ns (other_defaults p ds))))) e ∙ one_more b p x (given ps [] ns (other_defaults p ds))
 given_more b p ps (y ∷ ys) ns ds x e = ap (λ c. before b c) (plainly (is_named p.name ns) x y p (given ps ys ns (other_defaults p ds)) e) ∙ one_more b p x (given ps ys ns (other_defaults p ds))
 
-refused : (t : Bool) (n : ℕ) (y : Val) (p : Pa) (c : Checked Block) → cond t (bad 25) (good y) ≡ bad n → cond t (bad 25) (with_parameter p y c) ≡ bad n
+refused : (t : Bool) (n : ℕ) (y : Val) (p : Pa) (c : ValueOrFault Block) → cond t (bad 25) (good y) ≡ bad n → cond t (bad 25) (with_parameter p y c) ≡ bad n
 refused true n y p c e = cc
 refused false n y p c e = cc
 
-pub given_stops : (b : Block) (p : Pa) (ps : List Pa) (xs : List Val) (ns : Named) (ds : List Val) (n : ℕ) → taken p xs ns ds ≡ bad n → before b (given (p ∷ ps) xs ns ds) ≡ bad n
+pub given_stops : (b : Block) (p : Pa) (ps : List Pa) (xs : List Val) (ns : KeywordArguments) (ds : List Val) (n : ℕ) → taken p xs ns ds ≡ bad n → before b (given (p ∷ ps) xs ns ds) ≡ bad n
 given_stops b p ps [] ns ds n e = ap (λ c. before b (then_checked c (λ y. with_parameter p y (given ps [] ns (other_defaults p ds))))) e
 given_stops b p ps (y ∷ ys) ns ds n e = ap (λ c. before b c) (refused (is_named p.name ns) n y p (given ps ys ns (other_defaults p ds)) e)
 
-chosen : (f : Fn) (xs : List Val) (ns : Named) (ds : List Val) (t u : Bool) → is_twice ns ≡ t → are_parameters ns f.params ≡ u → arguments f xs ns ds ≡ cond (t || not u) (bad 25) (given f.params xs ns ds)
+chosen : (f : Fn) (xs : List Val) (ns : KeywordArguments) (ds : List Val) (t u : Bool) → is_twice ns ≡ t → are_parameters ns f.params ≡ u → arguments f xs ns ds ≡ cond (t || not u) (bad 25) (given f.params xs ns ds)
 unfolding arguments
 chosen f xs ns ds t u e g = ap (λ b. cond (b || not (are_parameters ns f.params)) (bad 25) (given f.params xs ns ds)) e ∙ ap (λ b. cond (t || not b) (bad 25) (given f.params xs ns ds)) g
 
-pub arguments_twice : (f : Fn) (xs : List Val) (ns : Named) (ds : List Val) → is_twice ns ≡ true → arguments f xs ns ds ≡ bad 25
+pub arguments_twice : (f : Fn) (xs : List Val) (ns : KeywordArguments) (ds : List Val) → is_twice ns ≡ true → arguments f xs ns ds ≡ bad 25
 arguments_twice f xs ns ds e = chosen f xs ns ds true (are_parameters ns f.params) e refl
 
-pub arguments_unknown : (f : Fn) (xs : List Val) (ns : Named) (ds : List Val) → is_twice ns ≡ false → are_parameters ns f.params ≡ false → arguments f xs ns ds ≡ bad 25
+pub arguments_unknown : (f : Fn) (xs : List Val) (ns : KeywordArguments) (ds : List Val) → is_twice ns ≡ false → are_parameters ns f.params ≡ false → arguments f xs ns ds ≡ bad 25
 arguments_unknown f xs ns ds e g = chosen f xs ns ds false false e g
 
-pub arguments_known : (f : Fn) (xs : List Val) (ns : Named) (ds : List Val) → is_twice ns ≡ false → are_parameters ns f.params ≡ true → arguments f xs ns ds ≡ given f.params xs ns ds
+pub arguments_known : (f : Fn) (xs : List Val) (ns : KeywordArguments) (ds : List Val) → is_twice ns ≡ false → are_parameters ns f.params ≡ true → arguments f xs ns ds ≡ given f.params xs ns ds
 arguments_known f xs ns ds e g = chosen f xs ns ds false true e g
 
 -- ---- named arguments, one after another
@@ -81,27 +81,27 @@ zip_at i names values n lt is =
     let b : drop i values ≡ get_or values i v.Nothing ∷ drop (suc i) values = drop-cons values i v.Nothing (omega arith) in
     rw (add-one, a, b)
 
-pub value_behind : (x n : List ℕ) (y : Val) (ns all : Named) → all ≡ (n, y) ∷ ns → same_text x n ≡ false → value_named x ns ≡ value_named x all
+pub value_behind : (x n : List ℕ) (y : Val) (ns all : KeywordArguments) → all ≡ (n, y) ∷ ns → same_text x n ≡ false → value_named x ns ≡ value_named x all
 value_behind x n y ns all e f = sym (ap (λ l. value_named x l) e ∙ ap (λ b. cond b (Some y) (value_named x ns)) f)
 
-pub twice_here : (n : List ℕ) (y : Val) (ns all : Named) → all ≡ (n, y) ∷ ns → is_some (value_named n ns) ≡ true → is_twice all ≡ true
+pub twice_here : (n : List ℕ) (y : Val) (ns all : KeywordArguments) → all ≡ (n, y) ∷ ns → is_some (value_named n ns) ≡ true → is_twice all ≡ true
 twice_here n y ns all e f = ap is_twice e ∙ ap (λ b. cond b true (is_twice ns)) (named_some n ns ∙ f)
 
-pub twice_behind : (n : List ℕ) (y : Val) (ns all : Named) → all ≡ (n, y) ∷ ns → is_some (value_named n ns) ≡ false → is_twice ns ≡ is_twice all
+pub twice_behind : (n : List ℕ) (y : Val) (ns all : KeywordArguments) → all ≡ (n, y) ∷ ns → is_some (value_named n ns) ≡ false → is_twice ns ≡ is_twice all
 twice_behind n y ns all e f = sym (ap is_twice e ∙ ap (λ b. cond b true (is_twice ns)) (named_some n ns ∙ f))
 
-pub unknown_here : (n : List ℕ) (y : Val) (ns all : Named) (ps : List Pa) → all ≡ (n, y) ∷ ns → is_parameter n ps ≡ false → are_parameters all ps ≡ false
+pub unknown_here : (n : List ℕ) (y : Val) (ns all : KeywordArguments) (ps : List Pa) → all ≡ (n, y) ∷ ns → is_parameter n ps ≡ false → are_parameters all ps ≡ false
 unknown_here n y ns all ps e f = ap (λ l. are_parameters l ps) e ∙ ap (λ b. cond b (are_parameters ns ps) false) f
 
-pub known_here : (n : List ℕ) (y : Val) (ns all : Named) (ps : List Pa) → all ≡ (n, y) ∷ ns → is_parameter n ps ≡ true → are_parameters ns ps ≡ are_parameters all ps
+pub known_here : (n : List ℕ) (y : Val) (ns all : KeywordArguments) (ps : List Pa) → all ≡ (n, y) ∷ ns → is_parameter n ps ≡ true → are_parameters ns ps ≡ are_parameters all ps
 known_here n y ns all ps e f = sym (ap (λ l. are_parameters l ps) e ∙ ap (λ b. cond b (are_parameters ns ps) false) f)
 
 -- ---- the value of a parameter
 
-plain_with : (p : Pa) (x : Val) (xs : List Val) (ns : Named) (ds : List Val) (b : Bool) → is_some (value_named p.name ns) ≡ b → taken p (x ∷ xs) ns ds ≡ cond b (bad 25) (good x)
+plain_with : (p : Pa) (x : Val) (xs : List Val) (ns : KeywordArguments) (ds : List Val) (b : Bool) → is_some (value_named p.name ns) ≡ b → taken p (x ∷ xs) ns ds ≡ cond b (bad 25) (good x)
 plain_with p x xs ns ds b e = ap (λ t. cond t (bad 25) (good x)) (named_some p.name ns ∙ e)
 
-pub taken_first : (p : Pa) (x : Val) (xs : List Val) (ns : Named) (ds : List Val) (b : Bool) → Some x ≡ slice_get xs 0 → is_some (value_named p.name ns) ≡ b → taken p xs ns ds ≡ cond b (bad 25) (good x)
+pub taken_first : (p : Pa) (x : Val) (xs : List Val) (ns : KeywordArguments) (ds : List Val) (b : Bool) → Some x ≡ slice_get xs 0 → is_some (value_named p.name ns) ≡ b → taken p xs ns ds ≡ cond b (bad 25) (good x)
 taken_first p x [] ns ds b e f = absurd cc
 taken_first p x (y ∷ ys) ns ds b e f = let same : y ≡ x = cc in plain_with p y ys ns ds b f ∙ ap (λ z. cond b (bad 25) (good z)) same
 

@@ -1,4 +1,4 @@
-pub mod Filled
+pub mod BlockNames
 pub mod Accepts
 pub mod Runs
-pub mod Given
+pub mod ParameterValues

@@ -1,2 +1,2 @@
 pub mod View
-pub mod Accepted
+pub mod ParameterValue

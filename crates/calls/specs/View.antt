@@ -2,7 +2,7 @@
 use Rattle.std.specs.Prelude.{◌≡◌, ℕ, List, map, reverse, Result, Ok, Err}
 use Rattle.std.specs.declared.vec.Vec.{Vec}
 use Rattle.std.specs.declared.alloc.Global.{Global}
-use Rattle.meaning.specs.Outcome.{Checked, good, bad}
+use Rattle.meaning.specs.Outcome.{ValueOrFault, good, bad}
 use Rattle.heap.specs.declared.halt.Halt.{Halt}
 use Rattle.heap.specs.declared.halt.Halt.TheVariants.{Code, Memory}
 use Rattle.language.specs.World.{Block}
@@ -14,19 +14,19 @@ use Rattle.names.specs.View.{block_of, held}
 use Rattle.calls.specs.declared.functions.Open.{Open}
 
 -- the call gives the block that the definition gives, or its fault; where memory is refused nothing is said
-abbrev pub Blocks : Checked Block → Result (Vec Slot Global) Halt → Type 0
+abbrev pub Blocks : ValueOrFault Block → Result (Vec Slot Global) Halt → Type 0
 Blocks out (Ok block) = out ≡ good (block_of block)
 Blocks out (Err (Code c)) = out ≡ bad c
 Blocks out (Err Memory) = Unit {0}
 
 -- a block of a call: these are the function's parameters with their values, and the names that its body binds besides
-pub record IsEntered (f : Fn) (out : Checked Block) (block : m.Block) : Type 0 where
+pub record IsEntered (f : Fn) (out : ValueOrFault Block) (block : m.Block) : Type 0 where
   pub parameters : Block
   pub are : out ≡ good parameters
   pub holds : held block ≡ function_block f parameters
 
 -- the call gives the block of a call with these parameters, or their fault; where memory is refused nothing is said
-abbrev pub Enters : Fn → Checked Block → Result m.Block Halt → Type 0
+abbrev pub Enters : Fn → ValueOrFault Block → Result m.Block Halt → Type 0
 Enters f out (Ok block) = IsEntered f out block
 Enters f out (Err (Code c)) = out ≡ bad c
 Enters f out (Err Memory) = Unit {0}

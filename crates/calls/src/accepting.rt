@@ -5,7 +5,7 @@ ghost use Rattle.language.specs.Arguments.{plain_part, named_part, value_named, 
 ghost use Rattle.tree.specs.Statements.{fn_of, param_of};
 ghost use Rattle.heap.specs.View.{Checks};
 ghost use Rattle.calls.specs.View.{Blocks};
-ghost use Rattle.calls.specs.Accepted.{taken};
+ghost use Rattle.calls.specs.ParameterValue.{taken};
 
 use heap::{Halt, Val};
 use meaning::faults;

@@ -1,1 +1,1 @@
-pub mod Read
+pub mod CommandLines

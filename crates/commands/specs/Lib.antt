@@ -1,3 +1,3 @@
 pub mod Commands
 pub mod Refusals
-pub mod Seen
+pub mod View

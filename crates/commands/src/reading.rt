@@ -3,10 +3,10 @@ ghost use Rattle.std.specs.Prelude.{◌≡◌, IfOk, option_map, Some, None, if�
 ghost use Rattle.serde_json.specs.View.{view, items_view};
 ghost use Rattle.labels.specs.Paths.{is_package_name};
 ghost use Rattle.commands.specs.Commands as commands;
-ghost use Rattle.commands.specs.Seen.{command_seen, texts_seen, request_seen};
+ghost use Rattle.commands.specs.View.{command_seen, texts_seen, request_seen};
 ghost use Rattle.commands.specs.Refusals as refusals;
 ghost use Rattle.filetree.specs.declared.refusals.TheConstants.{BAD_NAME};
-ghost use Rattle.filetree.specs.Shown.{change_seen, changes_seen};
+ghost use Rattle.filetree.specs.ChangeView.{change_seen, changes_seen};
 
 use crate::command::{Command, Edit, Request};
 use filetree::Change;

@@ -1,4 +1,4 @@
-pub mod Hashed
-pub mod Compared
-pub mod Membered
+pub mod Hashes
+pub mod Comparisons
+pub mod Members
 pub mod Parts

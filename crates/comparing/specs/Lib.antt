@@ -1,2 +1,2 @@
-pub mod Seen
-pub mod Ended
+pub mod View
+pub mod ListEnd

@@ -2,7 +2,7 @@
 ghost use Rattle.std.specs.Prelude.{◌≡◌, map, slice_get, IfOk};
 ghost use Rattle.meaning.specs.Comparing.{equal, inner_equal, pair, pair_objects, equal_members, equal_entries, equal_entry, equal_found, visit_pair, members, entries};
 ghost use Rattle.heap.specs.View.{object_in, Says};
-ghost use Rattle.comparing.specs.Seen.{pair_seen};
+ghost use Rattle.comparing.specs.View.{pair_seen};
 
 use heap::{
     Builtin, Entry, Halt, HeapObject, Key, Object, Val, found, object_at, spend, tick, val_at,
@@ -71,7 +71,7 @@ fn pair_objects<'a>(objects: &'a [HeapObject], a: usize, b: usize) -> Result<Pai
 /// Returns whether two values are equal, or fault 11 or 12. Each pair compared is a step, and so many containers more
 /// may be entered.
 #[cycle(comparing)]
-#[tactic(auto, using(crate::proofs::Compared::equal_is))]
+#[tactic(auto, using(crate::proofs::Comparisons::equal_is))]
 pub fn equal(
     objects: &[HeapObject],
     steps: &mut u64,
@@ -93,7 +93,7 @@ pub fn equal(
 
 // Returns whether the members of two lists of one length are equal.
 #[cycle(comparing)]
-#[tactic(auto, using(crate::proofs::Compared::lists_deep, crate::proofs::Compared::lists_more))]
+#[tactic(auto, using(crate::proofs::Comparisons::lists_deep, crate::proofs::Comparisons::lists_more))]
 fn equal_lists(
     objects: &[HeapObject],
     steps: &mut u64,
@@ -113,7 +113,7 @@ fn equal_lists(
 
 // Returns whether members are equal. Compares up to the first that are not.
 #[cycle(comparing)]
-#[tactic(auto, using(crate::proofs::Compared::members_same, crate::proofs::Compared::members_differ, crate::proofs::Compared::members_first_over, crate::proofs::Compared::members_second_over))]
+#[tactic(auto, using(crate::proofs::Comparisons::members_same, crate::proofs::Comparisons::members_differ, crate::proofs::Comparisons::members_first_over, crate::proofs::Comparisons::members_second_over))]
 fn equal_members(
     objects: &[HeapObject],
     steps: &mut u64,
@@ -142,7 +142,7 @@ fn equal_members(
 
 // Returns whether the entries of two dictionaries of one length are equal.
 #[cycle(comparing)]
-#[tactic(auto, using(crate::proofs::Compared::dicts_deep, crate::proofs::Compared::dicts_more))]
+#[tactic(auto, using(crate::proofs::Comparisons::dicts_deep, crate::proofs::Comparisons::dicts_more))]
 fn equal_dicts(
     objects: &[HeapObject],
     steps: &mut u64,
@@ -162,7 +162,7 @@ fn equal_dicts(
 
 // Returns whether the right has the keys of the left with equal values. Looks up to the first that it has not.
 #[cycle(comparing)]
-#[tactic(auto, using(crate::proofs::Compared::entries_same, crate::proofs::Compared::entries_differ))]
+#[tactic(auto, using(crate::proofs::Comparisons::entries_same, crate::proofs::Comparisons::entries_differ))]
 fn equal_entries(
     objects: &[HeapObject],
     steps: &mut u64,

@@ -2,7 +2,7 @@
 ghost use Rattle.std.specs.Prelude.{◌≡◌, map, IfOk};
 ghost use Rattle.meaning.specs.Hashing.{key, inner_key, along, part_key, visit_key, as_key, parts};
 ghost use Rattle.heap.specs.View.{object_in, Says, SaysItems};
-ghost use Rattle.comparing.specs.Seen.{key_seen};
+ghost use Rattle.comparing.specs.View.{key_seen};
 
 use heap::{Halt, HeapObject, Key, Object, Part, Val, object_at, tick};
 use meaning::faults;
@@ -37,7 +37,7 @@ fn as_key<'a>(objects: &'a [HeapObject], x: Val) -> Result<AsKey<'a>, Memory>
 /// Returns the parts of a key, or fault 5 for a value that is no key, 11 or 12. Each value visited is a step, and so
 /// many containers more may be entered.
 #[cycle(hashing)]
-#[tactic(auto, using(crate::proofs::Hashed::key_is))]
+#[tactic(auto, using(crate::proofs::Hashes::key_is))]
 pub fn key(
     alloc: Global,
     objects: &[HeapObject],
@@ -58,7 +58,7 @@ pub fn key(
 }
 
 /// Returns a key, by the walk of `key`. The key of a value that is no tuple takes no list.
-#[tactic(auto, using(crate::proofs::Hashed::key_is))]
+#[tactic(auto, using(crate::proofs::Hashes::key_is))]
 pub fn key_of(
     alloc: Global,
     objects: &[HeapObject],
@@ -97,7 +97,7 @@ fn one_part(alloc: Global, steps: &mut u64, x: Part) -> Result<Vec<Part>, Halt>
 
 // Returns the parts of the key of a tuple.
 #[cycle(hashing)]
-#[tactic(auto, using(crate::proofs::Hashed::tuple_deep, crate::proofs::Hashed::tuple_more))]
+#[tactic(auto, using(crate::proofs::Hashes::tuple_deep, crate::proofs::Hashes::tuple_more))]
 fn tuple_key(
     alloc: Global,
     objects: &[HeapObject],

@@ -20,7 +20,7 @@ fn is_part(part: &[u8], whole: &[u8]) -> bool
 }
 
 // Returns whether a value is equal to one of the members. Compares each in order up to the first that is equal.
-#[tactic(auto, using(crate::proofs::Membered::any_same, crate::proofs::Membered::any_differ, crate::proofs::Membered::any_over))]
+#[tactic(auto, using(crate::proofs::Members::any_same, crate::proofs::Members::any_differ, crate::proofs::Members::any_over))]
 fn any_equal(
     objects: &[HeapObject],
     steps: &mut u64,

@@ -1,9 +1,9 @@
 //! The order of values.
 ghost use Rattle.std.specs.Prelude.{◌≡◌, map, slice_get, IfOk};
 ghost use Rattle.meaning.specs.Comparing.{equal, order, inner_order, sides, side_objects, visit_sides, listed, parting};
-ghost use Rattle.comparing.specs.Ended.{ended};
+ghost use Rattle.comparing.specs.ListEnd.{ended};
 ghost use Rattle.heap.specs.View.{object_in, Says};
-ghost use Rattle.comparing.specs.Seen.{SaysParting, sides_seen};
+ghost use Rattle.comparing.specs.View.{SaysParting, sides_seen};
 
 use crate::equality::equal;
 use heap::{Halt, HeapObject, Object, Val, object_at, tick, val_at};
@@ -60,7 +60,7 @@ fn side_objects<'a>(objects: &'a [HeapObject], a: usize, b: usize) -> Result<Sid
 /// Returns the order of two values, or fault 5, 11 or 12. Each pair compared is a step, and so many containers more may
 /// be entered.
 #[cycle(ordering)]
-#[tactic(auto, using(crate::proofs::Compared::order_is))]
+#[tactic(auto, using(crate::proofs::Comparisons::order_is))]
 pub fn order(
     objects: &[HeapObject],
     steps: &mut u64,
@@ -85,7 +85,7 @@ pub fn order(
 
 // Returns the order of two lists.
 #[cycle(ordering)]
-#[tactic(auto, using(crate::proofs::Compared::sides_deep, crate::proofs::Compared::sides_more))]
+#[tactic(auto, using(crate::proofs::Comparisons::sides_deep, crate::proofs::Comparisons::sides_more))]
 fn order_lists(
     objects: &[HeapObject],
     steps: &mut u64,
@@ -107,7 +107,7 @@ fn order_lists(
 }
 
 // Returns where two lists part.
-#[tactic(auto, using(crate::proofs::Compared::parts_same, crate::proofs::Compared::parts_differ, crate::proofs::Compared::parts_end, crate::proofs::Compared::parts_last, crate::proofs::Compared::parts_greater))]
+#[tactic(auto, using(crate::proofs::Comparisons::parts_same, crate::proofs::Comparisons::parts_differ, crate::proofs::Comparisons::parts_end, crate::proofs::Comparisons::parts_last, crate::proofs::Comparisons::parts_greater))]
 fn part(
     objects: &[HeapObject],
     steps: &mut u64,

@@ -1,6 +1,6 @@
 //! The changes of an edit, for contracts alone.
 ghost use Rattle.std.specs.Prelude.{◌≡◌, ◌++◌, ◌∷◌, []};
-ghost use Rattle.filetree.specs.Shown.{change_seen, changes_seen};
+ghost use Rattle.filetree.specs.ChangeView.{change_seen, changes_seen};
 
 use count::History;
 use filetree::Change;

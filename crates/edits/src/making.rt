@@ -2,9 +2,9 @@
 ghost use Rattle.std.specs.Prelude.{◌≡◌, IfOk, map};
 ghost use Rattle.filetree.specs.Changes.{change_refusal, changed};
 ghost use Rattle.filetree.specs.Edits.{Edits};
-ghost use Rattle.filetree.specs.Shown.{change_seen, changes_seen};
+ghost use Rattle.filetree.specs.ChangeView.{change_seen, changes_seen};
 ghost use Rattle.commands.specs.Commands as commands;
-ghost use Rattle.commands.specs.Seen.{edit_seen, texts_seen};
+ghost use Rattle.commands.specs.View.{edit_seen, texts_seen};
 ghost use Rattle.edits.specs.Edits as specs;
 
 use crate::error::EditError;

@@ -1,8 +1,8 @@
 pub mod Unique
-pub mod Closed
-pub mod Kept
+pub mod ClosedSets
+pub mod SameValues
 pub mod Loops
-pub mod Pruned
+pub mod ChangePruning
 pub mod Plain
 pub mod Touch
 pub mod Settle
@@ -13,7 +13,7 @@ pub mod Possible
 pub mod Stall
 pub mod Passing
 pub mod Moves
-pub mod Justified
+pub mod Justification
 pub mod Standing
 pub mod Rotating
-pub mod Asked
+pub mod Groups

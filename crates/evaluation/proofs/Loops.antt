@@ -3,7 +3,7 @@ use Rattle.std.proofs.Common.{◌≡◌, ◌≢◌, ◌⊎◌, inl, inr, List, [
 use Rattle.std.specs.List.{AllByRecursion}
 use Rattle.evaluation.specs.Reply.{Reply}
 use Rattle.evaluation.specs.Value.{AllDiffer, IsUngrounded, Stops, Walk, stay, step, Cyclic}
-use Rattle.evaluation.proofs.Closed.{same_stops}
+use Rattle.evaluation.proofs.ClosedSets.{same_stops}
 
 module _ {K : Type 0} where
   apart_push : {x : K} (xs : List K) (y : K) → AllByRecursion (λ j. x ≢ j) xs → x ≢ y → AllByRecursion (λ j. x ≢ j) (xs ++ y ∷ [])

@@ -3,7 +3,7 @@ use Rattle.std.proofs.Common.{◌≡◌, ◌≢◌, List, [], ◌∷◌, ◌++�
 use Rattle.evaluation.specs.Reply.{Reply, Ask}
 use Rattle.evaluation.specs.Value.{AllDiffer, Grounded, Turns, ends, asks, AllGrounded, IsUngrounded, Stops, here, later, Settles, leaf, run, closed, EachMember}
 use Rattle.evaluation.specs.Choices as choices
-use Rattle.evaluation.proofs.Pruned.{Same, same_all}
+use Rattle.evaluation.proofs.ChangePruning.{Same, same_all}
 
 module _ {K V : Type 0} (next : K → List V → Reply K V) (cycle : List K → V)
     (turned : (x : K) (xs : List K) → AllDiffer (x ∷ xs) → cycle (x ∷ xs) ≡ cycle (xs ++ x ∷ []))

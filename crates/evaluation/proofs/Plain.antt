@@ -4,7 +4,7 @@ use Rattle.std.specs.List.{AllByRecursion}
 use Rattle.evaluation.specs.Reply.{Reply, Done}
 use Rattle.evaluation.specs.Value.{AllDiffer, Grounded, is_leaf, has_run, Turns, ends, asks, AllGrounded, none, one, Settles, leaf, run, closed}
 use Rattle.evaluation.proofs.Unique.{same_value}
-use Rattle.evaluation.proofs.Closed.{ungrounded}
+use Rattle.evaluation.proofs.ClosedSets.{ungrounded}
 use Rattle.evaluation.proofs.Loops.{same_cycle}
 
 module _ {K V : Type 0} (next : K → List V → Reply K V) (read : K → Option V) where

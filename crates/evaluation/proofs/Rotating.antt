@@ -9,7 +9,7 @@ use Rattle.std.proofs.lemmas.Cmp.{upto}
 use Rattle.std.proofs.lemmas.List.Elements.{filter_map-append}
 use Rattle.std.proofs.lemmas.Map.Lookups.{exact_bytes}
 use Rattle.evaluation.specs.Value.{AllDiffer, In, first, after}
-use Rattle.evaluation.specs.Rotated.{is_least, from_least, text_le, rotated, loop_labels}
+use Rattle.evaluation.specs.Rotation.{is_least, from_least, text_le, rotated, loop_labels}
 use Rattle.evaluation.proofs.Loops.{differ_turned}
 
 both : (a b : Bool) → a && b ≡ true → (a ≡ true) × (b ≡ true)

@@ -5,7 +5,7 @@ use Rattle.evaluation.specs.Value.{AllDiffer, Grounded, Settles, HasValue, IsMem
 use Rattle.evaluation.specs.Graph.{Record, Differs, IsDependency, IsLawful, Lawful, IsSettled}
 use Rattle.evaluation.proofs.Touch.{each_member}
 use Rattle.evaluation.proofs.Plain.{one_value}
-use Rattle.evaluation.proofs.Pruned.{Same, pruned}
+use Rattle.evaluation.proofs.ChangePruning.{Same, pruned}
 
 module _ {K V : Type 0} (next : K → List V → Reply K V) (cycle : List K → V)
     (turned : (x : K) (xs : List K) → AllDiffer (x ∷ xs) → cycle (x ∷ xs) ≡ cycle (xs ++ x ∷ []))

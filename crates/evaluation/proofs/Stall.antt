@@ -6,7 +6,7 @@ use Rattle.evaluation.specs.Graph.{Record}
 use Rattle.evaluation.specs.Choices as choices
 use Rattle.evaluation.specs.States.{Status, Unwanted, Checking, Ready, Out, Waits, Kept, Ended, IsSettled, IsWanted, Holds, Computes, Quiet, MayHand, at_once, resumed}
 use Rattle.evaluation.proofs.Unique.{same_values}
-use Rattle.evaluation.proofs.Closed.{stops_map}
+use Rattle.evaluation.proofs.ClosedSets.{stops_map}
 
 module _ {K V : Type 0} (next : K → List V → Reply K V) (read : K → Option V) where
   -- where each key of a set stops at a key of the set, or at one that is known not to be grounded, none is grounded

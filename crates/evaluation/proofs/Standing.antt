@@ -6,9 +6,9 @@ use Rattle.evaluation.specs.Graph.{Record, Lawful}
 use Rattle.evaluation.specs.Choices as choices
 use Rattle.evaluation.specs.States.{Status, Checking, IsWanted, IsRun, Holds, CheckedTo, under_way, to_the_end, stopped, Computes}
 use Rattle.evaluation.proofs.Touch.{each_member}
-use Rattle.evaluation.proofs.Pruned.{Same}
+use Rattle.evaluation.proofs.ChangePruning.{Same}
 use Rattle.evaluation.proofs.Passing.{pass_comes}
-use Rattle.evaluation.proofs.Justified.{checks_record}
+use Rattle.evaluation.proofs.Justification.{checks_record}
 
 module _ {K V : Type 0} (next : K → List V → Reply K V) (cycle : List K → V)
     (turned : (x : K) (xs : List K) → AllDiffer (x ∷ xs) → cycle (x ∷ xs) ≡ cycle (xs ++ x ∷ []))

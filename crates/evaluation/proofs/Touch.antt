@@ -4,7 +4,7 @@ use Rattle.std.specs.List.{AllByRecursion}
 use Rattle.evaluation.specs.Reply.{Reply}
 use Rattle.evaluation.specs.Value.{Settles, leaf, run, closed, EachMember, In, first, after, IsMember}
 use Rattle.evaluation.specs.Graph.{Record, Differs, IsDependency, IsLawful, Lawful, Reaches, leaf as touched_leaf, through, Marks}
-use Rattle.evaluation.proofs.Kept.{kept}
+use Rattle.evaluation.proofs.SameValues.{kept}
 
 pub not_true : (b : Bool) → (b ≡ true → ⊥) → b ≡ false
 not_true true h = absurd (h refl)

@@ -4,5 +4,5 @@ pub mod Graph
 pub mod Choices
 pub mod States
 pub mod Journal
-pub mod Rotated
-pub mod Reached
+pub mod Rotation
+pub mod Reachability

@@ -24,13 +24,13 @@ use Rattle.tree.proofs.expr.UnaryOp.TheSendSync as UnarySends
 use Rattle.freezing.proofs.frozen.Frozen.TheLaws.TheKnot as frozen
 use Rattle.freezing.specs.contracts.value.FrozenValue
 use Rattle.module_values.specs.contracts.bindings.Function
-use Rattle.module_values.specs.contracts.modules.Loaded
+use Rattle.module_values.specs.contracts.modules.ModuleValue
 use Rattle.module_values.specs.contracts.modules.Module
 use Rattle.names.proofs.state.Block.TheSendSync as BlockSends
 use Rattle.names.proofs.state.Standing.TheSendSync as StandingSends
 use Rattle.names.proofs.state.State.TheSendSync as StateSends
 use Rattle.pieces.proofs.aims.Aim.TheLaws.TheKnot as aims
-use Rattle.pieces.proofs.gathering.Gathered.TheSendSync as GatheredSends
+use Rattle.pieces.proofs.gathering.Collection.TheSendSync as CollectionSends
 use Rattle.pieces.specs.contracts.aims.Aim
 use Rattle.calls.proofs.functions.Open.TheSendSync as OpenSends
 use Rattle.package_calls.proofs.kinds.Package.TheSendSync as PackageSends
@@ -63,7 +63,7 @@ function_sync = search trees_cross depth 60 fits 20000
 module_send : IsSend Module.the_row
 module_send = search (frozen_send, frozen_sync, function_send, function_sync, TextSends.the_send, TextSends.the_sync, trees_cross) depth 60 fits 20000
 
-pub loaded_send : IsSend Loaded.the_row
+pub loaded_send : IsSend ModuleValue.the_row
 loaded_send = search (module_send, crosses, sendable) depth 60 fits 20000
 
 -- what the machine works with. The entries of a dictionary have any laws of hashing here, which no search could find
@@ -72,7 +72,7 @@ entries_send e h b w = IndexMapSends.the_send _ _ _ _ Hasher.the_row _ _ _ _ _ K
 
 ruleset plain_cross = (ValSends.the_field_send, ValSends.the_send, BuiltinSends.the_field_send, TextSends.the_send, TextSends.the_sync, BinarySends.the_field_send, UnarySends.the_field_send)
 
-ruleset parts_cross = (ExitSends.the_field_send, PurposeSends.the_field_send, StandingSends.the_field_send, BlockSends.the_send, GatheredSends.the_field_send, entries_send)
+ruleset parts_cross = (ExitSends.the_field_send, PurposeSends.the_field_send, StandingSends.the_field_send, BlockSends.the_send, CollectionSends.the_field_send, entries_send)
 
 aim_send : IsSend Aim.the_row
 aim_send = search (aims.crosses, crosses, sendable) depth 60 fits 20000

@@ -3,7 +3,7 @@ use Rattle.std.proofs.Common.{◌≡◌, ℕ, List, [], Result, Ok, Err, ap, sym
 use Rattle.texts.specs.declared.memory.Memory as t
 use Rattle.heap.specs.declared.halt.Halt.{Halt}
 use Rattle.heap.specs.declared.halt.Halt.TheVariants.{Code, Memory}
-use Rattle.module_values.specs.Values.{Loaded}
+use Rattle.module_values.specs.Values.{ModuleValue}
 use Rattle.names.specs.declared.state.Standing.{Standing}
 use Rattle.names.specs.View.{here_of, Ran}
 use Rattle.language.specs.World.{World, Ends, ended, failed, then_runs, pure}
@@ -15,7 +15,7 @@ use Rattle.evaluator.specs.declared.machine.Stop.TheVariants as stops
 use Rattle.evaluator.specs.declared.outcome.Outcome.{Outcome}
 use Rattle.evaluator.specs.declared.outcome.Outcome.TheVariants as answers
 use Rattle.evaluator.specs.Machines.{Stops, site_at}
-use Rattle.evaluator.specs.Evaluated.{IsLeft, Shows}
+use Rattle.evaluator.specs.Outcomes.{IsLeft, Shows}
 
 -- where the statements of a file stand, in memory
 abbrev pub level_of : Env → Standing
@@ -42,16 +42,16 @@ stop_left out stops.Memory (Ok r) e h = absurd h
 stop_left out stops.Memory (Err m) e h = tt
 
 -- the module of a file, and a fault where it is frozen
-pub module_left : (env : Env) (at : Standing) (w u : World) (loaded : Loaded) → at ≡ level_of env → frozen_module env (here_of at 0 []) w ≡ ended loaded u → outcome_of (then_runs (frozen_module env (file_level env) w) (λ m. pure (a_module m))) ≡ a_module loaded
+pub module_left : (env : Env) (at : Standing) (w u : World) (loaded : ModuleValue) → at ≡ level_of env → frozen_module env (here_of at 0 []) w ≡ ended loaded u → outcome_of (then_runs (frozen_module env (file_level env) w) (λ m. pure (a_module m))) ≡ a_module loaded
 module_left env at w u loaded is e =
     ap (λ (s : Standing). outcome_of (then_runs (frozen_module env (here_of s 0 []) w) (λ m. pure (a_module m)))) (sym is)
     ∙ ap (λ o. outcome_of (then_runs o (λ m. pure (a_module m)))) e
 
-pub module_fails : (env : Env) (at : Standing) (w u : World) (halt : Halt) (stop : Stop) → at ≡ level_of env → Ran {A = Loaded} (site_at at.path 0) (frozen_module env (here_of at 0 []) w) (Err halt) u → Stops at.path 0 halt stop → Stopped (then_runs (frozen_module env (file_level env) w) (λ m. pure (a_module m))) stop
+pub module_fails : (env : Env) (at : Standing) (w u : World) (halt : Halt) (stop : Stop) → at ≡ level_of env → Ran {A = ModuleValue} (site_at at.path 0) (frozen_module env (here_of at 0 []) w) (Err halt) u → Stops at.path 0 halt stop → Stopped (then_runs (frozen_module env (file_level env) w) (λ m. pure (a_module m))) stop
 module_fails env at w u halt stop is e h =
     let out = λ (s : Standing). then_runs (frozen_module env (here_of s 0 []) w) (λ m. pure (a_module m)) in
     subst (λ (s : Standing). Stopped (out s) stop) is (stopped_by (out at) at.path 0 halt stop u (behind halt e) h)
   where
-    behind : (halt : Halt) → Ran {A = Loaded} (site_at at.path 0) (frozen_module env (here_of at 0 []) w) (Err halt) u → Ran {A = l.Outcome} (site_at at.path 0) (then_runs (frozen_module env (here_of at 0 []) w) (λ m. pure (a_module m))) (Err halt) u
+    behind : (halt : Halt) → Ran {A = ModuleValue} (site_at at.path 0) (frozen_module env (here_of at 0 []) w) (Err halt) u → Ran {A = l.Outcome} (site_at at.path 0) (then_runs (frozen_module env (here_of at 0 []) w) (λ m. pure (a_module m))) (Err halt) u
     behind (Code c) e = ap (λ o. then_runs o (λ m. pure (a_module m))) e
     behind Memory e = tt

@@ -1,12 +1,12 @@
-pub mod Entered
-pub mod Defined
-mod Acted
-mod Turned
-pub mod Opened
+pub mod Calls
+pub mod Definitions
+mod TurnParts
+mod Turns
+pub mod FileStarts
 pub mod Ending
 pub mod Levels
-pub mod Started
+pub mod FileEvaluation
 pub mod Answering
 pub mod Trees
 pub mod Crossing
-pub mod Looked
+pub mod FunctionLookups

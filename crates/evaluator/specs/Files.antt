@@ -6,7 +6,7 @@ use Rattle.std.specs.declared.sync.Arc.{Arc}
 use Rattle.std.specs.declared.vec.Vec.{Vec}
 use Rattle.texts.specs.declared.text.Text.{Text}
 use Rattle.tree.specs.Tree.{Fi, Ld}
-use Rattle.module_values.specs.Values.{Body, Loaded}
+use Rattle.module_values.specs.Values.{Body, ModuleValue}
 use Rattle.language.specs.World.{World, Here, at_line, Ends, ended, failed, Runs, then_runs, ◌>>=◌, tick}
 use Rattle.language.specs.Environment.{Env}
 use Rattle.language.specs.Laws.{with_answers}
@@ -24,7 +24,7 @@ abbrev pub load_does : Body → Ld → Here → Runs (Unit {0})
 load_does body l here = tick (at_line l.line here) >>= λ _. load_items body l.items (at_line l.line here)
 
 -- what stands before the other statements of a file
-abbrev pub opens : Fi → List Loaded → Here → Runs (Unit {0})
+abbrev pub opens : Fi → List ModuleValue → Here → Runs (Unit {0})
 opens file modules here = leading file.leading here >>= λ _. loads file.loads modules here
 
 -- it is done, or it stops at its fault; where memory was refused nothing is said

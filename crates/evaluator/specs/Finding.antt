@@ -5,7 +5,7 @@ use Rattle.std.specs.declared.alloc.Global.{Global}
 use Rattle.std.specs.declared.sync.Arc.{Arc}
 use Rattle.meaning.specs.declared.val.Val.{Val}
 use Rattle.meaning.specs.Outcome.{checked}
-use Rattle.meaning.specs.Functions.{Named}
+use Rattle.meaning.specs.Functions.{KeywordArguments}
 use Rattle.meaning.specs.Comparing.{same_text}
 use Rattle.tree.specs.Tree.{Fn, Suite}
 use Rattle.tree.specs.declared.def.Def.{Def}
@@ -20,8 +20,8 @@ use Rattle.heap.specs.declared.halt.Halt.TheVariants.{Code, Memory}
 use Rattle.meaning.specs.Heap.{Obj, function}
 use Rattle.meaning.specs.declared.faults.TheConstants.{RECURSION, WRONG_TYPE}
 use Rattle.language.specs.Expressions.{Call, call_object}
-use Rattle.evaluator.specs.declared.entering.Called.{Called}
-use Rattle.evaluator.specs.declared.finding.Found.{Found}
+use Rattle.evaluator.specs.declared.entering.FunctionName.{FunctionName}
+use Rattle.evaluator.specs.declared.finding.Callee.{Callee}
 
 -- what was looked for among functions by its name
 abbrev pub IsDef : List ℕ → Option Fn → Option (Arc Def Global) → Type 0
@@ -35,7 +35,7 @@ body_runs env zero = None
 body_runs env (suc n) = Some (suite env (call env n))
 
 -- a call behind the names of the function's file and the function
-abbrev pub calls_on : Env → ℕ → List ℕ → Fn → List Val → Named → Here → Runs Val
+abbrev pub calls_on : Env → ℕ → List ℕ → Fn → List Val → KeywordArguments → Here → Runs Val
 calls_on env n label f xs ns here =
     (λ w. on_heap here (checked (arguments f xs ns (defaults_of label f.name w))) w) >>= λ parameters.
     if is_running label f.name here.running then fault RECURSION here else body_does (body_runs env n) f parameters (inside env label f here) here
@@ -46,12 +46,12 @@ IsLabel env label (Some found) = found ≡ label
 IsLabel env label None = (same_text label env.label ≡ false) × (reached_module env label ≡ None)
 
 -- the function with a name of the file with a label, or none such
-abbrev pub IsFound : Env → List ℕ → List ℕ → Option Found → Type 0
+abbrev pub IsFound : Env → List ℕ → List ℕ → Option Callee → Type 0
 IsFound env label name (Some found) = (function_named name (functions_of env label) ≡ Some (fn_of (arc_value found.def))) × ((fn_of (arc_value found.def)).name ≡ name) × (found.path ≡ path_of env label)
 IsFound env label name None = function_named name (functions_of env label) ≡ None
 
 -- an object that is a function, or that no call takes
-abbrev pub IsFunction : Option Obj → Result Called Halt → Type 0
+abbrev pub IsFunction : Option Obj → Result FunctionName Halt → Type 0
 IsFunction object (Ok called) = object ≡ Some (function called.label called.name)
-IsFunction object (Err (Code c)) = (c ≡ WRONG_TYPE) × ((call : Call) (xs : List Val) (ns : Named) (here : Here) → call_object call object xs ns here ≡ fault WRONG_TYPE here)
+IsFunction object (Err (Code c)) = (c ≡ WRONG_TYPE) × ((call : Call) (xs : List Val) (ns : KeywordArguments) (here : Here) → call_object call object xs ns here ≡ fault WRONG_TYPE here)
 IsFunction object (Err Memory) = Unit {0}

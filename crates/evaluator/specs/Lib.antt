@@ -1,4 +1,4 @@
 pub mod Machines
 pub mod Finding
 pub mod Files
-pub mod Evaluated
+pub mod Outcomes

@@ -18,8 +18,8 @@ use Rattle.evaluator.specs.declared.machine.Environment.{Environment}
 use Rattle.evaluator.specs.declared.machine.Machine.{Machine}
 use Rattle.evaluator.specs.declared.machine.Stop.{Stop}
 use Rattle.evaluator.specs.declared.machine.Stop.TheVariants as s
-use Rattle.evaluator.specs.declared.machine.Turned.{Turned}
-use Rattle.evaluator.specs.declared.machine.Turned.TheVariants as t
+use Rattle.evaluator.specs.declared.machine.Progress.{Progress}
+use Rattle.evaluator.specs.declared.machine.Progress.TheVariants as t
 
 -- what the evaluation of a file is given
 abbrev pub env_of : Environment → Env
@@ -50,7 +50,7 @@ site_at path line = record { path = path; line = line }
 
 -- how far a turn leads: to a control that means the same; to the end; to a call of `glob` that waits, and that means the
 -- same once it is answered; or to a fault. Where memory was refused nothing is said.
-abbrev pub Leads : Environment → (Env → Ends Sig) → Result Turned Stop → Machine → Type 0
+abbrev pub Leads : Environment → (Env → Ends Sig) → Result Progress Stop → Machine → Type 0
 Leads e before (Ok (t.Goes control)) m = Under e (λ env. before env ≡ means env m control)
 Leads e before (Ok (t.Ended sig)) m = Under e (λ env. before env ≡ ended (sig_of sig) (world_of m.state))
 Leads e before (Ok (t.Waits control patterns)) m = (before (env_of e) ≡ waits patterns.items) × Under e (λ env. before env ≡ means env m control)
@@ -61,7 +61,7 @@ Leads e before (Err s.Memory) m = Unit {0}
 abbrev pub Falls : Machine → Control → Machine → Control → Type 0
 Falls m control after next = Lighter m.state.heap.steps (frames_weight m.frames.items + control_weight control) after.state.heap.steps (frames_weight after.frames.items + control_weight next)
 
-abbrev pub TurnFalls : Machine → Control → Machine → Turned → Type 0
+abbrev pub TurnFalls : Machine → Control → Machine → Progress → Type 0
 TurnFalls m control after (t.Goes next) = Falls m control after next
 TurnFalls m control after turned = Unit {0}
 
@@ -72,12 +72,12 @@ Stops path line Memory (s.Fault c p l) = ⊥
 Stops path line halt s.Memory = Unit {0}
 
 -- a turn that leads on has paid for a step
-abbrev pub StepsFall : Machine → Machine → Turned → Type 0
+abbrev pub StepsFall : Machine → Machine → Progress → Type 0
 StepsFall before after (t.Goes next) = after.state.heap.steps < before.state.heap.steps
 StepsFall before after turned = Unit {0}
 
 -- what has ended or waits
-abbrev pub IsOver : Turned → Type 0
+abbrev pub IsOver : Progress → Type 0
 IsOver (t.Goes next) = ⊥
 IsOver turned = Unit {0}
 
@@ -88,6 +88,6 @@ IsActing (c.Package line g xs names) = ⊥
 IsActing control = Unit {0}
 
 -- what is handed on next
-abbrev pub IsLight : Turned → Type 0
+abbrev pub IsLight : Progress → Type 0
 IsLight (t.Goes next) = control_weight next ≡ 0
 IsLight turned = Unit {0}

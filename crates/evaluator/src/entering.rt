@@ -35,17 +35,17 @@ use tree::Def;
 
 // A function of the heap: the label of its file, and its name.
 #[derive(Drop)]
-struct Called {
+struct FunctionName {
     label: Bytes,
     name: Bytes,
 }
 
 // Returns the function that stands at a place of the heap, or fault 5.
-fn function_at(heap: &Heap, place: usize) -> Result<Called, Halt>
+fn function_at(heap: &Heap, place: usize) -> Result<FunctionName, Halt>
     ensures { IsFunction (at place (store_of heap.now)) result }
 {
     match heap.object(place)? {
-        Some(Object::Function(label, name)) => Ok(Called {
+        Some(Object::Function(label, name)) => Ok(FunctionName {
             label: label.share()?,
             name: name.share()?,
         }),

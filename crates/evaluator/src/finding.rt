@@ -10,7 +10,7 @@ ghost use Rattle.evaluator.specs.Finding.{IsDef, IsFound, IsLabel};
 
 use crate::setting::Setting;
 use heap::{Bytes, Halt};
-use module_values::{Loaded, Module};
+use module_values::{Module, ModuleValue};
 use modules::reached;
 use std::alloc::Global;
 use std::sync::Arc;
@@ -19,7 +19,7 @@ use tree::Def;
 
 /// A function that was found, and the path of its file.
 #[derive(Drop)]
-pub struct Found {
+pub struct Callee {
     pub path: Text,
     pub def: Arc<Def, Global>,
 }
@@ -60,7 +60,7 @@ fn module_among<'a>(modules: &'a [Module], label: &[u8]) -> Option<&'a Module>
 }
 
 // Returns the module with a label, of those that a load reaches.
-fn module_in<'a>(loaded: &'a Loaded, label: &[u8]) -> Option<&'a Module>
+fn module_in<'a>(loaded: &'a ModuleValue, label: &[u8]) -> Option<&'a Module>
     ensures { let m = loaded.now in option_map (λ m. m.now) result ≡ body_at label.now
         (m.body ∷ m.reached) }
 {
@@ -71,7 +71,7 @@ fn module_in<'a>(loaded: &'a Loaded, label: &[u8]) -> Option<&'a Module>
 }
 
 // Returns the module with a label, of those that loads reach.
-fn module_at<'a>(loads: &'a [Loaded], label: &[u8]) -> Option<&'a Module>
+fn module_at<'a>(loads: &'a [ModuleValue], label: &[u8]) -> Option<&'a Module>
     ensures { option_map (λ m. m.now) result ≡ body_at label.now (all_bodies loads.now) }
 {
     for loaded in loads.iter() {
@@ -98,7 +98,7 @@ pub fn label_text(e: &Setting<'_>, label: &[u8]) -> Result<Option<Text>, Halt>
 }
 
 /// Returns the function with a name in the file with a label, if there is one.
-pub fn find(e: &Setting<'_>, label: &Text, name: &Bytes) -> Result<Option<Found>, Halt>
+pub fn find(e: &Setting<'_>, label: &Text, name: &Bytes) -> Result<Option<Callee>, Halt>
     ensures ok { IfOk result (IsFound (env_of e.now) label.now name.now) }
     ensures err { IsOkUnless result Memory }
 {
@@ -112,7 +112,7 @@ pub fn find(e: &Setting<'_>, label: &Text, name: &Bytes) -> Result<Option<Found>
         }
     };
     match def {
-        Some(def) => Ok(Some(Found {
+        Some(def) => Ok(Some(Callee {
             path: path.share()?,
             def: Arc::try_clone(def)?,
         })),

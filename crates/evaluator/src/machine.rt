@@ -2,7 +2,7 @@
 
 use calls::Open;
 use frames::{Control, Frame, Signal};
-use module_values::Loaded;
+use module_values::ModuleValue;
 use names::{Standing, State};
 use package_calls::Package;
 use std::alloc::Global;
@@ -18,7 +18,7 @@ pub struct Environment {
     pub path: Text,
     pub file: Arc<File, Global>,
     /// A module for each load statement of the file, in order.
-    pub loads: Vec<Loaded>,
+    pub loads: Vec<ModuleValue>,
     pub package: Package,
 }
 
@@ -38,7 +38,7 @@ pub struct Machine {
 
 /// How far a turn leads.
 #[derive(Drop)]
-pub enum Turned {
+pub enum Progress {
     Goes(Control),
     Ended(Signal),
     /// A call of `glob`, and its patterns that have no answer, in order.

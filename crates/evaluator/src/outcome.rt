@@ -3,7 +3,7 @@ ghost use Rattle.std.specs.Prelude.{◌≡◌};
 
 use crate::machine::{Environment, Machine};
 use frames::Control;
-use module_values::{Loaded, Targets};
+use module_values::{ModuleValue, Targets};
 use std::marker::Model;
 use texts::Text;
 
@@ -20,7 +20,7 @@ pub struct Fault {
 #[derive(Drop)]
 pub enum Outcome {
     /// Of a .bzl file: what it leaves, frozen.
-    Module(Loaded),
+    Module(ModuleValue),
     /// Of a BUILD file: its targets, in byte order of their names.
     Package(Targets),
     /// A call of `glob` has patterns without an answer: these, in order and each once, and what goes on once they have one.

@@ -7,9 +7,9 @@ ghost use Rattle.names.specs.View.{world_of, here_of, Ran};
 ghost use Rattle.package_calls.specs.View.{answers_of};
 ghost use Rattle.evaluator.specs.Machines.{env_of, Stops};
 ghost use Rattle.evaluator.specs.Files.{Stands, answered, shared_texts, load_does, opens, Opened};
-ghost use Rattle.evaluator.specs.Evaluated.{Evaluates, IsLeft, Shows};
+ghost use Rattle.evaluator.specs.Outcomes.{Evaluates, IsLeft, Shows};
 
-use crate::machine::{Environment, Machine, Stop, Turned};
+use crate::machine::{Environment, Machine, Progress, Stop};
 use crate::outcome::{Fault, Outcome, Suspended};
 use crate::turning::go;
 use calls::file_block;
@@ -18,9 +18,9 @@ use grammar::FileKind;
 use heap::{Halt, Heap};
 use made_targets::targets_made;
 use meaning::faults;
-use module_values::{Loaded, Module};
+use module_values::{Module, ModuleValue};
 use modules::{frozen_module, load_items};
-use names::{Block, FileNames, KeptDefaults, Made, Standing, State};
+use names::{Block, FileNames, KeptDefaults, PackageTargets, Standing, State};
 use package_calls::Answer;
 use pieces::tick;
 use std::alloc::Global;
@@ -73,7 +73,7 @@ pub fn first_state(alloc: Global, e: &Environment) -> Result<State, Memory>
         heap: Heap::new(alloc, STEPS),
         blocks: Vec::new(alloc),
         files,
-        targets: Made::new(alloc),
+        targets: PackageTargets::new(alloc),
     })
 }
 
@@ -108,7 +108,7 @@ fn bind_loads(
     state: &mut State,
     at: &Standing,
     statements: &[LoadStmt],
-    modules: &[Loaded],
+    modules: &[ModuleValue],
 ) -> Result<(), Stop>
     ensures { (running : List (List ℕ × List ℕ)) → let here = here_of at.now at.now.line running in
         Opened (loads (map load_of statements.now) modules.now here (world_of state.old)) result
@@ -131,7 +131,7 @@ pub fn open_file(
     state: &mut State,
     at: &Standing,
     file: &File,
-    modules: &[Loaded],
+    modules: &[ModuleValue],
 ) -> Result<(), Stop>
     ensures { (running : List (List ℕ × List ℕ)) → let here = here_of at.now at.now.line running in
         Opened (opens (file_of file.now) modules.now here (world_of state.old)) result
@@ -217,7 +217,7 @@ fn go_on(environment: Environment, machine: Machine, control: Control) -> Result
 {
     let mut machine = machine;
     match go(&mut machine, &environment, control) {
-        Ok(Turned::Waits(control, patterns)) => {
+        Ok(Progress::Waits(control, patterns)) => {
             let alloc = machine.state.heap.alloc;
             let asked = share_all(alloc, patterns.as_slice())?;
             let environment = Box::new(alloc, environment)?;
@@ -231,8 +231,8 @@ fn go_on(environment: Environment, machine: Machine, control: Control) -> Result
             };
             Ok(Outcome::Need(asked, suspended))
         }
-        Ok(Turned::Ended(_)) => leave_file(machine.state, &environment),
-        Ok(Turned::Goes(_)) => unreachable!(),
+        Ok(Progress::Ended(_)) => leave_file(machine.state, &environment),
+        Ok(Progress::Goes(_)) => unreachable!(),
         Err(stop) => stopped(stop),
     }
 }

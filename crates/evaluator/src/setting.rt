@@ -3,7 +3,7 @@ ghost use Rattle.std.specs.Prelude.{◌≡◌, map, option_map, IfOk};
 ghost use Rattle.std.specs.Arc.{arc_value};
 ghost use Rattle.tree.specs.Statements.{top_of};
 ghost use Rattle.language.specs.Environment.{defs};
-ghost use Rattle.module_values.specs.Named.{first_named};
+ghost use Rattle.module_values.specs.FunctionNames.{first_named};
 
 use crate::machine::Environment;
 use heap::Bytes;

@@ -6,7 +6,7 @@ ghost use Rattle.evaluator.specs.Machines.{means};
 
 use crate::machine::Machine;
 use frames::{Control, Frame, reach_control, reach_frames};
-use heap::Reached;
+use heap::LiveObjects;
 use names::{State, reach_names};
 use texts::Memory;
 
@@ -15,7 +15,7 @@ fn give_back(state: &mut State, frames: &[Frame], control: &Control) -> Result<(
     ensures same { world_of state.new ≡ world_of state.old }
     ensures steps { state.new.heap.steps ≡ state.old.heap.steps }
 {
-    let mut reached = Reached::new(state.heap.alloc, &state.heap)?;
+    let mut reached = LiveObjects::new(state.heap.alloc, &state.heap)?;
     reach_control(&mut reached, control)?;
     reach_frames(&mut reached, frames)?;
     reach_names(&mut reached, state)?;

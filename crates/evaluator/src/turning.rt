@@ -6,13 +6,13 @@ ghost use Rattle.evaluator.specs.Machines.{Under, Leads, Stops, TurnFalls, Falls
 
 use crate::acting::{added, begin_block, built_in, define, of_value};
 use crate::entering::{enter, leave};
-use crate::machine::{Environment, Machine, Stop, Turned};
+use crate::machine::{Environment, Machine, Progress, Stop};
 use crate::setting::Setting;
 use crate::tidying::tidy;
 use frames::{Control, Frame, Signal, control_line, frame_line, go_on, hand_down};
 use heap::{Builtin, Halt, Val};
 use names::{Slot, Standing};
-use package_calls::{Called, package_call};
+use package_calls::{CallOutcome, package_call};
 use std::alloc::Global;
 use std::sync::Arc;
 use texts::Text;
@@ -31,20 +31,20 @@ fn stop(m: &Machine, line: usize, halt: Halt) -> Stop
 }
 
 // Hands a signal to the topmost frame.
-fn hand(m: &mut Machine, e: &Setting<'_>, signal: Signal) -> Result<Turned, Stop>
+fn hand(m: &mut Machine, e: &Setting<'_>, signal: Signal) -> Result<Progress, Stop>
     ensures leads { Leads e.now (λ env. means env m.old (c.Signal signal)) result m.new }
     ensures falls { IfOk result (λ turned. TurnFalls m.old (c.Signal signal) m.new turned) }
 {
     let frame = match m.frames.pop() {
         Some(frame) => frame,
-        None => return Ok(Turned::Ended(signal)),
+        None => return Ok(Progress::Ended(signal)),
     };
     match frame {
-        Frame::Leave(caller) => Ok(Turned::Goes(leave(m, caller, signal))),
+        Frame::Leave(caller) => Ok(Progress::Goes(leave(m, caller, signal))),
         frame => {
             let line = frame_line(&frame, m.at.line);
             match hand_down(&mut m.state, &mut m.frames, &m.at, frame, signal) {
-                Ok(control) => Ok(Turned::Goes(control)),
+                Ok(control) => Ok(Progress::Goes(control)),
                 Err(halt) => Err(stop(m, line, halt)),
             }
         }
@@ -59,7 +59,7 @@ fn call_package(
     f: Builtin,
     xs: Vec<Val>,
     names: Arc<Vec<Text>, Global>,
-) -> Result<Turned, Stop>
+) -> Result<Progress, Stop>
     ensures leads { Leads e.now (λ env. means env m.old (c.Package line f xs names)) result m.new }
     ensures falls { IfOk result (λ turned. TurnFalls m.old (c.Package line f xs names) m.new
         turned) }
@@ -71,15 +71,15 @@ fn call_package(
         xs.as_slice(),
         names.as_slice(),
     ) {
-        Ok(Called::Value(value)) => Ok(Turned::Goes(Control::Signal(Signal::Value(value)))),
-        Ok(Called::Waits(patterns)) => {
+        Ok(CallOutcome::Value(value)) => Ok(Progress::Goes(Control::Signal(Signal::Value(value)))),
+        Ok(CallOutcome::Waits(patterns)) => {
             let call = Control::Package {
                 line,
                 function: f,
                 arguments: xs,
                 names,
             };
-            Ok(Turned::Waits(call, patterns))
+            Ok(Progress::Waits(call, patterns))
         }
         Err(halt) => Err(stop(m, line, halt)),
     }
@@ -135,7 +135,7 @@ fn act(m: &mut Machine, e: &Setting<'_>, control: Control) -> Result<Control, Ha
 }
 
 // Makes one turn.
-fn turn(m: &mut Machine, e: &Setting<'_>, control: Control) -> Result<Turned, Stop>
+fn turn(m: &mut Machine, e: &Setting<'_>, control: Control) -> Result<Progress, Stop>
     ensures leads { Leads e.now (λ env. means env m.old control) result m.new }
     ensures falls { IfOk result (λ turned. TurnFalls m.old control m.new turned) }
 {
@@ -150,7 +150,7 @@ fn turn(m: &mut Machine, e: &Setting<'_>, control: Control) -> Result<Turned, St
         control => {
             let line = control_line(&control, m.at.line);
             match act(m, e, control) {
-                Ok(next) => Ok(Turned::Goes(next)),
+                Ok(next) => Ok(Progress::Goes(next)),
                 Err(halt) => Err(stop(m, line, halt)),
             }
         }
@@ -158,7 +158,7 @@ fn turn(m: &mut Machine, e: &Setting<'_>, control: Control) -> Result<Turned, St
 }
 
 // Makes turns until a step is paid for, or until the machine ends or waits.
-fn stretch(m: &mut Machine, e: &Setting<'_>, control: Control) -> Result<Turned, Stop>
+fn stretch(m: &mut Machine, e: &Setting<'_>, control: Control) -> Result<Progress, Stop>
     ensures leads { Leads e.now (λ env. means env m.old control) result m.new }
     ensures fewer { IfOk result (λ turned. StepsFall m.old m.new turned) }
 {
@@ -166,9 +166,9 @@ fn stretch(m: &mut Machine, e: &Setting<'_>, control: Control) -> Result<Turned,
     let mut control = control;
     loop {
         match turn(m, e, control)? {
-            Turned::Goes(next) => {
+            Progress::Goes(next) => {
                 if m.state.heap.steps < before {
-                    return Ok(Turned::Goes(next));
+                    return Ok(Progress::Goes(next));
                 }
                 control = next;
             }
@@ -178,14 +178,14 @@ fn stretch(m: &mut Machine, e: &Setting<'_>, control: Control) -> Result<Turned,
 }
 
 // Makes turns until the machine ends or waits, and gives objects back between them.
-fn stretches(m: &mut Machine, e: &Setting<'_>, control: Control) -> Result<Turned, Stop>
+fn stretches(m: &mut Machine, e: &Setting<'_>, control: Control) -> Result<Progress, Stop>
     ensures leads { Leads e.now (λ env. means env m.old control) result m.new }
     ensures over { IfOk result IsOver }
 {
     let mut control = control;
     loop {
         match stretch(m, e, control)? {
-            Turned::Goes(next) => {
+            Progress::Goes(next) => {
                 if tidy(m, &next).is_err() {
                     return Err(Stop::Memory);
                 }
@@ -197,7 +197,7 @@ fn stretches(m: &mut Machine, e: &Setting<'_>, control: Control) -> Result<Turne
 }
 
 /// Makes turns until the machine ends or waits.
-pub fn go(m: &mut Machine, e: &Environment, control: Control) -> Result<Turned, Stop>
+pub fn go(m: &mut Machine, e: &Environment, control: Control) -> Result<Progress, Stop>
     ensures leads { Leads e.now (λ env. means env m.old control) result m.new }
     ensures over { IfOk result IsOver }
 {

@@ -12,7 +12,7 @@ ghost use Rattle.expressions.specs.declared.front.Stop.TheVariants.{Malformed, M
 use grammar::Rank;
 use std::alloc::{AllocError, AllocFailed, Global};
 use texts::Text;
-use tokens::{Ascii, Lexed, Symbol, Token};
+use tokens::{Ascii, Lexeme, Symbol, Token};
 use tree::BinaryOp;
 
 /// Why nothing was read.
@@ -141,7 +141,7 @@ fn joins(symbol: Symbol) -> bool
 
 /// Says whether an expression may go on with the next token.
 #[tactic(auto, unfolding(grammar::specs::Front::is_at, crate::specs::Alone::goes_on, crate::specs::Alone::joins))]
-fn goes_on(rest: &[Lexed<'_>]) -> bool
+fn goes_on(rest: &[Lexeme<'_>]) -> bool
     ensures { result ≡ goes_on (map lex_of rest.now) }
 {
     match rest.split_first() {
@@ -159,7 +159,7 @@ fn goes_on(rest: &[Lexed<'_>]) -> bool
 #[derive(Drop)]
 pub struct Tokens<'a, 't> {
     /// All of them, in the order of the text.
-    pub left: &'a [Lexed<'t>],
+    pub left: &'a [Lexeme<'t>],
 }
 
 impl<'a, 't> Tokens<'a, 't> {

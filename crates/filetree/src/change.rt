@@ -2,7 +2,7 @@
 ghost use Rattle.std.specs.Prelude.{◌≡◌};
 ghost use Rattle.filetree.specs.Changes as specs;
 ghost use Rattle.filetree.specs.Edits.{Edits, refusal_of};
-ghost use Rattle.filetree.specs.Shown.{change_seen, changes_seen};
+ghost use Rattle.filetree.specs.ChangeView.{change_seen, changes_seen};
 
 use crate::error::{BatchError, TreeError};
 use crate::refusals;

@@ -3,7 +3,7 @@ ghost use Rattle.std.specs.Prelude.{◌≡◌, ◌<◌, ◌==◌, ℕ, List, [],
 ghost use Rattle.std.specs.Option.{option_copied};
 ghost use Rattle.filetree.specs.Folders as levels;
 ghost use Rattle.filetree.specs.Listings.{names_in, sorted_names};
-ghost use Rattle.filetree.specs.Seen.{names_seen};
+ghost use Rattle.filetree.specs.ListingView.{names_seen};
 
 use crate::listing::Listing;
 use std::alloc::Global;

@@ -6,7 +6,7 @@ ghost use Rattle.filetree.specs.Files as specs;
 ghost use Rattle.filetree.specs.Edits.{Edits, Tells};
 ghost use Rattle.filetree.specs.Folders as levels;
 ghost use Rattle.filetree.specs.Listings.{listing};
-ghost use Rattle.filetree.specs.Seen.{names_seen};
+ghost use Rattle.filetree.specs.ListingView.{names_seen};
 
 use crate::error::TreeError;
 use crate::folder::{Folder, put_shared};

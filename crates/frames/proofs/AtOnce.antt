@@ -19,7 +19,7 @@ use Rattle.frames.proofs.Bind.{Pushed, through}
 use Rattle.frames.specs.declared.frame.Once.{Once}
 use Rattle.frames.specs.declared.frame.Frame.{Frame}
 use Rattle.frames.specs.declared.frame.Frame.TheVariants as f
-use Rattle.quiet.specs.Done.{Done, Tested}
+use Rattle.quiet.specs.StatementResults.{Done, Tested}
 use Rattle.frames.specs.Frames.{Sig, an_exit, on, Goes, body, control_does, frame_does, turns_behind, stack_does}
 use Rattle.frames.specs.declared.frame.Ahead.{Ahead}
 use Rattle.frames.specs.declared.frame.Ahead.TheVariants as far

@@ -36,17 +36,17 @@ module _ (env : Env) (n : ℕ) (here : Here) (line : ℕ) (frames : List Frame) 
   first_begins c cs target sequence comp is items =
       let h = on env n here line in
       let inner = item_does env n here comp.item line in
-      let turn = λ (ds : List Clause) (y : Val) (got : l.Gathered). tick h >>= λ _. aims_at env n here target line >>= λ a. store a y h >>= λ _. clauses env (call env n) (clause_trees (drop 1 ds)) inner h got in
+      let turn = λ (ds : List Clause) (y : Val) (got : l.Collection). tick h >>= λ _. aims_at env n here target line >>= λ a. store a y h >>= λ _. clauses env (call env n) (clause_trees (drop 1 ds)) inner h got in
       let all = λ (names : t.Clauses) (ds : List Clause) (v : Val). in_block (new_block (clause_names names)) (over v (λ xs. gather (turn ds) xs nothing_yet) h) in
       let m = ex env n here sequence line w in
-      let p = λ (got : l.Gathered). pure (a_gathered got) in
+      let p = λ (got : l.Collection). pure (a_gathered got) in
       let j = stack_does env n here frames in
       ap (λ (cl : Cl). above env n here (gathered (comprehension env (call env n) (t.clause cl (clause_trees cs)) inner h)) frames w) is
       ∙ under m (all (t.clause (t.for_in target sequence) (clause_trees cs)) (c ∷ cs)) p j
       ∙ ap (λ (cl : Cl). then_runs m (λ v u. then_runs (then_runs (all (t.clause cl (clause_trees cs)) (c ∷ cs) v u) p) j)) (sym is)
       ∙ ap (λ (ds : List Clause). then_runs m (λ v u. then_runs (then_runs (all (clause_trees ds) ds v u) p) j)) (sym items)
 
-  pub no_first : (c : Clause) (cs : List Clause) (condition : Ex) (inner : l.Gathered → Runs l.Gathered) → clause_of c ≡ t.only_if condition
+  pub no_first : (c : Clause) (cs : List Clause) (condition : Ex) (inner : l.Collection → Runs l.Collection) → clause_of c ≡ t.only_if condition
       → above env n here (gathered (comprehension env (call env n) (clause_trees (c ∷ cs)) inner (on env n here line))) frames w ≡ failed 5 (on env n here line).site
   no_first c cs condition inner is = ap (λ (cl : Cl). above env n here (gathered (comprehension env (call env n) (t.clause cl (clause_trees cs)) inner (on env n here line))) frames w) is
 

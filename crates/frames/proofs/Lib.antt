@@ -2,10 +2,10 @@ pub mod Bind
 pub mod Trees
 pub mod Several
 pub mod Clauses
-pub mod Aimed
+pub mod TargetLists
 pub mod Suites
-pub mod Operated
-pub mod Changed
+pub mod OperandValues
+pub mod AugmentedAssignments
 pub mod Topmost
 pub mod FileLevel
 pub mod Immediate

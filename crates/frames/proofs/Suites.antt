@@ -16,7 +16,7 @@ use Rattle.language.specs.Statements as s
 use Rattle.language.specs.Statements.{goes_on, unless_over, after_turn, turns, exec, suite}
 use Rattle.language.specs.Calls.{call}
 use Rattle.names.specs.View.{Ran}
-use Rattle.quiet.specs.Done.{Done}
+use Rattle.quiet.specs.StatementResults.{Done}
 use Rattle.frames.specs.declared.frame.Frame.{Frame}
 use Rattle.frames.specs.declared.frame.Control.{Control}
 use Rattle.frames.specs.Frames.{Sig, Goes, an_exit, on_exit, body, exited, above, stack_does}

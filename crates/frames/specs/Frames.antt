@@ -50,7 +50,7 @@ use Rattle.language.specs.Calls.{call, given}
 use Rattle.language.specs.Files.{keep_defaults}
 use Rattle.names.specs.View.{held, here_of}
 use Rattle.pieces.specs.View.{before, aim_of, gathered_of}
-pub use Rattle.quiet.specs.Done.{first_line, stmt_line}
+pub use Rattle.quiet.specs.StatementResults.{first_line, stmt_line}
 use Rattle.frames.specs.declared.frame.Exit.{Exit}
 use Rattle.frames.specs.declared.frame.Exit.TheVariants as x
 use Rattle.frames.specs.declared.frame.Signal.{Signal}
@@ -75,7 +75,7 @@ pub data Sig : Type 0 where
   a_value : Val → Sig
   an_aim : ta.Aim → Sig
   an_exit : s.Exit → Sig
-  a_gathered : l.Gathered → Sig
+  a_gathered : l.Collection → Sig
 
 abbrev pub exit_of : Exit → s.Exit
 exit_of x.GoesOn = goes_on
@@ -98,7 +98,7 @@ aimed m = m >>= λ a. pure (an_aim a)
 abbrev pub exited : Runs s.Exit → Runs Sig
 exited m = m >>= λ exit. pure (an_exit exit)
 
-abbrev pub gathered : Runs l.Gathered → Runs Sig
+abbrev pub gathered : Runs l.Collection → Runs Sig
 gathered m = m >>= λ got. pure (a_gathered got)
 
 -- A frame waits for signals of one kind. Any other signal passes it by, and goes to the frame below.
@@ -114,7 +114,7 @@ abbrev pub on_exit : (s.Exit → Runs Sig) → Sig → Runs Sig
 on_exit k (an_exit exit) = k exit
 on_exit k sig = pure sig
 
-abbrev pub on_gathered : (l.Gathered → Runs Sig) → Sig → Runs Sig
+abbrev pub on_gathered : (l.Collection → Runs Sig) → Sig → Runs Sig
 on_gathered k (a_gathered got) = k got
 on_gathered k sig = pure sig
 
@@ -232,19 +232,19 @@ module _ (env : Env) (n : ℕ) (here : Here) where
   abbrev pub turns_behind : Turns → s.Exit → Runs s.Exit
   turns_behind u exit = after_turn exit (turns (turn_of u) (drop u.next u.items.items)) >>= λ a. on_heap (on u.line) (unlocks u.over) >>= λ _. pure a
 
-  abbrev pub item_does : Item → ℕ → l.Gathered → Runs l.Gathered
+  abbrev pub item_does : Item → ℕ → l.Collection → Runs l.Collection
   item_does (i.Member e) line got = ex (shared_tree e) line >>= λ x. one_more x got (on line)
   item_does (i.Entry k e) line got = ex (shared_tree k) line >>= λ x. ex (shared_tree e) line >>= λ y. one_entry x y got (on line)
 
   -- the clauses of a comprehension from a place on
-  abbrev pub clauses_do : Comprehension → ℕ → ℕ → l.Gathered → Runs l.Gathered
+  abbrev pub clauses_do : Comprehension → ℕ → ℕ → l.Collection → Runs l.Collection
   clauses_do comp inner line = clauses env (call env n) (clauses_from inner comp) (item_does comp.item line) (on line)
 
-  abbrev pub gather_turn : Ex → Comprehension → ℕ → ℕ → Val → l.Gathered → Runs l.Gathered
+  abbrev pub gather_turn : Ex → Comprehension → ℕ → ℕ → Val → l.Collection → Runs l.Collection
   gather_turn target comp inner line y got = tick (on line) >>= λ _. aims_at target line >>= λ a. store a y (on line) >>= λ _. clauses_do comp inner line got
 
   -- the turns of a clause that are left, and the end of its going over
-  abbrev pub gather_from : Gathering → l.Gathered → Runs l.Gathered
+  abbrev pub gather_from : Gathering → l.Collection → Runs l.Collection
   gather_from u got = gather (gather_turn (shared_tree u.target) (arc_value u.of) u.inner u.line) (drop u.next u.items.items) got >>= λ a. on_heap (on u.line) (unlocks u.over) >>= λ _. pure a
 
   -- a call of a method: the receiver, the arguments, the call
@@ -277,11 +277,11 @@ module _ (env : Env) (n : ℕ) (here : Here) where
   dict_of_does k e cs line = comprehension env (call env n) cs (λ got. ex k line >>= λ x. ex e line >>= λ y. one_entry x y got (on line)) (on line) >>= λ got. on_heap (on line) (makes_dict got.entries)
 
   -- a comprehension, whose first clause goes over a value
-  abbrev pub first_does : Ex → Comprehension → ℕ → Val → Runs l.Gathered
+  abbrev pub first_does : Ex → Comprehension → ℕ → Val → Runs l.Collection
   first_does target comp line v = in_block (new_block (clause_names (clause_trees (arc_value comp.clauses).items))) (over v (λ xs. gather (gather_turn target comp 1 line) xs nothing_yet) (on line))
 
   -- a further clause, which goes over a value
-  abbrev pub each_does : Ex → Comprehension → ℕ → ℕ → l.Gathered → Val → Runs l.Gathered
+  abbrev pub each_does : Ex → Comprehension → ℕ → ℕ → l.Collection → Val → Runs l.Collection
   each_does target comp inner line got v = over v (λ xs. gather (gather_turn target comp inner line) xs got) (on line)
 
   -- an assignment, behind its right side

@@ -6,11 +6,11 @@ ghost use Rattle.frames.specs.Going.{GetsLighter, LeadsOn};
 ghost use Rattle.frames.specs.Frames.{an_aim, an_exit, a_gathered, exit_of, sig_of, given_by, frame_does, frame_line, is_leave, above};
 ghost use Rattle.frames.specs.Weight.{frames_weight, frame_weight};
 
+use crate::completions::{aim_done, augment, begin_body, begin_clause, store_value};
 use crate::frame::{Control, Exit, Frame, Signal};
-use crate::handed::{aim_done, augment, begin_body, begin_clause, store_value};
 use heap::{Halt, Val};
 use names::{Standing, State};
-use pieces::{Aim, Gathered, make_dict, make_list, unlock};
+use pieces::{Aim, Collection, make_dict, make_list, unlock};
 
 /// Hands a frame how a statement has ended.
 pub fn deliver_exit(
@@ -71,7 +71,7 @@ pub fn deliver_gathered(
     frames: &Vec<Frame>,
     at: &Standing,
     frame: Frame,
-    got: Box<Gathered>,
+    got: Box<Collection>,
 ) -> Result<Control, Halt>
     requires { is_leave frame ≡ false }
     ensures goes { LeadsOn at.now (frame_line at.now.line frame)

@@ -3,7 +3,7 @@
 use heap::{Builtin, Entry, Key, Val};
 use indexmap::IndexMap;
 use names::{Block, Standing};
-use pieces::{Aim, Gathered};
+use pieces::{Aim, Collection};
 use std::alloc::Global;
 use std::sync::Arc;
 use texts::Text;
@@ -24,7 +24,7 @@ pub enum Signal {
     Value(Val),
     Aim(Aim),
     Exit(Exit),
-    Gathered(Box<Gathered>),
+    Gathered(Box<Collection>),
 }
 
 /// What a method is called on.
@@ -268,35 +268,35 @@ pub enum Frame {
         target: Arc<Expr, Global>,
         of: Arc<Comprehension, Global>,
         inner: usize,
-        got: Box<Gathered>,
+        got: Box<Collection>,
     },
     /// For a condition; the clause behind it is at the number.
     Only {
         line: usize,
         of: Arc<Comprehension, Global>,
         inner: usize,
-        got: Box<Gathered>,
+        got: Box<Collection>,
     },
     /// For the target of a turn of a clause, whose value is given.
-    Aimed(Box<Gathering>, Val, Box<Gathered>),
+    Aimed(Box<Gathering>, Val, Box<Collection>),
     /// For what a turn of a clause gathers.
     Gather(Box<Gathering>),
     /// For a member.
     OneMore {
         line: usize,
-        got: Box<Gathered>,
+        got: Box<Collection>,
     },
     /// For a key; its value is next.
     OneKey {
         line: usize,
         value: Arc<Expr, Global>,
-        got: Box<Gathered>,
+        got: Box<Collection>,
     },
     /// For the value of a key; the entries behind it begin at the number.
     OneEntry {
         line: usize,
         key: Val,
-        got: Box<Gathered>,
+        got: Box<Collection>,
     },
     /// For the end of a block of a comprehension.
     EndBlock,
@@ -356,9 +356,9 @@ pub enum Control {
         line: usize,
         of: Arc<Comprehension, Global>,
         inner: usize,
-        got: Box<Gathered>,
+        got: Box<Collection>,
     },
-    Gather(Box<Gathering>, Box<Gathered>),
+    Gather(Box<Gathering>, Box<Collection>),
     /// A comprehension, whose first clause goes over a value.
     First {
         line: usize,

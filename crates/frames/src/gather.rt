@@ -18,7 +18,7 @@ use crate::stack::push;
 use crate::targets::begin_aim;
 use heap::{Halt, Val};
 use names::{Standing, State, bind};
-use pieces::{Gathered, tick, unlock};
+use pieces::{Collection, tick, unlock};
 use std::alloc::Global;
 use std::sync::Arc;
 use std::sync::atomic::AtomicUsize;
@@ -32,7 +32,7 @@ fn begin_item(
     at: &Standing,
     line: usize,
     item: &Item,
-    got: Box<Gathered>,
+    got: Box<Collection>,
 ) -> Result<Control, Halt>
     ensures goes { LeadsOn at.now line
         (λ env n here. above env n here
@@ -61,7 +61,7 @@ pub fn next_clause(
     line: usize,
     of: Arc<Comprehension, Global>,
     inner: usize,
-    got: Box<Gathered>,
+    got: Box<Collection>,
 ) -> Result<Control, Halt>
     ensures goes { LeadsOn at.now line
         (λ env n here. machine_does env n here (c.Clauses line of inner got) frames.old.items
@@ -102,7 +102,7 @@ pub fn next_gather(
     frames: &mut Vec<Frame>,
     at: &Standing,
     turns: Box<Gathering>,
-    got: Box<Gathered>,
+    got: Box<Collection>,
 ) -> Result<Control, Halt>
     ensures goes { LeadsOn at.now turns.value.line
         (λ env n here. machine_does env n here (c.Gather turns got) frames.old.items
@@ -134,7 +134,7 @@ fn aim_gathering(
     target: &Expr,
     turns: Box<Gathering>,
     x: Val,
-    got: Box<Gathered>,
+    got: Box<Collection>,
 ) -> Result<Control, Halt>
     requires { line ≡ turns.value.line }
     ensures goes { LeadsOn at.now line
@@ -161,7 +161,7 @@ fn gather_named(
     last: &AtomicUsize,
     turns: Box<Gathering>,
     x: Val,
-    got: Box<Gathered>,
+    got: Box<Collection>,
 ) -> Result<Control, Halt>
     ensures goes { LeadsOn at.now turns.value.line
         (λ env n here. above env n here

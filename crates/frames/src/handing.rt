@@ -10,12 +10,12 @@ ghost use Rattle.frames.specs.Frames.{Goes, on, a_value, sig_of, assigned, chang
 ghost use Rattle.frames.specs.declared.frame.Frame.{Frame};
 ghost use Rattle.frames.specs.Weight.{frames_weight, frame_weight, control_weight, aim_size};
 
-use crate::deliver::{deliver_aim, deliver_exit, deliver_gathered};
-use crate::frame::{Control, Exit, Frame, Purpose, Receiver, Signal};
-use crate::handed::{
+use crate::completions::{
     branch_known, clause_known, default_done, entry_done, entry_gathered, index_done,
     member_gathered, slice_done,
 };
+use crate::deliver::{deliver_aim, deliver_exit, deliver_gathered};
+use crate::frame::{Control, Exit, Frame, Purpose, Receiver, Signal};
 use crate::items::{begin_above, begin_arguments};
 use crate::making::{clause_over, turns_over};
 use crate::once::{both_done, item_done};

@@ -3,11 +3,11 @@
 
 mod ahead;
 mod begin;
+mod completions;
 mod deliver;
 mod forms;
 mod frame;
 mod gather;
-mod handed;
 mod handing;
 mod items;
 mod loops;

@@ -19,7 +19,7 @@ use crate::frame::{Comprehension, Control, Gathering, Pairs, Purpose, Series, Tu
 use heap::{Halt, Val};
 use indexmap::IndexMap;
 use names::State;
-use pieces::{Gathered, items, lock};
+use pieces::{Collection, items, lock};
 use std::alloc::Global;
 use std::sync::Arc;
 use tree::{Expr, Stmt};
@@ -112,7 +112,7 @@ pub fn clause_over(
     target: Arc<Expr, Global>,
     of: Arc<Comprehension, Global>,
     inner: usize,
-    got: Box<Gathered>,
+    got: Box<Collection>,
     x: Val,
 ) -> Result<Control, Halt>
     ensures goes { LeadsOnAnywhere line

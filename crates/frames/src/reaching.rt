@@ -1,13 +1,13 @@
 //! Which objects a machine's frames, and what it does next, reach.
 
 use crate::frame::{Control, Exit, Frame, Gathering, Purpose, Receiver, Series, Signal, Turns};
-use heap::{Reached, Val};
+use heap::{LiveObjects, Val};
 use names::reach_blocks;
-use pieces::{Aim, Gathered, reach_aim, reach_aims, reach_gathered};
+use pieces::{Aim, Collection, reach_aim, reach_aims, reach_gathered};
 use texts::Memory;
 
 // Marks the value that a purpose holds as reached.
-fn reach_purpose(reached: &mut Reached, purpose: &Purpose) -> Result<(), Memory> {
+fn reach_purpose(reached: &mut LiveObjects, purpose: &Purpose) -> Result<(), Memory> {
     match purpose {
         Purpose::Call(f, _) => reached.add(*f),
         Purpose::Method(Receiver::Of(x), _, _) => reached.add(*x),
@@ -16,59 +16,59 @@ fn reach_purpose(reached: &mut Reached, purpose: &Purpose) -> Result<(), Memory>
 }
 
 // Marks the values of several expressions, and of their purpose, as reached.
-fn reach_series(reached: &mut Reached, series: &Series) -> Result<(), Memory> {
+fn reach_series(reached: &mut LiveObjects, series: &Series) -> Result<(), Memory> {
     reached.add_all(series.done.as_slice())?;
     reach_purpose(reached, &series.purpose)
 }
 
 // Marks the values of a loop, and the value of its turn, as reached.
-fn reach_turn(reached: &mut Reached, turns: &Turns, x: Val) -> Result<(), Memory> {
+fn reach_turn(reached: &mut LiveObjects, turns: &Turns, x: Val) -> Result<(), Memory> {
     reached.add(x)?;
     reach_turns(reached, turns)
 }
 
 // Marks the values of a loop as reached.
-fn reach_turns(reached: &mut Reached, turns: &Turns) -> Result<(), Memory> {
+fn reach_turns(reached: &mut LiveObjects, turns: &Turns) -> Result<(), Memory> {
     reached.add(turns.over)?;
     reached.add_all(turns.items.as_slice())
 }
 
 // Marks the values of a clause of a comprehension as reached.
-fn reach_gathering(reached: &mut Reached, gathering: &Gathering) -> Result<(), Memory> {
+fn reach_gathering(reached: &mut LiveObjects, gathering: &Gathering) -> Result<(), Memory> {
     reached.add(gathering.over)?;
     reached.add_all(gathering.items.as_slice())
 }
 
 // Marks the values of a clause of a comprehension, and the gathered ones, as reached.
 fn reach_clause(
-    reached: &mut Reached,
+    reached: &mut LiveObjects,
     gathering: &Gathering,
-    got: &Gathered,
+    got: &Collection,
 ) -> Result<(), Memory> {
     reach_gathering(reached, gathering)?;
     reach_gathered(reached, got)
 }
 
 // Marks a value, and the gathered ones, as reached.
-fn reach_one_more(reached: &mut Reached, x: Val, got: &Gathered) -> Result<(), Memory> {
+fn reach_one_more(reached: &mut LiveObjects, x: Val, got: &Collection) -> Result<(), Memory> {
     reached.add(x)?;
     reach_gathered(reached, got)
 }
 
 // Marks the values of a target, and a value for it, as reached.
-fn reach_change(reached: &mut Reached, aim: &Aim, x: Val) -> Result<(), Memory> {
+fn reach_change(reached: &mut LiveObjects, aim: &Aim, x: Val) -> Result<(), Memory> {
     reached.add(x)?;
     reach_aim(reached, aim)
 }
 
 // Marks a value, and arguments, as reached.
-fn reach_arguments(reached: &mut Reached, x: Val, xs: &[Val]) -> Result<(), Memory> {
+fn reach_arguments(reached: &mut LiveObjects, x: Val, xs: &[Val]) -> Result<(), Memory> {
     reached.add(x)?;
     reached.add_all(xs)
 }
 
 // Marks the value that a statement ends with as reached.
-fn reach_exit(reached: &mut Reached, exit: &Exit) -> Result<(), Memory> {
+fn reach_exit(reached: &mut LiveObjects, exit: &Exit) -> Result<(), Memory> {
     match exit {
         Exit::Returns(x) => reached.add(*x),
         Exit::GoesOn | Exit::Breaks | Exit::Continues => Ok(()),
@@ -76,7 +76,7 @@ fn reach_exit(reached: &mut Reached, exit: &Exit) -> Result<(), Memory> {
 }
 
 // Marks the values of a signal as reached.
-fn reach_signal(reached: &mut Reached, signal: &Signal) -> Result<(), Memory> {
+fn reach_signal(reached: &mut LiveObjects, signal: &Signal) -> Result<(), Memory> {
     match signal {
         Signal::Value(x) => reached.add(*x),
         Signal::Aim(aim) => reach_aim(reached, aim),
@@ -86,7 +86,7 @@ fn reach_signal(reached: &mut Reached, signal: &Signal) -> Result<(), Memory> {
 }
 
 // Marks the values that a frame holds as reached. Each frame that holds a value stands here.
-fn reach_frame(reached: &mut Reached, frame: &Frame) -> Result<(), Memory> {
+fn reach_frame(reached: &mut LiveObjects, frame: &Frame) -> Result<(), Memory> {
     match frame {
         Frame::Items { series, .. } => reach_series(reached, series),
         Frame::Key { pairs, .. } => reached.add_entries(&pairs.done),
@@ -131,7 +131,7 @@ fn reach_frame(reached: &mut Reached, frame: &Frame) -> Result<(), Memory> {
 }
 
 /// Marks the values that frames hold as reached.
-pub fn reach_frames(reached: &mut Reached, frames: &[Frame]) -> Result<(), Memory> {
+pub fn reach_frames(reached: &mut LiveObjects, frames: &[Frame]) -> Result<(), Memory> {
     for frame in frames {
         reach_frame(reached, frame)?;
     }
@@ -139,13 +139,13 @@ pub fn reach_frames(reached: &mut Reached, frames: &[Frame]) -> Result<(), Memor
 }
 
 // Marks the values of a target, and two values for it, as reached.
-fn reach_sum(reached: &mut Reached, aim: &Aim, x: Val, y: Val) -> Result<(), Memory> {
+fn reach_sum(reached: &mut LiveObjects, aim: &Aim, x: Val, y: Val) -> Result<(), Memory> {
     reached.add(y)?;
     reach_change(reached, aim, x)
 }
 
 /// Marks the values that a machine goes on with as reached.
-pub fn reach_control(reached: &mut Reached, control: &Control) -> Result<(), Memory> {
+pub fn reach_control(reached: &mut LiveObjects, control: &Control) -> Result<(), Memory> {
     match control {
         Control::Signal(signal) => reach_signal(reached, signal),
         Control::Items { series, .. } => reach_series(reached, series),

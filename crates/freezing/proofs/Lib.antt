@@ -1,4 +1,4 @@
-pub mod Froze
-pub mod Thawed
+pub mod FreezeLaws
+pub mod TupleKeys
 pub mod Sames
 pub mod Shallow

@@ -7,7 +7,7 @@ use Rattle.meaning.specs.declared.val.Entry.{Entry}
 use Rattle.meaning.specs.Outcome.{Out, gives, faults, Does, and_then, tick}
 use Rattle.meaning.specs.Heap as h
 use Rattle.meaning.specs.Heap.{Obj, Entries, Store, walk_done}
-use Rattle.meaning.specs.Freezing.{Fz, freeze, freezes, visit_held, Held, held, held_object, settled, listed, tupled, mapped, absent, freeze_members, freeze_entry, freeze_entries}
+use Rattle.meaning.specs.Freezing.{Fz, freeze, freezes, visit_held, FreezeShape, held, held_object, settled, listed, tupled, mapped, absent, freeze_members, freeze_entry, freeze_entries}
 use Rattle.freezing.specs.Same.{depth, depths, pair_depths}
 
 -- what is so of the value that is given, if one is
@@ -24,7 +24,7 @@ any_given (gives a s) = tt
 any_given (faults c) = tt
 
 -- a value that is settled at once holds no container
-abbrev IsFlat : Held → Type 0
+abbrev IsFlat : FreezeShape → Type 0
 IsFlat (settled f) = depth f ≡ 0
 IsFlat (listed xs) = Unit {0}
 IsFlat (tupled xs) = Unit {0}
@@ -64,7 +64,7 @@ module _ (n : ℕ) (fz : Val → Does ℕ Fz) (inner : (x : Val) (s : ℕ) → O
       then_given (λ p. max (depth p.0) (depth p.1) ≤ n) _ (freeze_entry fz e.1 s) _ (entry_shallow e.1 s) (λ p deep t.
       then_given (λ ps. pair_depths ps ≤ n) (λ ps. pair_depths ps ≤ n) (freeze_entries fz es t) _ (entries_shallow es t) (λ ps more u. omega (arith, deep, more)))
 
-  visit_shallow : (h : Held) → IsFlat h → (s : ℕ) → OfGiven (λ f. depth f ≤ suc n) (visit_held (Some fz) h s)
+  visit_shallow : (h : FreezeShape) → IsFlat h → (s : ℕ) → OfGiven (λ f. depth f ≤ suc n) (visit_held (Some fz) h s)
   visit_shallow (settled f) flat s = then_given (λ u. Unit {0}) (λ f. depth f ≤ suc n) (tick s) _ (any_given (tick s)) (λ u _ t. omega (arith, flat))
   visit_shallow absent flat s = then_given (λ u. Unit {0}) (λ f. depth f ≤ suc n) (tick s) _ (any_given (tick s)) (λ u _ t. tt)
   visit_shallow (listed xs) flat s =
@@ -77,7 +77,7 @@ module _ (n : ℕ) (fz : Val → Does ℕ Fz) (inner : (x : Val) (s : ℕ) → O
       then_given (λ u. Unit {0}) (λ f. depth f ≤ suc n) (tick s) _ (any_given (tick s)) (λ u _ t.
       then_given (λ ps. pair_depths ps ≤ n) (λ f. depth f ≤ suc n) (freeze_entries fz es t) _ (entries_shallow es t) (λ ps deep u. omega (arith, deep)))
 
-none_shallow : (h : Held) → IsFlat h → (s : ℕ) → OfGiven (λ f. depth f ≤ 0) (visit_held None h s)
+none_shallow : (h : FreezeShape) → IsFlat h → (s : ℕ) → OfGiven (λ f. depth f ≤ 0) (visit_held None h s)
 none_shallow (settled f) flat s = then_given (λ u. Unit {0}) (λ f. depth f ≤ 0) (tick s) _ (any_given (tick s)) (λ u _ t. omega (arith, flat))
 none_shallow absent flat s = then_given (λ u. Unit {0}) (λ f. depth f ≤ 0) (tick s) _ (any_given (tick s)) (λ u _ t. tt)
 none_shallow (listed xs) flat s = tt

@@ -1,4 +1,4 @@
 pub mod View
 pub mod Same
 pub mod SameLaws
-pub mod Stored
+pub mod Storage

@@ -132,7 +132,7 @@ fn add_key(f: &Frozen, all: &mut Vec<Part>) -> Result<(), Memory>
 
 // Adds the parts of a tuple's key behind others.
 #[cycle(keying)]
-#[tactic(auto, using(crate::proofs::Thawed::tuple_keyed))]
+#[tactic(auto, using(crate::proofs::TupleKeys::tuple_keyed))]
 fn add_tuple(members: &[Frozen], all: &mut Vec<Part>) -> Result<(), Memory>
     ensures { OnOk result
         (all.new.items ≡ all.old.items ++ frozen_key

@@ -26,7 +26,7 @@ impl Model for FrozenValue {
     ghost use Rattle.meaning.specs.Freezing.{Fz};
     ghost use Rattle.freezing.specs.View.{frozen_of};
     ghost use Rattle.freezing.specs.Same.{depth};
-    ghost use Rattle.freezing.specs.Stored.{frozen_code};
+    ghost use Rattle.freezing.specs.Storage.{frozen_code};
 
     ghost Value = { Fz };
 

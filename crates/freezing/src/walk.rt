@@ -13,7 +13,7 @@ use std::alloc::Global;
 /// Returns the tree of a value, or fault 11 or 12, or 5. Each value visited is a step, and so many containers more may
 /// be entered.
 #[cycle(freezing)]
-#[tactic(auto, using(crate::proofs::Froze::freeze_is))]
+#[tactic(auto, using(crate::proofs::FreezeLaws::freeze_is))]
 pub fn freeze(
     alloc: Global,
     objects: &[HeapObject],
@@ -82,7 +82,7 @@ fn freeze_object(
 
 // Returns the tree of a list.
 #[cycle(freezing)]
-#[tactic(auto, using(crate::proofs::Froze::list_deep, crate::proofs::Froze::list_more))]
+#[tactic(auto, using(crate::proofs::FreezeLaws::list_deep, crate::proofs::FreezeLaws::list_more))]
 fn freeze_list(
     alloc: Global,
     objects: &[HeapObject],
@@ -103,7 +103,7 @@ fn freeze_list(
 
 // Returns the tree of a tuple.
 #[cycle(freezing)]
-#[tactic(auto, using(crate::proofs::Froze::tuple_deep, crate::proofs::Froze::tuple_more))]
+#[tactic(auto, using(crate::proofs::FreezeLaws::tuple_deep, crate::proofs::FreezeLaws::tuple_more))]
 fn freeze_tuple(
     alloc: Global,
     objects: &[HeapObject],
@@ -149,7 +149,7 @@ fn freeze_members(
 
 // Returns the tree of a dictionary.
 #[cycle(freezing)]
-#[tactic(auto, using(crate::proofs::Froze::dict_deep, crate::proofs::Froze::dict_more))]
+#[tactic(auto, using(crate::proofs::FreezeLaws::dict_deep, crate::proofs::FreezeLaws::dict_more))]
 fn freeze_dict(
     alloc: Global,
     objects: &[HeapObject],

@@ -8,7 +8,7 @@ use Rattle.std.proofs.lemmas.List.{drop-append-le, length-map, take-append-le, t
 use Rattle.texts.specs.declared.memory.Memory.{Memory}
 use Rattle.labels.specs.Labels.{Target}
 use Rattle.tree.specs.Tree.{Fi}
-use Rattle.module_values.specs.Values.{Loaded}
+use Rattle.module_values.specs.Values.{ModuleValue}
 use Rattle.evaluation.specs.Reply.{Reply, Ask, Done}
 use Rattle.keys.specs.Turns.{values}
 use Rattle.keys.specs.declared.key.Key.{Key}
@@ -30,7 +30,7 @@ abbrev asking : List Key → Reply Key Value
 asking group = Ask group
 
 -- behind the modules of the loads comes the evaluation
-loads_on : (source : Source) (file : Fi) (keys : List Key) (loads : List Loaded) (answers more : List Value) → length (once keys) ≤ length answers → all_modules source.path (once keys) keys answers ≡ Ok loads
+loads_on : (source : Source) (file : Fi) (keys : List Key) (loads : List ModuleValue) (answers more : List Value) → length (once keys) ≤ length answers → all_modules source.path (once keys) keys answers ≡ Ok loads
     → after_loads source file (Ok keys) (answers ++ more) ≡ after_modules source file (Ok loads) (drop (length (once keys)) answers ++ more)
 loads_on source file keys loads answers more h found =
     let all = answers ++ more in
@@ -39,7 +39,7 @@ loads_on source file keys loads answers more h found =
     ∙ (λ i. after_modules source file (modules_more source.path (once keys) keys answers more h i) (drop-append-le (length (once keys)) answers more h i))
     ∙ ap (λ r. after_modules source file r (drop (length (once keys)) answers ++ more)) found
 
-pub after_loads_on : (source : Source) (file : Fi) (keys group : List Key) (answers : List (Arc Value Global)) (loads : List Loaded) (n : ℕ) → group ≡ once keys → n ≡ length group → n ≤ length answers
+pub after_loads_on : (source : Source) (file : Fi) (keys group : List Key) (answers : List (Arc Value Global)) (loads : List ModuleValue) (n : ℕ) → group ≡ once keys → n ≡ length group → n ≤ length answers
     → all_modules source.path group keys (values answers) ≡ Ok loads
     → Follows (after_loads source file (Ok keys)) (values answers) (after_modules source file (Ok loads)) (values (take (length answers - n) (drop n answers)))
 after_loads_on source file keys group answers loads n g e h found = λ more.

@@ -11,15 +11,15 @@ use Rattle.keys.specs.declared.key.Key.{Key}
 use Rattle.keys.specs.declared.rules.Turn.TheVariants as turn
 use Rattle.keys.specs.declared.value.Value.{Value}
 use Rattle.std.specs.declared.vec.Vec.{Vec}
-use Rattle.functions.specs.declared.loading.Held.{Held}
+use Rattle.functions.specs.declared.loading.ResumePoint.{ResumePoint}
 use Rattle.functions.specs.declared.reply.Continuation.{Continuation}
 use Rattle.functions.specs.declared.reply.Reply.TheVariants as reply
 use Rattle.functions.specs.Goes.{table_of, Follows, GoesOn, IsMade}
-use Rattle.functions.specs.Held.{IsHeld, fits}
+use Rattle.functions.specs.NodeStates.{IsHeld, fits}
 use Rattle.functions.specs.Next.{next}
 
 -- what is held is led on by the answers behind those that it has taken
-pub held_on : (held : Held) (k : Key) (answers : List Value) → IsHeld held k answers → Follows (next k) answers (table_of held.continuation) (drop held.taken answers)
+pub held_on : (held : ResumePoint) (k : Key) (answers : List Value) → IsHeld held k answers → Follows (next k) answers (table_of held.continuation) (drop held.taken answers)
 held_on held k answers h = λ more.
     ap (λ l. next k (l ++ more)) (sym (take-append-drop held.taken answers)) ∙ ap (next k) (append_assoc (take held.taken answers) (drop held.taken answers) more)
     ∙ h.is.goes (drop held.taken answers ++ more)
@@ -38,7 +38,7 @@ module _ (k own : Key) (answers : List (Arc Value Global)) (same : own ≡ k) wh
   asks_plainly group h = (h, λ more. (same, tt))
 
   -- a group that is asked with something held
-  pub asks_holding : (group : Vec Key Global) (continuation : Continuation) (taken : ℕ) (held : Box Held) → held.value ≡ record { taken = taken; continuation = continuation } → taken ≡ length answers
+  pub asks_holding : (group : Vec Key Global) (continuation : Continuation) (taken : ℕ) (held : Box ResumePoint) → held.value ≡ record { taken = taken; continuation = continuation } → taken ≡ length answers
       → IsMade (next k) (values answers) (reply.Wait group continuation) → IsTurn fits next k (values answers) (turn.Ask (record { key = own; held = Some held }) group)
   asks_holding group continuation taken held is size h =
       let many : length (values answers) ≡ length answers = length-map answers (λ (x : Arc Value Global). arc_value x) in

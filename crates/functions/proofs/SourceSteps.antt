@@ -12,7 +12,7 @@ use Rattle.keys.specs.declared.value.Value.{Value}
 use Rattle.keys.specs.declared.key.Key.{Key}
 use Rattle.evaluation.specs.Reply.{Reply, Ask}
 use Rattle.labels.specs.Labels.{Target, label_file}
-use Rattle.functions.specs.Gathered.{behind}
+use Rattle.functions.specs.Results.{behind}
 use Rattle.functions.specs.Modules.{lookups, is_in_package, is_crossed, source_of, after_lookups, by_lookups}
 use Rattle.functions.specs.Sources.{before, each_or_fault, faulty, by_file}
 use Rattle.walks.proofs.NamesInOrder.{drop_item}

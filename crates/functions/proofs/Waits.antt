@@ -4,19 +4,19 @@ use Rattle.std.specs.Prelude.{zip}
 use Rattle.evaluation.specs.Reply.{Ask}
 use Rattle.language.specs.Environment.{Env}
 use Rattle.language.specs.Laws.{with_answers}
-use Rattle.evaluator.specs.Evaluated.{Evaluates}
+use Rattle.evaluator.specs.Outcomes.{Evaluates}
 use Rattle.evaluator.specs.Files.{answered}
 use Rattle.evaluator.specs.declared.outcome.Outcome.{Outcome}
 use Rattle.keys.specs.declared.key.Key.{Key}
 use Rattle.keys.specs.declared.value.Value.{Value}
-use Rattle.functions.specs.declared.reply.Paused.{Paused}
+use Rattle.functions.specs.declared.reply.PackageEvaluation.{PackageEvaluation}
 use Rattle.functions.specs.declared.reply.Continuation.TheVariants.{Globs}
 use Rattle.functions.specs.Goes.{led, env_in, GoesOn, IsWaiting, IsNext}
-use Rattle.functions.specs.Heard.{Gives}
+use Rattle.functions.specs.GlobAnswers.{Gives}
 use Rattle.functions.specs.Sources.{glob_keys, glob_group, paths_by, with_paths}
 use Rattle.functions.proofs.EvaluationSteps.{some_group, led_to_group, led_further}
 
-module _ (paused : Paused) (w : IsWaiting paused) where
+module _ (paused : PackageEvaluation) (w : IsWaiting paused) where
   abbrev env : Env
   env = env_in paused
 

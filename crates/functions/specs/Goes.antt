@@ -3,7 +3,7 @@ use Rattle.std.specs.Prelude.{◌≡◌, ◌≤◌, ◌<◌, ◌++◌, ℕ, List
 use Rattle.evaluation.specs.Reply.{Reply, Ask, Done}
 use Rattle.language.specs.Environment.{Env}
 use Rattle.language.specs.Files.{a_need, evaluate}
-use Rattle.evaluator.specs.Evaluated.{Evaluates}
+use Rattle.evaluator.specs.Outcomes.{Evaluates}
 use Rattle.evaluator.specs.Machines.{env_of}
 use Rattle.evaluator.specs.declared.outcome.Outcome.{Outcome}
 use Rattle.keys.specs.declared.key.Key.{Key}
@@ -11,13 +11,13 @@ use Rattle.keys.specs.declared.value.Value.{Value}
 use Rattle.std.specs.Arc.{arc_value}
 use Rattle.tree.specs.Statements.{file_of}
 use Rattle.functions.specs.Sources.{rounds, after_loads}
-use Rattle.functions.specs.declared.reply.Paused.{Paused}
+use Rattle.functions.specs.declared.reply.PackageEvaluation.{PackageEvaluation}
 use Rattle.functions.specs.declared.reply.Continuation.{Continuation}
 use Rattle.functions.specs.declared.reply.Continuation.TheVariants as continuation
 use Rattle.functions.specs.declared.reply.Reply as made
 use Rattle.functions.specs.declared.reply.Reply.TheVariants as reply
-use Rattle.functions.specs.declared.evaluating.Went.{Went}
-use Rattle.functions.specs.declared.evaluating.Went.TheVariants as went
+use Rattle.functions.specs.declared.evaluating.Advance.{Advance}
+use Rattle.functions.specs.declared.evaluating.Advance.TheVariants as went
 
 -- what comes of all answers so far
 abbrev pub Table : Type 0
@@ -30,11 +30,11 @@ abbrev pub led : Env → List Value → Reply Key Value
 led env answers = rounds (length answers) env answers
 
 -- what the file of a paused evaluation is given
-abbrev pub env_in : Paused → Env
+abbrev pub env_in : PackageEvaluation → Env
 env_in paused = env_of paused.suspended.environment
 
 -- it waits for globs of its package
-pub record IsWaiting (paused : Paused) : Type 0 where
+pub record IsWaiting (paused : PackageEvaluation) : Type 0 where
   pub named : (env_in paused).package_name ≡ paused.package_name
   pub asks : evaluate (env_in paused) ≡ a_need paused.suspended.patterns
 
@@ -82,12 +82,12 @@ pub record IsNext (env : Env) (answers : List Value) (outcome : Outcome) (n : �
   pub goes : Follows (led env) answers (led given) (drop n answers)
 
 -- it ends or asks, or its next outcome has so many answers behind it
-abbrev pub IsWent : Env → List Value → Went → Type 0
+abbrev pub IsWent : Env → List Value → Advance → Type 0
 IsWent env answers (went.Ends reply) = IsMade (led env) answers reply
 IsWent env answers (went.Goes outcome n) = IsNext env answers outcome n
 
 -- so many answers are there
-abbrev pub IsWithin : ℕ → Went → Type 0
+abbrev pub IsWithin : ℕ → Advance → Type 0
 IsWithin n (went.Ends reply) = Unit {0}
 IsWithin n (went.Goes outcome taken) = taken ≤ n
 

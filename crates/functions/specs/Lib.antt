@@ -1,13 +1,13 @@
 pub mod Once
 pub mod Sources
 pub mod SourceLaws
-pub mod Gathered
+pub mod Results
 pub mod Goes
-pub mod Heard
+pub mod GlobAnswers
 pub mod Modules
 pub mod Packages
 pub mod Next
-pub mod Held
-pub mod Found
+pub mod NodeStates
+pub mod NodeValues
 pub mod NextLaws
 pub mod Replies

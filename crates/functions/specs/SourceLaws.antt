@@ -13,7 +13,7 @@ use Rattle.labels.specs.Labels.{Target, label_of, label_file, boundaries}
 use Rattle.tree.specs.Tree.{Fi}
 use Rattle.tokens.specs.Reading as tokens
 use Rattle.grammar.specs.Files.{parse_of}
-use Rattle.module_values.specs.Values.{Loaded}
+use Rattle.module_values.specs.Values.{ModuleValue}
 use Rattle.language.specs.Environment.{Env}
 use Rattle.language.specs.Files.{Outcome, a_module, a_package, a_need, a_fault, evaluate}
 use Rattle.keys.specs.Keys.{key_eq, kind, name_of}
@@ -141,7 +141,7 @@ good_rounds : (n : ℕ) (env : Env) (answers : List Value) → IsGood (rounds n 
 good_rounds zero env answers = good_outcome env (evaluate env)
 good_rounds (suc n) env answers = good_going (λ e a. rounds n e a) (good_rounds n) env (evaluate env) answers
 
-good_modules : (source : Source) (file : Fi) (found : Result (List Loaded) Fault) (answers : List Value) → IsGood (after_modules source file found answers)
+good_modules : (source : Source) (file : Fi) (found : Result (List ModuleValue) Fault) (answers : List Value) → IsGood (after_modules source file found answers)
 good_modules source file (Err f) answers = good_end (value.Fault f) tt
 good_modules source file (Ok loads) answers = good_rounds (length answers) (env_of source file loads) answers
 

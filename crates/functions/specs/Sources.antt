@@ -7,7 +7,7 @@ use Rattle.labels.specs.Labels.{Target, label_of, label_text, is_module}
 use Rattle.tree.specs.Tree.{Fi, Ld}
 use Rattle.tokens.specs.Reading as tokens
 use Rattle.grammar.specs.Files.{parse_of}
-use Rattle.module_values.specs.Values.{Loaded}
+use Rattle.module_values.specs.Values.{ModuleValue}
 use Rattle.language.specs.Environment.{Env}
 use Rattle.language.specs.Laws.{with_answers}
 use Rattle.language.specs.Files.{Outcome, a_module, a_package, a_need, a_fault, evaluate}
@@ -50,7 +50,7 @@ abbrev pub load_key : Source → Ld → Result Key Fault
 load_key source l = module_key (label_of l.label source.package_name) source.path l.line
 
 -- the module that a load gives, or its fault, as it is; no other value comes of a load
-abbrev pub module_in : List ℕ → Option Value → Result Loaded Fault
+abbrev pub module_in : List ℕ → Option Value → Result ModuleValue Fault
 module_in path None = Err (fault_at NO_MODULE path 0)
 module_in path (Some (value.File text)) = Err (fault_at NO_MODULE path 0)
 module_in path (Some (value.Listing names)) = Err (fault_at NO_MODULE path 0)
@@ -62,16 +62,16 @@ module_in path (Some (value.Fault f)) = Err f
 module_in path (Some (value.Cycle labels)) = Err (fault_at NO_MODULE path 0)
 
 -- the modules of all loads, in their order, or the fault of the first faulty one
-abbrev pub all_modules : List ℕ → List Key → List Key → List Value → Result (List Loaded) Fault
+abbrev pub all_modules : List ℕ → List Key → List Key → List Value → Result (List ModuleValue) Fault
 all_modules path group keys answers = each_or_fault (λ k. module_in path (answer_at k group answers)) keys
 
 -- the same by the keys' places
-abbrev pub modules_in : List ℕ → BTreeMap Key ℕ → List Key → List Value → Result (List Loaded) Fault
+abbrev pub modules_in : List ℕ → BTreeMap Key ℕ → List Key → List Value → Result (List ModuleValue) Fault
 modules_in path places keys answers = each_or_fault (λ k. module_in path (answer_in places k answers)) keys
 
 -- ---- the evaluation, which stops at each call of `glob` whose patterns have no answer
 
-abbrev pub env_of : Source → Fi → List Loaded → Env
+abbrev pub env_of : Source → Fi → List ModuleValue → Env
 env_of source file loads = record {
   kind = source.kind;
   label = source.label;
@@ -126,7 +126,7 @@ rounds (suc n) env answers = goes_on (λ e a. rounds n e a) env (evaluate env) a
 
 -- ---- the turns
 
-abbrev pub after_modules : Source → Fi → Result (List Loaded) Fault → List Value → Reply Key Value
+abbrev pub after_modules : Source → Fi → Result (List ModuleValue) Fault → List Value → Reply Key Value
 after_modules source file (Err f) answers = Done (value.Fault f)
 after_modules source file (Ok loads) answers = rounds (length answers) (env_of source file loads) answers
 

@@ -6,16 +6,16 @@ ghost use Rattle.language.specs.Environment.{Env};
 ghost use Rattle.evaluator.specs.Machines.{env_of};
 ghost use Rattle.evaluator.specs.Files.{shared_texts};
 ghost use Rattle.keys.specs.Turns.{values};
-ghost use Rattle.functions.specs.Heard.{IsHeard};
+ghost use Rattle.functions.specs.GlobAnswers.{IsHeard};
 ghost use Rattle.functions.specs.Goes.{led, env_in, IsWaiting, IsMade, IsOutcome, IsOf, IsWent, IsWithin, LeadsTo};
 ghost use Rattle.functions.specs.Sources as specs;
 
 use crate::file_node::Source;
 use crate::once::{answer_of, first_places, once};
-use crate::reply::{Continuation, Paused, Reply};
+use crate::reply::{Continuation, PackageEvaluation, Reply};
 use evaluator::{Environment, Outcome, resume, run};
 use keys::{Fault, Key, Value};
-use module_values::Loaded;
+use module_values::ModuleValue;
 use package_calls::Package;
 use std::alloc::Global;
 use std::collections::BTreeMap;
@@ -25,7 +25,7 @@ use texts::{Memory, Text};
 
 // How far the answers lead an evaluation.
 #[derive(Drop)]
-pub enum Went {
+pub enum Advance {
     // It ends, or asks.
     Ends(Reply),
     // It has gone on to this outcome, with so many answers.
@@ -91,7 +91,7 @@ fn paths_by(
 
 // What the answers are good for, where an evaluation waits.
 #[derive(Drop)]
-enum Heard {
+enum GlobAnswers {
     // None is there: this group is asked.
     Nothing(Vec<Key>),
     // Too few are there: this group is asked again.
@@ -109,43 +109,43 @@ fn hear(
     package_name: &Text,
     patterns: &[Text],
     answers: &[Arc<Value>],
-) -> Result<Heard, Memory>
+) -> Result<GlobAnswers, Memory>
     ensures { IfOk result (IsHeard package_name.now patterns.now (values answers.now)) }
 {
     let keys = glob_keys(alloc, package_name, patterns)?;
     let group = once(alloc, keys.as_slice())?;
     if answers.is_empty() {
-        return Ok(Heard::Nothing(group));
+        return Ok(GlobAnswers::Nothing(group));
     }
     let count = group.as_slice().len();
     if answers.len() < count {
-        return Ok(Heard::TooFew(group));
+        return Ok(GlobAnswers::TooFew(group));
     }
     let paths = paths_by(alloc, group.as_slice(), keys.as_slice(), answers)?;
-    Ok(Heard::Paths { paths, used: count })
+    Ok(GlobAnswers::Paths { paths, used: count })
 }
 
 // Goes on with an evaluation that waits, if the answers of its group are there.
-fn wait(alloc: Global, paused: Paused, answers: &[Arc<Value>]) -> Result<Went, Memory>
+fn wait(alloc: Global, paused: PackageEvaluation, answers: &[Arc<Value>]) -> Result<Advance, Memory>
     ensures within { IfOk result (IsWithin (length answers.now)) }
     ensures went { IfOk result (λ went. IsWaiting paused → IsWent (env_in paused)
         (values answers.now) went) }
 {
     let patterns = paused.suspended.patterns();
     match hear(alloc, &paused.package_name, patterns, answers) {
-        Ok(Heard::Nothing(group)) => {
+        Ok(GlobAnswers::Nothing(group)) => {
             if paused.suspended.is_large() {
                 drop(paused);
-                return Ok(Went::Ends(Reply::Ask(group)));
+                return Ok(Advance::Ends(Reply::Ask(group)));
             }
-            Ok(Went::Ends(Reply::Wait(group, Continuation::Globs(paused))))
+            Ok(Advance::Ends(Reply::Wait(group, Continuation::Globs(paused))))
         }
-        Ok(Heard::TooFew(group)) => {
+        Ok(GlobAnswers::TooFew(group)) => {
             drop(paused);
-            Ok(Went::Ends(Reply::Ask(group)))
+            Ok(Advance::Ends(Reply::Ask(group)))
         }
-        Ok(Heard::Paths { paths, used: count }) => {
-            Ok(Went::Goes {
+        Ok(GlobAnswers::Paths { paths, used: count }) => {
+            Ok(Advance::Goes {
                 outcome: resume(paused.suspended, paths)?,
                 used: count,
             })
@@ -163,24 +163,24 @@ fn go_on(
     package_name: &Text,
     outcome: Outcome,
     answers: &[Arc<Value>],
-) -> Result<Went, Memory>
+) -> Result<Advance, Memory>
     ensures within { IfOk result (IsWithin (length answers.now)) }
     ensures went { IfOk result (λ went. (env : Env) → env.package_name ≡ package_name.now
         → IsOutcome env outcome → IsWent env (values answers.now) went) }
 {
     match outcome {
-        Outcome::Module(loaded) => Ok(Went::Ends(Reply::Done(Value::Module(loaded)))),
-        Outcome::Package(targets) => Ok(Went::Ends(Reply::Done(Value::Package(targets)))),
+        Outcome::Module(loaded) => Ok(Advance::Ends(Reply::Done(Value::Module(loaded)))),
+        Outcome::Package(targets) => Ok(Advance::Ends(Reply::Done(Value::Package(targets)))),
         Outcome::Fault(fault) => {
             let fault = Fault {
                 code: fault.code,
                 path: fault.path,
                 line: fault.line,
             };
-            Ok(Went::Ends(Reply::Done(Value::Fault(fault))))
+            Ok(Advance::Ends(Reply::Done(Value::Fault(fault))))
         }
         Outcome::Need(_, suspended) => {
-            let paused = Paused {
+            let paused = PackageEvaluation {
                 package_name: package_name.share()?,
                 suspended,
             };
@@ -203,8 +203,8 @@ fn rounds(
     let mut left = answers;
     loop {
         match go_on(alloc, package_name, outcome, left)? {
-            Went::Ends(reply) => return Ok(reply),
-            Went::Goes {
+            Advance::Ends(reply) => return Ok(reply),
+            Advance::Goes {
                 outcome: next,
                 used: taken,
             } => {
@@ -217,14 +217,18 @@ fn rounds(
 }
 
 /// Returns what the answers lead a paused evaluation to.
-pub fn go_further(alloc: Global, paused: Paused, answers: &[Arc<Value>]) -> Result<Reply, Memory>
+pub fn go_further(
+    alloc: Global,
+    paused: PackageEvaluation,
+    answers: &[Arc<Value>],
+) -> Result<Reply, Memory>
     requires { IsWaiting paused }
     ensures { IfOk result (IsMade (led (env_in paused)) (values answers.now)) }
 {
     let package_name = paused.package_name.share()?;
     match wait(alloc, paused, answers)? {
-        Went::Ends(reply) => Ok(reply),
-        Went::Goes {
+        Advance::Ends(reply) => Ok(reply),
+        Advance::Goes {
             outcome: next,
             used: taken,
         } => rounds(alloc, &package_name, next, &answers[taken..]),
@@ -236,7 +240,7 @@ fn environment(
     alloc: Global,
     source: &Source,
     file: Arc<File, Global>,
-    loads: Vec<Loaded>,
+    loads: Vec<ModuleValue>,
 ) -> Result<Environment, Memory>
     ensures { IfOk result (λ e. env_of e ≡ specs.env_of source.now (file_of (arc_value file))
         loads.items) }
@@ -260,7 +264,7 @@ pub fn evaluated(
     alloc: Global,
     source: &Source,
     file: Arc<File, Global>,
-    loads: Vec<Loaded>,
+    loads: Vec<ModuleValue>,
     answers: &[Arc<Value>],
 ) -> Result<Reply, Memory>
     ensures { IfOk result

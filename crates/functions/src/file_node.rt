@@ -14,15 +14,15 @@ ghost use Rattle.functions.specs.Sources as specs;
 ghost use Rattle.functions.specs.Goes.{IsMade, table_of};
 ghost use Rattle.functions.specs.declared.reply.Continuation.TheVariants as continuation;
 ghost use Rattle.functions.specs.Replies.{IsReply};
-ghost use Rattle.functions.specs.Gathered.{IsAll, IsParsed};
+ghost use Rattle.functions.specs.Results.{IsAll, IsParsed};
 
 use crate::evaluating::evaluated;
 use crate::once::{answer_of, first_places, once};
-use crate::reply::{Continuation, Parsed, Reply};
+use crate::reply::{Continuation, FileLoads, Reply};
 use keys::{BuildName, Fault, Key, Value};
 use labels::{BadLabel, Label};
 use meaning::faults;
-use module_values::Loaded;
+use module_values::ModuleValue;
 use std::alloc::Global;
 use std::collections::BTreeMap;
 use std::sync::Arc;
@@ -99,14 +99,14 @@ pub fn load_keys(
 }
 
 // Returns the same module with those that it reaches, shared.
-fn share_loaded(alloc: Global, loaded: &Loaded) -> Result<Loaded, Memory>
+fn share_loaded(alloc: Global, loaded: &ModuleValue) -> Result<ModuleValue, Memory>
     ensures { IfOk result (λ l. l ≡ loaded.now) }
 {
     let mut reached = Vec::with_capacity(alloc, loaded.reached().len())?;
     for module in loaded.reached() {
         reached.push(module.share()?)?;
     }
-    Ok(Loaded::new(loaded.body().share()?, reached))
+    Ok(ModuleValue::new(loaded.body().share()?, reached))
 }
 
 // Returns the module that a load gives, or its fault, as it is.
@@ -114,7 +114,7 @@ fn module_in(
     alloc: Global,
     path: &Text,
     answer: Option<&Value>,
-) -> Result<Result<Loaded, Fault>, Memory>
+) -> Result<Result<ModuleValue, Fault>, Memory>
     ensures { IfOk result
         (λ r. r ≡ specs.module_in path.now (option_map (λ v. v.now) answer.entry)) }
 {
@@ -132,7 +132,7 @@ fn modules_in(
     places: &BTreeMap<Key, usize>,
     keys: &[Key],
     answers: &[Arc<Value>],
-) -> Result<Result<Vec<Loaded>, Fault>, Memory>
+) -> Result<Result<Vec<ModuleValue>, Fault>, Memory>
     ensures { IfOk result
         (IsAll (specs.modules_in path.now places.now keys.now (values answers.now))) }
 {
@@ -153,7 +153,7 @@ pub fn all_modules(
     group: &[Key],
     keys: &[Key],
     answers: &[Arc<Value>],
-) -> Result<Result<Vec<Loaded>, Fault>, Memory>
+) -> Result<Result<Vec<ModuleValue>, Fault>, Memory>
     ensures { IfOk result
         (IsAll (specs.all_modules path.now group.now keys.now (values answers.now))) }
 {
@@ -169,7 +169,7 @@ fn faulty(code: u8, path: &Text, line: usize) -> Result<Reply, Memory>
 }
 
 // Asks the modules of a file's loads. With some of their answers alone the next turn begins anew.
-fn ask_modules(group: Vec<Key>, parsed: Parsed, answers: &[Arc<Value>]) -> Reply
+fn ask_modules(group: Vec<Key>, parsed: FileLoads, answers: &[Arc<Value>]) -> Reply
     requires { specs.after_loads parsed.source (file_of (arc_value parsed.file))
         (Ok parsed.keys.items) (values answers.now) ≡ Ask group.items }
     ensures { IsMade (table_of (continuation.Loads parsed)) (values answers.now) result }
@@ -182,7 +182,11 @@ fn ask_modules(group: Vec<Key>, parsed: Parsed, answers: &[Arc<Value>]) -> Reply
 
 /// Returns what comes once the keys of a file's loads are known. If none of their modules is there, the file's tree is
 /// kept.
-pub fn after_loads(alloc: Global, parsed: Parsed, answers: &[Arc<Value>]) -> Result<Reply, Memory>
+pub fn after_loads(
+    alloc: Global,
+    parsed: FileLoads,
+    answers: &[Arc<Value>],
+) -> Result<Reply, Memory>
     ensures { IfOk result (IsMade (table_of (continuation.Loads parsed)) (values answers.now)) }
 {
     let group = once(alloc, parsed.keys.as_slice())?;
@@ -190,7 +194,7 @@ pub fn after_loads(alloc: Global, parsed: Parsed, answers: &[Arc<Value>]) -> Res
     if answers.len() < count {
         return Ok(ask_modules(group, parsed, answers));
     }
-    let Parsed { source, file, keys } = parsed;
+    let FileLoads { source, file, keys } = parsed;
     match all_modules(
         alloc,
         &source.path,
@@ -219,7 +223,7 @@ fn after_text(
     match load_keys(alloc, &source, file.loads.as_slice())? {
         Ok(keys) => {
             let file = Arc::new(alloc, file)?;
-            let parsed = Parsed { source, file, keys };
+            let parsed = FileLoads { source, file, keys };
             after_loads(alloc, parsed, answers)
         }
         Err(fault) => Ok(Reply::Done(Value::Fault(fault))),

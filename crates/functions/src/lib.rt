@@ -24,7 +24,7 @@
 //! An empty group is not asked, and a key that repeats in a group is asked once, at its first place.
 #![tactic(auto)]
 
-ghost use Rattle.functions.specs.Found.{NamesHold, GlobsHold, PackagesHold};
+ghost use Rattle.functions.specs.NodeValues.{NamesHold, GlobsHold, PackagesHold};
 
 mod evaluating;
 mod file_node;

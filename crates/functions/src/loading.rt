@@ -4,7 +4,7 @@ ghost use Rattle.keys.specs.declared.key.Key.{Key};
 ghost use Rattle.keys.specs.declared.value.Value.{Value};
 ghost use Rattle.keys.specs.Turns.{values};
 ghost use Rattle.functions.specs.Goes.{IsMade, Table, MayGoOn, table_of};
-ghost use Rattle.functions.specs.Held.{HoldsFrom};
+ghost use Rattle.functions.specs.NodeStates.{HoldsFrom};
 ghost use Rattle.functions.specs.Next as table;
 ghost use Rattle.walks.specs.Replies.{IsReply as IsWalked};
 
@@ -27,7 +27,7 @@ pub trait LoadRules: Rules {
 
 // A file with its tree, or an evaluation, that waits, and how many answers stand before those that it waits for.
 #[derive(Drop)]
-pub struct Held {
+pub struct ResumePoint {
     taken: usize,
     continuation: Continuation,
 }
@@ -35,10 +35,10 @@ pub struct Held {
 /// What is kept of a node between two turns: its key and, where a file waits for its loads or a package for globs, the
 /// file's tree or the evaluation.
 #[derive(Drop)]
-pub struct Kept {
+pub struct NodeState {
     key: Key,
     // Boxed, so that the states of the many nodes that hold nothing are moved as a few words.
-    held: Option<Box<Held>>,
+    held: Option<Box<ResumePoint>>,
 }
 
 // Returns the reply of a node that goes by directories, of which nothing waits.
@@ -82,7 +82,7 @@ fn go_on(alloc: Global, continuation: Continuation, answers: &[Arc<Value>]) -> R
 fn reply_of(
     alloc: Global,
     key: &Key,
-    held: Option<Box<Held>>,
+    held: Option<Box<ResumePoint>>,
     answers: &[Arc<Value>],
 ) -> Result<Reply, Memory>
     requires { HoldsFrom held key.now (values answers.now) }
@@ -91,7 +91,7 @@ fn reply_of(
     match held {
         None => from_start(alloc, key, answers),
         Some(held) => {
-            let Held {
+            let ResumePoint {
                 taken,
                 continuation,
             } = Box::into_inner(held);
@@ -120,10 +120,10 @@ impl Loading {
 }
 
 impl Rules for Loading {
-    type State = Kept;
+    type State = NodeState;
 
     ghost use Rattle.functions.specs.Next.{next};
-    ghost use Rattle.functions.specs.Held.{fits};
+    ghost use Rattle.functions.specs.NodeStates.{fits};
     ghost use Rattle.functions.specs.NextLaws.{groups_differ, ends_plain};
 
     ghost next = { next };
@@ -136,26 +136,30 @@ impl Rules for Loading {
 
     ghost ends_plain = { ends_plain };
 
-    fn begin(&self, key: &Key) -> Result<Kept, Memory> {
-        Ok(Kept {
+    fn begin(&self, key: &Key) -> Result<NodeState, Memory> {
+        Ok(NodeState {
             key: key.share()?,
             held: None,
         })
     }
 
-    fn turn(&mut self, state: Kept, answers: &[Arc<Value>]) -> Result<Turn<Kept>, Memory> {
+    fn turn(
+        &mut self,
+        state: NodeState,
+        answers: &[Arc<Value>],
+    ) -> Result<Turn<NodeState>, Memory> {
         self.made.add_one();
-        let Kept { key, held } = state;
+        let NodeState { key, held } = state;
         match reply_of(self.alloc, &key, held, answers)? {
-            Reply::Ask(group) => Ok(Turn::Ask(Kept { key, held: None }, group)),
+            Reply::Ask(group) => Ok(Turn::Ask(NodeState { key, held: None }, group)),
             Reply::Wait(group, continuation) => {
                 let taken = answers.len();
-                let held = Held {
+                let held = ResumePoint {
                     taken,
                     continuation,
                 };
                 let held = Some(Box::new(self.alloc, held)?);
-                Ok(Turn::Ask(Kept { key, held }, group))
+                Ok(Turn::Ask(NodeState { key, held }, group))
             }
             Reply::Done(value) => Ok(Turn::Done(value)),
         }

@@ -22,14 +22,14 @@ pub enum Reply {
 #[derive(Drop)]
 pub enum Continuation {
     /// A file with its tree, which waits for the modules of its loads.
-    Loads(Parsed),
+    Loads(FileLoads),
     /// The evaluation of a package's file, which waits for globs.
-    Globs(Paused),
+    Globs(PackageEvaluation),
 }
 
 /// A file with its tree, and the keys of the modules that its loads name.
 #[derive(Drop)]
-pub struct Parsed {
+pub struct FileLoads {
     pub source: Source,
     pub file: Arc<File, Global>,
     pub keys: Vec<Key>,
@@ -37,7 +37,7 @@ pub struct Parsed {
 
 /// The evaluation of a file of a package, that waits for globs of which no answer is there.
 #[derive(Drop)]
-pub struct Paused {
+pub struct PackageEvaluation {
     pub package_name: Text,
     pub suspended: Suspended,
 }

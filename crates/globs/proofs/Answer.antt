@@ -8,7 +8,7 @@ use Rattle.filetree.specs.Listings.{rest_below}
 use Rattle.pattern.specs.Patterns.{path_matches}
 use Rattle.globs.specs.Globs.{is_open, found_below, some_matches, IsFoundByPatterns}
 use Rattle.globs.proofs.Members.{In, in_filter, filter_in, in_append, append_left, append_right, or_left, or_right}
-use Rattle.globs.proofs.Sorted.{sorted_same, in_sorted, sorted_in}
+use Rattle.globs.proofs.NameOrder.{sorted_same, in_sorted, sorted_in}
 
 module _ (packages : List ℕ → Bool) (paths : List (List ℕ)) (directory : List ℕ) where
   abbrev rests : List (List ℕ)

@@ -12,7 +12,7 @@ use Rattle.filetree.specs.Folders.{has_no_slash}
 use Rattle.filetree.specs.Listings.{Names, sorted_names, rest_below, first_name, names_in}
 use Rattle.globs.specs.Globs.{path_in, IsHeldWithDirectories}
 use Rattle.globs.proofs.Members.{In, own_bytes, same_bytes, in_any, any_in, in_all, bool_same, in_filter, filter_in, in_append, append_left, append_right, in_each, each_in, in_flat_map, flat_map_in, or_left, or_right}
-use Rattle.globs.proofs.Sorted.{sorted_same, in_sorted, sorted_in}
+use Rattle.globs.proofs.NameOrder.{sorted_same, in_sorted, sorted_in}
 use Rattle.globs.proofs.Paths.{rest_in, rest_path}
 use Rattle.globs.proofs.Walk.{files_of, directories_of, files_to, files_from, directories_to, directories_from}
 

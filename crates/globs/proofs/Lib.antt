@@ -1,5 +1,5 @@
 pub mod Members
-pub mod Sorted
+pub mod NameOrder
 pub mod Paths
 pub mod Walk
 pub mod Answer

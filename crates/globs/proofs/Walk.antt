@@ -10,7 +10,7 @@ use Rattle.pattern.specs.Wild.{some_end, first_fits}
 use Rattle.pattern.specs.Patterns.{is_double_star, segment_matches, path_matches}
 use Rattle.globs.specs.Globs.{path_in, is_open, found_below, is_last, step_files, goes_into, walk_step, IsFoundByWalk}
 use Rattle.globs.proofs.Members.{In, in_filter, filter_in, in_append, append_left, append_right, in_each, each_in, in_flat_map, flat_map_in, or_left, or_right}
-use Rattle.globs.proofs.Sorted.{sorted_same, in_sorted, sorted_in, no_names}
+use Rattle.globs.proofs.NameOrder.{sorted_same, in_sorted, sorted_in, no_names}
 use Rattle.globs.proofs.Paths.{Cut, cut, rests_to, rests_from, HasName, path_deep, has_name, one_segment, more_segments, some_segment, open_name, open_deep, is_deep, first_of}
 
 -- what it means that a pattern finds a rest

@@ -1,3 +1,3 @@
 pub mod Times
-pub mod Keyed
+pub mod DictionaryKeys
 pub mod Standing

@@ -1,6 +1,6 @@
 pub mod View
-pub mod Sized
-pub mod Held
+pub mod ListSizes
+pub mod MemoryUse
 pub mod Objects
-pub mod Written
-pub mod Gone
+pub mod LastWrite
+pub mod Reclamation

@@ -2,13 +2,13 @@
 use Rattle.std.specs.Prelude.{◌≡◌, List, map, Result, Ok, Err}
 use Rattle.std.specs.declared.vec.Vec.{Vec}
 use Rattle.std.specs.declared.alloc.Global.{Global}
-use Rattle.meaning.specs.Outcome.{Out, gives, faults, Checked, good, bad}
+use Rattle.meaning.specs.Outcome.{Out, gives, faults, ValueOrFault, good, bad}
 use Rattle.meaning.specs.Heap.{Obj, Store}
 use Rattle.heap.specs.declared.heap_object.HeapObject.{HeapObject}
 use Rattle.heap.specs.declared.heap.Heap.{Heap}
 use Rattle.heap.specs.declared.halt.Halt.{Halt}
 use Rattle.heap.specs.declared.halt.Halt.TheVariants.{Code, Memory}
-use Rattle.heap.specs.Written.{last_written}
+use Rattle.heap.specs.LastWrite.{last_written}
 
 -- the object that stands there, also where its memory has been given back
 unfoldable pub object_in : HeapObject → Obj
@@ -31,12 +31,12 @@ SaysItems out (Err (Code c)) s = out ≡ faults c
 SaysItems out (Err Memory) s = Unit {0}
 
 -- the same, where there is no state
-abbrev pub Checks : {A : Type 0} → Checked A → Result A Halt → Type 0
+abbrev pub Checks : {A : Type 0} → ValueOrFault A → Result A Halt → Type 0
 Checks out (Ok a) = out ≡ good a
 Checks out (Err (Code c)) = out ≡ bad c
 Checks out (Err Memory) = Unit {0}
 
-abbrev pub ChecksItems : {A : Type 0} → Checked (List A) → Result (Vec A Global) Halt → Type 0
+abbrev pub ChecksItems : {A : Type 0} → ValueOrFault (List A) → Result (Vec A Global) Halt → Type 0
 ChecksItems out (Ok v) = out ≡ good v.items
 ChecksItems out (Err (Code c)) = out ≡ bad c
 ChecksItems out (Err Memory) = Unit {0}

@@ -12,7 +12,7 @@ use std::alloc::Global;
 use texts::Memory;
 
 /// Returns the entry that a dictionary has at a key, if there is one.
-#[tactic(auto, using(crate::proofs::Keyed::lookup_found))]
+#[tactic(auto, using(crate::proofs::DictionaryKeys::lookup_found))]
 pub fn found(entries: &IndexMap<Key, Entry>, key: &Key) -> Option<Entry>
     ensures { result ≡ found key.now entries.now.entries }
 {
@@ -20,7 +20,7 @@ pub fn found(entries: &IndexMap<Key, Entry>, key: &Key) -> Option<Entry>
 }
 
 /// Sets a key, which keeps its place if it was there.
-#[tactic(auto, using(crate::proofs::Keyed::insert_with_key))]
+#[tactic(auto, using(crate::proofs::DictionaryKeys::insert_with_key))]
 pub fn set_entry(entries: &mut IndexMap<Key, Entry>, key: Key, entry: Entry) -> Result<(), Memory>
     ensures { OnOk result (entries.new.entries ≡ with_key key entry entries.old.entries) }
 {
@@ -29,7 +29,7 @@ pub fn set_entry(entries: &mut IndexMap<Key, Entry>, key: Key, entry: Entry) -> 
 }
 
 /// Returns whether a dictionary is not too long once the key is set.
-#[tactic(auto, using(crate::proofs::Keyed::with_key_length, crate::proofs::Keyed::lookup_found))]
+#[tactic(auto, using(crate::proofs::DictionaryKeys::with_key_length, crate::proofs::DictionaryKeys::lookup_found))]
 pub fn has_room(entries: &IndexMap<Key, Entry>, key: &Key) -> bool
     ensures { (e : Entry) → result ≡ is_sized (length (with_key key.now e entries.now.entries)) }
 {
@@ -40,7 +40,7 @@ pub fn has_room(entries: &IndexMap<Key, Entry>, key: &Key) -> bool
 }
 
 /// Returns the keys of a dictionary, in order.
-#[tactic(auto, using(crate::proofs::Keyed::take_some, crate::proofs::Keyed::take_none, crate::proofs::Keyed::take_keys))]
+#[tactic(auto, using(crate::proofs::DictionaryKeys::take_some, crate::proofs::DictionaryKeys::take_none, crate::proofs::DictionaryKeys::take_keys))]
 pub fn keys(alloc: Global, entries: &IndexMap<Key, Entry>) -> Result<Vec<Val>, Memory>
     ensures { IfOk result (λ v. v.items ≡ keys_of entries.now.entries) }
 {
@@ -54,7 +54,7 @@ pub fn keys(alloc: Global, entries: &IndexMap<Key, Entry>) -> Result<Vec<Val>, M
 }
 
 // Returns the key at a place of the order.
-#[tactic(auto, using(crate::proofs::Keyed::key_there))]
+#[tactic(auto, using(crate::proofs::DictionaryKeys::key_there))]
 fn key_at(entries: &IndexMap<Key, Entry>, i: usize) -> Option<Val>
     ensures { result ≡ slice_get (keys_of entries.now.entries) i }
 {

@@ -4,8 +4,8 @@ ghost use Rattle.meaning.specs.Outcome.{gives};
 ghost use Rattle.meaning.specs.Heap.{at, puts, makes, makes_text, makes_list, makes_tuple, makes_dict};
 ghost use Rattle.heap.specs.Objects.{object_of};
 ghost use Rattle.heap.specs.View.{object_in, store_of, Says};
-ghost use Rattle.heap.specs.Gone.{IsGone};
-ghost use Rattle.heap.specs.Held.{most_held, object_bytes, place_bytes, Counted};
+ghost use Rattle.heap.specs.Reclamation.{IsGone};
+ghost use Rattle.heap.specs.MemoryUse.{most_held, object_bytes, place_bytes, Counted};
 
 use crate::halt::Halt;
 use crate::heap_object::HeapObject;

@@ -2,8 +2,8 @@
 ghost use Rattle.std.specs.Prelude.{◌≡◌, IfOk, OnErr, None};
 ghost use Rattle.heap.specs.Objects.{object_of};
 ghost use Rattle.std.specs.Option.{ForSome};
-ghost use Rattle.heap.specs.Written.{last_written};
-ghost use Rattle.heap.specs.Held.{object_bytes, shape_bytes};
+ghost use Rattle.heap.specs.LastWrite.{last_written};
+ghost use Rattle.heap.specs.MemoryUse.{object_bytes, shape_bytes};
 
 use crate::object::{Object, Shape, shape_of, size_of};
 use http_server::Log;
@@ -25,7 +25,7 @@ pub struct HeapObject {
 
 impl HeapObject {
     ghost use Rattle.heap.specs.View.{object_in};
-    ghost use Rattle.heap.specs.Gone.{counted_bytes};
+    ghost use Rattle.heap.specs.Reclamation.{counted_bytes};
 
     /// Makes an object that comes to stand on the heap.
     #[tactic(auto, unfolding(crate::specs::View::object_in))]

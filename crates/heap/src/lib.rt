@@ -6,8 +6,8 @@ mod halt;
 mod heap;
 mod heap_object;
 mod lists;
+mod live_objects;
 mod object;
-mod reached;
 mod steps;
 
 pub use dictionaries::{found, has_room, keys, set_entry};
@@ -15,7 +15,7 @@ pub use halt::Halt;
 pub use heap::{DEEPEST, Heap, LONGEST, object_at};
 pub use heap_object::HeapObject;
 pub use lists::{cut, joined, member, place, repeated, val_at};
+pub use live_objects::LiveObjects;
 pub use meaning::{Builtin, Bytes, Entry, Key, Operator, PACKAGE, PLAIN, Part, Val};
 pub use object::Object;
-pub use reached::Reached;
 pub use steps::{spend, tick};

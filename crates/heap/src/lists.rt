@@ -3,7 +3,7 @@ ghost use Rattle.std.specs.Prelude.{◌≡◌, ◌≤◌, ◌*◌, ◌++◌, not
 ghost use Rattle.meaning.specs.Heap.{is_sized};
 ghost use Rattle.meaning.specs.Operators.{repeated, times};
 ghost use Rattle.meaning.specs.Indexing.{place, member, bound, bound_or, cut, between};
-ghost use Rattle.heap.specs.Sized.{SizedAs, CutAs};
+ghost use Rattle.heap.specs.ListSizes.{SizedAs, CutAs};
 
 use crate::halt::Halt;
 use crate::heap::LONGEST;

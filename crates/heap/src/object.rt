@@ -1,7 +1,7 @@
 //! Objects, and the bytes that they count for.
 ghost use Rattle.std.specs.Prelude.{◌≡◌};
 ghost use Rattle.heap.specs.Objects.{object_of};
-ghost use Rattle.heap.specs.Held.{object_bytes, shape_bytes};
+ghost use Rattle.heap.specs.MemoryUse.{object_bytes, shape_bytes};
 
 use indexmap::IndexMap;
 use meaning::{Bytes, Entry, Key, Val};

@@ -1,6 +1,6 @@
 -- The value that the members of a loop share.
 use Rattle.std.specs.Prelude.{ℕ, List, Option, Some, None}
-use Rattle.evaluation.specs.Rotated.{loop_labels}
+use Rattle.evaluation.specs.Rotation.{loop_labels}
 use Rattle.keys.specs.declared.key.Key.{Key}
 use Rattle.keys.specs.declared.key.Key.TheVariants.{File, Listing, Lookup, Glob, Module, Package, Under}
 use Rattle.keys.specs.declared.value.Value.{Value}

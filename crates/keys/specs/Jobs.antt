@@ -4,7 +4,7 @@ use Rattle.keys.specs.declared.key.Key.{Key}
 use Rattle.keys.specs.declared.value.Value.{Value}
 
 -- a turn to be made: whose it is, and all answers so far
-pub record Asked : Type 0 where
+pub record JobView : Type 0 where
   pub key : Key
   pub answers : List Value
 
@@ -22,7 +22,7 @@ turns_made NotBegun = 0
 
 -- the turn of a job, and how it ended
 pub record Outcome : Type 0 where
-  pub asked : Asked
+  pub asked : JobView
   pub ending : Ending
 
 -- a node that waits for a group, after these answers

@@ -1,5 +1,5 @@
 pub mod Keys
-pub mod Listed
+pub mod Directories
 pub mod Values
 pub mod ValueLaws
 pub mod Turns
@@ -7,5 +7,5 @@ pub mod Jobs
 pub mod Answers
 pub mod Steps
 pub mod Cycles
-pub mod Touched
-pub mod Stored
+pub mod EditLeaves
+pub mod Storage

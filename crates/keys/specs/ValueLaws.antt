@@ -13,7 +13,7 @@ use Rattle.module_values.specs.EqualLaws.{targets_decide, loaded_decide}
 use Rattle.keys.specs.declared.value.Fault as fault
 use Rattle.keys.specs.declared.value.Value.{Value}
 use Rattle.keys.specs.declared.value.Value.TheVariants.{File, Listing, Lookup, Paths, Module, Package, Fault, Cycle}
-use Rattle.keys.specs.Listed.{Listed}
+use Rattle.keys.specs.Directories.{DirectoryView}
 use Rattle.keys.specs.Values.{text_eq, build_eq, listed_eq, fault_eq, value_eq}
 
 -- a test that holds exactly of a value and itself
@@ -51,12 +51,12 @@ both false b e = cc
 join : (a b : Bool) → a ≡ true → b ≡ true → a && b ≡ true
 join a b h g = ap (λ x. x && b) h ∙ g
 
-pub exact_listed : (l m : Listed) → Decides (listed_eq l m) (l ≡ m)
+pub exact_listed : (l m : DirectoryView) → Decides (listed_eq l m) (l ≡ m)
 exact_listed l m =
     let d = exact_names l.files m.files in
     let e = exact_names l.directories m.directories in (
       λ h. let p = both (pointwise text_eq l.files m.files) (pointwise text_eq l.directories m.directories) h in λ i. record { files = d.0 p.0 i; directories = e.0 p.1 i },
-      λ q. join (pointwise text_eq l.files m.files) (pointwise text_eq l.directories m.directories) (d.1 (ap (λ (x : Listed). x.files) q)) (e.1 (ap (λ (x : Listed). x.directories) q)),
+      λ q. join (pointwise text_eq l.files m.files) (pointwise text_eq l.directories m.directories) (d.1 (ap (λ (x : DirectoryView). x.files) q)) (e.1 (ap (λ (x : DirectoryView). x.directories) q)),
     )
 
 pub exact_faults : (f g : fault.Fault) → Decides (fault_eq f g) (f ≡ g)

@@ -3,7 +3,7 @@ use Rattle.std.specs.Prelude.{ℕ, List, Bool, true, false, ◌&&◌, nat_eq}
 use Rattle.std.specs.Option.{option_eq}
 use Rattle.std.specs.Cmp.Lexicographic.{pointwise}
 use Rattle.module_values.specs.Equal.{target_eq, loaded_eq}
-use Rattle.keys.specs.Listed.{Listed}
+use Rattle.keys.specs.Directories.{DirectoryView}
 use Rattle.keys.specs.declared.value.BuildName.{BuildName}
 use Rattle.keys.specs.declared.value.BuildName.TheVariants.{BuildBazel, Build}
 use Rattle.keys.specs.declared.value.Fault as fault
@@ -21,7 +21,7 @@ build_eq Build BuildBazel = false
 build_eq Build Build = true
 
 -- with the same names in the same order
-abbrev pub listed_eq : Listed → Listed → Bool
+abbrev pub listed_eq : DirectoryView → DirectoryView → Bool
 listed_eq l m = pointwise text_eq l.files m.files && pointwise text_eq l.directories m.directories
 
 -- with the same code, path and line

@@ -20,13 +20,13 @@ pub struct Job<R: Rules> {
 
 impl<R: Rules> Model for Job<R> {
     ghost use Rattle.std.specs.Prelude.{IfSome};
-    ghost use Rattle.keys.specs.Jobs.{Asked};
+    ghost use Rattle.keys.specs.Jobs.{JobView};
     ghost use Rattle.keys.specs.Turns.{values};
 
-    ghost Value = { Asked };
+    ghost Value = { JobView };
 
     ghost use Rattle.std.specs.Coded.{codes};
-    ghost use Rattle.keys.specs.Stored.{loaded_code};
+    ghost use Rattle.keys.specs.Storage.{loaded_code};
 
     ghost coded = { Prim.hlevel (codes, loaded_code) };
 

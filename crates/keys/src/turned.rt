@@ -34,13 +34,13 @@ pub struct Turned<R: Rules> {
 }
 
 impl<R: Rules> Model for Turned<R> {
-    ghost use Rattle.keys.specs.Jobs.{Asked, Outcome};
+    ghost use Rattle.keys.specs.Jobs.{JobView, Outcome};
     ghost use Rattle.keys.specs.Turns.{values};
 
     ghost Value = { Outcome };
 
     ghost use Rattle.std.specs.Coded.{codes};
-    ghost use Rattle.keys.specs.Stored.{loaded_code};
+    ghost use Rattle.keys.specs.Storage.{loaded_code};
 
     ghost coded = { Prim.hlevel (codes, loaded_code) };
 

@@ -6,7 +6,7 @@ ghost use Rattle.std.specs.Arc.{arc_value};
 ghost use Rattle.keys.specs.Values.{text_eq, build_eq, listed_eq, fault_eq, value_eq};
 ghost use Rattle.keys.specs.ValueLaws.{builds_equiv, names_equiv, listed_equiv, faults_equiv, values_equiv};
 
-use module_values::{Loaded, Targets};
+use module_values::{ModuleValue, Targets};
 use std::alloc::Global;
 use std::marker::Model;
 use std::sync::Arc;
@@ -91,9 +91,9 @@ pub struct DirectoryNames {
 }
 
 impl Model for DirectoryNames {
-    ghost use Rattle.keys.specs.Listed.{Listed};
+    ghost use Rattle.keys.specs.Directories.{DirectoryView};
 
-    ghost Value = { Listed };
+    ghost Value = { DirectoryView };
 
     ghost view = { λ d. record { files = d.files; directories = d.directories } };
 }
@@ -245,7 +245,7 @@ pub enum Value {
     /// Of a glob: the paths that it finds, from its directory on.
     Paths(Paths),
     /// Of a module: what its file leaves, and all modules that it reaches.
-    Module(Loaded),
+    Module(ModuleValue),
     /// Of a package: its targets, in byte order of their names.
     Package(Targets),
     /// Of a module or a package whose file, or one of whose loads, has a fault.

@@ -26,7 +26,7 @@ impl<R: Rules> Model for Waiting<R> {
     ghost Value = { Waits };
 
     ghost use Rattle.std.specs.Coded.{codes};
-    ghost use Rattle.keys.specs.Stored.{loaded_code};
+    ghost use Rattle.keys.specs.Storage.{loaded_code};
 
     ghost coded = { Prim.hlevel (codes, loaded_code) };
 

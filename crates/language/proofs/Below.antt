@@ -6,7 +6,7 @@ use Rattle.grammar.specs.declared.kind.FileKind.TheVariants as k
 use Rattle.meaning.specs.declared.val.Val.{Val}
 use Rattle.language.specs.World.{World, Here, Ends, ended, failed, waits, Runs, then_runs, on_heap}
 use Rattle.meaning.specs.Functions.{the_items}
-use Rattle.language.specs.Loops.{Gathered, gather, over, locks, unlocks}
+use Rattle.language.specs.Loops.{Collection, gather, over, locks, unlocks}
 use Rattle.language.specs.Packages.{if_build}
 use Rattle.language.proofs.Quiet.{DoesNotWait, Quiet, ends_quiet, fails_quiet, heap_quiet, then_quiet}
 
@@ -57,6 +57,6 @@ by_kind k.Bzl here m n w p = same _ (fails_quiet 23 here.site)
 pub going_over : {A : Type 0} {Q : Asks} (x : Val) (here : Here) {m n : List Val → Runs A} → ((xs : List Val) (w : World) → Below Q (m xs w) (n xs w)) → (w : World) → Below Q (over x m here w) (over x n here w)
 going_over x here p w = after (on_heap here (the_items x) w) (heap_quiet here (the_items x) w) λ xs u. after (on_heap here (locks x) u) (heap_quiet here (locks x) u) λ _ v. both (p xs v) λ a z. same _ (then_quiet (on_heap here (unlocks x) z) _ (heap_quiet here (unlocks x) z) λ _ s. ends_quiet a s)
 
-pub gathering : {Q : Asks} (m n : Val → Gathered → Runs Gathered) → ((x : Val) (g : Gathered) (w : World) → Below Q (m x g w) (n x g w)) → (xs : List Val) (g : Gathered) (w : World) → Below Q (gather m xs g w) (gather n xs g w)
+pub gathering : {Q : Asks} (m n : Val → Collection → Runs Collection) → ((x : Val) (g : Collection) (w : World) → Below Q (m x g w) (n x g w)) → (xs : List Val) (g : Collection) (w : World) → Below Q (gather m xs g w) (gather n xs g w)
 gathering m n p [] g w = same _ (ends_quiet g w)
 gathering m n p (x ∷ xs) g w = both (p x g w) λ h u. gathering m n p xs h u

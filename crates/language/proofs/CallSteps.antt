@@ -12,7 +12,7 @@ use Rattle.meaning.specs.Heap.{Obj, text, dict, Entries, Store, at, makes, makes
 use Rattle.meaning.specs.Printing.{print, repr, str_object, str}
 use Rattle.meaning.specs.Comparing.{same_text}
 use Rattle.meaning.specs.Indexing.{with_key, items, hash}
-use Rattle.meaning.specs.Functions.{Named, the_items, length_of, len, range_count, numbers, range_list, range_by, range, type_of, plain_order, are_alike, sort_from, turned, sorted_list, sorted_by, sorted, numbered, zipped, each_items, makes_tuples, best, best_of, extreme, grows, add_all, pair_of, add_each, entries_of, dict_from, is_twice, add_named, dict_of, one, at_most_one, truth_of, plain, unnamed, builtin}
+use Rattle.meaning.specs.Functions.{KeywordArguments, the_items, length_of, len, range_count, numbers, range_list, range_by, range, type_of, plain_order, are_alike, sort_from, turned, sorted_list, sorted_by, sorted, numbered, zipped, each_items, makes_tuples, best, best_of, extreme, grows, add_all, pair_of, add_each, entries_of, dict_from, is_twice, add_named, dict_of, one, at_most_one, truth_of, plain, unnamed, builtin}
 use Rattle.meaning.specs.Freezing as z
 use Rattle.meaning.specs.Freezing.{Fz, Fzs, Pairs, thaw, thaw_members, thaw_pairs}
 use Rattle.language.proofs.WalkSteps.{print_falls}
@@ -49,7 +49,7 @@ sorted_by_down : (x r : Val) → Lowers (sorted_by x r)
 sorted_by_down x (v.Bool r) s = sorted_list_down x r s
 sorted_by_down x r s = d_fault 5 _
 
-sorted_down : (xs : List Val) (ns : Named) → Lowers (sorted xs ns)
+sorted_down : (xs : List Val) (ns : KeywordArguments) → Lowers (sorted xs ns)
 sorted_down [] ns s = d_fault 25 _
 sorted_down (x ∷ []) [] s = sorted_list_down x false s
 sorted_down (x ∷ []) (n ∷ []) s = d_if (same_text n.0 (codes "reverse")) (sorted_by x n.1) (fault 25) s s.steps (sorted_by_down x n.1 s) (d_fault 25 _)
@@ -98,12 +98,12 @@ dict_from_down [] s = d_pure _ s
 dict_from_down (v.At a ∷ []) s = entries_of_down (at a s) (v.At a) s
 dict_from_down xs s = d_fault 5 _
 
-add_named_down : (ns : Named) (es : Entries) → Lowers (add_named ns es)
+add_named_down : (ns : KeywordArguments) (es : Entries) → Lowers (add_named ns es)
 add_named_down [] es s = d_pure _ s
 add_named_down (n ∷ ns) es s =
     d_then s.steps (and_then (makes (text n.0) s) (λ k. grows k n.1 es)) _ (d_then s.steps (makes (text n.0) s) _ (d_makes (text n.0) s) λ k t. grows_down k n.1 es t) λ fs u. add_named_down ns fs u
 
-dict_of_down : (xs : List Val) (ns : Named) → Lowers (dict_of xs ns)
+dict_of_down : (xs : List Val) (ns : KeywordArguments) → Lowers (dict_of xs ns)
 dict_of_down xs ns s =
     d_if (nat_le (length xs) 1 && not (is_twice ns)) (dict_from xs >>= add_named ns >>= makes_dict) (fault 25) s s.steps
     (d_then s.steps (and_then (dict_from xs s) (add_named ns)) makes_dict (d_then s.steps (dict_from xs s) (add_named ns) (dict_from_down xs s) λ es t. add_named_down ns es t) d_dict) (d_fault 25 _)
@@ -148,11 +148,11 @@ plain_down b.Max xs s = extreme_down is_gt xs s
 plain_down b.Fail xs s = one_down (λ x. fault 24) (λ x t. d_fault 24 _) xs s
 plain_down f xs s = d_fault 5 _
 
-unnamed_down : (f : Builtin) (xs : List Val) (ns : Named) → Lowers (unnamed f xs ns)
+unnamed_down : (f : Builtin) (xs : List Val) (ns : KeywordArguments) → Lowers (unnamed f xs ns)
 unnamed_down f xs [] s = plain_down f xs s
 unnamed_down f xs (n ∷ ns) s = d_fault 25 _
 
-pub builtin_down : (f : Builtin) (xs : List Val) (ns : Named) → Lowers (builtin f xs ns)
+pub builtin_down : (f : Builtin) (xs : List Val) (ns : KeywordArguments) → Lowers (builtin f xs ns)
 builtin_down b.Sorted xs ns s = sorted_down xs ns s
 builtin_down b.Dict xs ns s = dict_of_down xs ns s
 builtin_down f xs ns s = unnamed_down f xs ns s

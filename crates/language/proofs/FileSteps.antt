@@ -9,7 +9,7 @@ use Rattle.meaning.specs.declared.val.Val.{Val}
 use Rattle.meaning.specs.Outcome.{checked}
 use Rattle.meaning.specs.Heap.{makes, function}
 use Rattle.meaning.specs.Operators.{is_true}
-use Rattle.meaning.specs.Functions.{Named}
+use Rattle.meaning.specs.Functions.{KeywordArguments}
 use Rattle.language.specs.World.{World, Block, Here, at_line, Ends, ended, failed, waits, Runs, fault, with_blocks}
 use Rattle.language.specs.Environment.{Env, function_named, functions_of, defaults_of}
 use Rattle.language.specs.Names.{bind}
@@ -37,7 +37,7 @@ turns_sink : (m : Val → Runs Exit) → ((x : Val) → Sinking (m x)) → (xs :
 turns_sink m h [] w = ends_sink _ _ _ refl refl
 turns_sink m h (x ∷ xs) w = also (h x w) λ exit u. after_turn_sinks exit (turns m xs) (turns_sink m h xs) u
 
-module _ (env : Env) (call' : Call) (calls : (label name : List ℕ) (xs : List Val) (ns : Named) (here : Here) → Sinking (call' label name xs ns here)) where
+module _ (env : Env) (call' : Call) (calls : (label name : List ℕ) (xs : List Val) (ns : KeywordArguments) (here : Here) → Sinking (call' label name xs ns here)) where
   assign_sinks : (target e : Ex) (here : Here) → Sinking (assign env call' target e here)
   assign_sinks target e here w = also (value_sinks env call' calls e here w) λ x u. also (aim_sinks env call' calls target here u) λ a z. also (store_sinks a x here z) λ _ s. gives_sink goes_on s
 
@@ -89,14 +89,14 @@ body_sinks (Some run) h f block within here w =
     also (also (from_beside w inside _ refl refl (h f.body within inside)) λ exit u. ends_sink exit u (with_blocks w.blocks u) refl refl) λ exit z. gives_sink (given exit) z
 
 module _ (env : Env) where
-  enter_sinks : (run : Option (Suite → Here → Runs Exit)) → BodiesSink run → (label name : List ℕ) (xs : List Val) (ns : Named) (here : Here) → Sinking (enter env run label name xs ns here)
+  enter_sinks : (run : Option (Suite → Here → Runs Exit)) → BodiesSink run → (label name : List ℕ) (xs : List Val) (ns : KeywordArguments) (here : Here) → Sinking (enter env run label name xs ns here)
   enter_sinks run h label name xs ns here w =
       also (need_names_sinks env label here w) λ _ u.
       also (or_fault_sinks 5 (function_named name (functions_of env label)) here u) λ f z.
       also (heap_sinks here (checked (arguments f xs ns (defaults_of label name z))) (λ s. d_checked (arguments f xs ns (defaults_of label name z)) s) z) λ block s.
       if_sinks (is_running label name here.running) (fault 14 here) (body_does run f block (inside env label f here) here) s s (fails_sink 14 here.site _) (body_sinks run h f block (inside env label f here) here s)
 
-  call_sinks : (n : ℕ) (label name : List ℕ) (xs : List Val) (ns : Named) (here : Here) → Sinking (call env n label name xs ns here)
+  call_sinks : (n : ℕ) (label name : List ℕ) (xs : List Val) (ns : KeywordArguments) (here : Here) → Sinking (call env n label name xs ns here)
   unfolding call
   call_sinks zero label name xs ns here w = enter_sinks None tt label name xs ns here w
   call_sinks (suc n) label name xs ns here w = enter_sinks (Some (suite env (call env n))) (suite_sinks env (call env n) (call_sinks n)) label name xs ns here w

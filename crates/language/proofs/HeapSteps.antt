@@ -9,7 +9,7 @@ use Rattle.meaning.specs.declared.val.Val.TheVariants as v
 use Rattle.meaning.specs.declared.val.Entry.{Entry}
 use Rattle.meaning.specs.declared.val.Operator.{Operator}
 use Rattle.meaning.specs.declared.val.Operator.TheVariants as o
-use Rattle.meaning.specs.Outcome.{Out, gives, faults, Does, and_then, Checked, good, bad, checked, or_fault, fault, pure}
+use Rattle.meaning.specs.Outcome.{Out, gives, faults, Does, and_then, ValueOrFault, good, bad, checked, or_fault, fault, pure}
 use Rattle.meaning.specs.Heap.{Obj, text, list, tuple, dict, Entries, Store, at, walk_done, walks, makes, makes_sized, makes_text, makes_list, makes_tuple, makes_dict, is_sized, puts}
 use Rattle.meaning.specs.Numbers.{fits, whole, floor_div, floor_rem, unless_zero}
 use Rattle.meaning.specs.Operators.{joins, add, subtract, multiply, repeats, divide, remainder, negate, plus}
@@ -59,7 +59,7 @@ pub d_choice : {A : Type 0} (b : Bool) (n : ℕ) (e f : Out Store A) → Down n 
 d_choice true n e f p q = p
 d_choice false n e f p q = q
 
-pub d_checked : {A : Type 0} (c : Checked A) → Lowers (checked c)
+pub d_checked : {A : Type 0} (c : ValueOrFault A) → Lowers (checked c)
 d_checked (good a) s = d_pure a s
 d_checked (bad c) s = d_fault c _
 

@@ -1,4 +1,4 @@
-pub mod Parsed
+pub mod TextTrees
 pub mod Programs
 pub mod RowsOfOperators
 pub mod RowsOfFunctions
@@ -10,12 +10,12 @@ pub mod RowsOfPackages
 pub mod RowsOfLimits
 pub mod Quiet
 pub mod Below
-pub mod Asked
+pub mod GlobPatterns
 pub mod MoreAnswers
 pub mod MoreValues
 pub mod MoreStatements
 pub mod Rising
-pub mod Found
+pub mod GlobResults
 pub mod WalkSteps
 pub mod HeapSteps
 pub mod CallSteps

@@ -8,7 +8,7 @@ use Rattle.meaning.specs.Heap.{Obj, text, list, dict, Entries, Store, at, makes_
 use Rattle.meaning.specs.Comparing.{same_text}
 use Rattle.meaning.specs.Indexing.{hash, keys_of, may_change}
 use Rattle.meaning.specs.Membership.{begins}
-use Rattle.meaning.specs.Functions.{Named, the_items}
+use Rattle.meaning.specs.Functions.{KeywordArguments, the_items}
 use Rattle.meaning.specs.Methods.{adds, nothing_after, list_method, makes_items, get_or_else, get_from, no_arguments, dict_method, bytes_of, the_bytes, all_bytes, with_between, split_by, stripped, ends, makes_texts, one_text, split, replace_by, replace, joins_items, text_method, object_method, has_method, called, method, add_in_place}
 use Rattle.language.proofs.HeapSteps.{Lowers, d_pure, d_fault, d_then, d_if, d_checked, d_puts, d_text, d_list, d_tuple, hash_down, may_change_down}
 use Rattle.language.proofs.CallSteps.{the_items_down}
@@ -104,11 +104,11 @@ object_method_down a (Some (list xs f)) name args s = list_method_down a xs f na
 object_method_down a (Some (dict es f)) name args s = dict_method_down es name args s
 object_method_down a object name args s = d_fault 5 _
 
-called_down : (a : ℕ) (object : Option Obj) (name : List ℕ) (args : List Val) (ns : Named) → Lowers (called a object name args ns)
+called_down : (a : ℕ) (object : Option Obj) (name : List ℕ) (args : List Val) (ns : KeywordArguments) → Lowers (called a object name args ns)
 called_down a object name args [] s = object_method_down a object name args s
 called_down a object name args (n ∷ ns) s = d_if (has_method object name) (fault 25) (fault 5) s s.steps (d_fault 25 _) (d_fault 5 _)
 
-pub method_down : (x : Val) (name : List ℕ) (args : List Val) (ns : Named) → Lowers (method x name args ns)
+pub method_down : (x : Val) (name : List ℕ) (args : List Val) (ns : KeywordArguments) → Lowers (method x name args ns)
 method_down (v.At a) name args ns s = called_down a (at a s) name args ns s
 method_down x name args ns s = d_fault 5 _
 

@@ -10,7 +10,7 @@ use Rattle.meaning.specs.Builtins.{same_builtin, package_functions}
 use Rattle.meaning.specs.Comparing.{same_text}
 use Rattle.meaning.specs.Outcome.{checked}
 use Rattle.meaning.specs.Heap.{Obj, text, list, tuple, dict, function, at}
-use Rattle.meaning.specs.Functions.{Named}
+use Rattle.meaning.specs.Functions.{KeywordArguments}
 use Rattle.language.specs.World.{World, Here, on_heap, or_fault}
 use Rattle.grammar.specs.declared.kind.FileKind.TheVariants as k
 use Rattle.language.specs.Names.{first_named}
@@ -21,7 +21,7 @@ use Rattle.language.specs.Expressions.{Call, call_builtin, call_object, apply, R
 use Rattle.language.specs.Laws.{KnowsMore, MoreBehind, with_answers, IsAsked}
 use Rattle.language.proofs.Below.{Below, same, waiting, after, choose, by_kind}
 use Rattle.language.proofs.Quiet.{quiet}
-use Rattle.language.proofs.Asked.{asked}
+use Rattle.language.proofs.GlobPatterns.{asked}
 
 -- a pattern that has an answer keeps it
 pub answer_stays : MoreBehind
@@ -75,26 +75,26 @@ module _ (env : Env) (more : Answers) (knows : KnowsMore env.globs more) where
       rw (none_unanswered env.globs more knows (questions g) e, same_paths env.globs more knows (questions g) e) (same _ (search quiet))
   answered_below (p ∷ ps) g b e here w = waiting (p ∷ ps) _ (asked env (questions g) p ps b e)
 
-  glob_below : env.kind ≡ k.Build → (xs : List Val) (ns : Named) (here : Here) (w : World) → Below (IsAsked env) (glob env.globs xs ns here w) (glob env'.globs xs ns here w)
+  glob_below : env.kind ≡ k.Build → (xs : List Val) (ns : KeywordArguments) (here : Here) (w : World) → Below (IsAsked env) (glob env.globs xs ns here w) (glob env'.globs xs ns here w)
   unfolding glob
   glob_below b xs ns here w = after (on_heap here (λ s. checked (read_call xs ns s) s) w) (search quiet) λ g u. answered_below (unanswered env.globs [] (questions g)) g b refl here u
 
-  in_package_below : env.kind ≡ k.Build → (f : Builtin) (xs : List Val) (ns : Named) (here : Here) (w : World) → Below (IsAsked env) (in_package env f xs ns here w) (in_package env' f xs ns here w)
+  in_package_below : env.kind ≡ k.Build → (f : Builtin) (xs : List Val) (ns : KeywordArguments) (here : Here) (w : World) → Below (IsAsked env) (in_package env f xs ns here w) (in_package env' f xs ns here w)
   in_package_below h b.PackageName [] [] here w = same _ (search quiet)
   in_package_below h b.PackageName [] (n ∷ ns) here w = same _ (search quiet)
   in_package_below h b.PackageName (x ∷ xs) ns here w = same _ (search quiet)
   in_package_below h b.Glob xs ns here w = glob_below h xs ns here w
   in_package_below h f xs ns here w = same _ (search quiet)
 
-  pub package_call_below : (f : Builtin) (xs : List Val) (ns : Named) (here : Here) (w : World) → Below (IsAsked env) (package_call env f xs ns here w) (package_call env' f xs ns here w)
+  pub package_call_below : (f : Builtin) (xs : List Val) (ns : KeywordArguments) (here : Here) (w : World) → Below (IsAsked env) (package_call env f xs ns here w) (package_call env' f xs ns here w)
   unfolding package_call
   package_call_below f xs ns here w = by_kind env.kind here (in_package env f xs ns here) (in_package env' f xs ns here) w (λ h. in_package_below h f xs ns here w)
 
-  call_builtin_below : (f : Builtin) (xs : List Val) (ns : Named) (here : Here) (w : World) → Below (IsAsked env) (call_builtin env f xs ns here w) (call_builtin env' f xs ns here w)
+  call_builtin_below : (f : Builtin) (xs : List Val) (ns : KeywordArguments) (here : Here) (w : World) → Below (IsAsked env) (call_builtin env f xs ns here w) (call_builtin env' f xs ns here w)
   call_builtin_below f xs ns here w = choose (list_any (same_builtin f) package_functions) _ _ _ _ w (package_call_below f xs ns here w) (same _ (search quiet))
 
-  module _ (call call' : Call) (calls : (label name : List ℕ) (xs : List Val) (ns : Named) (here : Here) (w : World) → Below (IsAsked env) (call label name xs ns here w) (call' label name xs ns here w)) where
-    call_object_below : (object : Option Obj) (xs : List Val) (ns : Named) (here : Here) (w : World) → Below (IsAsked env) (call_object call object xs ns here w) (call_object call' object xs ns here w)
+  module _ (call call' : Call) (calls : (label name : List ℕ) (xs : List Val) (ns : KeywordArguments) (here : Here) (w : World) → Below (IsAsked env) (call label name xs ns here w) (call' label name xs ns here w)) where
+    call_object_below : (object : Option Obj) (xs : List Val) (ns : KeywordArguments) (here : Here) (w : World) → Below (IsAsked env) (call_object call object xs ns here w) (call_object call' object xs ns here w)
     call_object_below (Some (function label name)) xs ns here w = calls label name xs ns here w
     call_object_below (Some (text bytes)) xs ns here w = same _ (search quiet)
     call_object_below (Some (list members f)) xs ns here w = same _ (search quiet)
@@ -102,7 +102,7 @@ module _ (env : Env) (more : Answers) (knows : KnowsMore env.globs more) where
     call_object_below (Some (dict entries f)) xs ns here w = same _ (search quiet)
     call_object_below None xs ns here w = same _ (search quiet)
 
-    pub apply_below : (g : Val) (xs : List Val) (ns : Named) (here : Here) (w : World) → Below (IsAsked env) (apply env call g xs ns here w) (apply env' call' g xs ns here w)
+    pub apply_below : (g : Val) (xs : List Val) (ns : KeywordArguments) (here : Here) (w : World) → Below (IsAsked env) (apply env call g xs ns here w) (apply env' call' g xs ns here w)
     unfolding apply
     apply_below (v.Builtin f) xs ns here w = call_builtin_below f xs ns here w
     apply_below (v.At a) xs ns here w = call_object_below (at a w.store) xs ns here w
@@ -110,7 +110,7 @@ module _ (env : Env) (more : Answers) (knows : KnowsMore env.globs more) where
     apply_below (v.Bool c) xs ns here w = same _ (search quiet)
     apply_below (v.Int n) xs ns here w = same _ (search quiet)
 
-  pub apply_method_below : (r : Receiver) (name : List ℕ) (xs : List Val) (ns : Named) (here : Here) (w : World) → Below (IsAsked env) (apply_method env r name xs ns here w) (apply_method env' r name xs ns here w)
+  pub apply_method_below : (r : Receiver) (name : List ℕ) (xs : List Val) (ns : KeywordArguments) (here : Here) (w : World) → Below (IsAsked env) (apply_method env r name xs ns here w) (apply_method env' r name xs ns here w)
   unfolding apply_method
   apply_method_below native name xs ns here w = after (or_fault 5 (first_named name package_functions) here w) (search quiet) λ f u. package_call_below f xs ns here u
   apply_method_below (receiver x) name xs ns here w = same _ (search quiet)

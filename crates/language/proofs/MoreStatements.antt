@@ -8,7 +8,7 @@ use Rattle.tree.specs.Tree.{Ex, St, Suite, Branches, Br, Fn, Tp, Pa, Bound}
 use Rattle.meaning.specs.declared.val.Val.{Val}
 use Rattle.meaning.specs.Outcome.{checked}
 use Rattle.meaning.specs.Operators.{is_true}
-use Rattle.meaning.specs.Functions.{Named}
+use Rattle.meaning.specs.Functions.{KeywordArguments}
 use Rattle.language.specs.World.{then_runs, World, Block, Here, at_line, Ends, ended, failed, waits, Runs, on_heap, tick, or_fault, with_blocks}
 use Rattle.language.specs.Environment.{Env, Answers, need_names, function_named, functions_of, defaults_of}
 use Rattle.language.specs.Arguments.{arguments}
@@ -45,7 +45,7 @@ module _ (env : Env) (more : Answers) (knows : KnowsMore env.globs more) where
   abbrev env' : Env
   env' = with_answers more env
 
-  module _ (call call' : Call) (calls : (label name : List ℕ) (xs : List Val) (ns : Named) (here : Here) (w : World) → Below (IsAsked env) (call label name xs ns here w) (call' label name xs ns here w)) where
+  module _ (call call' : Call) (calls : (label name : List ℕ) (xs : List Val) (ns : KeywordArguments) (here : Here) (w : World) → Below (IsAsked env) (call label name xs ns here w) (call' label name xs ns here w)) where
     assign_below : (target e : Ex) (here : Here) (w : World) → Below (IsAsked env) (assign env call target e here w) (assign env' call' target e here w)
     assign_below target e here w = both (value_below env more knows call call' calls e here w) λ x u. both (aim_below env more knows call call' calls target here u) λ _ _. same _ (search quiet)
 
@@ -92,7 +92,7 @@ module _ (env : Env) (more : Answers) (knows : KnowsMore env.globs more) where
   body_below None (Some run') h f block within here w = absurd h
   body_below (Some run) None h f block within here w = absurd h
 
-  enter_below : (run run' : Option (Suite → Here → Runs Exit)) → AlikeBodies (IsAsked env) run run' → (label name : List ℕ) (xs : List Val) (ns : Named) (here : Here) (w : World) → Below (IsAsked env) (enter env run label name xs ns here w) (enter env' run' label name xs ns here w)
+  enter_below : (run run' : Option (Suite → Here → Runs Exit)) → AlikeBodies (IsAsked env) run run' → (label name : List ℕ) (xs : List Val) (ns : KeywordArguments) (here : Here) (w : World) → Below (IsAsked env) (enter env run label name xs ns here w) (enter env' run' label name xs ns here w)
   unfolding need_names
   enter_below run run' h label name xs ns here w =
       after (need_names env label here w) (search quiet) λ _ u.
@@ -100,7 +100,7 @@ module _ (env : Env) (more : Answers) (knows : KnowsMore env.globs more) where
       after (on_heap here (checked (arguments f xs ns (defaults_of label name z))) z) (search quiet) λ block s.
       choose (is_running label name here.running) _ _ _ _ s (same _ (search quiet)) (body_below run run' h f block (inside env label f here) here s)
 
-  call_below : (n : ℕ) (label name : List ℕ) (xs : List Val) (ns : Named) (here : Here) (w : World) → Below (IsAsked env) (call env n label name xs ns here w) (call env' n label name xs ns here w)
+  call_below : (n : ℕ) (label name : List ℕ) (xs : List Val) (ns : KeywordArguments) (here : Here) (w : World) → Below (IsAsked env) (call env n label name xs ns here w) (call env' n label name xs ns here w)
   unfolding call
   call_below zero label name xs ns here w = enter_below None None tt label name xs ns here w
   call_below (suc n) label name xs ns here w =

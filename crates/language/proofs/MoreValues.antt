@@ -7,12 +7,12 @@ use Rattle.tree.specs.Tree.{Ex, Exs, Bound, Clauses, Cl}
 use Rattle.meaning.specs.declared.val.Val.{Val}
 use Rattle.meaning.specs.Heap.{Entries}
 use Rattle.meaning.specs.Operators.{is_true}
-use Rattle.meaning.specs.Functions.{Named}
+use Rattle.meaning.specs.Functions.{KeywordArguments}
 use Rattle.language.specs.World.{World, Here, Runs, ◌>>=◌, tick, with_block}
 use Rattle.language.specs.Names.{is_native_name, new_block, clause_names}
 use Rattle.language.specs.Environment.{Env, Answers}
 use Rattle.language.specs.Targets.{store}
-use Rattle.language.specs.Loops.{Gathered, nothing_yet, one_more, one_entry}
+use Rattle.language.specs.Loops.{Collection, nothing_yet, one_more, one_entry}
 use Rattle.language.specs.Expressions.{Call, between, fresh, value, values, each_value, entries, bound_value, aim, aims, comprehension, clauses, clause}
 use Rattle.language.specs.Laws.{KnowsMore, with_answers, IsAsked}
 use Rattle.language.proofs.Below.{Asks, Below, same, both, after, choose, going_over, gathering}
@@ -30,7 +30,7 @@ AllBelow Q [] [] = Unit {0}
 AllBelow Q (m ∷ ms) (n ∷ ns) = ((w : World) → Below Q (m w) (n w)) × AllBelow Q ms ns
 AllBelow Q ms ns = ⊥
 
-module _ (env : Env) (more : Answers) (knows : KnowsMore env.globs more) (call call' : Call) (calls : (label name : List ℕ) (xs : List Val) (ns : Named) (here : Here) (w : World) → Below (IsAsked env) (call label name xs ns here w) (call' label name xs ns here w)) where
+module _ (env : Env) (more : Answers) (knows : KnowsMore env.globs more) (call call' : Call) (calls : (label name : List ℕ) (xs : List Val) (ns : KeywordArguments) (here : Here) (w : World) → Below (IsAsked env) (call label name xs ns here w) (call' label name xs ns here w)) where
   abbrev env' : Env
   env' = with_answers more env
 
@@ -91,7 +91,7 @@ module _ (env : Env) (more : Answers) (knows : KnowsMore env.globs more) (call c
     aims_below t.no_exs here w = same _ (search quiet)
     aims_below (t.ex e es) here w = both (aim_below e here w) λ x u. both (aims_below es here u) λ _ _. same _ (search quiet)
 
-    pub comprehension_below : (cs : Clauses) (m n : Gathered → Runs Gathered) → ((g : Gathered) (w : World) → Below (IsAsked env) (m g w) (n g w)) → (here : Here) (w : World)
+    pub comprehension_below : (cs : Clauses) (m n : Collection → Runs Collection) → ((g : Collection) (w : World) → Below (IsAsked env) (m g w) (n g w)) → (here : Here) (w : World)
         → Below (IsAsked env) (comprehension env call cs m here w) (comprehension env' call' cs n here w)
     comprehension_below (t.clause (t.for_in target e) cs) m n h here w =
         both (value_below e here w) λ x u.
@@ -100,12 +100,12 @@ module _ (env : Env) (more : Answers) (knows : KnowsMore env.globs more) (call c
     comprehension_below (t.clause (t.only_if e) cs) m n h here w = same _ (search quiet)
     comprehension_below t.no_clauses m n h here w = same _ (search quiet)
 
-    pub clauses_below : (cs : Clauses) (m n : Gathered → Runs Gathered) → ((g : Gathered) (w : World) → Below (IsAsked env) (m g w) (n g w)) → (here : Here) (g : Gathered) (w : World)
+    pub clauses_below : (cs : Clauses) (m n : Collection → Runs Collection) → ((g : Collection) (w : World) → Below (IsAsked env) (m g w) (n g w)) → (here : Here) (g : Collection) (w : World)
         → Below (IsAsked env) (clauses env call cs m here g w) (clauses env' call' cs n here g w)
     clauses_below t.no_clauses m n h here g w = h g w
     clauses_below (t.clause c cs) m n h here g w = clause_below c (clauses env call cs m here) (clauses env' call' cs n here) (clauses_below cs m n h here) here g w
 
-    pub clause_below : (c : Cl) (m n : Gathered → Runs Gathered) → ((g : Gathered) (w : World) → Below (IsAsked env) (m g w) (n g w)) → (here : Here) (g : Gathered) (w : World)
+    pub clause_below : (c : Cl) (m n : Collection → Runs Collection) → ((g : Collection) (w : World) → Below (IsAsked env) (m g w) (n g w)) → (here : Here) (g : Collection) (w : World)
         → Below (IsAsked env) (clause env call c m here g w) (clause env' call' c n here g w)
     clause_below (t.for_in target e) m n h here g w =
         both (value_below e here w) λ x u.

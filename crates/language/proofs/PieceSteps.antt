@@ -17,14 +17,14 @@ use Rattle.meaning.specs.Comparing.{found}
 use Rattle.meaning.specs.Indexing.{hash, index, set_index}
 use Rattle.meaning.specs.Binary.{binary}
 use Rattle.meaning.specs.Freezing.{thaw, thaw_members, freeze, freeze_members}
-use Rattle.meaning.specs.Functions.{Named, grows}
-use Rattle.module_values.specs.Values.{Target, Frozen, Defaults, Body, Loaded}
+use Rattle.meaning.specs.Functions.{KeywordArguments, grows}
+use Rattle.module_values.specs.Values.{Target, Frozen, Defaults, Body, ModuleValue}
 use Rattle.language.specs.Modules.{exported}
 use Rattle.language.specs.World.{World, Site, Here, Ends, ended, failed, waits, Runs, then_runs, at_site, on_heap, tick, or_fault, fault, pure, at_line}
 use Rattle.language.specs.Names.{change_names, bind_in, names_once, top_names, slot, slot_among, file_slot, names_at, read_universal, read_slot, read, bind_global, bind, is_native, universal}
 use Rattle.language.specs.Environment.{Env, defs, defaults_of, thawed, thawed_defaults, thaw_body, need_names, reached_module}
 use Rattle.language.specs.Targets.{Aim, to_name, to_member, to_each, Aims, no_aims, aim_at, how_many, parts_of, unpack, store, store_each}
-use Rattle.language.specs.Loops.{Gathered, one_more, one_entry}
+use Rattle.language.specs.Loops.{Collection, one_more, one_entry}
 use Rattle.language.specs.Expressions.{unary, operator_of, fresh}
 use Rattle.language.specs.Statements.{present, added, changed}
 use Rattle.language.specs.Files.{load_items, loads, leading, frozen_names, frozen_defaults, frozen_module}
@@ -160,10 +160,10 @@ mutual
 
 -- ---- values
 
-pub one_more_sinks : (x : Val) (g : Gathered) (here : Here) (w : World) → Sinks w (one_more x g here w)
+pub one_more_sinks : (x : Val) (g : Collection) (here : Here) (w : World) → Sinks w (one_more x g here w)
 one_more_sinks x g here w = if_sinks (is_sized (suc (length g.members))) (pure (record g { members = g.members ++ x ∷ [] })) (fault 13 here) w w (ends_sink _ _ _ refl refl) (fails_sink _ _ _)
 
-pub one_entry_sinks : (x y : Val) (g : Gathered) (here : Here) (w : World) → Sinks w (one_entry x y g here w)
+pub one_entry_sinks : (x y : Val) (g : Collection) (here : Here) (w : World) → Sinks w (one_entry x y g here w)
 one_entry_sinks x y g here w = then_sinks w (on_heap here (grows x y g.entries) w) _ (heap_sinks here (grows x y g.entries) (grows_down x y g.entries) w) λ _ s. ends_sink _ _ _ refl refl
 
 pub fresh_sinks : (x y : Val) (es : Entries) (here : Here) (w : World) → Sinks w (fresh x y es here w)
@@ -207,11 +207,11 @@ need_names_sinks env label here w = if_sinks (is_some (names_at label w.files)) 
 adds_target_sinks : (target : Target) (here : Here) (w : World) → Sinks w (adds_target target here w)
 adds_target_sinks target here w = if_sinks (is_used target.name w.targets) (fault 20 here) (λ u. ended v.Nothing (record u { targets = u.targets ++ target ∷ [] })) w w (fails_sink _ _ _) (ends_sink _ _ _ refl refl)
 
-pub rule_sinks : (f : Builtin) (package_name : List ℕ) (xs : List Val) (ns : Named) (here : Here) (w : World) → Sinks w (rule f package_name xs ns here w)
+pub rule_sinks : (f : Builtin) (package_name : List ℕ) (xs : List Val) (ns : KeywordArguments) (here : Here) (w : World) → Sinks w (rule f package_name xs ns here w)
 unfolding rule
 rule_sinks f package_name xs ns here w = then_sinks w (on_heap here (λ s. checked (target_of f package_name xs ns s) s) w) _ (heap_sinks here (λ s. checked (target_of f package_name xs ns s) s) (λ s. d_checked (target_of f package_name xs ns s) s) w) λ target s. adds_target_sinks target here s
 
-pub package_name_sinks : (env : Env) (xs : List Val) (ns : Named) (here : Here) (w : World) → Sinks w (package_name env xs ns here w)
+pub package_name_sinks : (env : Env) (xs : List Val) (ns : KeywordArguments) (here : Here) (w : World) → Sinks w (package_name env xs ns here w)
 package_name_sinks env [] [] here w = heap_sinks here (makes_text env.package_name) (d_text env.package_name) w
 package_name_sinks env [] (n ∷ ns) here w = fails_sink _ _ _
 package_name_sinks env (x ∷ xs) ns here w = fails_sink _ _ _
@@ -225,7 +225,7 @@ load_items_sinks body (i ∷ items) here w =
     then_sinks s (on_heap here (thaw f) s) _ (heap_sinks here (thaw f) (thaw_down f) s) λ x t.
     then_sinks t (bind i.local x here t) _ (bind_sinks i.local x here t) λ _ r. load_items_sinks body items here r
 
-pub loads_sinks : (ls : List Ld) (ms : List Loaded) (here : Here) (w : World) → Sinks w (loads ls ms here w)
+pub loads_sinks : (ls : List Ld) (ms : List ModuleValue) (here : Here) (w : World) → Sinks w (loads ls ms here w)
 loads_sinks [] ms here w = ends_sink _ _ _ refl refl
 loads_sinks (l ∷ ls) [] here w = fails_sink _ _ _
 loads_sinks (l ∷ ls) (m ∷ ms) here w =

@@ -13,7 +13,7 @@ use Rattle.std.specs.Fmt.{digits}
 use Rattle.meaning.specs.Membership.{hashed_has}
 use Rattle.meaning.specs.Printing.{print, int_text}
 use Rattle.meaning.specs.Freezing.{freeze}
-use Rattle.module_values.specs.Values.{Attribute, several, Target, Loaded}
+use Rattle.module_values.specs.Values.{Attribute, several, Target, ModuleValue}
 use Rattle.language.specs.Modules.{exports}
 use Rattle.language.specs.World.{Ends, ended, failed, waits, tick}
 use Rattle.language.specs.Names.{read, bind}
@@ -25,7 +25,7 @@ use Rattle.language.specs.Packages.{package_call}
 use Rattle.language.specs.Expressions.{apply, apply_method}
 use Rattle.language.specs.Calls.{call}
 use Rattle.language.specs.Files.{Outcome, a_module, a_package, a_need, a_fault, evaluate, start, whole_file, outcome_of}
-use Rattle.language.proofs.Parsed.{parsed}
+use Rattle.language.proofs.TextTrees.{parsed}
 
 -- ---- programs
 
@@ -39,7 +39,7 @@ unfolding evaluated
 ran steps env = whole_file env (start steps env)
 
 -- a file of package k with a text
-unfoldable pub program : FileKind → (label path : List ℕ) → List Loaded → Answers → List ℕ → Result Env Fault
+unfoldable pub program : FileKind → (label path : List ℕ) → List ModuleValue → Answers → List ℕ → Result Env Fault
 unfolding parsed
 program kind label path loads globs text = go (parsed kind text)
   where
@@ -48,11 +48,11 @@ program kind label path loads globs text = go (parsed kind text)
     go (Err e) = Err e
 
 -- k/BUILD, k/m.bzl and k/b.bzl
-unfoldable pub build : List Loaded → Answers → List ℕ → Result Env Fault
+unfoldable pub build : List ModuleValue → Answers → List ℕ → Result Env Fault
 unfolding program
 build = program k.Build [] (codes "k/BUILD")
 
-unfoldable pub bzl : List Loaded → List ℕ → Result Env Fault
+unfoldable pub bzl : List ModuleValue → List ℕ → Result Env Fault
 unfolding program
 bzl loads = program k.Bzl (codes "//k:m.bzl") (codes "k/m.bzl") loads []
 
@@ -67,7 +67,7 @@ outcome (Ok env) = evaluated env
 outcome (Err e) = a_fault e.code (record { path = []; line = e.line })
 
 -- the module that is loaded, where the file has one
-unfoldable pub loaded : Outcome → List Loaded
+unfoldable pub loaded : Outcome → List ModuleValue
 loaded (a_module m) = m ∷ []
 loaded other = []
 
@@ -83,23 +83,23 @@ over_module globs below text = build (loaded (outcome (bzl [] below))) globs tex
 -- ---- what a row shows: the tags of the first target; the names that are exported; the patterns that have no answer; or
 -- a fault
 
-pub data Shown : Type 0 where
-  tags : List (List ℕ) → Shown
-  exported : List (List ℕ) → Shown
-  needs : List (List ℕ) → Shown
-  fails : (code : ℕ) → (path : List ℕ) → (line : ℕ) → Shown
-  other : Shown
+pub data RowResult : Type 0 where
+  tags : List (List ℕ) → RowResult
+  exported : List (List ℕ) → RowResult
+  needs : List (List ℕ) → RowResult
+  fails : (code : ℕ) → (path : List ℕ) → (line : ℕ) → RowResult
+  other : RowResult
 
-unfoldable pub shown_attribute : List (List ℕ × Attribute) → Shown
+unfoldable pub shown_attribute : List (List ℕ × Attribute) → RowResult
 shown_attribute ((name, several ts) ∷ rest) = tags ts
 shown_attribute rest = other
 
-unfoldable pub shown_target : List Target → Shown
+unfoldable pub shown_target : List Target → RowResult
 unfolding shown_attribute
 shown_target [] = tags []
 shown_target (t ∷ ts) = shown_attribute t.attributes
 
-unfoldable pub shown : Outcome → Shown
+unfoldable pub shown : Outcome → RowResult
 unfolding shown_target
 shown (a_module m) = exported (exports m.body)
 shown (a_package targets) = shown_target targets
@@ -110,70 +110,70 @@ abbrev pub texts : List String → List (List ℕ)
 texts ss = map codes ss
 
 -- a fault in k/BUILD or in k/m.bzl, and one of a text
-abbrev pub at_build : ℕ → ℕ → Shown
+abbrev pub at_build : ℕ → ℕ → RowResult
 at_build code line = fails code (codes "k/BUILD") line
 
-abbrev pub at_bzl : ℕ → ℕ → Shown
+abbrev pub at_bzl : ℕ → ℕ → RowResult
 at_bzl code line = fails code (codes "k/m.bzl") line
 
-abbrev pub of_text : ℕ → ℕ → Shown
+abbrev pub of_text : ℕ → ℕ → RowResult
 of_text code line = fails code [] line
 
 -- ---- rows
 
 -- BUILD files
-unfoldable pub built : String → Shown
+unfoldable pub built : String → RowResult
 unfolding build outcome shown
 built text = shown (outcome (build [] [] (codes text)))
 
-abbrev pub AllBuild : List (String × Shown) → Type 0
+abbrev pub AllBuild : List (String × RowResult) → Type 0
 AllBuild rows = map (λ r. built r.0) rows ≡ map (λ r. r.1) rows
 
 -- .bzl files
-unfoldable pub defined : String → Shown
+unfoldable pub defined : String → RowResult
 unfolding bzl outcome shown
 defined text = shown (outcome (bzl [] (codes text)))
 
-abbrev pub AllDefine : List (String × Shown) → Type 0
+abbrev pub AllDefine : List (String × RowResult) → Type 0
 AllDefine rows = map (λ r. defined r.0) rows ≡ map (λ r. r.1) rows
 
 -- .bzl files with what f() gives in a package: its text by `repr`, or a fault
-unfoldable pub unless_refused : Outcome → Shown → Shown
+unfoldable pub unless_refused : Outcome → RowResult → RowResult
 unfolding shown
 unless_refused (a_module m) row = row
 unless_refused refused row = shown refused
 
-unfoldable pub called : String → Shown
+unfoldable pub called : String → RowResult
 unfolding bzl over_module outcome shown unless_refused
 called text =
     unless_refused (outcome (bzl [] (codes text)))
     (shown (outcome (over_module [] (codes text) (codes "load(\":m.bzl\", \"f\")\nfilegroup(name = \"t\", tags = [repr(f())])\n"))))
 
-abbrev pub AllCall : List (String × Shown) → Type 0
+abbrev pub AllCall : List (String × RowResult) → Type 0
 AllCall rows = map (λ r. called r.0) rows ≡ map (λ r. r.1) rows
 
-abbrev pub returns : String → Shown
+abbrev pub returns : String → RowResult
 returns s = tags (codes s ∷ [])
 
 -- expressions in a BUILD file: the text by `repr`, or the code of a fault
-pub data Told : Type 0 where
-  text : List ℕ → Told
-  code : ℕ → Told
-  nothing : Told
+pub data ExpressionResult : Type 0 where
+  text : List ℕ → ExpressionResult
+  code : ℕ → ExpressionResult
+  nothing : ExpressionResult
 
-unfoldable pub told : Shown → Told
+unfoldable pub told : RowResult → ExpressionResult
 told (tags (t ∷ ts)) = text t
 told (fails c path line) = code c
 told s = nothing
 
-abbrev pub is : String → Told
+abbrev pub is : String → ExpressionResult
 is s = text (codes s)
 
-unfoldable pub expression : String → Told
+unfoldable pub expression : String → ExpressionResult
 unfolding build outcome shown told
 expression e = told (shown (outcome (build [] [] (codes "filegroup(name = \"t\", tags = [repr(" ++ codes e ++ codes ")])\n"))))
 
-abbrev pub AllGive : List (String × Told) → Type 0
+abbrev pub AllGive : List (String × ExpressionResult) → Type 0
 AllGive rows = map (λ r. expression r.0) rows ≡ map (λ r. r.1) rows
 
 -- ---- steps
@@ -193,7 +193,7 @@ abbrev pub AllTake : List (String × ℕ) → Type 0
 AllTake rows = map (λ r. taken (build [] [] (codes r.0))) rows ≡ map (λ r. r.1) rows
 
 -- what a file ends with from so many steps
-unfoldable pub limited : ℕ → Result Env Fault → Shown
+unfoldable pub limited : ℕ → Result Env Fault → RowResult
 unfolding ran shown
 limited steps (Ok env) = shown (outcome_of (ran steps env))
 limited steps (Err e) = of_text e.code e.line

@@ -17,14 +17,14 @@ use Rattle.meaning.specs.Comparing.{found}
 use Rattle.meaning.specs.Indexing.{hash, index, set_index}
 use Rattle.meaning.specs.Binary.{binary}
 use Rattle.meaning.specs.Freezing.{thaw, thaw_members, freeze, freeze_members}
-use Rattle.meaning.specs.Functions.{Named, grows}
-use Rattle.module_values.specs.Values.{Target, Frozen, Defaults, Body, Loaded}
+use Rattle.meaning.specs.Functions.{KeywordArguments, grows}
+use Rattle.module_values.specs.Values.{Target, Frozen, Defaults, Body, ModuleValue}
 use Rattle.language.specs.Modules.{exported}
 use Rattle.language.specs.World.{World, Site, Here, Ends, ended, failed, waits, Runs, then_runs, at_site, on_heap, tick, or_fault, fault, pure, at_line}
 use Rattle.language.specs.Names.{names_once, top_names, slot, slot_among, file_slot, names_at, read_universal, read_slot, read, bind_global, bind, is_native, universal}
 use Rattle.language.specs.Environment.{Env, defs, defaults_of, thawed, thawed_defaults, thaw_body, need_names, reached_module}
 use Rattle.language.specs.Targets.{Aim, to_name, to_member, to_each, Aims, no_aims, aim_at, how_many, unpack, store, store_each}
-use Rattle.language.specs.Loops.{Gathered, one_more, one_entry}
+use Rattle.language.specs.Loops.{Collection, one_more, one_entry}
 use Rattle.language.specs.Expressions.{unary, operator_of, fresh}
 use Rattle.language.specs.Statements.{present, added, changed}
 use Rattle.language.specs.Files.{load_items, loads, leading, frozen_names, frozen_defaults, frozen_module}
@@ -106,10 +106,10 @@ mutual
 
 -- ---- values
 
-pub one_more_quiet : (x : Val) (g : Gathered) (here : Here) (w : World) → Quiet (one_more x g here w)
+pub one_more_quiet : (x : Val) (g : Collection) (here : Here) (w : World) → Quiet (one_more x g here w)
 one_more_quiet x g here w = if_quiet (is_sized (suc (length g.members))) (pure (record g { members = g.members ++ x ∷ [] })) (fault 13 here) w (ends_quiet _ w) (fails_quiet 13 here.site)
 
-pub one_entry_quiet : (x y : Val) (g : Gathered) (here : Here) (w : World) → Quiet (one_entry x y g here w)
+pub one_entry_quiet : (x y : Val) (g : Collection) (here : Here) (w : World) → Quiet (one_entry x y g here w)
 one_entry_quiet x y g here w = then_quiet (on_heap here (grows x y g.entries) w) _ (heap_quiet here (grows x y g.entries) w) λ _ s. ends_quiet _ s
 
 pub fresh_quiet : (x y : Val) (es : Entries) (here : Here) (w : World) → Quiet (fresh x y es here w)
@@ -153,11 +153,11 @@ need_names_quiet env label here w = if_quiet (is_some (names_at label w.files)) 
 adds_target_quiet : (target : Target) (here : Here) (w : World) → Quiet (adds_target target here w)
 adds_target_quiet target here w = if_quiet (is_used target.name w.targets) (fault 20 here) (λ u. ended v.Nothing (record u { targets = u.targets ++ target ∷ [] })) w (fails_quiet 20 here.site) (ends_quiet _ _)
 
-pub rule_quiet : (f : Builtin) (package_name : List ℕ) (xs : List Val) (ns : Named) (here : Here) (w : World) → Quiet (rule f package_name xs ns here w)
+pub rule_quiet : (f : Builtin) (package_name : List ℕ) (xs : List Val) (ns : KeywordArguments) (here : Here) (w : World) → Quiet (rule f package_name xs ns here w)
 unfolding rule
 rule_quiet f package_name xs ns here w = then_quiet (on_heap here (λ s. checked (target_of f package_name xs ns s) s) w) _ (heap_quiet here (λ s. checked (target_of f package_name xs ns s) s) w) λ target s. adds_target_quiet target here s
 
-pub package_name_quiet : (env : Env) (xs : List Val) (ns : Named) (here : Here) (w : World) → Quiet (package_name env xs ns here w)
+pub package_name_quiet : (env : Env) (xs : List Val) (ns : KeywordArguments) (here : Here) (w : World) → Quiet (package_name env xs ns here w)
 package_name_quiet env [] [] here w = heap_quiet here (makes_text env.package_name) w
 package_name_quiet env [] (n ∷ ns) here w = fails_quiet _ _
 package_name_quiet env (x ∷ xs) ns here w = fails_quiet _ _
@@ -171,7 +171,7 @@ load_items_quiet body (i ∷ items) here w =
     then_quiet (on_heap here (thaw f) s) _ (heap_quiet here (thaw f) s) λ x t.
     then_quiet (bind i.local x here t) _ (bind_quiet i.local x here t) λ _ r. load_items_quiet body items here r
 
-pub loads_quiet : (ls : List Ld) (ms : List Loaded) (here : Here) (w : World) → Quiet (loads ls ms here w)
+pub loads_quiet : (ls : List Ld) (ms : List ModuleValue) (here : Here) (w : World) → Quiet (loads ls ms here w)
 loads_quiet [] ms here w = ends_quiet _ _
 loads_quiet (l ∷ ls) [] here w = fails_quiet _ _
 loads_quiet (l ∷ ls) (m ∷ ms) here w =

@@ -1,7 +1,7 @@
 -- Files with their outcomes: globals, modules and loads.
 use Prim.Native.String.{String}
 use Rattle.std.proofs.Common.{◌≡◌, [], ◌∷◌, refl, codes, map}
-use Rattle.language.proofs.Programs.{AllBuild, AllDefine, Shown, tags, exported, texts, fails, at_build, at_bzl, of_text, built, defined, over_base, over_module, outcome, shown, unless_refused, base}
+use Rattle.language.proofs.Programs.{AllBuild, AllDefine, RowResult, tags, exported, texts, fails, at_build, at_bzl, of_text, built, defined, over_base, over_module, outcome, shown, unless_refused, base}
 
 -- a global is bound once
 globals : AllBuild
@@ -67,7 +67,7 @@ unfolding defined
 modules = refl
 
 -- .bzl files with a load of b.bzl
-over : String → String → Shown
+over : String → String → RowResult
 unfolding over_base outcome shown unless_refused base
 over below text = unless_refused (outcome (base (codes below))) (shown (outcome (over_base (codes below) (codes text))))
 
@@ -97,7 +97,7 @@ unfolding over
 loaded_values = refl
 
 -- BUILD files with a load of m.bzl
-package_over : String → String → Shown
+package_over : String → String → RowResult
 unfolding over_module outcome shown
 package_over below text = shown (outcome (over_module [] (codes below) (codes text)))
 

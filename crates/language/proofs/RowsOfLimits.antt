@@ -6,10 +6,10 @@ use Rattle.meaning.specs.Freezing as z
 use Rattle.meaning.specs.Operators.{times}
 use Rattle.std.specs.Fmt.{digits}
 use Rattle.meaning.specs.Printing.{int_text}
-use Rattle.module_values.specs.Values.{Loaded}
-use Rattle.language.proofs.Programs.{AllGive, is, code, expression, Shown, tags, at_build, at_bzl, of_text, build, outcome, shown}
+use Rattle.module_values.specs.Values.{ModuleValue}
+use Rattle.language.proofs.Programs.{AllGive, is, code, expression, RowResult, tags, at_build, at_bzl, of_text, build, outcome, shown}
 
-packaged : List ℕ → Shown
+packaged : List ℕ → RowResult
 unfolding build outcome shown
 packaged text = shown (outcome (build [] [] text))
 
@@ -43,7 +43,7 @@ below : ℕ → List ℕ
 below zero = []
 below (suc k) = k ∷ below k
 
-chain : ℕ → Loaded
+chain : ℕ → ModuleValue
 unfolding function below name
 chain k = record {
   body = record {
@@ -57,7 +57,7 @@ chain k = record {
   reached = [];
 }
 
-calling : ℕ → Shown
+calling : ℕ → RowResult
 unfolding chain name build outcome shown
 calling k = shown (outcome (build (chain k ∷ []) [] (codes "load(\":m.bzl\", f = \"" ++ name k ++ codes "\")\nf()\n")))
 
@@ -75,7 +75,7 @@ deep : ℕ → List ℕ
 deep n = codes "x = [[]]\n" ++ times n (codes "x[0] = [x[0]]\n")
 
 -- 64 containers are entered at most by a walk
-printed : ℕ → Shown
+printed : ℕ → RowResult
 unfolding packaged deep
 printed n = packaged (deep n ++ codes "y = len(repr(x))\n")
 

@@ -4,7 +4,7 @@ use Rattle.std.proofs.Common.{◌≡◌, List, [], ◌∷◌, ◌++◌, refl, co
 use Rattle.module_values.specs.Values.{single, several}
 use Rattle.language.specs.Environment.{Answers}
 use Rattle.language.specs.Files.{Outcome, a_package}
-use Rattle.language.proofs.Programs.{AllBuild, Shown, tags, needs, texts, at_build, built, build, over_module, outcome, shown}
+use Rattle.language.proofs.Programs.{AllBuild, RowResult, tags, needs, texts, at_build, built, build, over_module, outcome, shown}
 
 -- in order: the arguments, their types, labels and names, a name that is used already
 rules : AllBuild
@@ -75,11 +75,11 @@ in_byte_order = refl
 answers : Answers
 answers = (codes "*.c", texts ("x.c" ∷ "a.c" ∷ [])) ∷ (codes "**", texts ("BUILD" ∷ "x.c" ∷ "a.c" ∷ "d/m.h" ∷ "d/m1" ∷ [])) ∷ (codes "none", []) ∷ (codes "s/* dirs", texts ("s/d" ∷ "s/x" ∷ [])) ∷ []
 
-globbed : String → Shown
+globbed : String → RowResult
 unfolding build outcome shown answers
 globbed text = shown (outcome (build [] answers (codes "filegroup(name = \"t\", tags = " ++ codes text ++ codes ")\n")))
 
-abbrev AllGlob : List (String × Shown) → Type 0
+abbrev AllGlob : List (String × RowResult) → Type 0
 AllGlob rows = map (λ r. globbed r.0) rows ≡ map (λ r. r.1) rows
 
 -- what the includes find and no exclude matches, in byte order; else the patterns that have no answer
@@ -131,7 +131,7 @@ unfolding globbed
 globs = refl
 
 -- the same call through a function of a module, twice in one expression: each asks as it is reached
-both_files : Answers → Shown
+both_files : Answers → RowResult
 unfolding over_module outcome shown
 both_files known = shown (outcome (over_module known (codes "def src(p):\n    return native.glob([p]) + [native.package_name()]\n") (codes "load(\":m.bzl\", \"src\")\nfilegroup(name = \"g\", tags = src(\"*.t\") + src(\"*.u\"))\n")))
 

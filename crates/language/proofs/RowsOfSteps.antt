@@ -2,7 +2,7 @@
 use Prim.Native.String.{String}
 use Rattle.std.proofs.Common.{◌≡◌, ℕ, List, [], ◌∷◌, refl, codes, map}
 use Rattle.language.specs.Environment.{Answers}
-use Rattle.language.proofs.Programs.{AllTake, Shown, tags, needs, exported, taken, build, bzl, over_module, limited, at_build, at_bzl}
+use Rattle.language.proofs.Programs.{AllTake, RowResult, tags, needs, exported, taken, build, bzl, over_module, limited, at_build, at_bzl}
 
 -- each expression node begun, and a statement
 expressions : AllTake
@@ -85,7 +85,7 @@ unfolding taken bzl
 frozen = refl
 
 -- the next step is fault 11, at the statement that it begins, or at the `for` whose turn it begins
-spent : String → ℕ → Shown
+spent : String → ℕ → RowResult
 unfolding limited over_module
 spent text steps = limited steps (over_module [] (codes text) (codes "load(\":m.bzl\", \"f\")\nf()\n"))
 
@@ -98,7 +98,7 @@ turn_spent = refl
 
 -- steps are counted across a glob: before its call they may be spent, at it the call waits, and behind it they go on from
 -- there
-globbing : Answers → ℕ → Shown
+globbing : Answers → ℕ → RowResult
 unfolding limited over_module
 globbing known steps = limited steps (over_module known (codes "def f():\n    for i in range(3):\n        for j in range(10): pass\n    native.glob([\"x\"])\n    for i in range(3):\n        for j in range(10): pass\n") (codes "load(\":m.bzl\", \"f\")\nf()\n"))
 

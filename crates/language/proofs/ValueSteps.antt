@@ -17,14 +17,14 @@ use Rattle.meaning.specs.Outcome as m
 use Rattle.meaning.specs.Outcome.{checked}
 use Rattle.meaning.specs.Heap.{Entries, Obj, text, list, tuple, dict, function, at, makes_list, is_sized}
 use Rattle.meaning.specs.Operators.{is_true}
-use Rattle.meaning.specs.Functions.{Named, the_items, builtin}
+use Rattle.meaning.specs.Functions.{KeywordArguments, the_items, builtin}
 use Rattle.meaning.specs.Methods.{makes_texts, method}
 use Rattle.language.specs.World.{World, Block, Here, Ends, Runs, then_runs, ended, on_heap, tick, pure, with_block, without_block, ◌>>=◌}
 use Rattle.language.specs.Names.{is_native_name, first_named, new_block, clause_names}
 use Rattle.language.specs.Environment.{Env, Answers}
 use Rattle.language.specs.Globs.{Glob, read_call, questions, found, makes_paths, answered, unanswered, glob}
 use Rattle.language.specs.Packages.{in_package, if_build, package_call}
-use Rattle.language.specs.Loops.{Gathered, nothing_yet, one_more, one_entry, gather, over, locks, unlocks}
+use Rattle.language.specs.Loops.{Collection, nothing_yet, one_more, one_entry, gather, over, locks, unlocks}
 use Rattle.language.specs.Expressions.{Call, between, both, operator_of, call_builtin, call_object, apply, Receiver, native, receiver, apply_method, value, values, each_value, entries, bound_value, aim, aims, comprehension, clauses, clause}
 use Rattle.language.proofs.HeapSteps.{Lowers, d_pure, d_gives, d_fault, d_then, d_if, d_checked, d_text, d_list, d_tuple, d_dict, index_down, slice_down, binary_down}
 use Rattle.language.proofs.CallSteps.{the_items_down, builtin_down}
@@ -49,11 +49,11 @@ answered_sinks : (patterns : List (List ℕ)) (answers : Answers) (g : Glob) (he
 answered_sinks [] answers g here w = heap_sinks here (makes_paths g.allow_empty (found answers g)) (makes_paths_down g.allow_empty (found answers g)) w
 answered_sinks (p ∷ ps) answers g here w = waits_sink (p ∷ ps) _
 
-glob_sinks : (answers : Answers) (xs : List Val) (ns : Named) (here : Here) → Sinking (glob answers xs ns here)
+glob_sinks : (answers : Answers) (xs : List Val) (ns : KeywordArguments) (here : Here) → Sinking (glob answers xs ns here)
 unfolding glob
 glob_sinks answers xs ns here w = also (heap_sinks here (λ s. checked (read_call xs ns s) s) (λ s. d_checked (read_call xs ns s) s) w) λ g u. answered_sinks (unanswered answers [] (questions g)) answers g here u
 
-in_package_sinks : (env : Env) (f : Builtin) (xs : List Val) (ns : Named) (here : Here) → Sinking (in_package env f xs ns here)
+in_package_sinks : (env : Env) (f : Builtin) (xs : List Val) (ns : KeywordArguments) (here : Here) → Sinking (in_package env f xs ns here)
 in_package_sinks env b.PackageName xs ns here w = package_name_sinks env xs ns here w
 in_package_sinks env b.Glob xs ns here w = glob_sinks env.globs xs ns here w
 in_package_sinks env f xs ns here w = rule_sinks f env.package_name xs ns here w
@@ -62,11 +62,11 @@ by_kind_sinks : (kind : FileKind) (here : Here) (m : Runs Val) → Sinking m →
 by_kind_sinks k.Build here m h w = h w
 by_kind_sinks k.Bzl here m h w = fails_sink 23 here.site _
 
-package_call_sinks : (env : Env) (f : Builtin) (xs : List Val) (ns : Named) (here : Here) → Sinking (package_call env f xs ns here)
+package_call_sinks : (env : Env) (f : Builtin) (xs : List Val) (ns : KeywordArguments) (here : Here) → Sinking (package_call env f xs ns here)
 unfolding package_call
 package_call_sinks env f xs ns here w = by_kind_sinks env.kind here (in_package env f xs ns here) (in_package_sinks env f xs ns here) w
 
-call_builtin_sinks : (env : Env) (f : Builtin) (xs : List Val) (ns : Named) (here : Here) → Sinking (call_builtin env f xs ns here)
+call_builtin_sinks : (env : Env) (f : Builtin) (xs : List Val) (ns : KeywordArguments) (here : Here) → Sinking (call_builtin env f xs ns here)
 call_builtin_sinks env f xs ns here w =
     if_sinks (list_any (same_builtin f) package_functions) (package_call env f xs ns here) (on_heap here (builtin f xs ns)) w w (package_call_sinks env f xs ns here w) (heap_sinks here (builtin f xs ns) (builtin_down f xs ns) w)
 
@@ -87,7 +87,7 @@ over_sinks x here body h w =
     also (h xs z) λ a s.
     also (heap_sinks here (unlocks x) (unlocks_down x) s) λ _ q. gives_sink a q
 
-gather_sinks : (turn : Val → Gathered → Runs Gathered) → ((x : Val) (g : Gathered) → Sinking (turn x g)) → (xs : List Val) (g : Gathered) → Sinking (gather turn xs g)
+gather_sinks : (turn : Val → Collection → Runs Collection) → ((x : Val) (g : Collection) → Sinking (turn x g)) → (xs : List Val) (g : Collection) → Sinking (gather turn xs g)
 gather_sinks turn h [] g w = gives_sink g w
 gather_sinks turn h (x ∷ xs) g w = also (h x g w) λ i u. gather_sinks turn h xs i u
 
@@ -108,13 +108,13 @@ abbrev AllSinking : List (Runs Val) → Type 0
 AllSinking [] = Unit {0}
 AllSinking (m ∷ ms) = Sinking m × AllSinking ms
 
-pub apply_method_sinks : (env : Env) (r : Receiver) (name : List ℕ) (xs : List Val) (ns : Named) (here : Here) → Sinking (apply_method env r name xs ns here)
+pub apply_method_sinks : (env : Env) (r : Receiver) (name : List ℕ) (xs : List Val) (ns : KeywordArguments) (here : Here) → Sinking (apply_method env r name xs ns here)
 unfolding apply_method
 apply_method_sinks env native name xs ns here w = also (or_fault_sinks 5 (first_named name package_functions) here w) λ f u. package_call_sinks env f xs ns here u
 apply_method_sinks env (receiver x) name xs ns here w = heap_sinks here (method x name xs ns) (method_down x name xs ns) w
 
-module _ (env : Env) (call : Call) (calls : (label name : List ℕ) (xs : List Val) (ns : Named) (here : Here) → Sinking (call label name xs ns here)) where
-  call_object_sinks : (object : Option Obj) (xs : List Val) (ns : Named) (here : Here) → Sinking (call_object call object xs ns here)
+module _ (env : Env) (call : Call) (calls : (label name : List ℕ) (xs : List Val) (ns : KeywordArguments) (here : Here) → Sinking (call label name xs ns here)) where
+  call_object_sinks : (object : Option Obj) (xs : List Val) (ns : KeywordArguments) (here : Here) → Sinking (call_object call object xs ns here)
   call_object_sinks (Some (function label name)) xs ns here w = calls label name xs ns here w
   call_object_sinks (Some (text bytes)) xs ns here w = fails_sink 5 here.site _
   call_object_sinks (Some (list members f)) xs ns here w = fails_sink 5 here.site _
@@ -122,7 +122,7 @@ module _ (env : Env) (call : Call) (calls : (label name : List ℕ) (xs : List V
   call_object_sinks (Some (dict es f)) xs ns here w = fails_sink 5 here.site _
   call_object_sinks None xs ns here w = fails_sink 5 here.site _
 
-  apply_sinks : (g : Val) (xs : List Val) (ns : Named) (here : Here) → Sinking (apply env call g xs ns here)
+  apply_sinks : (g : Val) (xs : List Val) (ns : KeywordArguments) (here : Here) → Sinking (apply env call g xs ns here)
   unfolding apply
   apply_sinks (v.Builtin f) xs ns here w = call_builtin_sinks env f xs ns here w
   apply_sinks (v.At a) xs ns here w = call_object_sinks (at a w.store) xs ns here w
@@ -186,7 +186,7 @@ module _ (env : Env) (call : Call) (calls : (label name : List ℕ) (xs : List V
     aims_sink t.no_exs here w = ends_sink _ _ _ refl refl
     aims_sink (t.ex e es) here w = also (aim_sinks e here w) λ x u. also (aims_sink es here u) λ xs z. ends_sink _ _ _ refl refl
 
-    pub comprehension_sinks : (cs : Clauses) (m : Gathered → Runs Gathered) → ((g : Gathered) → Sinking (m g)) → (here : Here) → Sinking (comprehension env call cs m here)
+    pub comprehension_sinks : (cs : Clauses) (m : Collection → Runs Collection) → ((g : Collection) → Sinking (m g)) → (here : Here) → Sinking (comprehension env call cs m here)
     comprehension_sinks (t.clause (t.for_in target e) cs) m h here w =
         also (value_sinks e here w) λ x u.
         let inside = with_block (new_block (clause_names (t.clause (t.for_in target e) cs))) u in
@@ -194,11 +194,11 @@ module _ (env : Env) (call : Call) (calls : (label name : List ℕ) (xs : List V
     comprehension_sinks (t.clause (t.only_if e) cs) m h here w = fails_sink _ _ _
     comprehension_sinks t.no_clauses m h here w = fails_sink _ _ _
 
-    pub clauses_sink : (cs : Clauses) (m : Gathered → Runs Gathered) → ((g : Gathered) → Sinking (m g)) → (here : Here) (g : Gathered) → Sinking (clauses env call cs m here g)
+    pub clauses_sink : (cs : Clauses) (m : Collection → Runs Collection) → ((g : Collection) → Sinking (m g)) → (here : Here) (g : Collection) → Sinking (clauses env call cs m here g)
     clauses_sink t.no_clauses m h here g w = h g w
     clauses_sink (t.clause c cs) m h here g w = clause_sinks c (clauses env call cs m here) (clauses_sink cs m h here) here g w
 
-    pub clause_sinks : (c : Cl) (m : Gathered → Runs Gathered) → ((g : Gathered) → Sinking (m g)) → (here : Here) (g : Gathered) → Sinking (clause env call c m here g)
+    pub clause_sinks : (c : Cl) (m : Collection → Runs Collection) → ((g : Collection) → Sinking (m g)) → (here : Here) (g : Collection) → Sinking (clause env call c m here g)
     clause_sinks (t.for_in target e) m h here g w =
         also (value_sinks e here w) λ x u.
         over_sinks x here _ (λ xs. gather_sinks _ (λ y i z. also (tick_sinks here z) λ _ s. also (aim_sinks target here s) λ a q. also (store_sinks a y here q) λ _ r. h i r) xs g) u

@@ -11,9 +11,9 @@ use Rattle.meaning.specs.Hashing.{AsKey, part, parts, no_key, as_key, along, vis
 use Rattle.meaning.specs.Comparing.{Pair, settled, members, entries, pair, found, equal_members, equal_found, equal_entry, equal_entries, visit_pair, equal, Sides, ordered, listed, no_order, sides, Parting, settled_as, unequal, parting, order_parted, visit_sides, order}
 use Rattle.meaning.specs.Membership.{any_equal}
 use Rattle.meaning.specs.Printing as p
-use Rattle.meaning.specs.Printing.{Shown, shown, following, separated, tuple_end, pair_text, container, visit_shown, print}
+use Rattle.meaning.specs.Printing.{PrintShape, shown, following, separated, tuple_end, pair_text, container, visit_shown, print}
 use Rattle.meaning.specs.Freezing as z
-use Rattle.meaning.specs.Freezing.{Held, held, freeze_members, freeze_entry, freeze_entries, visit_held, freeze, Fz, Fzs, Pairs}
+use Rattle.meaning.specs.Freezing.{FreezeShape, held, freeze_members, freeze_entry, freeze_entries, visit_held, freeze, Fz, Fzs, Pairs}
 
 abbrev pub LeavesAtMost : {A : Type 0} → ℕ → Out ℕ A → Type 0
 LeavesAtMost n (gives a s) = s ≤ n
@@ -158,14 +158,14 @@ pair_text_falls f h e n = w_then n (f e.1.key n) _ (h e.1.key n) λ t m. w_then 
 container_falls : (before : List ℕ) (inner : Does ℕ (List ℕ)) (behind : List ℕ) → Falling inner → Falling (container before inner behind)
 container_falls before inner behind h n = w_then n (tick n) _ (w_tick n) λ _ m. w_then m (inner m) _ (h m) λ t k. w_gives _ k
 
-visit_shown_falls : (f : Val → Does ℕ (List ℕ)) → ((x : Val) → Falling (f x)) → (x : Shown) → Falling (visit_shown (Some f) x)
+visit_shown_falls : (f : Val → Does ℕ (List ℕ)) → ((x : Val) → Falling (f x)) → (x : PrintShape) → Falling (visit_shown (Some f) x)
 visit_shown_falls f h (p.written t) n = w_then n (tick n) _ (w_tick n) λ _ m. w_gives _ m
 visit_shown_falls f h p.absent n = w_then n (tick n) _ (w_tick n) λ _ m. w_fault 5 m
 visit_shown_falls f h (p.listed xs) n = container_falls (codes "[") (separated f xs) (codes "]") (separated_falls f h xs) n
 visit_shown_falls f h (p.tupled xs) n = container_falls (codes "(") (separated f xs) (tuple_end xs) (separated_falls f h xs) n
 visit_shown_falls f h (p.mapped es) n = container_falls (codes "{") (separated (pair_text f) es) (codes "}") (separated_falls (pair_text f) (pair_text_falls f h) es) n
 
-visit_last_shown_falls : (x : Shown) → Falling (visit_shown None x)
+visit_last_shown_falls : (x : PrintShape) → Falling (visit_shown None x)
 visit_last_shown_falls (p.written t) n = w_then n (tick n) _ (w_tick n) λ _ m. w_gives _ m
 visit_last_shown_falls p.absent n = w_then n (tick n) _ (w_tick n) λ _ m. w_fault 5 m
 visit_last_shown_falls (p.listed xs) n = w_fault 12 n
@@ -189,14 +189,14 @@ freeze_entries_falls f h (e ∷ es) n =
     w_then n (freeze_entry f e.1 n) _ (w_then n (f e.1.key n) _ (h e.1.key n) λ t m. w_then m (f e.1.value m) _ (h e.1.value m) λ u k. w_gives _ k) λ q m.
     w_then m (freeze_entries f es m) _ (freeze_entries_falls f h es m) λ _ i. w_gives _ i
 
-visit_held_falls : (f : Val → Does ℕ Fz) → ((x : Val) → Falling (f x)) → (x : Held) → Falling (visit_held (Some f) x)
+visit_held_falls : (f : Val → Does ℕ Fz) → ((x : Val) → Falling (f x)) → (x : FreezeShape) → Falling (visit_held (Some f) x)
 visit_held_falls f h (z.settled t) n = w_then n (tick n) _ (w_tick n) λ _ m. w_gives _ m
 visit_held_falls f h z.absent n = w_then n (tick n) _ (w_tick n) λ _ m. w_fault 5 m
 visit_held_falls f h (z.listed xs) n = w_then n (tick n) _ (w_tick n) λ _ m. w_then m (freeze_members f xs m) _ (freeze_members_falls f h xs m) λ _ k. w_gives _ k
 visit_held_falls f h (z.tupled xs) n = w_then n (tick n) _ (w_tick n) λ _ m. w_then m (freeze_members f xs m) _ (freeze_members_falls f h xs m) λ _ k. w_gives _ k
 visit_held_falls f h (z.mapped es) n = w_then n (tick n) _ (w_tick n) λ _ m. w_then m (freeze_entries f es m) _ (freeze_entries_falls f h es m) λ _ k. w_gives _ k
 
-visit_last_held_falls : (x : Held) → Falling (visit_held None x)
+visit_last_held_falls : (x : FreezeShape) → Falling (visit_held None x)
 visit_last_held_falls (z.settled t) n = w_then n (tick n) _ (w_tick n) λ _ m. w_gives _ m
 visit_last_held_falls z.absent n = w_then n (tick n) _ (w_tick n) λ _ m. w_fault 5 m
 visit_last_held_falls (z.listed xs) n = w_fault 12 n

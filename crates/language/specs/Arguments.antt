@@ -6,9 +6,9 @@
 use Rattle.std.specs.Prelude.{ℕ, ◌-◌, ◌||◌, Bool, true, false, not, List, [], ◌∷◌, length, take, drop, zip, Option, Some, None, if◌then◌else◌}
 use Rattle.grammar.specs.Targets.{is_bound}
 use Rattle.meaning.specs.declared.val.Val.{Val}
-use Rattle.meaning.specs.Outcome.{Checked, good, bad, then_checked, or_bad}
+use Rattle.meaning.specs.Outcome.{ValueOrFault, good, bad, then_checked, or_bad}
 use Rattle.meaning.specs.Comparing.{same_text}
-use Rattle.meaning.specs.Functions.{Named, is_named, is_twice}
+use Rattle.meaning.specs.Functions.{KeywordArguments, is_named, is_twice}
 use Rattle.meaning.specs.declared.faults.TheConstants.{WRONG_ARGUMENTS}
 use Rattle.tree.specs.Tree.{Pa, Fn}
 use Rattle.language.specs.World.{Block}
@@ -19,10 +19,10 @@ use Rattle.language.specs.Names.{or_else}
 abbrev pub plain_part : List Val → List (List ℕ) → List Val
 plain_part xs names = take (length xs - length names) xs
 
-abbrev pub named_part : List Val → List (List ℕ) → Named
+abbrev pub named_part : List Val → List (List ℕ) → KeywordArguments
 named_part xs names = zip names (drop (length xs - length names) xs)
 
-abbrev pub value_named : List ℕ → Named → Option Val
+abbrev pub value_named : List ℕ → KeywordArguments → Option Val
 value_named x [] = None
 value_named x (n ∷ ns) = if same_text x n.0 then Some n.1 else value_named x ns
 
@@ -30,7 +30,7 @@ abbrev pub is_parameter : List ℕ → List Pa → Bool
 is_parameter x [] = false
 is_parameter x (p ∷ ps) = if same_text x p.name then true else is_parameter x ps
 
-abbrev pub are_parameters : Named → List Pa → Bool
+abbrev pub are_parameters : KeywordArguments → List Pa → Bool
 are_parameters [] ps = true
 are_parameters (n ∷ ns) ps = if is_parameter n.0 ps then are_parameters ns ps else false
 
@@ -46,11 +46,11 @@ next_default p ds = if is_bound p.default then first_of_list ds else None
 abbrev pub other_defaults : Pa → List Val → List Val
 other_defaults p ds = if is_bound p.default then drop 1 ds else ds
 
-abbrev pub with_parameter : Pa → Val → Checked Block → Checked Block
+abbrev pub with_parameter : Pa → Val → ValueOrFault Block → ValueOrFault Block
 with_parameter p x rest = then_checked rest (λ block. good ((p.name, Some x) ∷ block))
 
 -- the parameters with their values, from the plain arguments, the named ones and the defaults
-abbrev pub given : List Pa → List Val → Named → List Val → Checked Block
+abbrev pub given : List Pa → List Val → KeywordArguments → List Val → ValueOrFault Block
 given [] [] ns ds = good []
 given [] (x ∷ xs) ns ds = bad WRONG_ARGUMENTS
 given (p ∷ ps) (x ∷ xs) ns ds = if is_named p.name ns then bad WRONG_ARGUMENTS else with_parameter p x (given ps xs ns (other_defaults p ds))
@@ -58,5 +58,5 @@ given (p ∷ ps) [] ns ds =
     then_checked (or_bad WRONG_ARGUMENTS (or_else (value_named p.name ns) (next_default p ds))) (λ x.
     with_parameter p x (given ps [] ns (other_defaults p ds)))
 
-unfoldable pub arguments : Fn → List Val → Named → List Val → Checked Block
+unfoldable pub arguments : Fn → List Val → KeywordArguments → List Val → ValueOrFault Block
 arguments f xs ns ds = if is_twice ns || not (are_parameters ns f.params) then bad WRONG_ARGUMENTS else given f.params xs ns ds

@@ -6,7 +6,7 @@ use Rattle.meaning.specs.Comparing.{same_text}
 use Rattle.meaning.specs.Freezing.{thaw, thaw_members}
 use Rattle.tree.specs.Tree as t
 use Rattle.tree.specs.Tree.{Fi, Fn, Tp}
-use Rattle.module_values.specs.Values.{Frozen, Defaults, Body, Loaded}
+use Rattle.module_values.specs.Values.{Frozen, Defaults, Body, ModuleValue}
 use Rattle.language.specs.Modules.{body_at, all_bodies}
 use Rattle.language.specs.World.{World, Block, Names, Here, Runs, ◌>>=◌, pure, on_heap, ended}
 use Rattle.language.specs.Names.{names_at}
@@ -23,7 +23,7 @@ pub record Env : Type 0 where
   pub path : List ℕ
   pub package_name : List ℕ
   pub file : Fi
-  pub loads : List Loaded
+  pub loads : List ModuleValue
   pub globs : Answers
 
 -- the functions of a file, in its order

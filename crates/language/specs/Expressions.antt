@@ -24,7 +24,7 @@ use Rattle.meaning.specs.Operators.{is_true, negate, plus}
 use Rattle.meaning.specs.Comparing.{found}
 use Rattle.meaning.specs.Indexing.{hash, index, slice}
 use Rattle.meaning.specs.Binary.{binary}
-use Rattle.meaning.specs.Functions.{Named, builtin}
+use Rattle.meaning.specs.Functions.{KeywordArguments, builtin}
 use Rattle.meaning.specs.Methods.{method}
 use Rattle.meaning.specs.declared.faults.TheConstants.{WRONG_ARGUMENTS, WRONG_TYPE}
 use Rattle.language.specs.World.{Here, Runs, ◌>>=◌, pure, fault, or_fault, on_heap, tick, by_truth, in_block}
@@ -33,7 +33,7 @@ use Rattle.language.specs.Environment.{Env}
 use Rattle.language.specs.Arguments.{plain_part, named_part}
 use Rattle.language.specs.Targets.{Aim, to_name, to_member, to_each, Aims, no_aims, aim_at, store}
 use Rattle.language.specs.Packages.{package_call}
-use Rattle.language.specs.Loops.{Gathered, nothing_yet, one_more, one_entry, gather, over}
+use Rattle.language.specs.Loops.{Collection, nothing_yet, one_more, one_entry, gather, over}
 
 -- ---- operators
 
@@ -83,17 +83,17 @@ fresh k x es here = on_heap here (hash k) >>= λ parts. if is_some (found parts 
 
 -- a function of a file, by the file's label and its own name
 abbrev pub Call : Type 0
-Call = (label name : List ℕ) → List Val → Named → Here → Runs Val
+Call = (label name : List ℕ) → List Val → KeywordArguments → Here → Runs Val
 
-abbrev pub call_builtin : Env → Builtin → List Val → Named → Here → Runs Val
+abbrev pub call_builtin : Env → Builtin → List Val → KeywordArguments → Here → Runs Val
 call_builtin env f xs ns here = if list_any (same_builtin f) package_functions then package_call env f xs ns here else on_heap here (builtin f xs ns)
 
-abbrev pub call_object : Call → Option Obj → List Val → Named → Here → Runs Val
+abbrev pub call_object : Call → Option Obj → List Val → KeywordArguments → Here → Runs Val
 call_object call (Some (function label name)) xs ns here = call label name xs ns here
 call_object call object xs ns here = fault WRONG_TYPE here
 
 -- what is no function is fault 5, once the arguments are evaluated
-unfoldable pub apply : Env → Call → Val → List Val → Named → Here → Runs Val
+unfoldable pub apply : Env → Call → Val → List Val → KeywordArguments → Here → Runs Val
 apply env call (v.Builtin f) xs ns here = call_builtin env f xs ns here
 apply env call (v.At a) xs ns here = λ s. call_object call (at a s.store) xs ns here s
 apply env call x xs ns here = fault WRONG_TYPE here
@@ -108,7 +108,7 @@ abbrev pub on_receiver : Ex → Runs Val → Here → Runs Receiver
 on_receiver e m here = λ s. (if is_native_name e here s then (tick here >>= λ _. pure native) else (m >>= λ x. pure (receiver x))) s
 
 -- `native.f(..)` is the package call f; an unknown method is fault 5, once the arguments are evaluated
-unfoldable pub apply_method : Env → Receiver → List ℕ → List Val → Named → Here → Runs Val
+unfoldable pub apply_method : Env → Receiver → List ℕ → List Val → KeywordArguments → Here → Runs Val
 apply_method env native name xs ns here = or_fault WRONG_TYPE (first_named name package_functions) here >>= λ f. package_call env f xs ns here
 apply_method env (receiver x) name xs ns here = on_heap here (method x name xs ns)
 
@@ -167,7 +167,7 @@ module _ (env : Env) (call : Call) where
 
     -- A comprehension has names of its own; its first sequence is evaluated outside them. The grammar lets none begin
     -- without a `for`.
-    pub comprehension : Clauses → (Gathered → Runs Gathered) → Here → Runs Gathered
+    pub comprehension : Clauses → (Collection → Runs Collection) → Here → Runs Collection
     comprehension (t.clause (t.for_in target e) cs) inner here =
         value e here >>= λ x.
         in_block (new_block (clause_names (t.clause (t.for_in target e) cs)))
@@ -175,12 +175,12 @@ module _ (env : Env) (call : Call) where
     comprehension (t.clause (t.only_if e) cs) inner here = fault WRONG_TYPE here
     comprehension t.no_clauses inner here = fault WRONG_TYPE here
 
-    pub clauses : Clauses → (Gathered → Runs Gathered) → Here → Gathered → Runs Gathered
+    pub clauses : Clauses → (Collection → Runs Collection) → Here → Collection → Runs Collection
     clauses t.no_clauses inner here g = inner g
     clauses (t.clause c cs) inner here g = clause c (clauses cs inner here) here g
 
     -- one turn of a `for` clause is a step
-    pub clause : Cl → (Gathered → Runs Gathered) → Here → Gathered → Runs Gathered
+    pub clause : Cl → (Collection → Runs Collection) → Here → Collection → Runs Collection
     clause (t.for_in target e) inner here g =
         value e here >>= λ x.
         over x (λ xs. gather (λ y h. tick here >>= λ _. aim target here >>= λ a. store a y here >>= λ _. inner h) xs g) here

@@ -10,7 +10,7 @@ use Rattle.meaning.specs.Heap.{walks, makes, function}
 use Rattle.meaning.specs.Freezing.{Fz, freezes, freeze, freeze_members, thaw}
 use Rattle.meaning.specs.declared.faults.TheConstants.{NOT_BOUND, NOT_EXPORTED}
 use Rattle.language.specs.Sorting.{in_order}
-use Rattle.module_values.specs.Values.{Target, Frozen, Defaults, Body, Loaded}
+use Rattle.module_values.specs.Values.{Target, Frozen, Defaults, Body, ModuleValue}
 use Rattle.language.specs.Modules.{exported, all_bodies, each_once}
 use Rattle.language.specs.World.{World, Site, Here, at_line, Ends, ended, failed, waits, Runs, ◌>>=◌, pure, fault, or_fault, on_heap, tick}
 use Rattle.language.specs.Names.{top_names, load_names, names_once, new_block, bind, file_slot, names_at, change_names}
@@ -31,7 +31,7 @@ load_items body (i ∷ is) here =
     load_items body is here
 
 -- a load statement is a step, and binds its items in order
-abbrev pub loads : List Ld → List Loaded → Here → Runs (Unit {0})
+abbrev pub loads : List Ld → List ModuleValue → Here → Runs (Unit {0})
 loads [] ms here = pure tt
 loads (l ∷ ls) [] here = fault NOT_EXPORTED (at_line l.line here)
 loads (l ∷ ls) (m ∷ ms) here =
@@ -48,7 +48,7 @@ abbrev pub frozen_items : Body → List It → List Frozen
 frozen_items body [] = []
 frozen_items body (i ∷ is) = frozen_item i (exported i.exported body) (frozen_items body is)
 
-abbrev pub frozen_loads : List Ld → List Loaded → List Frozen
+abbrev pub frozen_loads : List Ld → List ModuleValue → List Frozen
 frozen_loads [] ms = []
 frozen_loads (l ∷ ls) [] = []
 frozen_loads (l ∷ ls) (m ∷ ms) = frozen_items m.body l.items ++ frozen_loads ls ms
@@ -123,7 +123,7 @@ frozen_defaults (f ∷ fs) here =
     pure (record { name = f.name; values = xs } ∷ rest)
 
 -- its own globals in the order bound, then the defaults of each `def` in the file's order. A fault has line 0.
-abbrev pub frozen_module : Env → Here → Runs Loaded
+abbrev pub frozen_module : Env → Here → Runs ModuleValue
 frozen_module env here =
     frozen_names (names_once [] (top_names env.file.tops)) here >>= λ own.
     frozen_defaults (defs env.file.tops) here >>= λ defaults.
@@ -135,7 +135,7 @@ frozen_module env here =
 -- ---- the outcome
 
 pub data Outcome : Type 0 where
-  a_module : Loaded → Outcome
+  a_module : ModuleValue → Outcome
   -- the targets in byte order of their names
   a_package : List Target → Outcome
   -- the patterns of a call of `glob` that have no answer yet

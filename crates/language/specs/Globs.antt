@@ -11,10 +11,10 @@ use Rattle.pattern.specs.Patterns.{is_pattern}
 use Rattle.meaning.specs.declared.val.Val.{Val}
 use Rattle.meaning.specs.declared.val.Val.TheVariants as v
 use Rattle.meaning.specs.Outcome as o
-use Rattle.meaning.specs.Outcome.{Does, Checked, good, bad, then_checked, or_bad, checked}
+use Rattle.meaning.specs.Outcome.{Does, ValueOrFault, good, bad, then_checked, or_bad, checked}
 use Rattle.meaning.specs.Heap.{Obj, list, Store, at, makes_list, is_sized}
 use Rattle.meaning.specs.Comparing.{same_text}
-use Rattle.meaning.specs.Functions.{Named, is_named, is_twice}
+use Rattle.meaning.specs.Functions.{KeywordArguments, is_named, is_twice}
 use Rattle.meaning.specs.Methods.{bytes_of, makes_texts}
 use Rattle.meaning.specs.declared.faults.TheConstants.{BAD_PATTERN, EMPTY_GLOB, TOO_LARGE, WRONG_ARGUMENTS, WRONG_TYPE}
 use Rattle.language.specs.Sorting.{in_order}
@@ -31,55 +31,55 @@ plain_parameters = codes "include" ∷ codes "exclude" ∷ codes "allow_empty" �
 abbrev pub parameters : List (List ℕ)
 parameters = codes "include" ∷ codes "exclude" ∷ codes "allow_empty" ∷ codes "exclude_directories" ∷ []
 
-abbrev pub are_known : Named → List (List ℕ) → Bool
+abbrev pub are_known : KeywordArguments → List (List ℕ) → Bool
 are_known [] names = true
 are_known (n ∷ ns) names = if has_name n.0 names then are_known ns names else false
 
 -- a plain argument whose parameter is named too
-abbrev pub given_twice : List Val → List (List ℕ) → Named → Bool
+abbrev pub given_twice : List Val → List (List ℕ) → KeywordArguments → Bool
 given_twice [] names ns = false
 given_twice (x ∷ xs) [] ns = false
 given_twice (x ∷ xs) (n ∷ names) ns = if is_named n ns then true else given_twice xs names ns
 
-abbrev pub argument : ℕ → List ℕ → List Val → Named → Option Val
+abbrev pub argument : ℕ → List ℕ → List Val → KeywordArguments → Option Val
 argument i name xs ns = or_else (slice_get xs i) (value_named name ns)
 
-abbrev pub are_arguments : List Val → Named → Bool
+abbrev pub are_arguments : List Val → KeywordArguments → Bool
 are_arguments xs ns =
     nat_le (length xs) (length plain_parameters) && not (is_twice ns) && are_known ns parameters
     && not (given_twice xs plain_parameters ns) && is_some (argument 0 (codes "include") xs ns)
 
 -- ---- their types
 
-abbrev pub all_texts : List Val → Store → Checked (List (List ℕ))
+abbrev pub all_texts : List Val → Store → ValueOrFault (List (List ℕ))
 all_texts [] s = good []
 all_texts (x ∷ xs) s = then_checked (bytes_of x s) (λ t. then_checked (all_texts xs s) (λ ts. good (t ∷ ts)))
 
-abbrev pub object_texts : Option Obj → Store → Checked (List (List ℕ))
+abbrev pub object_texts : Option Obj → Store → ValueOrFault (List (List ℕ))
 object_texts (Some (list members f)) s = all_texts members s
 object_texts object s = bad WRONG_TYPE
 
 -- a list of strings; a tuple is none
-abbrev pub texts_in : Val → Store → Checked (List (List ℕ))
+abbrev pub texts_in : Val → Store → ValueOrFault (List (List ℕ))
 texts_in (v.At a) s = object_texts (at a s) s
 texts_in x s = bad WRONG_TYPE
 
-abbrev pub texts_or_none : Option Val → Store → Checked (List (List ℕ))
+abbrev pub texts_or_none : Option Val → Store → ValueOrFault (List (List ℕ))
 texts_or_none None s = good []
 texts_or_none (Some x) s = texts_in x s
 
-abbrev pub truth_or : Bool → Option Val → Checked Bool
+abbrev pub truth_or : Bool → Option Val → ValueOrFault Bool
 truth_or other None = good other
 truth_or other (Some (v.Bool b)) = good b
 truth_or other (Some x) = bad WRONG_TYPE
 
-abbrev pub int_or : ℤ → Option Val → Checked ℤ
+abbrev pub int_or : ℤ → Option Val → ValueOrFault ℤ
 int_or other None = good other
 int_or other (Some (v.Int n)) = good n
 int_or other (Some x) = bad WRONG_TYPE
 
 -- 1 leaves directories out, and 0 does not
-abbrev pub with_directories : ℤ → Checked Bool
+abbrev pub with_directories : ℤ → ValueOrFault Bool
 with_directories n = if int_eq n (pos 0) then good true else if int_eq n (pos 1) then good false else bad WRONG_ARGUMENTS
 
 pub record Glob : Type 0 where
@@ -89,7 +89,7 @@ pub record Glob : Type 0 where
   -- whether it finds directories too
   pub directories : Bool
 
-abbrev pub typed : List Val → Named → Store → Checked Glob
+abbrev pub typed : List Val → KeywordArguments → Store → ValueOrFault Glob
 typed xs ns s =
     then_checked (texts_or_none (argument 0 (codes "include") xs ns) s) (λ includes.
     then_checked (texts_or_none (argument 1 (codes "exclude") xs ns) s) (λ excludes.
@@ -98,11 +98,11 @@ typed xs ns s =
     then_checked (with_directories n) (λ directories.
     good (record { includes = includes; excludes = excludes; allow_empty = allow_empty; directories = directories }))))))
 
-abbrev pub with_patterns : Glob → Checked Glob
+abbrev pub with_patterns : Glob → ValueOrFault Glob
 with_patterns g = if list_all is_pattern g.includes && list_all is_pattern g.excludes then good g else bad BAD_PATTERN
 
 -- what the call asks for
-abbrev pub read_call : List Val → Named → Store → Checked Glob
+abbrev pub read_call : List Val → KeywordArguments → Store → ValueOrFault Glob
 read_call xs ns s = if are_arguments xs ns then then_checked (typed xs ns s) with_patterns else bad WRONG_ARGUMENTS
 
 -- ---- the answer
@@ -137,5 +137,5 @@ abbrev pub answered : List (List ℕ) → Answers → Glob → Here → Runs Val
 answered [] answers g here = on_heap here (makes_paths g.allow_empty (found answers g))
 answered (p ∷ ps) answers g here = λ w. waits (p ∷ ps)
 
-unfoldable pub glob : Answers → List Val → Named → Here → Runs Val
+unfoldable pub glob : Answers → List Val → KeywordArguments → Here → Runs Val
 glob answers xs ns here = on_heap here (λ s. checked (read_call xs ns s) s) >>= λ g. answered (unanswered answers [] (questions g)) answers g here

@@ -30,22 +30,22 @@ over x body here =
     pure a
 
 -- what a comprehension has gathered: the members of a list, or the entries of a dictionary
-pub record Gathered : Type 0 where
+pub record Collection : Type 0 where
   pub members : List Val
   pub entries : Entries
 
-abbrev pub nothing_yet : Gathered
+abbrev pub nothing_yet : Collection
 nothing_yet = record { members = []; entries = [] }
 
 -- one more member; at the 65,537th fault 13
-abbrev pub one_more : Val → Gathered → Here → Runs Gathered
+abbrev pub one_more : Val → Collection → Here → Runs Collection
 one_more x g here = if is_sized (suc (length g.members)) then pure (record g { members = g.members ++ x ∷ [] }) else fault TOO_LARGE here
 
 -- one more entry; at a key that is there the later value stays
-abbrev pub one_entry : Val → Val → Gathered → Here → Runs Gathered
+abbrev pub one_entry : Val → Val → Collection → Here → Runs Collection
 one_entry k x g here = on_heap here (grows k x g.entries) >>= λ es. pure (record g { entries = es })
 
 -- a turn for each member
-abbrev pub gather : (Val → Gathered → Runs Gathered) → List Val → Gathered → Runs Gathered
+abbrev pub gather : (Val → Collection → Runs Collection) → List Val → Collection → Runs Collection
 gather turn [] g = pure g
 gather turn (x ∷ xs) g = turn x g >>= gather turn xs

@@ -3,7 +3,7 @@ use Rattle.std.specs.Prelude.{ℕ, Bool, false, not, ◌==◌, List, [], ◌∷�
 use Rattle.std.specs.List.{list_any}
 use Rattle.meaning.specs.Comparing.{same_text}
 use Rattle.meaning.specs.Freezing.{Fz}
-use Rattle.module_values.specs.Values.{Frozen, Body, Loaded}
+use Rattle.module_values.specs.Values.{Frozen, Body, ModuleValue}
 
 abbrev pub frozen_at : List ℕ → List Frozen → Option Fz
 frozen_at x [] = None
@@ -28,7 +28,7 @@ body_at label [] = None
 body_at label (b ∷ bs) = if same_text label b.label then Some b else body_at label bs
 
 -- the modules that loads reach
-abbrev pub all_bodies : List Loaded → List Body
+abbrev pub all_bodies : List ModuleValue → List Body
 all_bodies loads = flat_map (λ m. m.body ∷ m.reached) loads
 
 -- the same, each once

@@ -15,7 +15,7 @@ use Rattle.grammar.specs.declared.kind.FileKind.{FileKind}
 use Rattle.grammar.specs.declared.kind.FileKind.TheVariants as k
 use Rattle.tree.specs.Tree as t
 use Rattle.tree.specs.Tree.{Ex}
-pub use Rattle.tree.specs.Bound.{target_names, targets_names, clause_names, stmt_names, suite_names, branches_names, branch_names, top_names, item_names, load_names, has_name, names_once}
+pub use Rattle.tree.specs.Bindings.{target_names, targets_names, clause_names, stmt_names, suite_names, branches_names, branch_names, top_names, item_names, load_names, has_name, names_once}
 use Rattle.language.specs.World.{World, Block, Names, Here, Runs, ◌>>=◌, pure, fault, or_fault, ended}
 
 -- ---- blocks

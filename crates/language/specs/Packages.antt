@@ -6,7 +6,7 @@ use Rattle.meaning.specs.declared.val.Val.{Val}
 use Rattle.meaning.specs.declared.builtin.Builtin.{Builtin}
 use Rattle.meaning.specs.declared.builtin.Builtin.TheVariants as b
 use Rattle.meaning.specs.Heap.{makes_text}
-use Rattle.meaning.specs.Functions.{Named}
+use Rattle.meaning.specs.Functions.{KeywordArguments}
 use Rattle.meaning.specs.declared.faults.TheConstants.{NOT_ALLOWED, WRONG_ARGUMENTS}
 use Rattle.language.specs.World.{Here, Runs, fault, on_heap}
 use Rattle.language.specs.Environment.{Env}
@@ -14,11 +14,11 @@ use Rattle.language.specs.Globs.{glob}
 use Rattle.language.specs.Rules.{rule}
 
 -- the name of the package that is loaded
-abbrev pub package_name : Env → List Val → Named → Here → Runs Val
+abbrev pub package_name : Env → List Val → KeywordArguments → Here → Runs Val
 package_name env [] [] here = on_heap here (makes_text env.package_name)
 package_name env xs ns here = fault WRONG_ARGUMENTS here
 
-abbrev pub in_package : Env → Builtin → List Val → Named → Here → Runs Val
+abbrev pub in_package : Env → Builtin → List Val → KeywordArguments → Here → Runs Val
 in_package env b.PackageName xs ns here = package_name env xs ns here
 in_package env b.Glob xs ns here = glob env.globs xs ns here
 in_package env f xs ns here = rule f env.package_name xs ns here
@@ -28,5 +28,5 @@ if_build k.Build here m = m
 if_build k.Bzl here m = fault NOT_ALLOWED here
 
 -- While a .bzl file's own statements are evaluated each is fault 23, before its arguments are tested.
-unfoldable pub package_call : Env → Builtin → List Val → Named → Here → Runs Val
+unfoldable pub package_call : Env → Builtin → List Val → KeywordArguments → Here → Runs Val
 package_call env f xs ns here = if_build env.kind here (in_package env f xs ns here)

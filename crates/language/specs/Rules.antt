@@ -11,10 +11,10 @@ use Rattle.meaning.specs.declared.val.Val.TheVariants as v
 use Rattle.meaning.specs.declared.builtin.Builtin.{Builtin}
 use Rattle.meaning.specs.declared.builtin.Builtin.TheVariants as b
 use Rattle.meaning.specs.Builtins.{builtin_name}
-use Rattle.meaning.specs.Outcome.{Checked, good, bad, then_checked, or_bad, checked}
+use Rattle.meaning.specs.Outcome.{ValueOrFault, good, bad, then_checked, or_bad, checked}
 use Rattle.meaning.specs.Heap.{Store}
 use Rattle.meaning.specs.Comparing.{same_text}
-use Rattle.meaning.specs.Functions.{Named, is_named, is_twice}
+use Rattle.meaning.specs.Functions.{KeywordArguments, is_named, is_twice}
 use Rattle.meaning.specs.Methods.{bytes_of}
 use Rattle.meaning.specs.declared.faults.TheConstants.{BAD_LABEL, TARGET_TWICE, WRONG_ARGUMENTS}
 use Rattle.module_values.specs.Values.{Attribute, single, several, Target}
@@ -44,81 +44,81 @@ shapes_of f = []
 
 -- ---- the arguments
 
-abbrev pub not_none : Named → Named
+abbrev pub not_none : KeywordArguments → KeywordArguments
 not_none [] = []
 not_none ((n, v.Nothing) ∷ ns) = not_none ns
 not_none (n ∷ ns) = n ∷ not_none ns
 
-abbrev pub are_attributes : Named → Shapes → Bool
+abbrev pub are_attributes : KeywordArguments → Shapes → Bool
 are_attributes [] shapes = true
 are_attributes (n ∷ ns) shapes = if has_name n.0 (codes "name" ∷ map (λ a. a.0) shapes) then are_attributes ns shapes else false
 
-abbrev pub are_arguments : List Val → Named → Shapes → Bool
+abbrev pub are_arguments : List Val → KeywordArguments → Shapes → Bool
 are_arguments xs ns shapes = length xs == 0 && not (is_twice ns) && are_attributes (not_none ns) shapes && is_named (codes "name") (not_none ns)
 
 -- ---- types
 
-abbrev pub single_in : Val → Store → Checked Attribute
+abbrev pub single_in : Val → Store → ValueOrFault Attribute
 single_in x s = then_checked (bytes_of x s) (λ t. good (single t))
 
-abbrev pub several_in : Val → Store → Checked Attribute
+abbrev pub several_in : Val → Store → ValueOrFault Attribute
 several_in x s = then_checked (texts_in x s) (λ ts. good (several ts))
 
 -- the texts of an argument, copied: one, or a list of them
-abbrev pub typed : Shape → Val → Store → Checked Attribute
+abbrev pub typed : Shape → Val → Store → ValueOrFault Attribute
 typed one_text x s = single_in x s
 typed one_label x s = single_in x s
 typed texts x s = several_in x s
 typed labels x s = several_in x s
 typed paths x s = several_in x s
 
-pub record Given : Type 0 where
+pub record RuleArgument : Type 0 where
   pub attribute : List ℕ
   pub shape : Shape
   pub texts : Attribute
 
-abbrev pub typed_if : List ℕ × Shape → Option Val → Store → Checked (List Given) → Checked (List Given)
+abbrev pub typed_if : List ℕ × Shape → Option Val → Store → ValueOrFault (List RuleArgument) → ValueOrFault (List RuleArgument)
 typed_if a None s rest = rest
 typed_if a (Some x) s rest = then_checked (typed a.1 x s) (λ t. then_checked rest (λ gs. good (record { attribute = a.0; shape = a.1; texts = t } ∷ gs)))
 
 -- the attributes that are given, in byte order
-abbrev pub all_typed : Shapes → Named → Store → Checked (List Given)
+abbrev pub all_typed : Shapes → KeywordArguments → Store → ValueOrFault (List RuleArgument)
 all_typed [] ns s = good []
 all_typed (a ∷ shapes) ns s = typed_if a (value_named a.0 ns) s (all_typed shapes ns s)
 
 -- ---- labels and paths
 
 -- a label as its text, `//P:T`, read in the package
-abbrev pub label_in : List ℕ → List ℕ → Checked (List ℕ)
+abbrev pub label_in : List ℕ → List ℕ → ValueOrFault (List ℕ)
 label_in package_name text = then_checked (or_bad BAD_LABEL (label_of text package_name)) (λ t. good (label_text t))
 
-abbrev pub labels_in : List ℕ → List (List ℕ) → Checked (List (List ℕ))
+abbrev pub labels_in : List ℕ → List (List ℕ) → ValueOrFault (List (List ℕ))
 labels_in package_name [] = good []
 labels_in package_name (t ∷ ts) = then_checked (label_in package_name t) (λ l. then_checked (labels_in package_name ts) (λ ls. good (l ∷ ls)))
 
-abbrev pub as_shape : List ℕ → Shape → Attribute → Checked Attribute
+abbrev pub as_shape : List ℕ → Shape → Attribute → ValueOrFault Attribute
 as_shape package_name one_label (single t) = then_checked (label_in package_name t) (λ l. good (single l))
 as_shape package_name labels (several ts) = then_checked (labels_in package_name ts) (λ ls. good (several ls))
 as_shape package_name paths (several ts) = if list_all is_path ts then good (several ts) else bad BAD_LABEL
 as_shape package_name shape a = good a
 
-abbrev pub all_shaped : List ℕ → List Given → Checked (List (List ℕ × Attribute))
+abbrev pub all_shaped : List ℕ → List RuleArgument → ValueOrFault (List (List ℕ × Attribute))
 all_shaped package_name [] = good []
 all_shaped package_name (g ∷ gs) = then_checked (as_shape package_name g.shape g.texts) (λ a. then_checked (all_shaped package_name gs) (λ rest. good ((g.attribute, a) ∷ rest)))
 
 -- ---- the target
 
-abbrev pub name_text : Option Val → Store → Checked (List ℕ)
+abbrev pub name_text : Option Val → Store → ValueOrFault (List ℕ)
 name_text None s = bad WRONG_ARGUMENTS
 name_text (Some x) s = bytes_of x s
 
-abbrev pub makes_target : List ℕ → List ℕ → List ℕ → List Given → Checked Target
+abbrev pub makes_target : List ℕ → List ℕ → List ℕ → List RuleArgument → ValueOrFault Target
 makes_target kind package_name name gs =
     if is_path name then then_checked (all_shaped package_name gs) (λ attributes. good (record { kind = kind; name = name; attributes = attributes }))
     else bad BAD_LABEL
 
 -- the target that a call describes
-abbrev pub target_of : Builtin → List ℕ → List Val → Named → Store → Checked Target
+abbrev pub target_of : Builtin → List ℕ → List Val → KeywordArguments → Store → ValueOrFault Target
 target_of f package_name xs ns s =
     if are_arguments xs ns (shapes_of f)
     then then_checked (name_text (value_named (codes "name") (not_none ns)) s) (λ name. then_checked (all_typed (shapes_of f) (not_none ns) s) (makes_target (builtin_name f) package_name name))
@@ -131,5 +131,5 @@ is_used name (t ∷ ts) = if same_text name t.name then true else is_used name t
 abbrev pub adds_target : Target → Here → Runs Val
 adds_target target here = λ w. (if is_used target.name w.targets then fault TARGET_TWICE here else (λ u. ended v.Nothing (record u { targets = u.targets ++ target ∷ [] }))) w
 
-unfoldable pub rule : Builtin → List ℕ → List Val → Named → Here → Runs Val
+unfoldable pub rule : Builtin → List ℕ → List Val → KeywordArguments → Here → Runs Val
 rule f package_name xs ns here = on_heap here (λ s. checked (target_of f package_name xs ns s) s) >>= λ target. adds_target target here

@@ -4,7 +4,7 @@
 use Rattle.std.specs.Prelude.{ℕ, suc, ◌==◌, List, [], ◌∷◌, length, Option, Some, if◌then◌else◌}
 use Rattle.meaning.specs.declared.val.Val.{Val}
 use Rattle.meaning.specs.declared.val.Val.TheVariants as v
-use Rattle.meaning.specs.Outcome.{Does, Checked, good, bad, checked}
+use Rattle.meaning.specs.Outcome.{Does, ValueOrFault, good, bad, checked}
 use Rattle.meaning.specs.Heap.{Obj, list, tuple, Store, at}
 use Rattle.meaning.specs.Indexing.{set_index}
 use Rattle.meaning.specs.declared.faults.TheConstants.{WRONG_TYPE}
@@ -28,15 +28,15 @@ how_many (aim_at aim more) = suc (how_many more)
 
 -- Unpacking wants a list or tuple of that length; anything else is fault 5.
 
-abbrev pub of_length : ℕ → List Val → Checked (List Val)
+abbrev pub of_length : ℕ → List Val → ValueOrFault (List Val)
 of_length n members = if length members == n then good members else bad WRONG_TYPE
 
-abbrev pub object_parts : ℕ → Option Obj → Checked (List Val)
+abbrev pub object_parts : ℕ → Option Obj → ValueOrFault (List Val)
 object_parts n (Some (list members f)) = of_length n members
 object_parts n (Some (tuple members)) = of_length n members
 object_parts n object = bad WRONG_TYPE
 
-abbrev pub parts_of : ℕ → Val → Store → Checked (List Val)
+abbrev pub parts_of : ℕ → Val → Store → ValueOrFault (List Val)
 parts_of n (v.At a) s = object_parts n (at a s)
 parts_of n x s = bad WRONG_TYPE
 

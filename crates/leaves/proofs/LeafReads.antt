@@ -14,10 +14,10 @@ use Rattle.labels.specs.Labels.{ancestors}
 use Rattle.filetree.specs.Files.{Files, is_ancestor}
 use Rattle.filetree.specs.Changes.{Change, put, del, path_of, changed, all_changed}
 use Rattle.filetree.specs.Listings.{rest_below, listing}
-use Rattle.filetree.proofs.Listed.{rest_passes, any_rest, names_of_rests}
+use Rattle.filetree.proofs.NameLists.{rest_passes, any_rest, names_of_rests}
 use Rattle.filetree.proofs.Slashes.{ancestor_from}
 use Rattle.filetree.proofs.Whole.{same_bool}
-use Rattle.keys.specs.Touched.{leaves_of, touched_leaves, IsTouched}
+use Rattle.keys.specs.EditLeaves.{leaves_of, touched_leaves, IsTouched}
 use Rattle.keys.specs.declared.key.Key.{Key}
 use Rattle.keys.specs.declared.key.Key.TheVariants as key
 use Rattle.keys.specs.declared.value.Value.{Value}

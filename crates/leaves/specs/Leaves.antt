@@ -4,7 +4,7 @@ use Rattle.std.specs.FinMap as map
 use Rattle.std.specs.Option.{option_map}
 use Rattle.filetree.specs.Files.{Files}
 use Rattle.filetree.specs.Listings.{Names, listing}
-use Rattle.keys.specs.Listed.{Listed}
+use Rattle.keys.specs.Directories.{DirectoryView}
 use Rattle.keys.specs.declared.key.Key.{Key}
 use Rattle.keys.specs.declared.key.Key.TheVariants as key
 use Rattle.keys.specs.declared.value.Value.{Value}
@@ -20,7 +20,7 @@ is_leaf (key.Package name) = false
 is_leaf (key.Under directory) = false
 
 -- the names in a directory, as a value has them
-abbrev pub listed_of : Names → Listed
+abbrev pub listed_of : Names → DirectoryView
 listed_of names = record { files = names.files; directories = names.directories }
 
 -- the value of a leaf in the files, and None where the key is no leaf

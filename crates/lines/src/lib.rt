@@ -6,7 +6,7 @@ mod line;
 mod pending;
 mod standard;
 
-pub use device::{Failed, Input, Output};
+pub use device::{DeviceError, Input, Output};
 pub use line::Line;
 pub use pending::{Pending, ReadStop, next_line};
 pub use standard::{ReaderInput, WriterOutput};

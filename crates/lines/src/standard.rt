@@ -1,7 +1,7 @@
 //! Any reader of `std` as an input, and any writer as an output.
 ghost use Rattle.std.specs.Prelude.{◌≡◌, ◌+◌, ◌≤◌, ◌++◌, IfOk, OnOk, OnErr, length, take};
 
-use crate::device::{Failed, Input, Output};
+use crate::device::{DeviceError, Input, Output};
 use count::{Count, History};
 use std::io::{ErrorKind, Read, Write};
 
@@ -28,18 +28,18 @@ impl<R: Read> ReaderInput<R> {
         }
     }
 
-    fn fail(&mut self) -> Failed
+    fn fail(&mut self) -> DeviceError
         ensures told { self.new.told ≡ self.old.told }
         ensures left { self.new.left ≡ self.old.left }
         ensures ends { self.new.ends ≡ self.old.ends }
         ensures failures { self.new.failures ≡ self.old.failures + 1 }
     {
         self.failures.add_one();
-        Failed
+        DeviceError
     }
 
     // Reads once, and tries again after an interruption.
-    fn read_once(&mut self, buffer: &mut [u8]) -> Result<usize, Failed>
+    fn read_once(&mut self, buffer: &mut [u8]) -> Result<usize, DeviceError>
         ensures count { IfOk result (λ n. n ≤ length buffer.new) }
         ensures told { self.new.told ≡ self.old.told }
         ensures left { self.new.left ≡ self.old.left }
@@ -70,7 +70,7 @@ impl<R: Read> Input for ReaderInput<R> {
 
     ghost left = { λ s. s.left };
 
-    fn read(&mut self, buffer: &mut [u8]) -> Result<usize, Failed> {
+    fn read(&mut self, buffer: &mut [u8]) -> Result<usize, DeviceError> {
         let n = self.read_once(buffer)?;
         let count = n as u64;
         if count > self.left {
@@ -104,16 +104,16 @@ impl<W: Write> WriterOutput<W> {
         }
     }
 
-    fn fail(&mut self) -> Failed
+    fn fail(&mut self) -> DeviceError
         ensures held { self.new.held ≡ self.old.held }
         ensures failures { self.new.failures ≡ self.old.failures + 1 }
     {
         self.failures.add_one();
-        Failed
+        DeviceError
     }
 
     // Writes some of the bytes, and tries again after an interruption.
-    fn write_some(&mut self, bytes: &[u8]) -> Result<usize, Failed>
+    fn write_some(&mut self, bytes: &[u8]) -> Result<usize, DeviceError>
         ensures count { IfOk result (λ n. n ≤ length bytes.now) }
         ensures held { IfOk result (λ n. self.new.held ≡ self.old.held ++ take n bytes.now) }
         ensures ok { OnOk result (self.new.failures ≡ self.old.failures) }
@@ -137,7 +137,7 @@ impl<W: Write> WriterOutput<W> {
     }
 
     // Flushes once, and tries again after an interruption.
-    fn flush(&mut self) -> Result<(), Failed>
+    fn flush(&mut self) -> Result<(), DeviceError>
         ensures held { self.new.held ≡ self.old.held }
         ensures ok { OnOk result (self.new.failures ≡ self.old.failures) }
         ensures failed { OnErr result (self.new.failures ≡ self.old.failures + 1) }
@@ -161,7 +161,7 @@ impl<W: Write> Output for WriterOutput<W> {
 
     ghost failures = { λ s. s.failures };
 
-    fn write(&mut self, bytes: &[u8]) -> Result<(), Failed> {
+    fn write(&mut self, bytes: &[u8]) -> Result<(), DeviceError> {
         let mut at = 0;
         while at < bytes.len() {
             let n = self.write_some(&bytes[at..])?;

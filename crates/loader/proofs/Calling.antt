@@ -3,7 +3,7 @@ use Rattle.std.proofs.Common.{◌≡◌, ◌⊎◌, inl, inr, ℕ, ◌<◌, ◌�
 use Rattle.evaluation.specs.Value.{IsUngrounded, leaf as leaf_settles, run as run_settles, is_leaf, has_run, Grounded, HasValue, In, first, after, IsMember, Settles}
 use Rattle.evaluation.specs.Graph.{Record, Differs}
 use Rattle.evaluation.specs.Journal.{RunIsJustified, never_settled, dependency_differs, ReadIsJustified, never_read, edited}
-use Rattle.evaluation.specs.Reached.{Reached, root, member}
+use Rattle.evaluation.specs.Reachability.{Reached, root, member}
 use Rattle.evaluation.proofs.Touch.{not_true}
 use Rattle.filetree.specs.Files.{Files}
 use Rattle.functions.specs.Next.{next}
@@ -11,15 +11,15 @@ use Rattle.leaves.proofs.LeafReads.{leaf_stays}
 use Rattle.keys.specs.Cycles.{cycle}
 use Rattle.keys.specs.declared.key.Key.{Key}
 use Rattle.keys.specs.declared.value.Value.{Value}
-use Rattle.node.specs.Graphs.{Recorded, record_at, IsTouched, present}
+use Rattle.node.specs.Graphs.{GraphView, record_at, IsTouched, present}
 use Rattle.node.specs.Laws.{IsLawfulFor}
 use Rattle.node.proofs.Lists.{some_is, none_some, true_false}
 use Rattle.open_nodes.specs.Truths.{Past, IsRunOf}
 use Rattle.open_nodes.specs.declared.run.Run.{Run}
 use Rattle.round.specs.Call.{IsCall}
-use Rattle.loader.specs.Journal.{Asked, leaves, IsSettledBy, IsLastSettled, by_newest, by_earlier, MayRun, first_run, run_again, MayBeRead, first_read, read_again, IsItemOf, MissesNone, AreInOrder, AreItemsOf}
-use Rattle.loader.specs.Linked.{Stays, IsLinked}
-use Rattle.loader.proofs.Asked.{asked_recorded, recorded_asked, asks_some}
+use Rattle.loader.specs.Journal.{Evaluation, leaves, IsSettledBy, IsLastSettled, by_newest, by_earlier, MayRun, first_run, run_again, MayBeRead, first_read, read_again, IsItemOf, MissesNone, AreInOrder, AreItemsOf}
+use Rattle.loader.specs.GraphLinks.{Stays, IsLinked}
+use Rattle.loader.proofs.Groups.{asked_recorded, recorded_asked, asks_some}
 use Rattle.loader.proofs.Linking.{same_at, stays_now, read_plain}
 
 -- a key with a clean record is settled
@@ -45,7 +45,7 @@ module _ (files : ℕ → Files) (paths : ℕ → List (List ℕ)) where
   Touched u k = IsTouched (paths u) k
 
   -- the history of a call over the graph
-  abbrev pub past_of : (graph : Recorded) → List Key → Past (at graph.version)
+  abbrev pub past_of : (graph : GraphView) → List Key → Past (at graph.version)
   past_of graph roots = record {
     entry = graph;
     roots = roots;
@@ -72,13 +72,13 @@ module _ (files : ℕ → Files) (paths : ℕ → List (List ℕ)) where
       record { a = p.0; b = q.0; a_within = (p.1, p.2); b_within = (q.1, q.2); v = d.v; w = d.w; at_a = p.3; at_b = q.3; apart = d.apart }
 
   -- a key that was last settled at a version was settled by a request of it
-  last_request : {k : Key} {u : ℕ} {earlier : List Asked} → IsLastSettled files paths k u earlier → (q : Asked) × In q earlier × (q.version ≡ u)
+  last_request : {k : Key} {u : ℕ} {earlier : List Evaluation} → IsLastSettled files paths k u earlier → (q : Evaluation) × In q earlier × (q.version ≡ u)
   last_request (by_newest {evaluation = q} s e) = (q, first, e)
   last_request (by_earlier n l) = let r = last_request l in (r.0, after r.1, r.2)
 
-  module _ (old new : Recorded) (roots : List Key) (earlier : List Asked) (linked : IsLinked files paths old earlier) (runs : List Run)
+  module _ (old new : GraphView) (roots : List Key) (earlier : List Evaluation) (linked : IsLinked files paths old earlier) (runs : List Run)
       (call : IsCall next (at old.version) (past_of old roots) new runs) where
-    abbrev request : Asked
+    abbrev request : Evaluation
     request = record { version = old.version; roots = roots }
 
     law : IsLawfulFor next at paths new
@@ -129,13 +129,13 @@ module _ (files : ℕ → Files) (paths : ℕ → List (List ℕ)) where
     pub linked_call : IsLinked files paths new (request ∷ earlier)
     linked_call = record {
       lawful = law;
-      past = λ q i. elim (either i) [ inl e ↦ (let h : q.version ≡ old.version = ap (λ (x : Asked). x.version) e in let v = version in omega arith) | inr b ↦ (let h = linked.past q b in let v = version in omega arith) ];
+      past = λ q i. elim (either i) [ inl e ↦ (let h : q.version ≡ old.version = ap (λ (x : Evaluation). x.version) e in let v = version in omega arith) | inr b ↦ (let h = linked.past q b in let v = version in omega arith) ];
       back = λ k r e. elim (call.after.since k) [
         | inl q ↦ (let b = linked.back k r (sym q ∙ e) in (b.0, after b.1, b.2))
         | inr p ↦ (request, first, p.5)
       ];
       there = λ q k i s. elim (either i) [
-        | inl e ↦ (let c = reached_clean (subst (λ (x : Asked). IsSettledBy files paths k x) e s) in (c.0, c.1))
+        | inl e ↦ (let c = reached_clean (subst (λ (x : Evaluation). IsSettledBy files paths k x) e s) in (c.0, c.1))
         | inr b ↦ (let r = linked.there q k b s in elim (call.after.since k) [ inl p ↦ (r.0, p ∙ r.1) | inr p ↦ (p.0, p.1) ])
       ];
       last = λ k u r l e. last k u r e l;

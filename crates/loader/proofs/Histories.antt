@@ -6,10 +6,10 @@ use Rattle.functions.specs.Next.{next}
 use Rattle.leaves.specs.Leaves.{read}
 use Rattle.leaves.proofs.LeafReads.{leaf_stays, changes_read}
 use Rattle.keys.specs.declared.key.Key.{Key}
-use Rattle.node.specs.Graphs.{Recorded, IsTouched}
+use Rattle.node.specs.Graphs.{GraphView, IsTouched}
 use Rattle.node.specs.Laws.{TouchKeepsLawful, IsAlwaysLawful}
 use Rattle.loader.specs.State.{Edit, changes_of, changed_files, changed}
-use Rattle.loader.specs.Held.{Held, files_after, files_of, state_of, paths_of, Follows, IsHistory, IsLawful, files_at, paths_at}
+use Rattle.loader.specs.Sessions.{SessionView, files_after, files_of, state_of, paths_of, Follows, IsHistory, IsLawful, files_at, paths_at}
 
 -- one more edit
 pub after_more : (files : Files) (edits : List Edit) (edit : Edit) → files_after files (edits ++ edit ∷ []) ≡ changed_files edit (files_after files edits)
@@ -36,11 +36,11 @@ pub edit_reads : (files : Files) (edit : Edit) (k : Key) → (IsTouched (paths_o
 edit_reads files edit k n = changes_read files (changes_of edit) k n
 
 -- a session without edits
-pub lawful_start : (began : ℕ) (graph : Recorded) → graph.version ≡ began → IsAlwaysLawful graph → IsLawful (record { began = began; edits = []; graph = graph })
+pub lawful_start : (began : ℕ) (graph : GraphView) → graph.version ≡ began → IsAlwaysLawful graph → IsLawful (record { began = began; edits = []; graph = graph })
 lawful_start began graph v always = record { version = omega (arith, v); lawful = λ files paths h. always next (λ u. read (files u)) paths }
 
 -- one more edit leaves a session lawful
-pub lawful_after : (began : ℕ) (edits : List Edit) (old new : Recorded) (edit : Edit) → IsLawful (record { began = began; edits = edits; graph = old }) → new.version ≡ old.version + 1 → TouchKeepsLawful old new (paths_of edit)
+pub lawful_after : (began : ℕ) (edits : List Edit) (old new : GraphView) (edit : Edit) → IsLawful (record { began = began; edits = edits; graph = old }) → new.version ≡ old.version + 1 → TouchKeepsLawful old new (paths_of edit)
     → IsLawful (record { began = began; edits = edits ++ edit ∷ []; graph = new })
 lawful_after began edits old new edit law v touch = record {
   version = omega (arith, v, law.version, length-append edits (edit ∷ []));
@@ -53,7 +53,7 @@ lawful_after began edits old new edit law v touch = record {
 }
 
 -- a session that has accepted one more edit
-module _ (h : Held) (new : Recorded) (edits : List Edit) (edit : Edit) (is : edits ≡ h.edits ++ edit ∷ []) (version : new.version ≡ h.graph.version + 1) where
+module _ (h : SessionView) (new : GraphView) (edits : List Edit) (edit : Edit) (is : edits ≡ h.edits ++ edit ∷ []) (version : new.version ≡ h.graph.version + 1) where
   pub accepted : (tree : Files) → tree ≡ changed_files edit (files_of h) → IsLawful h → TouchKeepsLawful h.graph new (paths_of edit)
       → (tree ≡ files_of (record { began = h.began; edits = edits; graph = new })) × IsLawful (record { began = h.began; edits = edits; graph = new })
   accepted tree t law touch = (
@@ -71,7 +71,7 @@ last_of : (files : ℕ → Files) (paths : ℕ → List (List ℕ)) (n m : ℕ) 
 last_of files paths n m [] e f = ap files (omega (arith, e))
 last_of files paths n m (edit ∷ edits) e f = last_of files paths (suc n) m edits (omega (arith, e)) f.2 ∙ ap (λ x. files_after x edits) f.0
 
-pub last_files : (files : ℕ → Files) (paths : ℕ → List (List ℕ)) (h : Held) → h.graph.version ≡ h.began + length h.edits → IsHistory files paths h.began h.edits → files h.graph.version ≡ files_of h
+pub last_files : (files : ℕ → Files) (paths : ℕ → List (List ℕ)) (h : SessionView) → h.graph.version ≡ h.began + length h.edits → IsHistory files paths h.began h.edits → files h.graph.version ≡ files_of h
 last_files files paths h v history = last_of files paths h.began h.graph.version h.edits v history.follows ∙ ap (λ x. files_after x h.edits) history.start
 
 -- each list of edits has a history

@@ -12,17 +12,17 @@ use Rattle.keys.specs.Keys.{key_cmp}
 use Rattle.keys.specs.declared.key.Key.{Key}
 use Rattle.keys.specs.declared.value.Value.{Value}
 use Rattle.node.proofs.Lists.{none_some}
-use Rattle.node.specs.Graphs.{Recorded, record_at}
-use Rattle.open_nodes.specs.Counted.{turns_of}
+use Rattle.node.specs.Graphs.{GraphView, record_at}
+use Rattle.open_nodes.specs.TurnCounts.{turns_of}
 use Rattle.open_nodes.specs.declared.run.Run.{Run}
 use Rattle.round.specs.Call.{Calls}
 use Rattle.loader.specs.State.{State, start, Edit}
-use Rattle.loader.specs.Held.{Held, IsHistory, IsLawful, state_of, paths_of, files_at, paths_at}
+use Rattle.loader.specs.Sessions.{SessionView, IsHistory, IsLawful, state_of, paths_of, files_at, paths_at}
 use Rattle.loader.specs.Answers.{line_state, state_after}
-use Rattle.loader.specs.Journal.{Asked}
+use Rattle.loader.specs.Journal.{Evaluation}
 use Rattle.loader.specs.Effects.{Effect, nothing, edited, asked, line_effect, effects, edits_in, and_later, requests_in, Evaluates, EvaluatesEach, Moves}
-use Rattle.loader.specs.Linked.{IsToldBy}
-use Rattle.loader.specs.Kept.{IsKept, IsJournalOf}
+use Rattle.loader.specs.GraphLinks.{IsToldBy}
+use Rattle.loader.specs.LineJournal.{IsKept, IsJournalOf}
 use Rattle.loader.proofs.Histories.{history_before, history_of, last_files}
 use Rattle.loader.proofs.Calling.{past_of}
 use Rattle.loader.proofs.Telling.{told_edit, IsBegun, begins, begun_call, ends}
@@ -47,20 +47,20 @@ requests_more (asked request later ∷ es) e = ap (λ r. and_later request later
 
 module _ {budget : ℕ} (files : ℕ → Files) (paths : ℕ → List (List ℕ)) where
   -- one more of a request
-  one_more : (a b : Held) → IsLawful a → a.began ≡ 0 → IsHistory files paths 0 a.edits → (request : Asked) (own : List Run) → Evaluates request a b own
-      → (requests : List (List Asked)) (runs : List Run) (begun : List Asked) (before : List Run) → IsBegun files paths budget a.graph requests runs begun before
+  one_more : (a b : SessionView) → IsLawful a → a.began ≡ 0 → IsHistory files paths 0 a.edits → (request : Evaluation) (own : List Run) → Evaluates request a b own
+      → (requests : List (List Evaluation)) (runs : List Run) (begun : List Evaluation) (before : List Run) → IsBegun files paths budget a.graph requests runs begun before
       → IsBegun files paths budget b.graph requests runs (begun ++ request ∷ []) (before ++ own)
   one_more a b law began history request own e requests runs begun before t =
       let from_began = subst (λ (n : ℕ). IsHistory files paths n a.edits) (sym began) history in
       let present = last_files files paths a law.version from_began in
       let calls = subst (λ (f : Files). Calls next (read f) request.roots a.graph b.graph (Ok own)) (sym present) e.3 in
       let call = calls (past_of files paths a.graph request.roots) (record { at_entry = refl; of_roots = refl; lawful = law.lawful files paths from_began }) in
-      subst (λ (r : Asked). IsBegun files paths budget b.graph requests runs (begun ++ r ∷ []) (before ++ own)) (λ i. record { version = sym e.2 i; roots = request.roots })
+      subst (λ (r : Evaluation). IsBegun files paths budget b.graph requests runs (begun ++ r ∷ []) (before ++ own)) (λ i. record { version = sym e.2 i; roots = request.roots })
       (begun_call files paths budget a.graph b.graph request.roots requests runs begun before own t call)
 
   -- all of a request: one, or two
-  each_more : (a b : Held) → IsLawful a → a.began ≡ 0 → IsHistory files paths 0 a.edits → (request : Asked) (later : Option Asked) (own : List Run) → EvaluatesEach request later a b own → turns_of own ≤ budget
-      → (requests : List (List Asked)) (runs : List Run) → IsToldBy files paths budget a.graph requests runs → IsToldBy files paths budget b.graph (requests ++ and_later request later ∷ []) (runs ++ own)
+  each_more : (a b : SessionView) → IsLawful a → a.began ≡ 0 → IsHistory files paths 0 a.edits → (request : Evaluation) (later : Option Evaluation) (own : List Run) → EvaluatesEach request later a b own → turns_of own ≤ budget
+      → (requests : List (List Evaluation)) (runs : List Run) → IsToldBy files paths budget a.graph requests runs → IsToldBy files paths budget b.graph (requests ++ and_later request later ∷ []) (runs ++ own)
   each_more a b law began history request None own e within requests runs t =
       ends files paths budget b.graph requests runs (request ∷ []) own (one_more a b law began history request own e requests runs [] [] (begins files paths budget a.graph requests runs t)) within
   each_more a b law began history request (Some later) own (mid, front, rest, lawful, is, e, f) within requests runs t =
@@ -70,11 +70,11 @@ module _ {budget : ℕ} (files : ℕ → Files) (paths : ℕ → List (List ℕ)
       (subst (λ (xs : List Run). IsBegun files paths budget b.graph requests runs (request ∷ later ∷ []) xs) (sym is) two) within
 
 -- the session's history stays
-each_began : (a b : Held) (own : List Run) (request : Asked) (later : Option Asked) → EvaluatesEach request later a b own → (b.began ≡ a.began) × (b.edits ≡ a.edits)
+each_began : (a b : SessionView) (own : List Run) (request : Evaluation) (later : Option Evaluation) → EvaluatesEach request later a b own → (b.began ≡ a.began) × (b.edits ≡ a.edits)
 each_began a b own request None e = (e.0, e.1)
 each_began a b own request (Some later) (mid, front, rest, lawful, is, e, f) = (f.0 ∙ e.0, f.1 ∙ e.1)
 
-module _ (budget : ℕ) (h h' : Held) (lines : List (List ℕ)) (runs own : List Run) (line : List ℕ) (kept : IsKept budget h lines runs) (law : IsLawful h') (within : turns_of own ≤ budget) where
+module _ (budget : ℕ) (h h' : SessionView) (lines : List (List ℕ)) (runs own : List Run) (line : List ℕ) (kept : IsKept budget h lines runs) (law : IsLawful h') (within : turns_of own ≤ budget) where
   abbrev so_far : List Effect
   so_far = effects start lines
 
@@ -84,12 +84,12 @@ module _ (budget : ℕ) (h h' : Held) (lines : List (List ℕ)) (runs own : List
   by_effect : (e : Effect) → line_effect line (state_after start lines) ≡ e → Moves e h h' own → IsKept budget h' (lines ++ line ∷ []) (runs ++ own)
   by_effect nothing q m = record {
     lawful = law;
-    began = ap (λ (x : Held). x.began) m.0 ∙ kept.began;
-    edits = ap (λ (x : Held). x.edits) m.0 ∙ kept.edits ∙ sym es;
+    began = ap (λ (x : SessionView). x.began) m.0 ∙ kept.began;
+    edits = ap (λ (x : SessionView). x.edits) m.0 ∙ kept.edits ∙ sym es;
     told = λ files paths history.
-        let t = kept.told files paths (subst (λ (x : Held). IsHistory files paths 0 x.edits) m.0 history) in
-        subst (λ (g : Recorded). IsToldBy files paths budget g (requests_in all) (runs ++ own)) (sym (ap (λ (x : Held). x.graph) m.0))
-        (subst (λ (rs : List (List Asked)). IsToldBy files paths budget h.graph rs (runs ++ own)) (sym rs)
+        let t = kept.told files paths (subst (λ (x : SessionView). IsHistory files paths 0 x.edits) m.0 history) in
+        subst (λ (g : GraphView). IsToldBy files paths budget g (requests_in all) (runs ++ own)) (sym (ap (λ (x : SessionView). x.graph) m.0))
+        (subst (λ (rs : List (List Evaluation)). IsToldBy files paths budget h.graph rs (runs ++ own)) (sym rs)
         (subst (λ (xs : List Run). IsToldBy files paths budget h.graph (requests_in so_far) xs) (sym (ap (λ x. runs ++ x) m.1 ∙ append-nil runs)) t));
   }
     where
@@ -110,7 +110,7 @@ module _ (budget : ℕ) (h h' : Held) (lines : List (List ℕ)) (runs own : List
         let t = kept.told files paths (history_before files paths 0 h.edits edit longer) in
         let v : h'.graph.version ≡ h.graph.version + 1 = omega (arith, law.version, kept.lawful.version, m.1, ap length m.2, length-append h.edits (edit ∷ [])) in
         let l = law.lawful files paths (subst (λ (b : ℕ). IsHistory files paths b h'.edits) (sym (m.1 ∙ kept.began)) history) in
-        subst (λ (rs : List (List Asked)). IsToldBy files paths budget h'.graph rs (runs ++ own)) (sym rs)
+        subst (λ (rs : List (List Evaluation)). IsToldBy files paths budget h'.graph rs (runs ++ own)) (sym rs)
         (subst (λ (xs : List Run). IsToldBy files paths budget h'.graph (requests_in so_far) xs) (sym (ap (λ x. runs ++ x) m.0 ∙ append-nil runs))
         (told_edit files paths budget h.graph h'.graph (paths_of edit) v m.3 l (requests_in so_far) runs t));
   }
@@ -129,7 +129,7 @@ module _ (budget : ℕ) (h h' : Held) (lines : List (List ℕ)) (runs own : List
     edits = (each_began h h' own request later m).1 ∙ kept.edits ∙ sym es;
     told = λ files paths history.
         let before = subst (λ (x : List Edit). IsHistory files paths 0 x) (each_began h h' own request later m).1 history in
-        subst (λ (rs : List (List Asked)). IsToldBy files paths budget h'.graph rs (runs ++ own)) (sym rs)
+        subst (λ (rs : List (List Evaluation)). IsToldBy files paths budget h'.graph rs (runs ++ own)) (sym rs)
         (each_more files paths h h' kept.lawful kept.began before request later own m within (requests_in so_far) runs (kept.told files paths before));
   }
     where
@@ -147,13 +147,13 @@ module _ (budget : ℕ) (h h' : Held) (lines : List (List ℕ)) (runs own : List
   kept_line s m = by_effect (line_effect line (state_of h)) (ap (line_effect line) (sym s)) m
 
 -- the journal of all lines
-pub kept_journal : (budget : ℕ) (h : Held) (lines : List (List ℕ)) (runs : List Run) → IsKept budget h lines runs → IsJournalOf budget lines runs
+pub kept_journal : (budget : ℕ) (h : SessionView) (lines : List (List ℕ)) (runs : List Run) → IsKept budget h lines runs → IsJournalOf budget lines runs
 kept_journal budget h lines runs kept =
     (kept.told (files_at (edits_in (effects start lines))) (paths_at (edits_in (effects start lines)))
     (subst (λ (x : List Edit). IsHistory (files_at (edits_in (effects start lines))) (paths_at (edits_in (effects start lines))) 0 x) (sym kept.edits) (history_of (edits_in (effects start lines))))).journal
 
 -- no line yet
-pub kept_at_start : (budget : ℕ) (h : Held) → IsLawful h → h.began ≡ 0 → h.edits ≡ [] → h.graph.records ≡ [] → IsKept budget h [] []
+pub kept_at_start : (budget : ℕ) (h : SessionView) → IsLawful h → h.began ≡ 0 → h.edits ≡ [] → h.graph.records ≡ [] → IsKept budget h [] []
 kept_at_start budget h law began edits records = record {
   lawful = law;
   began = began;

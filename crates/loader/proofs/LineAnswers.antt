@@ -7,11 +7,11 @@ use Rattle.open_nodes.specs.declared.run.Run.{Run}
 use Rattle.serde_json.specs.Written.{compact_text}
 use Rattle.loader.specs.Answers.{refused, IsAnswerOf, IsAnswerIf, IsRequestAnswer, Tells, state_if}
 use Rattle.loader.specs.Effects.{Moves, nothing, effect_if, request_effect}
-use Rattle.loader.specs.Held.{Held, state_of, files_of}
+use Rattle.loader.specs.Sessions.{SessionView, state_of, files_of}
 use Rattle.loader.specs.LineAnswers.{AnswersLine}
 
 -- a line that is too long
-pub long_line : (whole : List ℕ) (h : Held) (line : List ℕ) (runs : List Run) → is_too_long whole ≡ true → line ≡ compact_text (refused 6) ++ 10 ∷ [] → runs ≡ [] → AnswersLine whole h h line runs
+pub long_line : (whole : List ℕ) (h : SessionView) (line : List ℕ) (runs : List Run) → is_too_long whole ≡ true → line ≡ compact_text (refused 6) ++ 10 ∷ [] → runs ≡ [] → AnswersLine whole h h line runs
 long_line whole h line runs long is none = let s = state_of h in let o = option_and_then command_of (data_of whole) in record {
   told = (refused 6, subst (λ (b : Bool). IsAnswerOf b whole s (refused 6)) (sym long) refl, is);
   state = sym (ap (λ (b : Bool). if b then s else state_if o s) long);
@@ -19,7 +19,7 @@ long_line whole h line runs long is none = let s = state_of h in let o = option_
 }
 
 -- one that is not, and holds this command, or none
-pub short_line : (whole : List ℕ) (o : Option Command) (old new : Held) (text line : List ℕ) (runs : List Run) → is_too_long whole ≡ false → option_and_then command_of (data_of whole) ≡ o
+pub short_line : (whole : List ℕ) (o : Option Command) (old new : SessionView) (text line : List ℕ) (runs : List Run) → is_too_long whole ≡ false → option_and_then command_of (data_of whole) ≡ o
     → Tells (IsAnswerIf o (state_of old)) text → line ≡ text ++ 10 ∷ [] → state_of new ≡ state_if o (state_of old) → Moves (effect_if o (state_of old)) old new runs → AnswersLine whole old new line runs
 short_line whole o old new text line runs short holds tells is state moves = let s = state_of old in let held = option_and_then command_of (data_of whole) in record {
   told = (tells.0, subst (λ (b : Bool). IsAnswerOf b whole s tells.0) (sym short) (subst (λ (p : Option Command). IsAnswerIf p s tells.0) (sym holds) tells.1), is ∙ ap (λ r. r ++ 10 ∷ []) tells.2);
@@ -28,23 +28,23 @@ short_line whole o old new text line runs short holds tells is state moves = let
 }
 
 -- one that is answered before anything is evaluated
-pub plain_line : (whole : List ℕ) (o : Option Command) (old new : Held) (text line : List ℕ) (runs : List Run) → is_too_long whole ≡ false → option_and_then command_of (data_of whole) ≡ o
+pub plain_line : (whole : List ℕ) (o : Option Command) (old new : SessionView) (text line : List ℕ) (runs : List Run) → is_too_long whole ≡ false → option_and_then command_of (data_of whole) ≡ o
     → Tells (IsAnswerIf o (state_of old)) text × (state_of new ≡ state_if o (state_of old)) × Moves (effect_if o (state_of old)) old new [] → line ≡ text ++ 10 ∷ [] → runs ≡ [] → AnswersLine whole old new line runs
 plain_line whole o old new text line runs short holds b is none = subst (λ (rs : List Run). AnswersLine whole old new line rs) (sym none) (short_line whole o old new text line [] short holds b.0 is b.1 b.2)
 
-same_state : (old new : Held) → new.edits ≡ old.edits → new.graph.version ≡ old.graph.version → state_of new ≡ state_of old
+same_state : (old new : SessionView) → new.edits ≡ old.edits → new.graph.version ≡ old.graph.version → state_of new ≡ state_of old
 same_state old new edits version = ap (λ h. record { files = files_of (record { began = old.began; edits = h; graph = new.graph }); version = new.graph.version }) edits ∙ ap (λ v. record { files = files_of old; version = v }) version
 
 -- one that asks something, where the session was not moved before
-pub asking_line : (whole : List ℕ) (request : Request) (old mid new : Held) (text line : List ℕ) (runs : List Run) → is_too_long whole ≡ false → option_and_then command_of (data_of whole) ≡ Some (ask request) → mid ≡ old
+pub asking_line : (whole : List ℕ) (request : Request) (old mid new : SessionView) (text line : List ℕ) (runs : List Run) → is_too_long whole ≡ false → option_and_then command_of (data_of whole) ≡ Some (ask request) → mid ≡ old
     → Tells (IsRequestAnswer request (files_of mid)) text → line ≡ text ++ 10 ∷ [] → new.edits ≡ mid.edits → new.graph.version ≡ mid.graph.version → Moves (request_effect request (state_of mid)) mid new runs
     → AnswersLine whole old new line runs
 asking_line whole request old mid new text line runs short holds same tells is edits version moves =
-    subst (λ (h : Held). AnswersLine whole h new line runs) same
+    subst (λ (h : SessionView). AnswersLine whole h new line runs) same
     (short_line whole (Some (ask request)) mid new text line runs short holds tells is (same_state mid new edits version) moves)
 
 -- what is done for a line that is no command
-pub no_step : (o : Option Command) (h : Held) (text : List ℕ) → o ≡ None → text ≡ compact_text (refused 1)
+pub no_step : (o : Option Command) (h : SessionView) (text : List ℕ) → o ≡ None → text ≡ compact_text (refused 1)
     → Tells (IsAnswerIf o (state_of h)) text × (state_of h ≡ state_if o (state_of h)) × Moves (effect_if o (state_of h)) h h []
 no_step None h text e is = ((refused 1, refl, is), refl, (refl, refl))
 no_step (Some command) h text e is = absurd cc

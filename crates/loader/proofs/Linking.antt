@@ -13,11 +13,11 @@ use Rattle.keys.specs.declared.key.Key.{Key}
 use Rattle.keys.specs.declared.key.Key.TheVariants as key
 use Rattle.keys.specs.declared.value.Value.{Value}
 use Rattle.keys.proofs.CycleLaws.{turned}
-use Rattle.node.specs.Graphs.{Recorded, record_at, IsTouched}
+use Rattle.node.specs.Graphs.{GraphView, record_at, IsTouched}
 use Rattle.node.specs.Laws.{IsLawfulFor}
 use Rattle.node.proofs.Lists.{some_is, none_some, true_false}
-use Rattle.loader.specs.Journal.{Asked, leaves}
-use Rattle.loader.specs.Linked.{Stays, IsLinked}
+use Rattle.loader.specs.Journal.{Evaluation, leaves}
+use Rattle.loader.specs.GraphLinks.{Stays, IsLinked}
 
 pub past_or_now : (w n m : ℕ) → m ≡ n + 1 → w ≤ m → (w ≤ n) ⊎ (w ≡ m)
 past_or_now w n m e h = grind arith
@@ -31,7 +31,7 @@ module _ (files : ℕ → Files) (paths : ℕ → List (List ℕ)) where
   same_at u h g = one_value next (at u) cycle turned h.1 g.1
 
   -- a clean record stayed true until now
-  pub stays_now : (graph : Recorded) (earlier : List Asked) → IsLinked files paths graph earlier → (k : Key) (r : Record Key Value) → record_at graph k ≡ Some r → r.dirty ≡ false → Stays files paths k r graph.version
+  pub stays_now : (graph : GraphView) (earlier : List Evaluation) → IsLinked files paths graph earlier → (k : Key) (r : Record Key Value) → record_at graph k ≡ Some r → r.dirty ≡ false → Stays files paths k r graph.version
   stays_now graph earlier linked k r e d = record {
     early = (linked.lawful.each k r e).past.1;
     settles = linked.clean k r e d;
@@ -43,7 +43,7 @@ module _ (files : ℕ → Files) (paths : ℕ → List (List ℕ)) where
     untouched = λ x f w lo hi t. true_false (linked.lawful.leaf_clean k r x e f w lo hi t) d;
   }
 
-  module _ (old new : Recorded) (edited : List (List ℕ)) (version : new.version ≡ old.version + 1) (marks : Marks (record_at old) (record_at new) (IsTouched edited)) (law : IsLawfulFor next at paths new) where
+  module _ (old new : GraphView) (edited : List (List ℕ)) (version : new.version ≡ old.version + 1) (marks : Marks (record_at old) (record_at new) (IsTouched edited)) (law : IsLawfulFor next at paths new) where
     -- what a record was
     origin : (k : Key) (m : Record Key Value) → record_at new k ≡ Some m → (r : Record Key Value) × (record_at old k ≡ Some r) × (d : Bool) × (m ≡ record r { dirty = d })
     origin k m e = go (record_at old k) refl
@@ -59,7 +59,7 @@ module _ (files : ℕ → Files) (paths : ℕ → List (List ℕ)) where
     restay r d s = record { early = s.early; settles = s.settles; members = s.members; untouched = s.untouched }
 
     -- an edit
-    pub linked_edit : (earlier : List Asked) → IsLinked files paths old earlier → IsLinked files paths new earlier
+    pub linked_edit : (earlier : List Evaluation) → IsLinked files paths old earlier → IsLinked files paths new earlier
     linked_edit earlier linked = record {
       lawful = law;
       past = λ q i. let h = linked.past q i in omega (arith, version);

@@ -7,14 +7,14 @@ use Rattle.lines.proofs.Cuts.{whole_append}
 use Rattle.filetree.specs.Files.{Files}
 use Rattle.labels.specs.Labels.{Target}
 use Rattle.package_names.specs.Below.{packages_below}
-use Rattle.packages.proofs.OneHeld.{one_module_held, one_package_held}
+use Rattle.packages.proofs.Uniqueness.{one_module_held, one_package_held}
 use Rattle.answers.specs.Answers.{packages_data}
 use Rattle.serde_json.specs.Data.{Data}
 use Rattle.commands.specs.Commands.{Command, change, ask, Request, find, load, module_of, under, data_of, command_of}
 use Rattle.commands.specs.Refusals.{request_refusal, module_label}
 use Rattle.loader.specs.State.{State, start}
 use Rattle.loader.specs.Answers.{package_shown, module_shown, IsPackageShown, ArePackagesShown, IsModuleShown, IsValueOf, IsUnlessRefused, IsAnswerTo, IsAnswerIf, IsAnswerOf, AreAnswers, line_state, state_after, answer_text, texts}
-use Rattle.loader.specs.Served.{IsBeginning, IsPart, nothing, of_next}
+use Rattle.loader.specs.Service.{IsBeginning, IsPart, nothing, of_next}
 use Rattle.loader.specs.Laws.{OneAnswer, OneAnswerEach, OneOutput, StopsInOutput}
 
 module _ (files : Files) where

@@ -18,15 +18,15 @@ use Rattle.keys.specs.declared.key.Key.{Key}
 use Rattle.keys.specs.declared.key.Key.TheVariants as key
 use Rattle.keys.specs.declared.value.Value.{Value}
 use Rattle.keys.specs.declared.value.Value.TheVariants as value
-use Rattle.node.specs.Graphs.{Recorded, record_at, present}
+use Rattle.node.specs.Graphs.{GraphView, record_at, present}
 use Rattle.open_nodes.specs.Truths.{Past, IsAfter}
 use Rattle.open_nodes.specs.declared.run.Run.{Run}
 use Rattle.round.specs.Call.{Calls, IsHistory as IsPast}
 use Rattle.round.specs.declared.stop.Stop.{Stop}
-use Rattle.loader.specs.Held.{Held, IsHistory, IsLawful, files_of}
+use Rattle.loader.specs.Sessions.{SessionView, IsHistory, IsLawful, files_of}
 use Rattle.loader.specs.Answers.{one_member, build_text, ArePackagesShown, IsModuleShown, IsValueOf, IsUnlessRefused, IsRequestAnswer, Tells}
 use Rattle.loader.specs.Effects.{AreHeld, StopsAfter, module_roots, package_roots, request_roots, later_roots}
-use Rattle.loader.specs.Told.{package_told, module_told}
+use Rattle.loader.specs.KeyAnswers.{package_told, module_told}
 use Rattle.loader.specs.State.{Edit, one, batch, Refusal, plain, files_refusal, changed_files}
 use Rattle.edits.specs.Edits.{refusal_at}
 use Rattle.filetree.specs.Changes.{change_refusal, changes_refusal, refused_or}
@@ -35,7 +35,7 @@ use Rattle.filetree.proofs.Lawful.{edits_keep_paths}
 use Rattle.labels.specs.Paths.{is_package_name}
 use Rattle.labels.specs.Labels.{Target, label_of, would_name, label_text, is_target, is_module}
 use Rattle.answers.specs.Answers.{packages_data}
-use Rattle.packages.proofs.Held.{packages_hold, modules_hold}
+use Rattle.packages.proofs.NodeValues.{packages_hold, modules_hold}
 use Rattle.std.proofs.lemmas.Bool.{and_parts}
 use Rattle.std.specs.List.{list_all, starts_with}
 use Rattle.commands.specs.Commands.{Request, find, load, module_of, under}
@@ -51,7 +51,7 @@ grounded_value : (files : Files) {k : Key} {v : Value} → Grounded next (read f
 grounded_value files (is_leaf e) = ([], leaf e)
 grounded_value files (has_run {groups = gs} e t) = (gs, run e t)
 
-module _ (h : Held) (law : IsLawful h) (tree : Files) (is : tree ≡ files_of h) (roots : List Key) (new : Recorded) where
+module _ (h : SessionView) (law : IsLawful h) (tree : Files) (is : tree ≡ files_of h) (roots : List Key) (new : GraphView) where
   past_at : (files : ℕ → Files) (paths : ℕ → List (List ℕ)) → IsHistory files paths h.began h.edits → Past (read tree)
   past_at files paths history = record {
     entry = h.graph;
@@ -99,7 +99,7 @@ pub build_value : (files : Files) (name : List ℕ) → HasValue next (read file
 build_value files name = grounded_value files (lookup_grounded next (λ d answers. refl) files name)
 
 -- the answer to a find, from what is held of its look-up
-pub find_told : (files : Files) (name : List ℕ) (roots : List Key) (graph : Recorded) (found : Option BuildName) (d : Data)
+pub find_told : (files : Files) (name : List ℕ) (roots : List Key) (graph : GraphView) (found : Option BuildName) (d : Data)
     → ((n : List ℕ) (f : Option BuildName) → roots ≡ key.Lookup n ∷ [] → present (record_at graph (key.Lookup n)) ≡ Some (value.Lookup f) → found ≡ f)
     → d ≡ one_member (codes "build") (build_text found) → roots ≡ key.Lookup name ∷ [] → AreHeld files roots graph → IsValueOf (find name) files d
 find_told files name roots graph found d by is only held =
@@ -112,7 +112,7 @@ find_told files name roots graph found d by is only held =
 list_parts : {A : Type 0} (p : A → Bool) (x : A) (xs : List A) → list_all p (x ∷ xs) ≡ true → (p x ≡ true) × (list_all p xs ≡ true)
 list_parts p x xs e = and_parts (p x) (list_all p xs) e
 
-packages_held : (files : Files) (graph : Recorded) (names : List (List ℕ)) → HasPaths files → list_all is_package_name names ≡ true → AreHeld files (map (λ n. key.Package n) names) graph
+packages_held : (files : Files) (graph : GraphView) (names : List (List ℕ)) → HasPaths files → list_all is_package_name names ≡ true → AreHeld files (map (λ n. key.Package n) names) graph
     → ArePackagesShown files names (map (λ k. package_told k (present (record_at graph k))) (map (λ n. key.Package n) names))
 packages_held files graph [] good named held = tt
 packages_held files graph (name ∷ names) good named held =
@@ -134,7 +134,7 @@ load_accepted names e = counted (length names == 0 || nat_lt 256 (length names))
     counted false b e = named b e
 
 -- the answer to a load, from what is held of its packages
-pub load_told : (files : Files) (names : List (List ℕ)) (roots : List Key) (graph : Recorded) (d : Data) → HasPaths files → request_refusal (load names) ≡ None → roots ≡ map (λ n. key.Package n) names
+pub load_told : (files : Files) (names : List (List ℕ)) (roots : List Key) (graph : GraphView) (d : Data) → HasPaths files → request_refusal (load names) ≡ None → roots ≡ map (λ n. key.Package n) names
     → d ≡ packages_data (map (λ k. package_told k (present (record_at graph k))) roots) → AreHeld files roots graph → IsValueOf (load names) files d
 load_told files names roots graph d good accepted only is held = (
   map (λ k. package_told k (present (record_at graph k))) (map (λ n. key.Package n) names),
@@ -143,7 +143,7 @@ load_told files names roots graph d good accepted only is held = (
 )
 
 -- the names of the packages at and below a directory, from what is held of its key
-pub names_told : (files : Files) (directory : List ℕ) (roots : List Key) (graph : Recorded) (found : List (List ℕ)) → HasPaths files
+pub names_told : (files : Files) (directory : List ℕ) (roots : List Key) (graph : GraphView) (found : List (List ℕ)) → HasPaths files
     → ((d : List ℕ) (names : List (List ℕ)) → roots ≡ key.Under d ∷ [] → present (record_at graph (key.Under d)) ≡ Some (value.Paths names) → found ≡ names)
     → roots ≡ key.Under directory ∷ [] → AreHeld files roots graph → found ≡ packages_below files directory
 names_told files directory roots graph found good by only held =
@@ -153,7 +153,7 @@ names_told files directory roots graph found good by only held =
     by directory (packages_below files directory) only (there.2 ∙ ap (λ (v : Value). Some v) same)
 
 -- the answer with these packages, from what is held of them
-pub under_told : (files : Files) (directory : List ℕ) (roots : List Key) (graph : Recorded) (d : Data) → HasPaths files
+pub under_told : (files : Files) (directory : List ℕ) (roots : List Key) (graph : GraphView) (d : Data) → HasPaths files
     → roots ≡ package_roots (packages_below files directory) → d ≡ packages_data (map (λ k. package_told k (present (record_at graph k))) roots) → AreHeld files roots graph → IsValueOf (under directory) files d
 under_told files directory roots graph d good only is held = (
   map (λ k. package_told k (present (record_at graph k))) (map (λ n. key.Package n) (packages_below files directory)),
@@ -187,7 +187,7 @@ label_names text present u e = go (is_target (would_name text present)) refl
     go false h = let wrong : None ≡ Some u = ap (λ b. cond b (Some (would_name text present)) None) (sym h) ∙ e in absurd cc
 
 -- the answer to a question about a module, from what is held of it
-pub module_answered : (files : Files) (label : List ℕ) (roots : List Key) (graph : Recorded) (text : List ℕ) → HasPaths files → request_refusal (module_of label) ≡ None → roots ≡ module_roots (module_label label)
+pub module_answered : (files : Files) (label : List ℕ) (roots : List Key) (graph : GraphView) (text : List ℕ) → HasPaths files → request_refusal (module_of label) ≡ None → roots ≡ module_roots (module_label label)
     → ((k : Key) → roots ≡ k ∷ [] → text ≡ compact_text (module_told (present (record_at graph k)))) → AreHeld files roots graph → Tells (IsValueOf (module_of label) files) text
 module_answered files label roots graph text good accepted only is held = go (module_label label) refl accepted only
   where
@@ -226,7 +226,7 @@ kept_paths (one c) files good e = edits_keep_paths.3 files (c ∷ []) good (ap (
 kept_paths (batch cs) files good e = edits_keep_paths.3 files cs good (not_batch (length cs == 0 || nat_lt 256 (length cs)) (changes_refusal cs files) e)
 
 -- what is held of keys, in an equal graph
-pub held_in : (files : Files) (keys others : List Key) (graph other : Recorded) → keys ≡ others → graph ≡ other → AreHeld files keys graph → AreHeld files others other
+pub held_in : (files : Files) (keys others : List Key) (graph other : GraphView) → keys ≡ others → graph ≡ other → AreHeld files keys graph → AreHeld files others other
 held_in files keys others graph other same equal held = subst (AreHeld files others) equal (subst (λ (ks : List Key). AreHeld files ks graph) same held)
 
 -- what follows of a result that is there

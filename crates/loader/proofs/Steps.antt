@@ -4,18 +4,18 @@ use Rattle.std.specs.Prelude.{Result, Ok, Err, OnErr, ◌==◌, Option, Some, No
 use Rattle.std.proofs.lemmas.List.{append-nil, take-append-drop}
 use Rattle.lines.specs.Lines.{lines_of, Took}
 use Rattle.lines.proofs.Cuts.{lines_of_one, lines_of_break, whole_append, whole_break, empty_of}
-use Rattle.open_nodes.specs.Counted.{turns_of}
+use Rattle.open_nodes.specs.TurnCounts.{turns_of}
 use Rattle.open_nodes.specs.declared.run.Run.{Run}
 use Rattle.loader.specs.State.{State, start}
-use Rattle.loader.specs.Held.{Held, IsLawful, state_of}
+use Rattle.loader.specs.Sessions.{SessionView, IsLawful, state_of}
 use Rattle.loader.specs.Effects.{line_effect, Moves}
-use Rattle.loader.specs.Kept.{IsKept, IsJournalOf}
+use Rattle.loader.specs.LineJournal.{IsKept, IsJournalOf}
 use Rattle.loader.proofs.Keeping.{kept_line, kept_journal, kept_at_start}
 use Rattle.serde_json.specs.Data.{Data}
 use Rattle.serde_json.specs.Written.{compact_text}
 use Rattle.commands.specs.Commands.{Command, data_of, command_of}
 use Rattle.loader.specs.Answers.{refused, IsAnswer, IsAnswerIf, IsAnswerOf, AreAnswers, Tells, answer_text, texts, state_if, line_state, state_after}
-use Rattle.loader.specs.Served.{Served, Stopped, IsPart, Between, After, nothing, of_next}
+use Rattle.loader.specs.Service.{Served, Stopped, IsPart, Between, After, nothing, of_next}
 
 state_append : (s : State) (ls ms : List (List ℕ)) → state_after s (ls ++ ms) ≡ state_after (state_after s ls) ms
 state_append s [] ms = refl
@@ -38,7 +38,7 @@ positive (suc n) h = omega arith
 is_zero : (n : ℕ) → (n == 0) ≡ true → n ≡ 0
 is_zero n h = search (rules, tests)
 
-module _ {budget : ℕ} {T told H held waiting : List ℕ} {h : Held} {runs : List Run} (b : Between budget T told H held waiting h runs) where
+module _ {budget : ℕ} {T told H held waiting : List ℕ} {h : SessionView} {runs : List Run} (b : Between budget T told H held waiting h runs) where
   abbrev s : State
   s = state_of h
 
@@ -141,7 +141,7 @@ module _ {budget : ℕ} {T told H held waiting : List ℕ} {h : Held} {runs : Li
     served_at_end false t e = served_end t e
 
     pub after_line : (ended : Bool) (t : Took waiting rest told after kept long ended) → (not ended && (length t.line == 0)) ≡ false
-        → (now : List ℕ) (h' : Held) (own : List Run) (d : Data) → IsAnswer t.line s d → now ≡ held ++ answer_text d → state_of h' ≡ line_state t.line s
+        → (now : List ℕ) (h' : SessionView) (own : List Run) (d : Data) → IsAnswer t.line s d → now ≡ held ++ answer_text d → state_of h' ≡ line_state t.line s
         → (IsLawful h → IsLawful h') → Moves (line_effect t.line s) h h' own → turns_of own ≤ budget → After budget ended T after H now rest h' (runs ++ own)
     after_line true t there now h' own d is e f law moves within = record {
       taken = b.taken ++ (t.line ++ 10 ∷ []);
@@ -165,7 +165,7 @@ module _ {budget : ℕ} {T told H held waiting : List ℕ} {h : Held} {runs : Li
     }
 
 -- no line yet
-pub between_at_start : (budget : ℕ) (told held waiting : List ℕ) (h : Held) (runs : List Run) → waiting ≡ [] → runs ≡ [] → IsLawful h → h.began ≡ 0 → h.edits ≡ [] → h.graph.records ≡ [] → state_of h ≡ start → Between budget told told held held waiting h runs
+pub between_at_start : (budget : ℕ) (told held waiting : List ℕ) (h : SessionView) (runs : List Run) → waiting ≡ [] → runs ≡ [] → IsLawful h → h.began ≡ 0 → h.edits ≡ [] → h.graph.records ≡ [] → state_of h ≡ start → Between budget told told held held waiting h runs
 between_at_start budget told held waiting h runs w r law began edits records state = record {
   taken = [];
   whole = tt;

@@ -8,21 +8,21 @@ use Rattle.filetree.specs.Files.{Files}
 use Rattle.functions.specs.Next.{next}
 use Rattle.keys.specs.declared.key.Key.{Key}
 use Rattle.keys.specs.declared.value.Value.{Value}
-use Rattle.node.specs.Graphs.{Recorded, record_at, IsTouched}
+use Rattle.node.specs.Graphs.{GraphView, record_at, IsTouched}
 use Rattle.node.specs.Laws.{IsLawfulFor}
-use Rattle.open_nodes.specs.Counted.{turns_of}
+use Rattle.open_nodes.specs.TurnCounts.{turns_of}
 use Rattle.open_nodes.specs.declared.run.Run.{Run}
 use Rattle.round.specs.Call.{IsCall}
-use Rattle.loader.specs.Journal.{Asked, turned_onto, keys_of, place_of, leaves, AreItemsOf, AreItemsOfEach, AreItems, IsJournal}
-use Rattle.loader.specs.Linked.{all_turned, IsLinked, IsToldBy}
+use Rattle.loader.specs.Journal.{Evaluation, turned_onto, keys_of, place_of, leaves, AreItemsOf, AreItemsOfEach, AreItems, IsJournal}
+use Rattle.loader.specs.GraphLinks.{all_turned, IsLinked, IsToldBy}
 use Rattle.loader.proofs.Linking.{linked_edit}
 use Rattle.loader.proofs.Calling.{past_of, linked_call, items_call, item_now, item_late, item_of}
 
-pub turned_more : (earlier requests : List Asked) (request : Asked) → turned_onto earlier (requests ++ request ∷ []) ≡ request ∷ turned_onto earlier requests
+pub turned_more : (earlier requests : List Evaluation) (request : Evaluation) → turned_onto earlier (requests ++ request ∷ []) ≡ request ∷ turned_onto earlier requests
 turned_more earlier [] request = refl
 turned_more earlier (q ∷ requests) request = turned_more (q ∷ earlier) requests request
 
-all_more : (earlier : List Asked) (requests : List (List Asked)) (request : List Asked) → all_turned earlier (requests ++ request ∷ []) ≡ turned_onto (all_turned earlier requests) request
+all_more : (earlier : List Evaluation) (requests : List (List Evaluation)) (request : List Evaluation) → all_turned earlier (requests ++ request ∷ []) ≡ turned_onto (all_turned earlier requests) request
 all_more earlier [] request = refl
 all_more earlier (r ∷ requests) request = all_more (turned_onto earlier r) requests request
 
@@ -56,22 +56,22 @@ in_either (x ∷ xs) ys (after i) = elim (in_either xs ys i) [ inl a ↦ inl (af
 
 module _ (files : ℕ → Files) (paths : ℕ → List (List ℕ)) (budget : ℕ) where
   -- the items of one more evaluation of a request
-  each_more : (earlier begun : List Asked) (runs : List Run) (request : Asked) (own : List Run) → AreItemsOfEach files paths earlier begun runs → AreItemsOf files paths (turned_onto earlier begun) request own
+  each_more : (earlier begun : List Evaluation) (runs : List Run) (request : Evaluation) (own : List Run) → AreItemsOfEach files paths earlier begun runs → AreItemsOf files paths (turned_onto earlier begun) request own
       → AreItemsOfEach files paths earlier (begun ++ request ∷ []) (runs ++ own)
   each_more earlier [] runs request own e of = (own, [], ap (λ r. r ++ own) e ∙ sym (append-nil own), of, refl)
   each_more earlier (q ∷ begun) runs request own items of =
       (items.0, items.1 ++ own, ap (λ r. r ++ own) items.2 ∙ append_assoc items.0 items.1 own, items.3, each_more (q ∷ earlier) begun items.1 request own items.4 of)
 
   -- the items of one more request
-  items_more : (earlier : List Asked) (requests : List (List Asked)) (runs : List Run) (request : List Asked) (own : List Run) → AreItems files paths budget earlier requests runs
+  items_more : (earlier : List Evaluation) (requests : List (List Evaluation)) (runs : List Run) (request : List Evaluation) (own : List Run) → AreItems files paths budget earlier requests runs
       → AreItemsOfEach files paths (all_turned earlier requests) request own → turns_of own ≤ budget → AreItems files paths budget earlier (requests ++ request ∷ []) (runs ++ own)
   items_more earlier [] runs request own e of within = (own, [], ap (λ r. r ++ own) e ∙ sym (append-nil own), of, within, refl)
   items_more earlier (q ∷ requests) runs request own items of within =
       (items.0, items.1 ++ own, ap (λ r. r ++ own) items.2 ∙ append_assoc items.0 items.1 own, items.3, items.4, items_more (turned_onto earlier q) requests items.1 request own items.5 of within)
 
   -- an edit
-  pub told_edit : (old new : Recorded) (edited : List (List ℕ)) → new.version ≡ old.version + 1 → Marks (record_at old) (record_at new) (IsTouched edited) → IsLawfulFor next (leaves files paths) paths new
-      → (requests : List (List Asked)) (runs : List Run) → IsToldBy files paths budget old requests runs → IsToldBy files paths budget new requests runs
+  pub told_edit : (old new : GraphView) (edited : List (List ℕ)) → new.version ≡ old.version + 1 → Marks (record_at old) (record_at new) (IsTouched edited) → IsLawfulFor next (leaves files paths) paths new
+      → (requests : List (List Evaluation)) (runs : List Run) → IsToldBy files paths budget old requests runs → IsToldBy files paths budget new requests runs
   told_edit old new edited version marks law requests runs told = record {
     journal = told.journal;
     linked = linked_edit files paths old new edited version marks law (all_turned [] requests) told.linked;
@@ -82,7 +82,7 @@ module _ (files : ℕ → Files) (paths : ℕ → List (List ℕ)) (budget : ℕ
   }
 
   -- the journal of these requests, and the items of one that is begun, of which these evaluations are done
-  pub record IsBegun (graph : Recorded) (requests : List (List Asked)) (runs : List Run) (begun : List Asked) (own : List Run) : Type 0 where
+  pub record IsBegun (graph : GraphView) (requests : List (List Evaluation)) (runs : List Run) (begun : List Evaluation) (own : List Run) : Type 0 where
     pub journal : IsJournal files paths budget requests runs
     pub items : AreItemsOfEach files paths (all_turned [] requests) begun own
     pub once : AllDiffer (map place_of (runs ++ own))
@@ -90,7 +90,7 @@ module _ (files : ℕ → Files) (paths : ℕ → List (List ℕ)) (budget : ℕ
     pub dated : (run : Run) → In run (runs ++ own) → (r : Record Key Value) × (record_at graph run.key ≡ Some r) × (run.version ≤ r.settled_at)
 
   -- a request begins
-  pub begins : (graph : Recorded) (requests : List (List Asked)) (runs : List Run) → IsToldBy files paths budget graph requests runs → IsBegun graph requests runs [] []
+  pub begins : (graph : GraphView) (requests : List (List Evaluation)) (runs : List Run) → IsToldBy files paths budget graph requests runs → IsBegun graph requests runs [] []
   begins graph requests runs told = record {
     journal = told.journal;
     items = refl;
@@ -100,30 +100,30 @@ module _ (files : ℕ → Files) (paths : ℕ → List (List ℕ)) (budget : ℕ
   }
 
   -- and ends, within its budget
-  pub ends : (graph : Recorded) (requests : List (List Asked)) (runs : List Run) (begun : List Asked) (own : List Run) → IsBegun graph requests runs begun own → turns_of own ≤ budget
+  pub ends : (graph : GraphView) (requests : List (List Evaluation)) (runs : List Run) (begun : List Evaluation) (own : List Run) → IsBegun graph requests runs begun own → turns_of own ≤ budget
       → IsToldBy files paths budget graph (requests ++ begun ∷ []) (runs ++ own)
   ends graph requests runs begun own b within = record {
     journal = record { items = items_more [] requests runs begun own b.journal.items b.items within; once = b.once };
-    linked = subst (λ (e : List Asked). IsLinked files paths graph e) (sym (all_more [] requests begun)) b.linked;
+    linked = subst (λ (e : List Evaluation). IsLinked files paths graph e) (sym (all_more [] requests begun)) b.linked;
     dated = b.dated;
   }
 
   -- one more of its evaluations
-  pub begun_call : (old new : Recorded) (roots : List Key) (requests : List (List Asked)) (runs : List Run) (begun : List Asked) (before own : List Run) → IsBegun old requests runs begun before
+  pub begun_call : (old new : GraphView) (roots : List Key) (requests : List (List Evaluation)) (runs : List Run) (begun : List Evaluation) (before own : List Run) → IsBegun old requests runs begun before
       → IsCall next (leaves files paths old.version) (past_of files paths old roots) new own
       → IsBegun new requests runs (begun ++ (record { version = old.version; roots = roots }) ∷ []) (before ++ own)
   begun_call old new roots requests runs begun before own b call = record {
     journal = b.journal;
     items = each_more (all_turned [] requests) begun before request own b.items (items_call files paths old new roots earlier linked own call);
     once = subst (λ (rs : List Run). AllDiffer (map place_of rs)) (append_assoc runs before own) once;
-    linked = subst (λ (e : List Asked). IsLinked files paths new e) (sym (turned_more (all_turned [] requests) begun request)) (linked_call files paths old new roots earlier linked own call);
+    linked = subst (λ (e : List Evaluation). IsLinked files paths new e) (sym (turned_more (all_turned [] requests) begun request)) (linked_call files paths old new roots earlier linked own call);
     dated = λ run i. dated run (in_either (runs ++ before) own (subst (λ (rs : List Run). In run rs) (sym (append_assoc runs before own)) i));
   }
     where
-      request : Asked
+      request : Evaluation
       request = record { version = old.version; roots = roots }
 
-      earlier : List Asked
+      earlier : List Evaluation
       earlier = turned_onto (all_turned [] requests) begun
 
       linked : IsLinked files paths old (turned_onto (all_turned [] requests) begun)

@@ -12,22 +12,22 @@ use Rattle.keys.specs.declared.key.Key.{Key}
 use Rattle.keys.specs.declared.value.Value.{Value}
 use Rattle.keys.specs.declared.key.Key.TheVariants as key
 use Rattle.lines.specs.Lines.{is_too_long}
-use Rattle.node.specs.Graphs.{Recorded, record_at, present, IsTouched}
+use Rattle.node.specs.Graphs.{GraphView, record_at, present, IsTouched}
 use Rattle.open_nodes.specs.declared.run.Run.{Run}
 use Rattle.node.specs.Laws.{IsLawfulFor}
 use Rattle.open_nodes.specs.Truths.{Past, IsAfter}
 use Rattle.round.specs.Call.{Calls}
 use Rattle.loader.specs.State.{State, Edit, Refusal, refusal_of}
-use Rattle.loader.specs.Held.{Held, IsLawful, files_of, paths_of}
+use Rattle.loader.specs.Sessions.{SessionView, IsLawful, files_of, paths_of}
 use Rattle.commands.specs.Refusals.{request_refusal, module_label}
 use Rattle.commands.specs.Commands.{Command, change, ask, Request, find, load, module_of, under, data_of, command_of}
 use Rattle.loader.specs.Answers.{line_state}
-use Rattle.loader.specs.Journal.{Asked}
+use Rattle.loader.specs.Journal.{Evaluation}
 
 pub data Effect : Type 0 where
   nothing : Effect
   edited : Edit → Effect
-  asked : Asked → Option Asked → Effect
+  asked : Evaluation → Option Evaluation → Effect
 
 abbrev pub module_roots : Option Target → List Key
 module_roots None = []
@@ -63,7 +63,7 @@ abbrev pub unless_refused : Option ℕ → Effect → Effect
 unless_refused (Some n) effect = nothing
 unless_refused None effect = effect
 
-abbrev pub at_version : ℕ → List Key → Asked
+abbrev pub at_version : ℕ → List Key → Evaluation
 at_version version roots = record { version = version; roots = roots }
 
 -- its first evaluation, and the second where it has one
@@ -101,48 +101,48 @@ edits_in (nothing ∷ effects) = edits_in effects
 edits_in (edited edit ∷ effects) = edit ∷ edits_in effects
 edits_in (asked request later ∷ effects) = edits_in effects
 
-abbrev pub and_later : Asked → Option Asked → List Asked
+abbrev pub and_later : Evaluation → Option Evaluation → List Evaluation
 and_later request None = request ∷ []
 and_later request (Some later) = request ∷ later ∷ []
 
 -- the requests that are evaluated, each with its evaluations
-abbrev pub requests_in : List Effect → List (List Asked)
+abbrev pub requests_in : List Effect → List (List Evaluation)
 requests_in [] = []
 requests_in (nothing ∷ effects) = requests_in effects
 requests_in (edited edit ∷ effects) = requests_in effects
 requests_in (asked request later ∷ effects) = and_later request later ∷ requests_in effects
 
 -- one evaluation: the law of a call holds on the graph, and nothing else changes
-abbrev pub Evaluates : Asked → Held → Held → List Run → Type 0
+abbrev pub Evaluates : Evaluation → SessionView → SessionView → List Run → Type 0
 Evaluates request old new runs = (new.began ≡ old.began) × (new.edits ≡ old.edits) × (request.version ≡ old.graph.version) × Calls next (read (files_of old)) request.roots old.graph new.graph (Ok runs)
 
 -- one evaluation, or two, the second from where the first ends
-abbrev pub EvaluatesEach : Asked → Option Asked → Held → Held → List Run → Type 0
+abbrev pub EvaluatesEach : Evaluation → Option Evaluation → SessionView → SessionView → List Run → Type 0
 EvaluatesEach request None old new runs = Evaluates request old new runs
 EvaluatesEach request (Some later) old new runs =
-    (mid : Held) × (first rest : List Run) × IsLawful mid × (runs ≡ first ++ rest) × Evaluates request old mid first × Evaluates later mid new rest
+    (mid : SessionView) × (first rest : List Run) × IsLawful mid × (runs ≡ first ++ rest) × Evaluates request old mid first × Evaluates later mid new rest
 
 -- what an effect makes of a session, with these runs
-abbrev pub Moves : Effect → Held → Held → List Run → Type 0
+abbrev pub Moves : Effect → SessionView → SessionView → List Run → Type 0
 Moves nothing old new runs = (new ≡ old) × (runs ≡ [])
 -- what the edit's paths reach is marked in the graph
 Moves (edited edit) old new runs = (runs ≡ []) × (new.began ≡ old.began) × (new.edits ≡ old.edits ++ edit ∷ []) × Marks (record_at old.graph) (record_at new.graph) (IsTouched (paths_of edit))
 Moves (asked request later) old new runs = EvaluatesEach request later old new runs
 
 -- each of these keys has a value at the files, and it is held
-abbrev pub AreHeld : Files → List Key → Recorded → Type 0
+abbrev pub AreHeld : Files → List Key → GraphView → Type 0
 AreHeld files keys graph = (k : Key) → In k keys → (v : Value) × HasValue next (read files) cycle k v × (present (record_at graph k) ≡ Some v)
 
 -- after a stop the graph is lawful for each history for which it was, no record is lost, and none that was settled has changed
-abbrev pub StopsAfter : List Key → Held → Held → Type 0
+abbrev pub StopsAfter : List Key → SessionView → SessionView → Type 0
 StopsAfter roots old new = (past : Past (read (files_of old))) → past.entry ≡ old.graph → past.roots ≡ roots → IsLawfulFor next past.reads past.edits old.graph → IsAfter next (read (files_of old)) past new.graph
 
 -- after a stop of the first evaluation, or of a second one after the first went well
-abbrev pub StopsIn : List Key → Option (List Key) → Held → Held → Type 0
+abbrev pub StopsIn : List Key → Option (List Key) → SessionView → SessionView → Type 0
 StopsIn roots None old new = StopsAfter roots old new
 StopsIn roots (Some later) old new =
-    StopsAfter roots old new ⊎ ((mid : Held) × (runs : List Run) × Evaluates (at_version old.graph.version roots) old mid runs × IsLawful mid × StopsAfter later mid new)
+    StopsAfter roots old new ⊎ ((mid : SessionView) × (runs : List Run) × Evaluates (at_version old.graph.version roots) old mid runs × IsLawful mid × StopsAfter later mid new)
 
 -- after a stop of a request
-abbrev pub StopsRequest : Request → Held → Held → Type 0
+abbrev pub StopsRequest : Request → SessionView → SessionView → Type 0
 StopsRequest request old new = StopsIn (request_roots request) (later_roots request (files_of old)) old new

@@ -4,7 +4,7 @@ use Rattle.open_nodes.specs.declared.run.Run.{Run}
 use Rattle.serde_json.specs.Data.{Data}
 use Rattle.loader.specs.State.{State}
 use Rattle.loader.specs.Answers.{IsAnswer, AreAnswers}
-use Rattle.loader.specs.Served.{IsBeginning, Served, Stopped}
+use Rattle.loader.specs.Service.{IsBeginning, Served, Stopped}
 
 -- a line has one answer at most from each state
 abbrev pub OneAnswer : Type 0

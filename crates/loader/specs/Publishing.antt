@@ -4,7 +4,7 @@ use Rattle.std.specs.List.{list_any}
 use Rattle.evaluation.specs.Value.{In, AllDiffer}
 use Rattle.filetree.specs.Files.{Files}
 use Rattle.keys.specs.declared.key.Key.TheVariants as key
-use Rattle.node.specs.Graphs.{Recorded, record_at, present}
+use Rattle.node.specs.Graphs.{GraphView, record_at, present}
 use Rattle.serde_json.specs.Data.{Data}
 use Rattle.serde_json.specs.Written.{compact_text}
 use Rattle.commands.specs.Commands.{Request, find, load, module_of, under}
@@ -15,7 +15,7 @@ use Rattle.shelf.specs.declared.reader.Told.{Told}
 use Rattle.shelf.specs.Lists.{same_text, then_published}
 use Rattle.shelf.specs.Shelves.{published_by, shown_by, shelf_of, told_in, shelf_told_of}
 use Rattle.loader.specs.Answers.{IsPackageShown, Tells}
-use Rattle.loader.specs.Told.{package_told}
+use Rattle.loader.specs.KeyAnswers.{package_told}
 
 -- names with texts
 abbrev pub Entries : Type 0
@@ -66,18 +66,18 @@ module _ {R : Type 0} where
 -- ---- for private clauses: what is held of names
 
 -- the package that is held of the key with a name
-abbrev pub package_held : Recorded → List ℕ → Data
+abbrev pub package_held : GraphView → List ℕ → Data
 package_held graph name = package_told (key.Package name) (present (record_at graph (key.Package name)))
 
 -- its text
-abbrev pub text_held : Recorded → List ℕ → List ℕ
+abbrev pub text_held : GraphView → List ℕ → List ℕ
 text_held graph name = compact_text (package_held graph name)
 
 abbrev pub names_in : Entries → List (List ℕ)
 names_in = map (λ e. e.0)
 
 -- each entry has the text that is held
-abbrev pub HaveTextsHeld : Recorded → Entries → Type 0
+abbrev pub HaveTextsHeld : GraphView → Entries → Type 0
 HaveTextsHeld graph entries = entries ≡ map (λ name. (name, text_held graph name)) (names_in entries)
 
 -- whether a name is among names

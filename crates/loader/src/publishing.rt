@@ -6,11 +6,11 @@ ghost use Rattle.node.specs.Graphs.{record_at, present};
 ghost use Rattle.serde_json.specs.Written.{compact_text, comma_if};
 ghost use Rattle.shelf.specs.Lists.{same_text};
 ghost use Rattle.answers.specs.Answers.{packages_data};
-ghost use Rattle.commands.specs.Seen.{texts_seen};
+ghost use Rattle.commands.specs.View.{texts_seen};
 ghost use Rattle.loader.specs.Publishing.{HaveTextsHeld, names_in, and_name, each_of, package_held, text_held};
-ghost use Rattle.loader.specs.Told.{package_told};
+ghost use Rattle.loader.specs.KeyAnswers.{package_told};
 
-use crate::told::write_package_held;
+use crate::request_answers::write_package_held;
 use answers::Draft;
 use keys::Key;
 use node::Graph;

@@ -2,9 +2,9 @@
 ghost use Rattle.std.specs.Prelude.{◌≡◌, [], ℕ, ◌<◌, ◌≤◌, ◌+◌, List, length, IfOk, OnOk, OnErr, IsErrOf, not, ◌&&◌, ◌==◌, false, if◌then◌else◌, ◌⊎◌, ◌++◌, flat_map};
 ghost use Rattle.board.specs.Rule.{total};
 ghost use Rattle.lines.specs.Lines.{Keeps};
-ghost use Rattle.open_nodes.specs.Counted.{turns_of};
+ghost use Rattle.open_nodes.specs.TurnCounts.{turns_of};
 ghost use Rattle.open_nodes.specs.declared.run.Run.{Run};
-ghost use Rattle.loader.specs.Served.{Served, Stopped, Between, After};
+ghost use Rattle.loader.specs.Service.{Served, Stopped, Between, After};
 
 use crate::session::{Session, answer, answer_with};
 use clap::error::ErrorKind;
@@ -12,7 +12,7 @@ use clap::{Arg, ArgAction, ArgMatches, Command, value_parser};
 use functions::{LoadRules, Loading};
 use http_server::Log;
 use leaves::is_leaf;
-use lines::{Failed, Input, Line, Output, Pending, ReadStop, next_line};
+use lines::{DeviceError, Input, Line, Output, Pending, ReadStop, next_line};
 use round::{Run, Stop};
 use std::alloc::{AllocError, Global};
 use std::convert::AsStr;
@@ -82,13 +82,13 @@ impl From<ReadStop> for ServeStop {
     }
 }
 
-impl From<Failed> for ServeStop {
+impl From<DeviceError> for ServeStop {
     ghost use Rattle.std.specs.Prelude.{◌≡◌};
     ghost use Rattle.loader.specs.declared.serving.ServeStop.TheVariants.{Write};
 
     ghost from_gives = { λ _ e. e ≡ Write };
 
-    fn from(_error: Failed) -> ServeStop {
+    fn from(_error: DeviceError) -> ServeStop {
         ServeStop::Write
     }
 }
@@ -117,11 +117,11 @@ impl Runs for Vec<Run> {
 
 /// Keeps no run. A contract sees those that it took; a program cannot read them, and they take no memory.
 #[derive(Drop)]
-pub struct Unkept {
+pub struct GhostJournal {
     log: Log<Vec<Run>, ()>,
 }
 
-impl Model for Unkept {
+impl Model for GhostJournal {
     ghost use Rattle.std.specs.Prelude.{List, flat_map};
     ghost use Rattle.open_nodes.specs.declared.run.Run.{Run};
 
@@ -130,16 +130,16 @@ impl Model for Unkept {
     ghost view = { λ u. flat_map (λ p. p.0.items) u.log.items };
 }
 
-impl Unkept {
+impl GhostJournal {
     /// Begins with no run.
-    pub fn new() -> Unkept
+    pub fn new() -> GhostJournal
         ensures { result ≡ [] }
     {
-        Unkept { log: Log::new() }
+        GhostJournal { log: Log::new() }
     }
 }
 
-impl Runs for Unkept {
+impl Runs for GhostJournal {
     ghost kept = { λ u. u };
 
     fn add(&mut self, runs: Vec<Run>) -> Result<(), AllocError> {
@@ -537,7 +537,7 @@ fn serve_alone<T: Threads + Wait + Sync, R: Input, W: Output, E: Write>(
         (R.told reader.old) (R.told reader.new) (W.held writer.old) (W.held writer.new) }
     ensures status { (result ≡ 0) ⊎ (result ≡ 3) }
 {
-    let mut runs = Unkept::new();
+    let mut runs = GhostJournal::new();
     match serve_lines(runtime, alloc, count, reader, writer, &mut runs) {
         Ok(()) => 0,
         Err(stop) => tell_stop(errors, &stop),

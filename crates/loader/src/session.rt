@@ -7,22 +7,22 @@ ghost use Rattle.evaluation.specs.Graph.{Marks};
 ghost use Rattle.node.specs.Graphs.{record_at, IsTouched};
 ghost use Rattle.functions.specs.Next.{next};
 ghost use Rattle.leaves.specs.Leaves.{read};
-ghost use Rattle.open_nodes.specs.Counted.{turns_of};
+ghost use Rattle.open_nodes.specs.TurnCounts.{turns_of};
 ghost use Rattle.round.specs.Call.{Calls};
 ghost use Rattle.lines.specs.Lines.{Keeps};
 ghost use Rattle.loader.specs.Answers as answers;
 ghost use Rattle.loader.specs.Effects.{AreHeld, Moves, StopsAfter, StopsRequest, evaluations, request_effect, told_roots, edit_effect};
 ghost use Rattle.loader.specs.State as state;
-ghost use Rattle.loader.specs.Held.{state_of, files_of, paths_of, IsLawful};
+ghost use Rattle.loader.specs.Sessions.{state_of, files_of, paths_of, IsLawful};
 ghost use Rattle.loader.specs.LineAnswers.{Begins, AnswersLine};
-ghost use Rattle.commands.specs.Seen.{edit_seen, request_seen};
+ghost use Rattle.commands.specs.View.{edit_seen, request_seen};
 ghost use Rattle.commands.specs.Commands as commands;
 
-use crate::told::{later_roots, roots_of, told};
+use crate::request_answers::{later_roots, roots_of, told};
 use crate::turns::{joined, turns_left};
 use crate::workers::evaluate_with;
 use commands::{Command, Request, command_of, data_of, refusal};
-use edits::{Accepted, Edit, EditError, edit_files, edited_paths, refusal_at_limit};
+use edits::{Edit, EditError, EditLog, edit_files, edited_paths, refusal_at_limit};
 use filetree::Tree;
 use filetree::refusals::{LINE_TOO_LONG, NO_COMMAND};
 use functions::{LoadRules, Loading};
@@ -57,17 +57,17 @@ pub struct Session {
     tree: Tree,
     graph: Graph,
     began: u32,
-    accepted: Accepted,
+    accepted: EditLog,
 }
 
 impl Model for Session {
     ghost use Rattle.std.specs.Prelude.{◌≡◌};
-    ghost use Rattle.loader.specs.Held.{Held, IsLawful, files_of};
+    ghost use Rattle.loader.specs.Sessions.{SessionView, IsLawful, files_of};
 
-    ghost Value = { Held };
+    ghost Value = { SessionView };
 
     ghost use Rattle.std.specs.Coded.{codes};
-    ghost use Rattle.keys.specs.Stored.{loaded_code};
+    ghost use Rattle.keys.specs.Storage.{loaded_code};
 
     ghost coded = { Prim.hlevel (codes, loaded_code) };
 
@@ -101,7 +101,7 @@ impl Session {
             tree: Tree::new(alloc),
             graph: Graph::new_at(alloc, version),
             began: version,
-            accepted: Accepted::new(),
+            accepted: EditLog::new(),
         }
     }
 

@@ -1,6 +1,6 @@
 //! Runs of two evaluations in one budget of turns.
 ghost use Rattle.std.specs.Prelude.{◌≡◌, ◌≤◌, ◌+◌, ◌++◌, IfOk};
-ghost use Rattle.open_nodes.specs.Counted.{turns_of};
+ghost use Rattle.open_nodes.specs.TurnCounts.{turns_of};
 
 use round::Run;
 use texts::Memory;

@@ -2,6 +2,6 @@
 #![tactic(auto)]
 
 mod by_name;
-mod made;
+mod targets;
 
-pub use made::targets_made;
+pub use targets::targets_made;

@@ -35,14 +35,14 @@ mutual
     pair : (key value : Fz) → Pairs → Pairs
 
 -- what a value is to freezing: a frozen value at once, or one of what it holds; a place that is not there is fault 5
-pub data Held : Type 0 where
-  settled : Fz → Held
-  listed : List Val → Held
-  tupled : List Val → Held
-  mapped : Entries → Held
-  absent : Held
+pub data FreezeShape : Type 0 where
+  settled : Fz → FreezeShape
+  listed : List Val → FreezeShape
+  tupled : List Val → FreezeShape
+  mapped : Entries → FreezeShape
+  absent : FreezeShape
 
-abbrev pub held_object : Option Obj → Held
+abbrev pub held_object : Option Obj → FreezeShape
 held_object (Some (h.text bytes)) = settled (text bytes)
 held_object (Some (h.list members f)) = listed members
 held_object (Some (h.tuple members)) = tupled members
@@ -50,7 +50,7 @@ held_object (Some (h.dict entries f)) = mapped entries
 held_object (Some (h.function label name)) = settled (function label name)
 held_object None = absent
 
-abbrev pub held : List Obj → Val → Held
+abbrev pub held : List Obj → Val → FreezeShape
 held heap v.Nothing = settled nothing
 held heap (v.Bool b) = settled (boolean b)
 held heap (v.Int n) = settled (whole n)
@@ -72,7 +72,7 @@ freeze_entries freeze (e ∷ es) = freeze_entry freeze e.1 >>= λ p. freeze_entr
 abbrev pub at_once : Fz → Does ℕ Fz
 at_once f = tick >> pure f
 
-abbrev pub visit_held : Option (Val → Does ℕ Fz) → Held → Does ℕ Fz
+abbrev pub visit_held : Option (Val → Does ℕ Fz) → FreezeShape → Does ℕ Fz
 visit_held inner (settled f) = at_once f
 visit_held inner absent = tick >> fault WRONG_TYPE
 visit_held None (listed xs) = fault TOO_DEEP

@@ -9,7 +9,7 @@ use Rattle.meaning.specs.declared.val.Val.{Val}
 use Rattle.meaning.specs.declared.val.Val.TheVariants as v
 use Rattle.meaning.specs.declared.builtin.Builtin.{Builtin}
 use Rattle.meaning.specs.declared.builtin.Builtin.TheVariants as b
-use Rattle.meaning.specs.Outcome.{gives, faults, Does, and_then, ◌>>=◌, pure, fault, Checked, good, bad, checked}
+use Rattle.meaning.specs.Outcome.{gives, faults, Does, and_then, ◌>>=◌, pure, fault, ValueOrFault, good, bad, checked}
 use Rattle.meaning.specs.Heap.{Entries, Obj, text, list, tuple, dict, function, Store, at, makes_text, makes_list, makes_tuple, makes_dict, is_sized, makes}
 use Rattle.meaning.specs.Numbers.{floor_div}
 use Rattle.meaning.specs.Operators.{is_true}
@@ -19,13 +19,13 @@ use Rattle.meaning.specs.Printing.{str, repr}
 use Rattle.meaning.specs.declared.faults.TheConstants.{FAIL_CALLED, TOO_LARGE, WRONG_ARGUMENTS, WRONG_TYPE}
 
 -- the arguments by name, in the order of the call
-abbrev pub Named : Type 0
-Named = List (List ℕ × Val)
+abbrev pub KeywordArguments : Type 0
+KeywordArguments = List (List ℕ × Val)
 
 abbrev pub the_items : Val → Does Store (List Val)
 the_items x s = checked (items x s) s
 
-abbrev pub length_of : Option Obj → Checked ℕ
+abbrev pub length_of : Option Obj → ValueOrFault ℕ
 length_of (Some (text bytes)) = good (length bytes)
 length_of (Some (list members f)) = good (length members)
 length_of (Some (tuple members)) = good (length members)
@@ -63,7 +63,7 @@ range (from ∷ to ∷ []) = range_by from to (v.Int (pos 1))
 range (from ∷ to ∷ step ∷ []) = range_by from to step
 range args = fault WRONG_ARGUMENTS
 
-abbrev pub object_type : Option Obj → Checked (List ℕ)
+abbrev pub object_type : Option Obj → ValueOrFault (List ℕ)
 object_type (Some (text bytes)) = good (codes "string")
 object_type (Some (list members f)) = good (codes "list")
 object_type (Some (tuple members)) = good (codes "tuple")
@@ -71,7 +71,7 @@ object_type (Some (dict entries f)) = good (codes "dict")
 object_type (Some (function label name)) = good (codes "function")
 object_type None = bad WRONG_TYPE
 
-abbrev pub type_of : Val → Store → Checked (List ℕ)
+abbrev pub type_of : Val → Store → ValueOrFault (List ℕ)
 type_of v.Nothing s = good (codes "NoneType")
 type_of (v.Bool b) s = good (codes "bool")
 type_of (v.Int n) s = good (codes "int")
@@ -126,7 +126,7 @@ sorted_by x (v.Bool r) = sorted_list x r
 sorted_by x r = fault WRONG_TYPE
 
 -- `sorted(x, reverse = False)`
-abbrev pub sorted : List Val → Named → Does Store Val
+abbrev pub sorted : List Val → KeywordArguments → Does Store Val
 sorted (x ∷ []) [] = sorted_list x false
 sorted (x ∷ []) (n ∷ []) = if same_text n.0 (codes "reverse") then sorted_by x n.1 else fault WRONG_ARGUMENTS
 sorted xs ns = fault WRONG_ARGUMENTS
@@ -193,17 +193,17 @@ abbrev pub add_all : List (Val × Val) → Entries → Does Store Entries
 add_all [] es = pure es
 add_all (p ∷ ps) es = grows p.0 p.1 es >>= add_all ps
 
-abbrev pub two_of : List Val → Checked (Val × Val)
+abbrev pub two_of : List Val → ValueOrFault (Val × Val)
 two_of (k ∷ x ∷ []) = good (k, x)
 two_of xs = bad WRONG_TYPE
 
 -- a list or tuple of two
-abbrev pub object_pair : Option Obj → Checked (Val × Val)
+abbrev pub object_pair : Option Obj → ValueOrFault (Val × Val)
 object_pair (Some (list members f)) = two_of members
 object_pair (Some (tuple members)) = two_of members
 object_pair object = bad WRONG_TYPE
 
-abbrev pub pair_of : Val → Store → Checked (Val × Val)
+abbrev pub pair_of : Val → Store → ValueOrFault (Val × Val)
 pair_of (v.At a) s = object_pair (at a s)
 pair_of x s = bad WRONG_TYPE
 
@@ -220,20 +220,20 @@ dict_from [] = pure []
 dict_from (v.At a ∷ []) = λ s. entries_of (at a s) (v.At a) s
 dict_from xs = fault WRONG_TYPE
 
-abbrev pub is_named : List ℕ → Named → Bool
+abbrev pub is_named : List ℕ → KeywordArguments → Bool
 is_named n [] = false
 is_named n (m ∷ ms) = if same_text n m.0 then true else is_named n ms
 
-abbrev pub is_twice : Named → Bool
+abbrev pub is_twice : KeywordArguments → Bool
 is_twice [] = false
 is_twice (n ∷ ns) = if is_named n.0 ns then true else is_twice ns
 
 -- the names are string keys
-abbrev pub add_named : Named → Entries → Does Store Entries
+abbrev pub add_named : KeywordArguments → Entries → Does Store Entries
 add_named [] es = pure es
 add_named (n ∷ ns) es = makes (text n.0) >>= λ k. grows k n.1 es >>= add_named ns
 
-abbrev pub dict_of : List Val → Named → Does Store Val
+abbrev pub dict_of : List Val → KeywordArguments → Does Store Val
 dict_of xs ns = if nat_le (length xs) 1 && not (is_twice ns) then (dict_from xs >>= add_named ns >>= makes_dict) else fault WRONG_ARGUMENTS
 
 abbrev pub one : (Val → Does Store Val) → List Val → Does Store Val
@@ -269,12 +269,12 @@ plain b.Max xs = extreme is_gt xs
 plain b.Fail xs = one (λ x. fault FAIL_CALLED) xs
 plain f xs = fault WRONG_TYPE
 
-abbrev pub unnamed : Builtin → List Val → Named → Does Store Val
+abbrev pub unnamed : Builtin → List Val → KeywordArguments → Does Store Val
 unnamed f xs [] = plain f xs
 unnamed f xs (n ∷ ns) = fault WRONG_ARGUMENTS
 
 -- a call of a built-in function that is no package call
-abbrev pub builtin : Builtin → List Val → Named → Does Store Val
+abbrev pub builtin : Builtin → List Val → KeywordArguments → Does Store Val
 builtin b.Sorted xs ns = sorted xs ns
 builtin b.Dict xs ns = dict_of xs ns
 builtin f xs ns = unnamed f xs ns

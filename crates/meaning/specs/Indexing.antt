@@ -6,7 +6,7 @@ use Rattle.meaning.specs.declared.val.Val.{Val}
 use Rattle.meaning.specs.declared.val.Val.TheVariants as v
 use Rattle.meaning.specs.declared.val.Entry.{Entry}
 use Rattle.meaning.specs.Keys.{same_key}
-use Rattle.meaning.specs.Outcome.{gives, faults, Does, ◌>>=◌, ◌>>◌, fault, or_fault, Checked, good, bad, then_checked, or_bad, checked}
+use Rattle.meaning.specs.Outcome.{gives, faults, Does, ◌>>=◌, ◌>>◌, fault, or_fault, ValueOrFault, good, bad, then_checked, or_bad, checked}
 use Rattle.meaning.specs.Heap.{Entries, Obj, text, list, tuple, dict, Store, at, walks, makes_text, makes_list, makes_tuple, puts, is_sized}
 use Rattle.meaning.specs.Hashing.{key}
 use Rattle.meaning.specs.Comparing.{found}
@@ -30,12 +30,12 @@ abbrev pub member : {A : Type 0} → List A → ℤ → Option A
 member xs i = at_place xs (place i (length xs))
 
 -- an int, and not a bool
-abbrev pub int_of : Val → Checked ℤ
+abbrev pub int_of : Val → ValueOrFault ℤ
 int_of (v.Int n) = good n
 int_of x = bad WRONG_TYPE
 
 -- what is at an index of a list, or fault 8
-abbrev pub found_at : {A : Type 0} → List A → Val → Checked A
+abbrev pub found_at : {A : Type 0} → List A → Val → ValueOrFault A
 found_at xs i = then_checked (int_of i) (λ n. or_bad ABSENT (member xs n))
 
 abbrev pub value_of : Option Entry → Option Val
@@ -134,13 +134,13 @@ set_index a i x = fault WRONG_TYPE
 abbrev pub keys_of : Entries → List Val
 keys_of entries = map (λ e. e.key) (map (λ e. e.1) entries)
 
-abbrev pub items_of : Option Obj → Checked (List Val)
+abbrev pub items_of : Option Obj → ValueOrFault (List Val)
 items_of (Some (list members f)) = good members
 items_of (Some (tuple members)) = good members
 items_of (Some (dict entries f)) = good (keys_of entries)
 items_of object = bad WRONG_TYPE
 
 -- iteration is over lists, tuples and the keys of dictionaries
-abbrev pub items : Val → Store → Checked (List Val)
+abbrev pub items : Val → Store → ValueOrFault (List Val)
 items (v.At a) s = items_of (at a s)
 items a s = bad WRONG_TYPE

@@ -7,7 +7,7 @@ use lib.Pointwise.{pointwise, pointwise_decides, bytes_decides}
 use Rattle.meaning.specs.declared.key.Part.{Part}
 use Rattle.meaning.specs.declared.key.Part.TheVariants as p
 use Rattle.meaning.specs.Keys.{same_part, same_key}
-use Rattle.meaning.specs.Fed.{text_fed, part_fed}
+use Rattle.meaning.specs.HashInput.{text_fed, part_fed}
 
 beq_Decides : (a b : Bool) → Decides (beq a b) (a ≡ b)
 beq_Decides true true = (λ h. refl, λ h. refl)

@@ -1,7 +1,7 @@
 pub mod Outcome
 pub mod Texts
 pub mod Keys
-pub mod Fed
+pub mod HashInput
 pub mod KeyLaws
 pub mod Heap
 pub mod Numbers
@@ -16,4 +16,4 @@ pub mod Membership
 pub mod Binary
 pub mod Functions
 pub mod Methods
-pub mod Keyed
+pub mod KeyView

@@ -3,7 +3,7 @@ use Rattle.std.specs.Prelude.{ℕ, Bool, true, false, List, [], ◌∷◌, lengt
 use Rattle.meaning.specs.declared.key.Part.{Part}
 use Rattle.meaning.specs.declared.val.Val.{Val}
 use Rattle.meaning.specs.declared.val.Val.TheVariants as v
-use Rattle.meaning.specs.Outcome.{Does, ◌>>=◌, pure, fault, Checked, good, bad, checked}
+use Rattle.meaning.specs.Outcome.{Does, ◌>>=◌, pure, fault, ValueOrFault, good, bad, checked}
 use Rattle.meaning.specs.Heap.{Obj, text, list, tuple, dict, Store, at, walks}
 use Rattle.meaning.specs.Comparing.{equal, found, same_text}
 use Rattle.meaning.specs.Indexing.{hash}
@@ -22,11 +22,11 @@ abbrev pub is_part : List ℕ → List ℕ → Bool
 is_part part [] = begins part []
 is_part part (c ∷ cs) = if begins part (c ∷ cs) then true else is_part part cs
 
-abbrev pub part_of : List ℕ → Option Obj → Checked Bool
+abbrev pub part_of : List ℕ → Option Obj → ValueOrFault Bool
 part_of whole (Some (text part)) = good (is_part part whole)
 part_of whole object = bad WRONG_TYPE
 
-abbrev pub text_has : List Obj → List ℕ → Val → Checked Bool
+abbrev pub text_has : List Obj → List ℕ → Val → ValueOrFault Bool
 text_has heap whole (v.At place) = part_of whole (slice_get heap place)
 text_has heap whole x = bad WRONG_TYPE
 

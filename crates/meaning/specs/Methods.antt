@@ -3,12 +3,12 @@
 use Rattle.std.specs.Prelude.{ℕ, zero, suc, ◌==◌, ◌||◌, Bool, false, List, [], ◌∷◌, ◌++◌, length, reverse, map, drop, Option, Some, if◌then◌else◌, codes, unwrap_or}
 use Rattle.meaning.specs.declared.val.Val.{Val}
 use Rattle.meaning.specs.declared.val.Val.TheVariants as v
-use Rattle.meaning.specs.Outcome.{Does, ◌>>=◌, ◌>>◌, pure, fault, Checked, good, bad, checked}
+use Rattle.meaning.specs.Outcome.{Does, ◌>>=◌, ◌>>◌, pure, fault, ValueOrFault, good, bad, checked}
 use Rattle.meaning.specs.Heap.{Entries, Obj, text, list, dict, Store, at, makes_text, makes_list, makes_tuple, puts, is_sized}
 use Rattle.meaning.specs.Comparing.{same_text, found}
 use Rattle.meaning.specs.Indexing.{hash, keys_of, value_of, may_change}
 use Rattle.meaning.specs.Membership.{begins}
-use Rattle.meaning.specs.Functions.{Named, the_items}
+use Rattle.meaning.specs.Functions.{KeywordArguments, the_items}
 use Rattle.meaning.specs.declared.faults.TheConstants.{TOO_LARGE, WRONG_ARGUMENTS, WRONG_TYPE}
 
 -- members at the end of a list, in place: frozen 6, iterated 7, size 13
@@ -58,11 +58,11 @@ dict_method entries name xs =
     else (if same_text name (codes "items") then no_arguments (makes_items entries >>= makes_list) xs else fault WRONG_TYPE)))
 
 -- the bytes of a string
-abbrev pub object_bytes : Option Obj → Checked (List ℕ)
+abbrev pub object_bytes : Option Obj → ValueOrFault (List ℕ)
 object_bytes (Some (text bytes)) = good bytes
 object_bytes object = bad WRONG_TYPE
 
-abbrev pub bytes_of : Val → Store → Checked (List ℕ)
+abbrev pub bytes_of : Val → Store → ValueOrFault (List ℕ)
 bytes_of (v.At a) s = object_bytes (at a s)
 bytes_of x s = bad WRONG_TYPE
 
@@ -148,12 +148,12 @@ has_method (Some (list members f)) name = same_text name (codes "append") || sam
 has_method (Some (dict entries f)) name = same_text name (codes "get") || (same_text name (codes "keys") || (same_text name (codes "values") || same_text name (codes "items")))
 has_method object name = false
 
-abbrev pub called : ℕ → Option Obj → List ℕ → List Val → Named → Does Store Val
+abbrev pub called : ℕ → Option Obj → List ℕ → List Val → KeywordArguments → Does Store Val
 called a object name xs [] = object_method a object name xs
 called a object name xs (n ∷ ns) = if has_method object name then fault WRONG_ARGUMENTS else fault WRONG_TYPE
 
 -- a call of a method
-abbrev pub method : Val → List ℕ → List Val → Named → Does Store Val
+abbrev pub method : Val → List ℕ → List Val → KeywordArguments → Does Store Val
 method (v.At a) name xs ns = λ s. called a (at a s) name xs ns s
 method x name xs ns = fault WRONG_TYPE
 

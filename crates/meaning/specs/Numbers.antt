@@ -3,14 +3,14 @@ use Rattle.std.specs.Prelude.{ℕ, ℤ, pos, negsuc, suc, ◌-◌, ◌/◌, ◌%
 use Rattle.std.specs.Ordering.{int_eq}
 use Rattle.meaning.specs.declared.val.Val.{Val}
 use Rattle.meaning.specs.declared.val.Val.TheVariants as v
-use Rattle.meaning.specs.Outcome.{Does, pure, fault, Checked, good, bad}
+use Rattle.meaning.specs.Outcome.{Does, pure, fault, ValueOrFault, good, bad}
 use Rattle.meaning.specs.declared.faults.TheConstants.{OVERFLOW, ZERO_DIVISOR}
 
 abbrev pub fits : ℤ → Bool
 fits z = int_le (negsuc 9223372036854775807) z && int_le z (pos 9223372036854775807)
 
 -- a result outside of 64 bits is fault 9
-abbrev pub fitting : ℤ → Checked Val
+abbrev pub fitting : ℤ → ValueOrFault Val
 fitting z = if fits z then good (v.Int z) else bad OVERFLOW
 
 abbrev pub whole : {S : Type 0} → ℤ → Does S Val
@@ -37,5 +37,5 @@ floor_rem x (pos n) = pos (left_over x n)
 floor_rem x (negsuc n) = neg_ℤ (pos (left_over (neg_ℤ x) (suc n)))
 
 -- by 0 it is fault 10
-abbrev pub unless_zero : ℤ → ℤ → Checked Val
+abbrev pub unless_zero : ℤ → ℤ → ValueOrFault Val
 unless_zero y z = if int_eq y (pos 0) then bad ZERO_DIVISOR else fitting z

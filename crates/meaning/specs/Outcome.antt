@@ -43,18 +43,18 @@ abbrev pub spend : ℕ → Does ℕ (Unit {0})
 spend n steps = if nat_lt steps n then faults STEPS_SPENT else gives tt (steps - n)
 
 -- a result that needs no state: a value, or the code of a fault
-pub data Checked (A : Type 0) : Type 0 where
-  good : A → Checked A
-  bad : ℕ → Checked A
+pub data ValueOrFault (A : Type 0) : Type 0 where
+  good : A → ValueOrFault A
+  bad : ℕ → ValueOrFault A
 
-abbrev pub then_checked : {A B : Type 0} → Checked A → (A → Checked B) → Checked B
+abbrev pub then_checked : {A B : Type 0} → ValueOrFault A → (A → ValueOrFault B) → ValueOrFault B
 then_checked (good a) k = k a
 then_checked (bad c) k = bad c
 
-abbrev pub or_bad : {A : Type 0} → ℕ → Option A → Checked A
+abbrev pub or_bad : {A : Type 0} → ℕ → Option A → ValueOrFault A
 or_bad code None = bad code
 or_bad code (Some a) = good a
 
-abbrev pub checked : {S A : Type 0} → Checked A → Does S A
+abbrev pub checked : {S A : Type 0} → ValueOrFault A → Does S A
 checked (good a) = pure a
 checked (bad c) = fault c

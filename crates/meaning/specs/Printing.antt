@@ -32,14 +32,14 @@ bool_text true = codes "True"
 bool_text false = codes "False"
 
 -- what a value is to a text: written at once, or with the texts of what it holds; a place that is not there is fault 5
-pub data Shown : Type 0 where
-  written : List ℕ → Shown
-  listed : List Val → Shown
-  tupled : List Val → Shown
-  mapped : Entries → Shown
-  absent : Shown
+pub data PrintShape : Type 0 where
+  written : List ℕ → PrintShape
+  listed : List Val → PrintShape
+  tupled : List Val → PrintShape
+  mapped : Entries → PrintShape
+  absent : PrintShape
 
-abbrev pub shown_object : Option Obj → Shown
+abbrev pub shown_object : Option Obj → PrintShape
 shown_object (Some (text bytes)) = written (quoted bytes)
 shown_object (Some (list members f)) = listed members
 shown_object (Some (tuple members)) = tupled members
@@ -47,7 +47,7 @@ shown_object (Some (dict entries f)) = mapped entries
 shown_object (Some (function label name)) = written (codes "<function " ++ name ++ codes ">")
 shown_object None = absent
 
-abbrev pub shown : List Obj → Val → Shown
+abbrev pub shown : List Obj → Val → PrintShape
 shown heap v.Nothing = written (codes "None")
 shown heap (v.Bool b) = written (bool_text b)
 shown heap (v.Int n) = written (int_text n)
@@ -86,7 +86,7 @@ plain t = tick >> pure t
 abbrev pub container : List ℕ → Does ℕ (List ℕ) → List ℕ → Does ℕ (List ℕ)
 container before inner after = tick >> enclosed before inner after
 
-abbrev pub visit_shown : Option (Val → Does ℕ (List ℕ)) → Shown → Does ℕ (List ℕ)
+abbrev pub visit_shown : Option (Val → Does ℕ (List ℕ)) → PrintShape → Does ℕ (List ℕ)
 visit_shown inner (written t) = plain t
 visit_shown inner absent = tick >> fault WRONG_TYPE
 visit_shown None (listed xs) = fault TOO_DEEP

@@ -4,7 +4,7 @@ ghost use Rattle.std.specs.Hash as fed;
 ghost use Rattle.std.specs.Cmp.{partial_equiv_from_equiv};
 ghost use Rattle.std.specs.Cmp.Lexicographic.{pointwise, nat_list_eq_equiv};
 ghost use Rattle.meaning.specs.KeyLaws.{texts_alike};
-ghost use Rattle.meaning.specs.Fed.{text_fed};
+ghost use Rattle.meaning.specs.HashInput.{text_fed};
 
 use std::alloc::Global;
 use std::hash::{Hash, Hasher};

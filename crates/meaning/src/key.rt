@@ -3,7 +3,7 @@ ghost use Rattle.std.specs.Prelude.{◌≡◌, ◌∷◌, []};
 ghost use Rattle.std.specs.Hash as fed;
 ghost use Rattle.std.specs.Cmp.{partial_equiv_from_equiv};
 ghost use Rattle.meaning.specs.Keys.{same_part, same_key};
-ghost use Rattle.meaning.specs.Fed.{part_fed};
+ghost use Rattle.meaning.specs.HashInput.{part_fed};
 ghost use Rattle.meaning.specs.KeyLaws.{parts_equiv, parts_alike, keys_equiv, keys_alike};
 
 use crate::bytes::Bytes;
@@ -76,7 +76,7 @@ pub struct Key {
 impl Model for Key {
     ghost use Rattle.std.specs.Prelude.{List};
     ghost use Rattle.meaning.specs.declared.key.Part.{Part};
-    ghost use Rattle.meaning.specs.Keyed.{parts_of};
+    ghost use Rattle.meaning.specs.KeyView.{parts_of};
 
     ghost Value = { List Part };
 

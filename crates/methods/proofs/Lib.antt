@@ -1,6 +1,6 @@
 pub mod Room
 pub mod Endings
-pub mod Split
-pub mod Joined
+pub mod Separators
+pub mod Joins
 pub mod Bridges
 pub mod Turns

@@ -4,7 +4,7 @@ use Rattle.meaning.specs.declared.key.Part.{Part}
 use Rattle.meaning.specs.declared.val.Val.{Val}
 use Rattle.meaning.specs.declared.val.Val.TheVariants as v
 use Rattle.meaning.specs.declared.val.Entry.{Entry}
-use Rattle.meaning.specs.Outcome.{Does, ◌>>=◌, ◌>>◌, pure, fault, Checked, good, bad, checked}
+use Rattle.meaning.specs.Outcome.{Does, ◌>>=◌, ◌>>◌, pure, fault, ValueOrFault, good, bad, checked}
 use Rattle.meaning.specs.Heap.{Entries, Obj, list, dict, Store, at, is_sized, puts, makes_list, makes_tuple, makes_text}
 use Rattle.meaning.specs.Comparing.{same_text, found}
 use Rattle.meaning.specs.Operators.{add}
@@ -84,7 +84,7 @@ abbrev pub items_at : Option Obj → Does Store Val
 items_at (Some (dict entries f)) = entry_tuples (entry_list entries) >>= makes_list
 items_at object = fault WRONG_TYPE
 
-abbrev pub without_arguments : List Val → Checked (Unit {0})
+abbrev pub without_arguments : List Val → ValueOrFault (Unit {0})
 without_arguments [] = good tt
 without_arguments (x ∷ xs) = bad WRONG_ARGUMENTS
 

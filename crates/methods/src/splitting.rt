@@ -1,8 +1,8 @@
 //! Texts split and joined.
 ghost use Rattle.std.specs.Prelude.{◌≡◌, ◌<◌, ◌++◌, length, IfOk};
 ghost use Rattle.meaning.specs.Methods.{split_by, with_between};
-ghost use Rattle.heap.specs.Sized.{SizedAs};
-ghost use Rattle.methods.specs.Grown.{Grows, shown};
+ghost use Rattle.heap.specs.ListSizes.{SizedAs};
+ghost use Rattle.methods.specs.Texts.{Grows, shown};
 
 use heap::{Halt, LONGEST};
 use meaning::faults;

@@ -2,7 +2,7 @@
 ghost use Rattle.meaning.specs.Heap.{makes_text};
 ghost use Rattle.meaning.specs.Methods.{bytes_of, all_bytes, joins_items, makes_texts, replace};
 ghost use Rattle.methods.specs.Cases.{only_text, split_only, of_text};
-ghost use Rattle.methods.specs.Grown.{shown, ChecksText, SaysText, SaysTexts};
+ghost use Rattle.methods.specs.Texts.{shown, ChecksText, SaysText, SaysTexts};
 ghost use Rattle.heap.specs.View.{store_of, Says, SaysItems};
 
 use crate::names::{is_name, no_arguments};

@@ -5,7 +5,7 @@ use Rattle.std.specs.Cmp.Lexicographic.{pointwise}
 use Rattle.meaning.specs.Freezing.{Fz, Fzs, no_members, member}
 use Rattle.freezing.specs.Same.{same}
 use Rattle.same_trees.specs.Same.{same_fn}
-use Rattle.module_values.specs.Values.{Attribute, single, several, Target, Frozen, Defaults, Body, Loaded}
+use Rattle.module_values.specs.Values.{Attribute, single, several, Target, Frozen, Defaults, Body, ModuleValue}
 
 abbrev pub text_eq : List ℕ → List ℕ → Bool
 text_eq = pointwise nat_eq
@@ -35,5 +35,5 @@ defaults_eq a b = text_eq a.name b.name && pointwise same (values_of a.values) (
 abbrev pub body_eq : Body → Body → Bool
 body_eq a b = text_eq a.label b.label && text_eq a.path b.path && pointwise frozen_eq a.own b.own && pointwise frozen_eq a.loaded b.loaded && pointwise same_fn a.functions b.functions && pointwise defaults_eq a.defaults b.defaults
 
-abbrev pub loaded_eq : Loaded → Loaded → Bool
+abbrev pub loaded_eq : ModuleValue → ModuleValue → Bool
 loaded_eq a b = body_eq a.body b.body && pointwise body_eq a.reached b.reached

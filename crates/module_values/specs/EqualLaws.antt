@@ -10,7 +10,7 @@ use Rattle.freezing.specs.SameLaws.{same_exact}
 use Rattle.freezing.specs.View.{members_of}
 use Rattle.same_trees.specs.Same.{same_fn}
 use Rattle.same_trees.specs.SameLaws.{fns_decide}
-use Rattle.module_values.specs.Values.{Attribute, single, several, Target, Frozen, Defaults, Body, Loaded}
+use Rattle.module_values.specs.Values.{Attribute, single, several, Target, Frozen, Defaults, Body, ModuleValue}
 use Rattle.module_values.specs.Equal.{text_eq, attribute_eq, named_eq, target_eq, frozen_eq, values_of, defaults_eq, body_eq, loaded_eq}
 
 each : (p q : Bool) → p && q ≡ true → (p ≡ true) × (q ≡ true)
@@ -97,7 +97,7 @@ bodies_decide = exactly body_eq
     ((pointwise_decides fns_decide a.functions a.functions).1 refl))
     ((pointwise_decides defaults_decide a.defaults a.defaults).1 refl))
 
-pub loaded_decide : (a b : Loaded) → Decides (loaded_eq a b) (a ≡ b)
+pub loaded_decide : (a b : ModuleValue) → Decides (loaded_eq a b) (a ≡ b)
 loaded_decide = exactly loaded_eq
     (λ a b h. let p = each (body_eq a.body b.body) (pointwise body_eq a.reached b.reached) h in λ i. record { body = (bodies_decide a.body b.body).0 p.0 i; reached = (pointwise_decides bodies_decide a.reached b.reached).0 p.1 i })
     (λ a. together (body_eq a.body a.body) (pointwise body_eq a.reached a.reached) ((bodies_decide a.body a.body).1 refl) ((pointwise_decides bodies_decide a.reached a.reached).1 refl))

@@ -1,6 +1,6 @@
 pub mod Values
 pub mod Equal
 pub mod EqualLaws
-pub mod Stored
-pub mod Shown
-pub mod Named
+pub mod Storage
+pub mod View
+pub mod FunctionNames

@@ -35,6 +35,6 @@ pub record Body : Type 0 where
   pub defaults : List Defaults
 
 -- the value of a .bzl file: itself, and all modules that its loads reach, each once
-pub record Loaded : Type 0 where
+pub record ModuleValue : Type 0 where
   pub body : Body
   pub reached : List Body

@@ -26,7 +26,7 @@ pub struct Binding {
 
 impl Model for Binding {
     ghost use Rattle.module_values.specs.Values.{Frozen};
-    ghost use Rattle.module_values.specs.Stored.{binding_code};
+    ghost use Rattle.module_values.specs.Storage.{binding_code};
 
     ghost Value = { Frozen };
 
@@ -82,7 +82,7 @@ pub struct Defaults {
 impl Model for Defaults {
     ghost use Rattle.freezing.specs.View.{members_of};
     ghost use Rattle.module_values.specs.Values.{Defaults};
-    ghost use Rattle.module_values.specs.Stored.{defaults_code};
+    ghost use Rattle.module_values.specs.Storage.{defaults_code};
 
     ghost Value = { Defaults };
 
@@ -139,7 +139,7 @@ impl Model for Function {
     ghost use Rattle.std.specs.Arc.{arc_value};
     ghost use Rattle.tree.specs.Tree.{Fn};
     ghost use Rattle.tree.specs.Statements.{fn_of};
-    ghost use Rattle.same_trees.specs.Stored.{fn_code};
+    ghost use Rattle.same_trees.specs.Storage.{fn_code};
 
     ghost Value = { Fn };
 

@@ -1,6 +1,6 @@
 //! Functions of a file, found by their names.
 ghost use Rattle.std.specs.Prelude.{◌≡◌, IfOk, IfSome, option_map};
-ghost use Rattle.module_values.specs.Named.{names_of, first_named, function_at};
+ghost use Rattle.module_values.specs.FunctionNames.{names_of, first_named, function_at};
 
 use crate::bindings::Function;
 use indexmap::IndexSet;
@@ -30,8 +30,8 @@ impl Model for Functions {
     ghost use Rattle.std.specs.Option.{ForSome};
     ghost use Rattle.std.specs.Coded.{coded_list};
     ghost use Rattle.tree.specs.Tree.{Fn};
-    ghost use Rattle.same_trees.specs.Stored.{fn_code};
-    ghost use Rattle.module_values.specs.Named.{names_of};
+    ghost use Rattle.same_trees.specs.Storage.{fn_code};
+    ghost use Rattle.module_values.specs.FunctionNames.{names_of};
 
     ghost Value = { List Fn };
 

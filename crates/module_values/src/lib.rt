@@ -8,5 +8,5 @@ mod targets;
 
 pub use bindings::{Binding, Defaults, Function};
 pub use functions::Functions;
-pub use modules::{Loaded, Module};
-pub use targets::{Attribute, Held, Target, Targets, Texts};
+pub use modules::{Module, ModuleValue};
+pub use targets::{Attribute, AttributeValue, Target, Targets, Texts};

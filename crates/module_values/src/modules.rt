@@ -4,7 +4,7 @@ ghost use Rattle.std.specs.Cmp.{partial_equiv_from_equiv};
 ghost use Rattle.module_values.specs.Values.{Body};
 ghost use Rattle.module_values.specs.Equal.{body_eq, loaded_eq};
 ghost use Rattle.module_values.specs.EqualLaws.{bodies_equiv, loaded_equiv};
-ghost use Rattle.module_values.specs.Named.{first_named};
+ghost use Rattle.module_values.specs.FunctionNames.{first_named};
 
 use crate::bindings::{Binding, Defaults, Function};
 use crate::functions::Functions;
@@ -34,8 +34,8 @@ pub struct Module {
 
 impl Model for Module {
     ghost use Rattle.module_values.specs.Values.{Body};
-    ghost use Rattle.module_values.specs.Stored.{body_code};
-    ghost use Rattle.module_values.specs.Shown.{body_of};
+    ghost use Rattle.module_values.specs.Storage.{body_code};
+    ghost use Rattle.module_values.specs.View.{body_of};
     ghost use Rattle.std.specs.Arc.{arc_value};
 
     ghost Value = { Body };
@@ -157,28 +157,28 @@ impl Eq for Module {
 
 /// The value of a .bzl file: itself, and all modules that its loads reach, each once.
 #[derive(Drop)]
-pub struct Loaded {
+pub struct ModuleValue {
     body: Module,
     reached: Vec<Module>,
 }
 
-impl Model for Loaded {
-    ghost use Rattle.module_values.specs.Values.{Loaded};
-    ghost use Rattle.module_values.specs.Stored.{loaded_code};
+impl Model for ModuleValue {
+    ghost use Rattle.module_values.specs.Values.{ModuleValue};
+    ghost use Rattle.module_values.specs.Storage.{loaded_code};
 
-    ghost Value = { Loaded };
+    ghost Value = { ModuleValue };
 
     ghost coded = { loaded_code };
 
     ghost view = { λ l. record { body = l.body; reached = l.reached.items } };
 }
 
-impl Loaded {
+impl ModuleValue {
     /// Makes the value of a file: a module with those that it reaches.
-    pub fn new(body: Module, reached: Vec<Module>) -> Loaded
+    pub fn new(body: Module, reached: Vec<Module>) -> ModuleValue
         ensures { result ≡ record { body = body; reached = reached.items } }
     {
-        Loaded { body, reached }
+        ModuleValue { body, reached }
     }
 
     /// Returns the module itself.
@@ -196,16 +196,16 @@ impl Loaded {
     }
 }
 
-impl PartialEq for Loaded {
+impl PartialEq for ModuleValue {
     ghost eq = { loaded_eq };
 
     ghost laws = { partial_equiv_from_equiv loaded_equiv };
 
-    fn eq(&self, other: &Loaded) -> bool {
+    fn eq(&self, other: &ModuleValue) -> bool {
         self.body == other.body && self.reached == other.reached
     }
 }
 
-impl Eq for Loaded {
+impl Eq for ModuleValue {
     ghost laws = { loaded_equiv };
 }

@@ -5,7 +5,7 @@ ghost use Rattle.std.specs.Cmp.Lexicographic.{pointwise};
 ghost use Rattle.module_values.specs.Values.{single, several};
 ghost use Rattle.module_values.specs.Equal.{text_eq, attribute_eq, target_eq};
 ghost use Rattle.module_values.specs.EqualLaws.{texts_equiv, attributes_equiv, targets_equiv, all_targets_equiv};
-ghost use Rattle.module_values.specs.Shown.{attribute_of};
+ghost use Rattle.module_values.specs.View.{attribute_of};
 
 use meaning::Bytes;
 use std::marker::Model;
@@ -57,7 +57,7 @@ impl Eq for Texts {
 
 /// What an attribute holds.
 #[derive(Drop)]
-pub enum Held {
+pub enum AttributeValue {
     /// A string, or the text of a label.
     Single(Bytes),
     /// A list of these.
@@ -67,7 +67,7 @@ pub enum Held {
 /// An attribute of a target. A contract sees a text, or a list of texts.
 #[derive(Drop)]
 pub struct Attribute {
-    held: Held,
+    held: AttributeValue,
 }
 
 impl Model for Attribute {
@@ -75,7 +75,7 @@ impl Model for Attribute {
 
     ghost Value = { Attribute };
 
-    ghost use Rattle.module_values.specs.Shown.{attribute_of};
+    ghost use Rattle.module_values.specs.View.{attribute_of};
 
     ghost view = { λ a. attribute_of a.held };
 }
@@ -85,7 +85,7 @@ impl Attribute {
     pub fn single(text: Bytes) -> Attribute
         ensures { result ≡ single text }
     {
-        let held = Held::Single(text);
+        let held = AttributeValue::Single(text);
         Attribute { held }
     }
 
@@ -93,12 +93,12 @@ impl Attribute {
     pub fn several(texts: Texts) -> Attribute
         ensures { result ≡ several texts }
     {
-        let held = Held::Several(texts);
+        let held = AttributeValue::Several(texts);
         Attribute { held }
     }
 
     /// Returns the string or the list that the attribute holds.
-    pub fn held(&self) -> &Held
+    pub fn held(&self) -> &AttributeValue
         ensures { attribute_of result.now ≡ self.now }
     {
         &self.held
@@ -112,8 +112,8 @@ impl PartialEq for Attribute {
 
     fn eq(&self, other: &Attribute) -> bool {
         match (&self.held, &other.held) {
-            (Held::Single(a), Held::Single(b)) => a == b,
-            (Held::Several(a), Held::Several(b)) => a == b,
+            (AttributeValue::Single(a), AttributeValue::Single(b)) => a == b,
+            (AttributeValue::Several(a), AttributeValue::Several(b)) => a == b,
             _ => false,
         }
     }

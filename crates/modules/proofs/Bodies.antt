@@ -2,7 +2,7 @@
 use Rattle.std.proofs.Common.{◌≡◌, ◌++◌, ℕ, Bool, true, false, cond, List, [], ◌∷◌, Option, Some, refl, ap, ◌∙◌}
 use Rattle.std.proofs.lemmas.List.Concat.{flat_map-cons}
 use Rattle.meaning.specs.Comparing.{same_text}
-use Rattle.module_values.specs.Values.{Body, Loaded}
+use Rattle.module_values.specs.Values.{Body, ModuleValue}
 use Rattle.language.specs.Names.{or_else}
 use Rattle.language.specs.Modules.{body_at, all_bodies}
 
@@ -15,5 +15,5 @@ body_at-append label [] ys = refl
 body_at-append label (x ∷ xs) ys = ap (λ o. cond (same_text label x.label) (Some x) o) (body_at-append label xs ys) ∙ either (same_text label x.label) x (body_at label xs) (body_at label ys)
 
 -- those of the first load are before the others
-pub bodies_of : (label : List ℕ) (m : Loaded) (ms : List Loaded) → body_at label (all_bodies (m ∷ ms)) ≡ or_else (body_at label (m.body ∷ m.reached)) (body_at label (all_bodies ms))
-bodies_of label m ms = ap (λ l. body_at label l) (flat_map-cons (λ (n : Loaded). n.body ∷ n.reached) m ms) ∙ body_at-append label (m.body ∷ m.reached) (all_bodies ms)
+pub bodies_of : (label : List ℕ) (m : ModuleValue) (ms : List ModuleValue) → body_at label (all_bodies (m ∷ ms)) ≡ or_else (body_at label (m.body ∷ m.reached)) (body_at label (all_bodies ms))
+bodies_of label m ms = ap (λ l. body_at label l) (flat_map-cons (λ (n : ModuleValue). n.body ∷ n.reached) m ms) ∙ body_at-append label (m.body ∷ m.reached) (all_bodies ms)

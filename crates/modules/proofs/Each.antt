@@ -5,7 +5,7 @@ use Rattle.std.specs.List.{list_any}
 use Rattle.std.specs.Cmp.Lexicographic.{pointwise}
 use Rattle.std.proofs.lemmas.List.Concat.{flat_map-cons}
 use Rattle.meaning.specs.Comparing.{same_text}
-use Rattle.module_values.specs.Values.{Body, Loaded}
+use Rattle.module_values.specs.Values.{Body, ModuleValue}
 use Rattle.language.specs.Modules.{all_bodies, each_once}
 use Rattle.tree.specs.Tree.{Ld}
 use Rattle.tree.specs.Statements.{load_of}
@@ -22,14 +22,14 @@ each-append done [] ys = refl
 each-append done (x ∷ xs) ys = each-append (cond (list_any (λ d. same_text x.label d.label) done) done (done ++ x ∷ [])) xs ys
 
 -- those of the first load, and then the others
-pub each_load : (done : List Body) (m : Loaded) (ms : List Loaded) → each_once done (all_bodies (m ∷ ms)) ≡ each_once (each_once (each_once done (m.body ∷ [])) m.reached) (all_bodies ms)
-each_load done m ms = ap (λ l. each_once done l) (flat_map-cons (λ (n : Loaded). n.body ∷ n.reached) m ms) ∙ each-append done (m.body ∷ m.reached) (all_bodies ms)
+pub each_load : (done : List Body) (m : ModuleValue) (ms : List ModuleValue) → each_once done (all_bodies (m ∷ ms)) ≡ each_once (each_once (each_once done (m.body ∷ [])) m.reached) (all_bodies ms)
+each_load done m ms = ap (λ l. each_once done l) (flat_map-cons (λ (n : ModuleValue). n.body ∷ n.reached) m ms) ∙ each-append done (m.body ∷ m.reached) (all_bodies ms)
 
 no_modules : (ls : List Ld) → frozen_loads ls [] ≡ []
 no_modules [] = refl
 no_modules (l ∷ ls) = refl
 
-pub loads_over : (i : ℕ) (loads : List LoadStmt) (ms : List Loaded) → min (length loads) (length ms) ≤ i → frozen_loads (map load_of (drop i loads)) (drop i ms) ≡ []
+pub loads_over : (i : ℕ) (loads : List LoadStmt) (ms : List ModuleValue) → min (length loads) (length ms) ≤ i → frozen_loads (map load_of (drop i loads)) (drop i ms) ≡ []
 loads_over zero [] ms h = refl
 loads_over zero (l ∷ ls) [] h = refl
 loads_over zero (l ∷ ls) (m ∷ ms) h = absurd (omega arith)

@@ -9,7 +9,7 @@ use Rattle.meaning.specs.Outcome as m
 use Rattle.meaning.specs.Heap.{Store}
 use Rattle.meaning.specs.Freezing.{freezes}
 use Rattle.tree.specs.Tree.{Fn, Fi, Tp}
-use Rattle.module_values.specs.Values.{Frozen, Defaults, Loaded, Body}
+use Rattle.module_values.specs.Values.{Frozen, Defaults, ModuleValue, Body}
 use Rattle.language.specs.World.{World, Block, Names, Here, Runs, ended, at_site, then_runs, pure, or_fault, on_heap, ◌>>=◌}
 use Rattle.language.specs.Names.{top_names, names_once, all_unbound, names_at, file_slot, slot_in}
 use Rattle.language.specs.Environment.{Env, defs, defaults_among}
@@ -18,7 +18,7 @@ use Rattle.language.specs.Files.{frozen_names, frozen_defaults, frozen_loads, fr
 use Rattle.names.specs.declared.state.Slot.{Slot}
 use Rattle.names.specs.declared.state.FileNames.{FileNames}
 use Rattle.names.specs.View.{slots_of, names_of, Ran}
-use Rattle.modules.specs.Frozen.{freeze_values, freeze_names, freeze_defaults, bound_value, block_among, slot_names}
+use Rattle.modules.specs.Freeze.{freeze_values, freeze_names, freeze_defaults, bound_value, block_among, slot_names}
 use Rattle.modules.proofs.Worlds.{site_then}
 
 slot_same : (x : List ℕ) (n : Option Names) → file_slot x n ≡ slot_in x (block_among n)
@@ -50,13 +50,13 @@ defaults_are (f ∷ fs) here w =
     ap (λ o. then_runs o (λ rest. pure (record { name = f.name; values = xs } ∷ rest))) (defaults_are fs here u)
     ∙ site_then here u (freeze_defaults n fs s) _ _ (λ rest t. refl))
 
-abbrev pub left_by : Env → List Frozen → List Defaults → Loaded
+abbrev pub left_by : Env → List Frozen → List Defaults → ModuleValue
 left_by env own defaults = record {
   body = record { label = env.label; path = env.path; own = own; loaded = frozen_loads env.file.loads env.loads; functions = defs env.file.tops; defaults = defaults };
   reached = each_once [] (all_bodies env.loads);
 }
 
-abbrev rest_of : Env → Here → List Frozen → Runs Loaded
+abbrev rest_of : Env → Here → List Frozen → Runs ModuleValue
 rest_of env here own = frozen_defaults (defs env.file.tops) here >>= λ defaults. pure (left_by env own defaults)
 
 own_done : (env : Env) (here : Here) (w : World) (o : Out Store (List Frozen)) → freeze_names (block_among (names_at here.label w.files)) (names_once [] (top_names env.file.tops)) w.store ≡ o → frozen_module env here w ≡ then_runs (at_site here.site w o) (rest_of env here)
@@ -108,16 +108,16 @@ functions_fact fs gs label ns ms s t r e f h =
     subst (λ (l : List Tp). SaysItems (freeze_defaults (names_at label (map names_of gs)) (defs l) s) r t) f
     (subst (λ (l : List FileNames). SaysItems (freeze_defaults (names_at label (map names_of l)) (defs ns) s) r t) e h)
 
-abbrev pub body_with : List Frozen → List Defaults → List ℕ → List ℕ → Fi → List Loaded → Body
+abbrev pub body_with : List Frozen → List Defaults → List ℕ → List ℕ → Fi → List ModuleValue → Body
 body_with own defaults label path file loads = record { label = label; path = path; own = own; loaded = frozen_loads file.loads loads; functions = defs file.tops; defaults = defaults }
 
-abbrev left_with : List Frozen → List Defaults → List ℕ → List ℕ → Fi → List Loaded → Loaded
+abbrev left_with : List Frozen → List Defaults → List ℕ → List ℕ → Fi → List ModuleValue → ModuleValue
 left_with own defaults label path file loads = record { body = body_with own defaults label path file loads; reached = each_once [] (all_bodies loads) }
 
-abbrev loaded_of : Body → List Body → Loaded
+abbrev loaded_of : Body → List Body → ModuleValue
 loaded_of body reached = record { body = body; reached = reached }
 
-pub left_is : (env : Env) (own : List Frozen) (defaults : List Defaults) (label path : List ℕ) (file : Fi) (loads : List Loaded) (body : Body) (reached : List Body) (made : Loaded) → env.label ≡ label → env.path ≡ path → env.file ≡ file → env.loads ≡ loads → made ≡ record { body = body; reached = reached } → body ≡ body_with own defaults label path file loads → reached ≡ each_once [] (all_bodies loads) → left_by env own defaults ≡ made
+pub left_is : (env : Env) (own : List Frozen) (defaults : List Defaults) (label path : List ℕ) (file : Fi) (loads : List ModuleValue) (body : Body) (reached : List Body) (made : ModuleValue) → env.label ≡ label → env.path ≡ path → env.file ≡ file → env.loads ≡ loads → made ≡ record { body = body; reached = reached } → body ≡ body_with own defaults label path file loads → reached ≡ each_once [] (all_bodies loads) → left_by env own defaults ≡ made
 left_is env own defaults label path file loads body reached made a b c d is first second =
     let here : left_by env own defaults ≡ left_with own defaults label path file loads = λ i. left_with own defaults (a i) (b i) (c i) (d i) in
     let there : loaded_of body reached ≡ left_with own defaults label path file loads = λ i. loaded_of (first i) (second i) in

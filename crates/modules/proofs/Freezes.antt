@@ -10,7 +10,7 @@ use Rattle.meaning.specs.Freezing.{Fz, Fzs, member, freeze, freezes, freeze_memb
 use Rattle.freezing.specs.View.{onto}
 use Rattle.language.proofs.HeapSteps.{HeapAtMost, d_walks}
 use Rattle.language.proofs.WalkSteps.{freeze_falls}
-use Rattle.modules.specs.Frozen.{freeze_values}
+use Rattle.modules.specs.Freeze.{freeze_values}
 
 less : {A : Type 0} → (a : A) (n : ℕ) (o : Out Store A) (s : Store) → HeapAtMost n o → o ≡ gives a s → s.steps ≤ n
 less a n (gives b t) s h e = let f : t ≡ s = cc in rw (← f) h

@@ -8,17 +8,17 @@ use Rattle.meaning.specs.Freezing.{Fz, thaw, thaw_members}
 use Rattle.heap.specs.declared.halt.Halt.{Halt}
 use Rattle.heap.specs.declared.halt.Halt.TheVariants.{Code, Memory}
 use Rattle.names.specs.View.{Ran, names_of}
-use Rattle.module_values.specs.Values.{Frozen, Defaults, Body, Loaded}
+use Rattle.module_values.specs.Values.{Frozen, Defaults, Body, ModuleValue}
 use Rattle.language.specs.World.{World, Names, Block, Here, Ends, ended, failed, waits, at_site, then_runs, pure, or_fault, on_heap, ◌>>=◌}
 use Rattle.tree.specs.Tree.{It}
 use Rattle.language.specs.Files.{load_items}
-use Rattle.names.specs.declared.state.Kept.{Kept}
+use Rattle.names.specs.declared.state.FunctionDefaults.{FunctionDefaults}
 use Rattle.language.specs.Environment.{Env, thawed, thawed_defaults, thaw_body, add_names, need_names}
 use Rattle.language.specs.Modules.{body_at, all_bodies, exported}
 use Rattle.language.specs.Names.{names_at, change_names, bind}
 use Rattle.names.specs.declared.state.FileNames.{FileNames}
 use Rattle.names.specs.Places.{NoneSo, is_file}
-use Rattle.modules.specs.Thawed.{thaw_names, thaw_defaults, behind, SaysBlock, SaysKept}
+use Rattle.modules.specs.Thaw.{thaw_names, thaw_defaults, behind, SaysBlock, SaysKept}
 
 pub site_then : {A B : Type 0} (here : Here) (w : World) (o : Out Store A) (k : A → Does Store B) (m : A → World → Ends B) → ((a : A) (s : Store) → m a (record w { store = s }) ≡ at_site here.site (record w { store = s }) (k a s)) → then_runs (at_site here.site w o) m ≡ at_site here.site w (and_then o k)
 site_then {B = B} here w (gives a s) k m h = h a s ∙ again (k a s)
@@ -113,11 +113,11 @@ defaults_stop body here w v b d s t u Memory first second e = tt
 
 -- ---- where names are needed
 
-pub needed : (env : Env) (loads : List Loaded) (label : List ℕ) (here : Here) (w : World) (b : Bool) → env.loads ≡ loads → is_some (names_at label w.files) ≡ b → need_names env label here w ≡ cond b (pure tt) (thaw_body (body_at label (all_bodies loads)) here) w
+pub needed : (env : Env) (loads : List ModuleValue) (label : List ℕ) (here : Here) (w : World) (b : Bool) → env.loads ≡ loads → is_some (names_at label w.files) ≡ b → need_names env label here w ≡ cond b (pure tt) (thaw_body (body_at label (all_bodies loads)) here) w
 unfolding need_names
 needed env loads label here w b is e =
     ap (λ t. cond t (pure tt) (thaw_body (body_at label (all_bodies env.loads)) here) w) e
-    ∙ ap (λ (ms : List Loaded). cond b (pure tt) (thaw_body (body_at label (all_bodies ms)) here) w) is
+    ∙ ap (λ (ms : List ModuleValue). cond b (pure tt) (thaw_body (body_at label (all_bodies ms)) here) w) is
 
 pub some_map : {A B : Type 0} (f : A → B) (o : Option A) → is_some (option_map f o) ≡ is_some o
 some_map f None = refl
@@ -133,7 +133,7 @@ change_none label change (f ∷ fs) h = ap (λ t. cond t (change (names_of f) �
 pub names_fact : (b c : Block) (fs gs : List Frozen) (s t : Store) (r : Result (Unit {0}) Halt) (d : Block) → b ≡ c → fs ≡ gs → SaysBlock (behind b (thaw_names fs s)) r d t → SaysBlock (behind c (thaw_names gs s)) r d t
 names_fact b c fs gs s t r d e f h = subst (λ (l : List Frozen). SaysBlock (behind c (thaw_names l s)) r d t) f (subst (λ (x : Block). SaysBlock (behind x (thaw_names fs s)) r d t) e h)
 
-pub defaults_fact : (ds es : List Defaults) (s t : Store) (r : Result (Vec Kept Global) Halt) → ds ≡ es → SaysKept (thaw_defaults ds s) r t → SaysKept (thaw_defaults es s) r t
+pub defaults_fact : (ds es : List Defaults) (s t : Store) (r : Result (Vec FunctionDefaults Global) Halt) → ds ≡ es → SaysKept (thaw_defaults ds s) r t → SaysKept (thaw_defaults es s) r t
 defaults_fact ds es s t r e h = subst (λ (l : List Defaults). SaysKept (thaw_defaults l s) r t) e h
 
 -- ---- items of a load

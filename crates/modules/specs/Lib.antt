@@ -1,3 +1,3 @@
-pub mod Thawed
-pub mod Frozen
+pub mod Thaw
+pub mod Freeze
 pub mod Once

@@ -5,11 +5,11 @@ ghost use Rattle.language.specs.Files.{frozen_loads, frozen_module};
 ghost use Rattle.tree.specs.Statements.{top_of, load_of, file_of};
 ghost use Rattle.names.specs.View.{world_of, here_of, Ran};
 
-use crate::frozen::{freeze_defaults, freeze_globals};
+use crate::freeze::{freeze_defaults, freeze_globals};
 use crate::leaving::{frozen_loads, functions_of, reached_once};
 use calls::own_block;
 use heap::Halt;
-use module_values::{Binding, Defaults, Loaded, Module};
+use module_values::{Binding, Defaults, Module, ModuleValue};
 use names::{Standing, State};
 use std::alloc::Global;
 use texts::Memory;
@@ -20,7 +20,7 @@ fn module_of(
     alloc: Global,
     at: &Standing,
     file: &File,
-    loads: &[Loaded],
+    loads: &[ModuleValue],
     own: Vec<Binding>,
     defaults: Vec<Defaults>,
 ) -> Result<Module, Memory>
@@ -55,8 +55,8 @@ pub fn frozen_module(
     state: &mut State,
     at: &Standing,
     file: &File,
-    loads: &[Loaded],
-) -> Result<Loaded, Halt>
+    loads: &[ModuleValue],
+) -> Result<ModuleValue, Halt>
     ensures says { (env : Env) (line : ℕ) (running : List (List ℕ × List ℕ)) → env.label
         ≡ at.now.label → env.path ≡ at.now.path → env.file ≡ file_of file.now → env.loads
         ≡ loads.now → let here = here_of at.now line running in
@@ -79,5 +79,5 @@ pub fn frozen_module(
     };
     let body = module_of(alloc, at, file, loads, own, defaults)?;
     let reached = reached_once(alloc, loads)?;
-    Ok(Loaded::new(body, reached))
+    Ok(ModuleValue::new(body, reached))
 }

@@ -6,7 +6,7 @@ ghost use Rattle.names.specs.View.{world_of, Ran};
 ghost use Rattle.names.specs.Places.{FirstPlace, is_file};
 
 use heap::{Halt, Val};
-use names::{FileNames, Kept, State};
+use names::{FileNames, FunctionDefaults, State};
 use texts::Text;
 
 // Returns the place of the file with a label.
@@ -42,6 +42,6 @@ pub fn keep_defaults(
     };
     let function = name.share()?;
     let file = &mut state.files[i];
-    file.defaults.add(Kept { function, values })?;
+    file.defaults.add(FunctionDefaults { function, values })?;
     Ok(())
 }

@@ -8,7 +8,7 @@ ghost use Rattle.modules.specs.Once.{labels_of};
 
 use crate::reaching::exported;
 use indexmap::IndexSet;
-use module_values::{Binding, Function, Loaded, Module};
+use module_values::{Binding, Function, Module, ModuleValue};
 use std::alloc::Global;
 use texts::{Memory, Text};
 use tree::{LoadItem, LoadStmt, Top};
@@ -32,7 +32,7 @@ fn add_items(all: &mut Vec<Binding>, body: &Module, items: &[LoadItem]) -> Resul
 pub fn frozen_loads(
     alloc: Global,
     loads: &[LoadStmt],
-    modules: &[Loaded],
+    modules: &[ModuleValue],
 ) -> Result<Vec<Binding>, Memory>
     ensures { IfOk result (λ v. v.items ≡ frozen_loads (map load_of loads.now) modules.now) }
 {
@@ -87,7 +87,7 @@ fn add_each(
 }
 
 /// Returns the modules that loads reach, each once.
-pub fn reached_once(alloc: Global, loads: &[Loaded]) -> Result<Vec<Module>, Memory>
+pub fn reached_once(alloc: Global, loads: &[ModuleValue]) -> Result<Vec<Module>, Memory>
     ensures { IfOk result (λ v. v.items ≡ each_once [] (all_bodies loads.now)) }
 {
     let mut all = Vec::new(alloc);

@@ -2,13 +2,13 @@
 #![tactic(auto)]
 
 mod ending;
-mod frozen;
+mod freeze;
 mod keeping;
 mod leaving;
 mod loading;
 mod naming;
 mod reaching;
-mod thawed;
+mod thaw;
 
 pub use ending::frozen_module;
 pub use keeping::keep_defaults;

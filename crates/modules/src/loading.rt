@@ -5,7 +5,7 @@ ghost use Rattle.tree.specs.Statements.{item_of};
 ghost use Rattle.names.specs.View.{world_of, here_of, Ran};
 
 use crate::reaching::exported;
-use crate::thawed::thaw_value;
+use crate::thaw::thaw_value;
 use heap::Halt;
 use meaning::faults;
 use module_values::Module;

@@ -5,10 +5,10 @@ ghost use Rattle.language.specs.Environment.{Env, thaw_body, need_names};
 ghost use Rattle.names.specs.View.{world_of, Ran};
 
 use crate::reaching::reached;
-use crate::thawed::{thaw_defaults, thaw_names};
+use crate::thaw::{thaw_defaults, thaw_names};
 use calls::file_with;
 use heap::Halt;
-use module_values::{Loaded, Module};
+use module_values::{Module, ModuleValue};
 use names::{Block, FileNames, KeptDefaults, State};
 use texts::Text;
 
@@ -46,7 +46,7 @@ fn thaw_body(state: &mut State, body: &Module) -> Result<(), Halt>
 /// # Errors
 ///
 /// `Halt::Memory` where memory is refused.
-pub fn need_names(state: &mut State, loads: &[Loaded], label: &Text) -> Result<(), Halt>
+pub fn need_names(state: &mut State, loads: &[ModuleValue], label: &Text) -> Result<(), Halt>
     ensures says { (env : Env) (here : Here) → env.loads ≡ loads.now
         → Ran here.site (need_names env label.now here (world_of state.old)) result
         (world_of state.new) }

@@ -3,7 +3,7 @@ ghost use Rattle.std.specs.Prelude.{◌≡◌, ◌∷◌, option_map};
 ghost use Rattle.language.specs.Modules.{frozen_at, is_private, exported, body_at, all_bodies};
 
 use freezing::FrozenValue;
-use module_values::{Binding, Loaded, Module};
+use module_values::{Binding, Module, ModuleValue};
 use texts::Text;
 
 // Returns the module with a label.
@@ -19,7 +19,7 @@ fn module_at<'a>(modules: &'a [Module], label: &Text) -> Option<&'a Module>
 }
 
 // Returns the module with a label, of those that a load reaches.
-fn module_in<'a>(loaded: &'a Loaded, label: &Text) -> Option<&'a Module>
+fn module_in<'a>(loaded: &'a ModuleValue, label: &Text) -> Option<&'a Module>
     ensures { let m = loaded.now in option_map (λ m. m.now) result ≡ body_at label.now
         (m.body ∷ m.reached) }
 {
@@ -30,7 +30,7 @@ fn module_in<'a>(loaded: &'a Loaded, label: &Text) -> Option<&'a Module>
 }
 
 /// Returns the module with a label, of those that loads reach.
-pub fn reached<'a>(loads: &'a [Loaded], label: &Text) -> Option<&'a Module>
+pub fn reached<'a>(loads: &'a [ModuleValue], label: &Text) -> Option<&'a Module>
     ensures { option_map (λ m. m.now) result ≡ body_at label.now (all_bodies loads.now) }
 {
     for loaded in loads.iter() {

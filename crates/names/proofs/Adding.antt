@@ -8,7 +8,7 @@ use lib.Pointwise.{bytes_decides}
 use Rattle.meaning.specs.Comparing.{same_text}
 use Rattle.language.specs.Names.{has_name}
 use Rattle.names.specs.declared.state.Target.{Target}
-use Rattle.names.specs.MadeOnce.{name_of, HasNames}
+use Rattle.names.specs.TargetNames.{name_of, HasNames}
 
 turned : (x y : List ℕ) (a b : Bool) → same_text x y ≡ a → same_text y x ≡ b → a ≡ b
 turned x y true b e f = sym ((bytes_decides y x).1 (sym ((bytes_decides x y).0 e))) ∙ f

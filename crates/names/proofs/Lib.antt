@@ -1,4 +1,4 @@
-pub mod Found
+pub mod Searches
 pub mod Distinct
 pub mod Adding
 pub mod Latest

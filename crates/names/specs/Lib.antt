@@ -1,6 +1,6 @@
 pub mod View
 pub mod Places
 pub mod Once
-pub mod MadeOnce
+pub mod TargetNames
 pub mod Newest
 pub mod Scope

@@ -3,29 +3,29 @@ use Rattle.std.specs.Prelude.{◌≡◌, ℕ, List, [], ◌∷◌, map, reverse,
 use Rattle.std.specs.Option.{ForSome}
 use Rattle.indexmap.specs.IndexSet.{IndexSet}
 use Rattle.meaning.specs.declared.val.Val.{Val}
-use Rattle.names.specs.declared.state.Kept.{Kept}
+use Rattle.names.specs.declared.state.FunctionDefaults.{FunctionDefaults}
 use Rattle.names.specs.Once.{differ}
 
-abbrev pub kept_of : Kept → List ℕ × List Val
+abbrev pub kept_of : FunctionDefaults → List ℕ × List Val
 kept_of k = (k.function, k.values.items)
 
 -- the last is the newest
-abbrev pub newest_first : List Kept → List (List ℕ × List Val)
+abbrev pub newest_first : List FunctionDefaults → List (List ℕ × List Val)
 newest_first ks = map kept_of (reverse ks)
 
-abbrev pub kept_names : List Kept → List (List ℕ)
+abbrev pub kept_names : List FunctionDefaults → List (List ℕ)
 kept_names [] = []
 kept_names (k ∷ ks) = k.function ∷ kept_names ks
 
 -- a set that has these names, each of which stands once
-abbrev pub Lists : {S : Type 0} → Option (IndexSet (List ℕ) S) → List Kept → Type 0
+abbrev pub Lists : {S : Type 0} → Option (IndexSet (List ℕ) S) → List FunctionDefaults → Type 0
 Lists index ks = ForSome index (λ s. (s.keys ≡ kept_names ks) × (differ (kept_names ks) ≡ true))
 
-abbrev pub values_in : Option Kept → List Val
+abbrev pub values_in : Option FunctionDefaults → List Val
 values_in None = []
 values_in (Some k) = k.values.items
 
 -- the values at a place, or none
-abbrev pub values_at : List Kept → Option ℕ → List Val
+abbrev pub values_at : List FunctionDefaults → Option ℕ → List Val
 values_at ks None = []
 values_at ks (Some i) = values_in (slice_get ks i)

@@ -1,6 +1,6 @@
 -- Names each of which stands once.
 use Rattle.std.specs.Prelude.{ℕ, List, [], ◌∷◌}
-pub use Rattle.tree.specs.Bound.{differ}
+pub use Rattle.tree.specs.Bindings.{differ}
 use Rattle.names.specs.declared.state.Slot.{Slot}
 
 abbrev pub names_in : List Slot → List (List ℕ)

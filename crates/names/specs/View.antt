@@ -15,7 +15,7 @@ use Rattle.names.specs.declared.state.Block as m
 use Rattle.names.specs.declared.state.FileNames.{FileNames}
 use Rattle.names.specs.declared.state.Attribute.{Attribute}
 use Rattle.names.specs.declared.state.Attribute.TheVariants as a
-use Rattle.names.specs.declared.state.Attributed.{Attributed}
+use Rattle.names.specs.declared.state.TargetAttribute.{TargetAttribute}
 use Rattle.names.specs.declared.state.Target.{Target}
 use Rattle.names.specs.declared.state.State.{State}
 use Rattle.names.specs.declared.state.Standing.{Standing}
@@ -39,7 +39,7 @@ abbrev pub attribute_of : Attribute → v.Attribute
 attribute_of (a.Single text) = v.single text
 attribute_of (a.Several texts) = v.several texts.items
 
-abbrev pub attributed_of : Attributed → List ℕ × v.Attribute
+abbrev pub attributed_of : TargetAttribute → List ℕ × v.Attribute
 attributed_of x = (x.name, attribute_of x.value)
 
 abbrev pub target_of : Target → v.Target

@@ -5,8 +5,8 @@ ghost use Rattle.language.specs.Names.{has_name};
 ghost use Rattle.names.specs.Newest.{kept_of, newest_first, values_at, Lists};
 
 use crate::reaching::reach_defaults;
-use crate::state::Kept;
-use heap::{Reached, Val};
+use crate::state::FunctionDefaults;
+use heap::{LiveObjects, Val};
 use indexmap::IndexSet;
 use std::alloc::Global;
 use std::marker::Model;
@@ -19,7 +19,7 @@ const FEW: usize = 16;
 #[derive(Drop)]
 pub struct KeptDefaults {
     // The newest is the last.
-    kept: Vec<Kept>,
+    kept: Vec<FunctionDefaults>,
     // The names of many functions, where each stands once.
     index: Option<IndexSet<Text>>,
 }
@@ -37,7 +37,7 @@ impl Model for KeptDefaults {
 }
 
 // Returns the defaults of the newest function with a name.
-fn newest_named<'a>(kept: &'a [Kept], name: &Text) -> &'a [Val]
+fn newest_named<'a>(kept: &'a [FunctionDefaults], name: &Text) -> &'a [Val]
     ensures { result.now ≡ values_named name.now (newest_first kept.now) }
 {
     let mut newest: &[Val] = &[];
@@ -50,7 +50,7 @@ fn newest_named<'a>(kept: &'a [Kept], name: &Text) -> &'a [Val]
 }
 
 // Returns the names of functions, if each stands once.
-fn index_of(alloc: Global, kept: &[Kept]) -> Result<Option<IndexSet<Text>>, Memory>
+fn index_of(alloc: Global, kept: &[FunctionDefaults]) -> Result<Option<IndexSet<Text>>, Memory>
     ensures { IfOk result (λ index. Lists index kept.now) }
 {
     let mut names = IndexSet::new(alloc);
@@ -64,7 +64,7 @@ fn index_of(alloc: Global, kept: &[Kept]) -> Result<Option<IndexSet<Text>>, Memo
 }
 
 // Returns the defaults of the function at a place, or none.
-fn values_at<'a>(kept: &'a [Kept], place: Option<usize>) -> &'a [Val]
+fn values_at<'a>(kept: &'a [FunctionDefaults], place: Option<usize>) -> &'a [Val]
     ensures { result.now ≡ values_at kept.now place }
 {
     match place {
@@ -110,7 +110,7 @@ impl KeptDefaults {
     /// # Errors
     ///
     /// Returns `Memory` if an allocation fails.
-    pub fn of_list(kept: Vec<Kept>) -> Result<KeptDefaults, Memory>
+    pub fn of_list(kept: Vec<FunctionDefaults>) -> Result<KeptDefaults, Memory>
         ensures { IfOk result (λ d. d ≡ map kept_of kept.items) }
     {
         let mut kept = kept;
@@ -123,7 +123,7 @@ impl KeptDefaults {
     }
 
     /// Marks the values of all defaults as reached.
-    pub fn reach(&self, reached: &mut Reached) -> Result<(), Memory> {
+    pub fn reach(&self, reached: &mut LiveObjects) -> Result<(), Memory> {
         reach_defaults(reached, self.kept.as_slice())
     }
 
@@ -143,7 +143,7 @@ impl KeptDefaults {
     /// # Errors
     ///
     /// Returns `Memory` if an allocation fails; none are added.
-    pub fn add(&mut self, kept: Kept) -> Result<(), Memory>
+    pub fn add(&mut self, kept: FunctionDefaults) -> Result<(), Memory>
         ensures added { OnOk result (self.new ≡ kept_of kept ∷ self.old) }
         ensures refused { OnErr result (self.new ≡ self.old) }
     {

@@ -3,7 +3,7 @@
 
 mod blocks;
 mod keeping;
-mod made;
+mod package_targets;
 mod places;
 mod reaching;
 mod reading;
@@ -12,10 +12,11 @@ mod universal;
 
 pub use blocks::slot_in;
 pub use keeping::KeptDefaults;
-pub use made::Made;
+pub use package_targets::PackageTargets;
 pub use reaching::{reach_blocks, reach_names};
 pub use reading::{bind, is_native_name, read, read_in_scope, slot, slot_in_scope};
 pub use state::{
-    Attribute, Attributed, Block, FileNames, Kept, Scope, Slot, Standing, State, Target,
+    Attribute, Block, FileNames, FunctionDefaults, Scope, Slot, Standing, State, Target,
+    TargetAttribute,
 };
 pub use universal::{is_native, package_function, plain_function};

@@ -4,7 +4,7 @@ ghost use Rattle.std.specs.Option.{ForSome};
 ghost use Rattle.names.specs.Once.{names_in, differ};
 
 use crate::keeping::KeptDefaults;
-use crate::made::Made;
+use crate::package_targets::PackageTargets;
 use grammar::FileKind;
 use heap::{Builtin, Bytes, Heap, Val};
 use indexmap::IndexSet;
@@ -31,7 +31,7 @@ pub struct Block {
 
 /// The values of a function's defaults, in the order of its parameters.
 #[derive(Drop)]
-pub struct Kept {
+pub struct FunctionDefaults {
     pub function: Text,
     pub values: Vec<Val>,
 }
@@ -53,7 +53,7 @@ pub enum Attribute {
 
 /// An attribute of a target.
 #[derive(Drop)]
-pub struct Attributed {
+pub struct TargetAttribute {
     pub name: Bytes,
     pub value: Attribute,
 }
@@ -64,7 +64,7 @@ pub struct Target {
     /// The rule that made it.
     pub rule: Builtin,
     pub name: Bytes,
-    pub attributes: Vec<Attributed>,
+    pub attributes: Vec<TargetAttribute>,
 }
 
 /// The state of an evaluation: the heap, the blocks of names from the innermost to that of the function, the names of
@@ -74,7 +74,7 @@ pub struct State {
     pub heap: Heap,
     pub blocks: Vec<Block>,
     pub files: Vec<FileNames>,
-    pub targets: Made,
+    pub targets: PackageTargets,
 }
 
 /// The file that a piece of code stands in.

@@ -9,7 +9,7 @@ use Rattle.evaluation.specs.Graph.{Record}
 use Rattle.evaluation.specs.Value.{AllDiffer, In, first, after, IsMember}
 use Rattle.keys.specs.declared.key.Key.{Key}
 use Rattle.keys.specs.declared.value.Value.{Value}
-use Rattle.node.specs.declared.kept.Kept.{Kept}
+use Rattle.node.specs.declared.records.NodeRecord.{NodeRecord}
 use Rattle.node.specs.declared.entry.Entry.{Entry}
 use Rattle.std.specs.Arc.{arc_value}
 use Rattle.std.specs.Prelude.{All, map, position}
@@ -18,7 +18,7 @@ use Rattle.std.specs.Map.{keys_of as keys_of_records}
 use Rattle.numbered.specs.Tables.{AreDistinct}
 use Rattle.numbered.specs.Flats.{HaveNumbers, groups_in, numbers_in}
 use Rattle.numbered.proofs.Flats.{groups_back}
-use Rattle.node.specs.Kept.{Records, Users, kept_at, named, users_at}
+use Rattle.node.specs.Records.{Records, Users, kept_at, named, users_at}
 use Rattle.node.proofs.Numbering.{groups_below, have_numbers, same_length}
 use Rattle.node.proofs.Showing.{some_kept}
 use Rattle.node.specs.Edges.{HasLinkedSome, HasLinkedAll, HasCut, HasUsers}
@@ -112,7 +112,7 @@ module _ (entries : List Entry) (n : ℕ) (x : Entry) (e : x ≡ slice_index_or 
   key_now = subst (In x.key) (sym keys_taken) (in_right (keys_of (take n entries)) first)
 
 -- a record is put after the others
-pub placed_more : (original old new : Records) (x : Key × Kept) → new ≡ old ++ x ∷ [] → HasPlacedSome original old → HasPlacedSome original new
+pub placed_more : (original old new : Records) (x : Key × NodeRecord) → new ≡ old ++ x ∷ [] → HasPlacedSome original old → HasPlacedSome original new
 placed_more original old new x e h = (h.0 ++ x ∷ [], e ∙ ap (λ (es : Records). es ++ x ∷ []) h.1 ∙ append_assoc original h.0 (x ∷ []))
 
 pub placed_none : (records : Records) → HasPlacedSome records records
@@ -140,7 +140,7 @@ placed_step start old new entries n x version e h d all there others = record {
 }
 
 -- the last record is removed, while there are more than the first ones
-popped_last : (original more new : Records) (x : Key × Kept) → original ++ more ≡ new ++ x ∷ [] → length original < length (original ++ more) → HasPlacedSome original new
+popped_last : (original more new : Records) (x : Key × NodeRecord) → original ++ more ≡ new ++ x ∷ [] → length original < length (original ++ more) → HasPlacedSome original new
 popped_last [] more new x e h = (new, refl)
 popped_last (o ∷ original) more [] x e h = absurd (omega (arith, ap length e, length-append (o ∷ original) more))
 popped_last (o ∷ original) more (n ∷ new) x e h =
@@ -149,10 +149,10 @@ popped_last (o ∷ original) more (n ∷ new) x e h =
     let p = popped_last original more new x rest (omega arith) in
     (p.0, λ i. sym head i ∷ p.1 i)
 
-pub removed_last : (original old new : Records) (out : Option (Key × Kept)) → old ≡ new ++ option_to_list out → (IsSome out ↔ (0 < length old)) → length original < length old → HasPlacedSome original old → HasPlacedSome original new
+pub removed_last : (original old new : Records) (out : Option (Key × NodeRecord)) → old ≡ new ++ option_to_list out → (IsSome out ↔ (0 < length old)) → length original < length old → HasPlacedSome original old → HasPlacedSome original new
 removed_last original old new out r f l h = go out refl
   where
-    go : (o : Option (Key × Kept)) → out ≡ o → HasPlacedSome original new
+    go : (o : Option (Key × NodeRecord)) → out ≡ o → HasPlacedSome original new
     go None q = absurd (true_false (f.1 (omega arith)) (ap is_some q))
     go (Some x) q = popped_last original h.0 new x (sym h.1 ∙ r ∙ ap (λ o. new ++ option_to_list o) q) (omega (arith, ap length h.1))
 

@@ -7,12 +7,12 @@ use Rattle.numbered.specs.Tables.{AreDistinct, Writes}
 use Rattle.numbered.proofs.Numbers.{same_entries}
 use Rattle.keys.specs.declared.key.Key.{Key}
 use Rattle.keys.specs.declared.value.Value.{Value}
-use Rattle.node.specs.declared.kept.Kept.{Kept}
+use Rattle.node.specs.declared.records.NodeRecord.{NodeRecord}
 use Rattle.std.specs.Prelude.{All}
-use Rattle.node.specs.Kept.{Records, Users, AsksNumbers, kept_at, listed, numbers_of, record_of}
+use Rattle.node.specs.Records.{Records, Users, AsksNumbers, kept_at, listed, numbers_of, record_of}
 use Rattle.node.proofs.Showing.{seen_same}
 use Rattle.node.specs.Marks.{IsDirty, IsReached, at_leaf, by_user, Marked, HasPassed, SetsMarks}
-use Rattle.node.specs.Graphs.{Recorded, recorded, record_at, seen, touched_leaves, IsTouched, IsLinked, AreReached}
+use Rattle.node.specs.Graphs.{GraphView, recorded, record_at, seen, touched_leaves, IsTouched, IsLinked, AreReached}
 use Rattle.node.proofs.Lists.{in_split, in_left, in_right, in_one, not_in, some_is, none_some, same_or_value}
 use Rattle.node.proofs.Linking.{is_kept, is_seen, seen_all, reaches, edit_marks, still_linked, touched_marks}
 use Rattle.node.proofs.Numbering.{one_more, same_length}
@@ -27,22 +27,22 @@ none_set dirty records keys q = record {
 
 -- one more mark is set
 module _ (dirty : Bool) (old middle new : Records) (keys : List Key) (key : Key) (s : SetsMarks dirty old middle keys)
-    (u : (e : Kept) → kept_at middle key ≡ Some e → Writes middle new key (record e { dirty = dirty }))
+    (u : (e : NodeRecord) → kept_at middle key ≡ Some e → Writes middle new key (record e { dirty = dirty }))
     (n : kept_at middle key ≡ None → new ≡ middle) where
   -- what is kept of a key so far is what was kept at first, but for its mark
-  same_but_mark : (k : Key) (e x : Kept) → kept_at old k ≡ Some e → kept_at middle k ≡ Some x → record x { dirty = dirty } ≡ record e { dirty = dirty }
+  same_but_mark : (k : Key) (e x : NodeRecord) → kept_at old k ≡ Some e → kept_at middle k ≡ Some x → record x { dirty = dirty } ≡ record e { dirty = dirty }
   same_but_mark k e x h g = elim (s.rest k) [
-    | inl a ↦ ap (λ (y : Kept). record y { dirty = dirty }) (some_is (sym g ∙ s.each k a e h))
-    | inr p ↦ ap (λ (y : Kept). record y { dirty = dirty }) (some_is (sym g ∙ p ∙ h))
+    | inl a ↦ ap (λ (y : NodeRecord). record y { dirty = dirty }) (some_is (sym g ∙ s.each k a e h))
+    | inr p ↦ ap (λ (y : NodeRecord). record y { dirty = dirty }) (some_is (sym g ∙ p ∙ h))
   ]
 
-  some_set : (x : Kept) → kept_at middle key ≡ Some x → SetsMarks dirty old new (keys ++ key ∷ [])
+  some_set : (x : NodeRecord) → kept_at middle key ≡ Some x → SetsMarks dirty old new (keys ++ key ∷ [])
   some_set x g = record {
     each = λ k i e h. elim (same_or_value middle new key _ (u x g) k) [
-      | inl q ↦ ap (kept_at new) (sym q) ∙ (u x g).there ∙ ap (λ (y : Kept). Some y) (same_but_mark k e x h (ap (kept_at middle) (sym q) ∙ g))
+      | inl q ↦ ap (kept_at new) (sym q) ∙ (u x g).there ∙ ap (λ (y : NodeRecord). Some y) (same_but_mark k e x h (ap (kept_at middle) (sym q) ∙ g))
       | inr p ↦ elim (in_split i keys (key ∷ []) refl) [
         | inl a ↦ p ∙ s.each k a e h
-        | inr b ↦ ap (kept_at new) (in_one b) ∙ (u x g).there ∙ ap (λ (y : Kept). Some y) (same_but_mark k e x h (ap (kept_at middle) (in_one b) ∙ g))
+        | inr b ↦ ap (kept_at new) (in_one b) ∙ (u x g).there ∙ ap (λ (y : NodeRecord). Some y) (same_but_mark k e x h (ap (kept_at middle) (in_one b) ∙ g))
       ]
     ];
     none = λ k h. elim (same_or_value middle new key _ (u x g) k) [
@@ -68,20 +68,20 @@ module _ (dirty : Bool) (old middle new : Records) (keys : List Key) (key : Key)
       same : (k : Key) → kept_at new k ≡ kept_at middle k
       same k = ap (λ (es : Records). kept_at es k) (n g)
 
-      missing : (e : Kept) → kept_at old key ≡ Some e → In key keys ⊎ (kept_at middle key ≡ kept_at old key) → ⊥
+      missing : (e : NodeRecord) → kept_at old key ≡ Some e → In key keys ⊎ (kept_at middle key ≡ kept_at old key) → ⊥
       missing e h (inl a) = none_some (sym g ∙ s.each key a e h)
       missing e h (inr p) = none_some (sym g ∙ p ∙ h)
 
   pub one_set : SetsMarks dirty old new (keys ++ key ∷ [])
   one_set = go (kept_at middle key) refl
     where
-      go : (o : Option Kept) → kept_at middle key ≡ o → SetsMarks dirty old new (keys ++ key ∷ [])
+      go : (o : Option NodeRecord) → kept_at middle key ≡ o → SetsMarks dirty old new (keys ++ key ∷ [])
       go None q = none_kept q
       go (Some x) q = some_set x q
 
 -- the mark of the key at that place
 pub place_set : (dirty : Bool) (old middle new : Records) (keys : List Key) (at : ℕ) (d key : Key) → key ≡ slice_index_or keys at d → at < length keys
-    → ((e : Kept) → kept_at middle key ≡ Some e → Writes middle new key (record e { dirty = dirty }))
+    → ((e : NodeRecord) → kept_at middle key ≡ Some e → Writes middle new key (record e { dirty = dirty }))
     → (kept_at middle key ≡ None → new ≡ middle)
     → SetsMarks dirty old middle (take at keys) → SetsMarks dirty old new (take (at + 1) keys)
 place_set dirty old middle new keys at d key e l u n s =
@@ -132,16 +132,16 @@ module _ (users : Users) (leaves : List Key) (old new : Records) (keys : List Ke
   now_dirty : (k : Key) → Reaches (seen old) (λ x. In x leaves) k → IsDirty new k
   now_dirty k c e h = go (kept_at old k) refl
     where
-      listed : (x : Kept) → kept_at old k ≡ Some x → In k keys → e.dirty ≡ true
-      listed x g a = let q : e ≡ record x { dirty = true } = some_is (sym h ∙ s.each k a x g) in ap (λ (y : Kept). y.dirty) q
+      listed : (x : NodeRecord) → kept_at old k ≡ Some x → In k keys → e.dirty ≡ true
+      listed x g a = let q : e ≡ record x { dirty = true } = some_is (sym h ∙ s.each k a x g) in ap (λ (y : NodeRecord). y.dirty) q
 
-      go : (o : Option Kept) → kept_at old k ≡ o → e.dirty ≡ true
+      go : (o : Option NodeRecord) → kept_at old k ≡ o → e.dirty ≡ true
       go None g = absurd (none_some (sym (s.none k g) ∙ h))
       go (Some x) g = elim (reached.all k (record_of (keys_of old) x) (is_seen old k x g) c) [
         | inr a ↦ listed x g a
         | inl d ↦ elim (s.rest k) [
           | inl a ↦ listed x g a
-          | inr p ↦ let q : e ≡ x = some_is (sym h ∙ p ∙ g) in ap (λ (y : Kept). y.dirty) q ∙ d
+          | inr p ↦ let q : e ≡ x = some_is (sym h ∙ p ∙ g) in ap (λ (y : NodeRecord). y.dirty) q ∙ d
         ]
       ]
 
@@ -159,19 +159,19 @@ module _ (users : Users) (leaves : List Key) (old new : Records) (keys : List Ke
   set_begun k i = now_dirty k (leaf i)
 
 -- the same of the graph that a contract sees
-pub seen_reached : (records : Records) (version : ℕ) (before : Recorded) → recorded version records ≡ before → (touched : Key → Type 0) (keys : List Key) → AreReached (record_at before) touched keys → AreReached (seen records) touched keys
+pub seen_reached : (records : Records) (version : ℕ) (before : GraphView) → recorded version records ≡ before → (touched : Key → Type 0) (keys : List Key) → AreReached (record_at before) touched keys → AreReached (seen records) touched keys
 seen_reached records version before b touched keys r =
     subst (λ (f : Key → Option (Record Key Value)). AreReached f touched keys) (seen_all records version)
-    (subst (λ (g : Recorded). AreReached (record_at g) touched keys) (sym b) r)
+    (subst (λ (g : GraphView). AreReached (record_at g) touched keys) (sym b) r)
 
-pub shown_reached : (records : Records) (version : ℕ) (before : Recorded) → recorded version records ≡ before → (leaves path : List Key) (keys : List Key) → leaves ≡ path → AreReached (seen records) (λ k. In k leaves) keys → AreReached (record_at before) (λ k. In k path) keys
+pub shown_reached : (records : Records) (version : ℕ) (before : GraphView) → recorded version records ≡ before → (leaves path : List Key) (keys : List Key) → leaves ≡ path → AreReached (seen records) (λ k. In k leaves) keys → AreReached (record_at before) (λ k. In k path) keys
 shown_reached records version before b leaves path keys e r =
     subst (λ (ls : List Key). AreReached (record_at before) (λ k. In k ls) keys) e
-    (subst (λ (g : Recorded). AreReached (record_at g) (λ k. In k leaves) keys) b
+    (subst (λ (g : GraphView). AreReached (record_at g) (λ k. In k leaves) keys) b
     (subst (λ (f : Key → Option (Record Key Value)). AreReached f (λ k. In k leaves) keys) (sym (seen_all records version)) r))
 
 -- a graph whose records were marked so
-module _ (users : Users) (old new : Records) (same : keys_of new ≡ keys_of old) (version : ℕ) (before : Recorded) (b : recorded version old ≡ before) (linked : IsLinked (seen old) users) (keys : List Key) (s : SetsMarks true old new keys) where
+module _ (users : Users) (old new : Records) (same : keys_of new ≡ keys_of old) (version : ℕ) (before : GraphView) (b : recorded version old ≡ before) (linked : IsLinked (seen old) users) (keys : List Key) (s : SetsMarks true old new keys) where
   pub marking_linked : (paths : List (List ℕ)) → AreReached (record_at before) (IsTouched paths) keys → IsLinked (seen new) users
   marking_linked paths r = let a = seen_reached old version before b (IsTouched paths) keys r in
       still_linked users (touched_leaves paths) old new same keys linked (set_marked users (touched_leaves paths) old new keys linked a s) (set_passed users (touched_leaves paths) old new keys linked a s) (set_begun users (touched_leaves paths) old new keys linked a s)
@@ -187,7 +187,7 @@ marks_lists dirty old new keys s j = elim (s.rest j) [
   | inr q ↦ ap listed q
 ]
   where
-    go : In j keys → (o : Option Kept) → kept_at old j ≡ o → numbers_of new j ≡ numbers_of old j
+    go : In j keys → (o : Option NodeRecord) → kept_at old j ≡ o → numbers_of new j ≡ numbers_of old j
     go i None h = ap listed (s.none j h) ∙ sym (ap listed h)
     go i (Some e) h = ap listed (s.each j i e h) ∙ sym (ap listed h)
 
@@ -198,6 +198,6 @@ marks_asks dirty old new keys e s a k x h = subst (λ l. All (All (λ n. n < l))
   | inr q ↦ a k x (sym q ∙ h)
 ])
   where
-    go : In k keys → (o : Option Kept) → kept_at old k ≡ o → All (All (λ n. n < length old)) x.groups
+    go : In k keys → (o : Option NodeRecord) → kept_at old k ≡ o → All (All (λ n. n < length old)) x.groups
     go i None q = absurd (none_some (sym (s.none k q) ∙ h))
-    go i (Some y) q = let is : record y { dirty = dirty } ≡ x = some_is (sym (s.each k i y q) ∙ h) in subst (λ (z : Kept). All (All (λ n. n < length old)) z.groups) is (a k y q)
+    go i (Some y) q = let is : record y { dirty = dirty } ≡ x = some_is (sym (s.each k i y q) ∙ h) in subst (λ (z : NodeRecord). All (All (λ n. n < length old)) z.groups) is (a k y q)

@@ -15,11 +15,11 @@ use Rattle.numbered.specs.Tables.{AreDistinct, key_at, value_at}
 use Rattle.numbered.specs.Flats.{groups_in, members_in}
 use Rattle.numbered.proofs.Numbers.{value_by_number}
 use Rattle.keys.specs.declared.key.Key.{Key}
-use Rattle.node.specs.Kept.{Records, items_of, record_of}
+use Rattle.node.specs.Records.{Records, items_of, record_of}
 use Rattle.node.specs.Graphs.{seen}
 use Rattle.node.specs.Writes.{is_clean}
-use Rattle.node.specs.Compared.{any_changed, has_changed, unsettled}
-use Rattle.node.specs.declared.kept.Kept.{Kept}
+use Rattle.node.specs.Comparisons.{any_changed, has_changed, unsettled}
+use Rattle.node.specs.declared.records.NodeRecord.{NodeRecord}
 use Rattle.node.proofs.Linking.{is_seen}
 use Rattle.node.proofs.Numbering.{in_at, in_members, one_more, taken_members}
 
@@ -37,7 +37,7 @@ later h = grind (arith, h)
 no_later : {a b : ℕ} → b ≤ a → nat_lt a b ≡ false
 no_later h = grind (arith, h)
 
-module _ (records : Records) (distinct : AreDistinct records) (ns : List ℕ) (at n : ℕ) (k : Key) (e : Kept) (is : n ≡ slice_index_or ns at n) (h : at < length ns)
+module _ (records : Records) (distinct : AreDistinct records) (ns : List ℕ) (at n : ℕ) (k : Key) (e : NodeRecord) (is : n ≡ slice_index_or ns at n) (h : at < length ns)
     (key : key_at records n ≡ Some k) (value : value_at records n ≡ Some e) where
   seen_here : seen records k ≡ Some (record_of (keys_of records) e)
   seen_here = is_seen records k e (value_by_number records distinct k n key ∙ value)

@@ -16,8 +16,8 @@ use Rattle.std.proofs.lemmas.List.{map-append}
 use Rattle.std.proofs.lemmas.Bool.{eq-eqb, eqb-true}
 use Rattle.std.proofs.Math.Seq.{take-suc, take_all}
 use Rattle.std.specs.Prelude.{Option, IfSome, IfNone}
-use Rattle.node.specs.declared.kept.Kept.{Kept}
-use Rattle.node.specs.Kept.{Records, UserLists, kept_at, numbers_of, listed, items_of}
+use Rattle.node.specs.declared.records.NodeRecord.{NodeRecord}
+use Rattle.node.specs.Records.{Records, UserLists, kept_at, numbers_of, listed, items_of}
 use Rattle.node.specs.Edges.{IsAdded, IsRemoved, SameUsers, HasLinked, HasUnlinked, HasLinkedSome, HasLinkedAll, HasCut, AreMembers, among}
 use Rattle.numbered.specs.Tables.{Writes}
 use Rattle.node.proofs.Lists.{true_false, decide_key, not_in, in_split, in_one, in_left, in_right}
@@ -254,7 +254,7 @@ pub not_among : (groups : List (List Key)) (key : Key) → among groups key ≡ 
 not_among groups key h m = true_false (member_among groups key m.1 m.2) h
 
 -- the same of the users that stand in a record
-module _ (old new : Records) (member : Key) (user : ℕ) (e w : Kept) (u : Writes old new member w) (had : Some e ≡ kept_at old member) where
+module _ (old new : Records) (member : Key) (user : ℕ) (e w : NodeRecord) (u : Writes old new member w) (had : Some e ≡ kept_at old member) where
   list_now : numbers_of new member ≡ w.users.items
   list_now = ap listed u.there
 

@@ -12,7 +12,7 @@ use Rattle.keys.specs.ValueLaws.{exact_values}
 use Rattle.keys.specs.declared.key.Key.{Key}
 use Rattle.keys.specs.declared.value.Value.{Value}
 use Rattle.keys.proofs.CycleLaws.{turned}
-use Rattle.node.specs.Graphs.{Recorded, record_at, IsTouched, HasCleanMembers, Sets}
+use Rattle.node.specs.Graphs.{GraphView, record_at, IsTouched, HasCleanMembers, Sets}
 use Rattle.node.specs.Writes.{change_of, stored, HasReadyMembers}
 use Rattle.node.specs.declared.entry.Entry.{Entry}
 use Rattle.node.specs.Batches.{asked, keys_of, HasReadyEntries, SetsAll}
@@ -20,7 +20,7 @@ use Rattle.node.specs.Laws.{IsLawfulFor, TouchKeepsLawful, SettlingKeepsLawful, 
 use Rattle.node.proofs.Lists.{some_is, none_some, true_false, decide_key}
 use Rattle.node.proofs.Batching.{decide_in, entry_of}
 
-pub touch_keeps : (old new : Recorded) (paths : List (List ℕ)) → new.version ≡ old.version + 1 → Marks (record_at old) (record_at new) (IsTouched paths) → TouchKeepsLawful old new paths
+pub touch_keeps : (old new : GraphView) (paths : List (List ℕ)) → new.version ≡ old.version + 1 → Marks (record_at old) (record_at new) (IsTouched paths) → TouchKeepsLawful old new paths
 touch_keeps old new paths v m next reads edits law e edit stays =
     subst (λ (n : ℕ). Lawful next cycle reads (record_at new) (λ u k. IsTouched (edits u) k) n) (sym v)
     (touch_lawful next cycle reads (record_at old) (record_at new) (λ u k. IsTouched (edits u) k) old.version law
@@ -31,7 +31,7 @@ touch_keeps old new paths v m next reads edits law e edit stays =
 abbrev IsChange : Option (Record Key Value) → Value → ℕ → ℕ → Type 0
 IsChange o value version at = ((r : Record Key Value) × (o ≡ Some r) × (r.value ≡ value) × (at ≡ r.changed_at)) ⊎ ((at ≡ version) × ((r : Record Key Value) → o ≡ Some r → r.value ≢ value))
 
-module _ (old new : Recorded) (key : Key) (value : Value) (groups : List (List Key)) (at : ℕ) (same : new.version ≡ old.version)
+module _ (old new : GraphView) (key : Key) (value : Value) (groups : List (List Key)) (at : ℕ) (same : new.version ≡ old.version)
     (sets : Sets (record_at old) (record_at new) key (record { value = value; groups = groups; settled_at = old.version; changed_at = at; dirty = false }))
     (change : IsChange (record_at old key) value old.version at) where
   pub settling_keeps : ((next : Key → List Value → Reply Key Value) (reads : ℕ → Key → Option Value) (edits : ℕ → List (List ℕ)) → IsLawfulFor next reads edits old → HasReadyMembers (record_at old) key groups) → SettlingKeepsLawful old new key value groups
@@ -66,16 +66,16 @@ is_change (Some r) value version = go (value_eq r.value value) refl
     go true t = inl (r, refl, (exact_values r.value value).0 t, ap (λ b. cond b r.changed_at version) t)
     go false t = inr (ap (λ b. cond b r.changed_at version) t, λ s e q. true_false ((exact_values r.value value).1 (ap (λ (x : Record Key Value). x.value) (some_is e) ∙ q)) t)
 
-pub record_keeps : (old new : Recorded) (key : Key) (value : Value) (groups : List (List Key)) → new.version ≡ old.version → Sets (record_at old) (record_at new) key (stored (record_at old key) value groups old.version) → HasReadyMembers (record_at old) key groups → SettlingKeepsLawful old new key value groups
+pub record_keeps : (old new : GraphView) (key : Key) (value : Value) (groups : List (List Key)) → new.version ≡ old.version → Sets (record_at old) (record_at new) key (stored (record_at old key) value groups old.version) → HasReadyMembers (record_at old) key groups → SettlingKeepsLawful old new key value groups
 record_keeps old new key value groups v s ready = settling_keeps old new key value groups (change_of (record_at old key) value old.version) v s (is_change (record_at old key) value old.version) (λ next reads edits law. ready)
 
 -- a record that is confirmed
-pub confirm_keeps : (old new : Recorded) (key : Key) (r : Record Key Value) → record_at old key ≡ Some r → new.version ≡ old.version → Sets (record_at old) (record_at new) key (record r { settled_at = old.version; dirty = false }) → HasCleanMembers (record_at old) key → SettlingKeepsLawful old new key r.value r.groups
+pub confirm_keeps : (old new : GraphView) (key : Key) (r : Record Key Value) → record_at old key ≡ Some r → new.version ≡ old.version → Sets (record_at old) (record_at new) key (record r { settled_at = old.version; dirty = false }) → HasCleanMembers (record_at old) key → SettlingKeepsLawful old new key r.value r.groups
 confirm_keeps old new key r e v s clean = settling_keeps old new key r.value r.groups r.changed_at v s (inl (r, e, refl, refl))
     (λ next reads edits law j m. let d = (law.each key r e).depends j m in inr (d.of_j, d.recorded, clean r d.of_j j e m d.recorded))
 
 -- records that are stored together
-pub batch_keeps : (old new : Recorded) (entries : List Entry) → new.version ≡ old.version → SetsAll (record_at old) (record_at new) entries old.version → HasReadyEntries (record_at old) entries → BatchKeepsLawful old new entries
+pub batch_keeps : (old new : GraphView) (entries : List Entry) → new.version ≡ old.version → SetsAll (record_at old) (record_at new) entries old.version → HasReadyEntries (record_at old) entries → BatchKeepsLawful old new entries
 batch_keeps old new entries same sets ready next reads edits law holds =
     subst (λ (n : ℕ). Lawful next cycle reads (record_at new) (λ u k. IsTouched (edits u) k) n) (sym same)
     (settle_lawful next cycle turned reads (record_at old) (λ u k. IsTouched (edits u) k) old.version law (record_at new) changed)

@@ -14,5 +14,5 @@ pub mod Lawfulness
 pub mod Touching
 pub mod Counting
 pub mod Batching
-pub mod Batched
+pub mod BatchResults
 pub mod Comparing

@@ -14,11 +14,11 @@ use Rattle.keys.specs.Keys.{key_cmp, key_eq}
 use Rattle.numbered.proofs.Numbers.{other_key}
 use Rattle.keys.specs.declared.key.Key.{Key}
 use Rattle.keys.specs.declared.value.Value.{Value}
-use Rattle.node.specs.declared.kept.Kept.{Kept}
-use Rattle.node.specs.Kept.{Records, Users, by_keys, kept_at, users_of, numbers_of, record_of, rows, shown}
+use Rattle.node.specs.declared.records.NodeRecord.{NodeRecord}
+use Rattle.node.specs.Records.{Records, Users, by_keys, kept_at, users_of, numbers_of, record_of, rows, shown}
 use Rattle.node.proofs.Showing.{seen_same}
 use Rattle.node.specs.Marks.{IsDirty, IsReached, at_leaf, by_user, Marked, HasPassed}
-use Rattle.node.specs.Graphs.{Recorded, recorded, record_at, seen, touched_leaves, IsTouched, IsLinked, IsLinkedBy}
+use Rattle.node.specs.Graphs.{GraphView, recorded, record_at, seen, touched_leaves, IsTouched, IsLinked, IsLinkedBy}
 use Rattle.keys.proofs.KeyLaws.{keys_total, exact_keys, exact_key_eq}
 use Rattle.node.proofs.Lists.{some_is, none_some, true_false, not_in}
 
@@ -36,11 +36,11 @@ same_test k x = go (is_at (key_cmp k) x) refl
 pub seen_is : (records : Records) (version : ℕ) (k : Key) → record_at (recorded version records) k ≡ seen records k
 seen_is records version k = go records
   where
-    pushed : (b : Bool) (x : Kept) (o : Option Kept) → cond b (Some (record_of (keys_of records) x)) (option_map (record_of (keys_of records)) o) ≡ option_map (record_of (keys_of records)) (cond b (Some x) o)
+    pushed : (b : Bool) (x : NodeRecord) (o : Option NodeRecord) → cond b (Some (record_of (keys_of records) x)) (option_map (record_of (keys_of records)) o) ≡ option_map (record_of (keys_of records)) (cond b (Some x) o)
     pushed true x o = refl
     pushed false x o = refl
 
-    go : (es : List (Key × Kept)) → lookup (is_at (key_cmp k)) (map (λ (e : Key × Record ℕ Value). (e.0, by_keys (keys_of records) e.1)) (rows es)) ≡ option_map (record_of (keys_of records)) (kept_at es k)
+    go : (es : List (Key × NodeRecord)) → lookup (is_at (key_cmp k)) (map (λ (e : Key × Record ℕ Value). (e.0, by_keys (keys_of records) e.1)) (rows es)) ≡ option_map (record_of (keys_of records)) (kept_at es k)
     go [] = refl
     go (e ∷ es) = (λ i. cond (same_test k e.0 i) (Some (record_of (keys_of records) e.1)) (go es i)) ∙ pushed (key_eq k e.0) e.1 (kept_at es k)
 
@@ -48,36 +48,36 @@ pub seen_all : (records : Records) (version : ℕ) → record_at (recorded versi
 seen_all records version = λ i k. seen_is records version k i
 
 -- a record that is seen is kept
-pub is_kept : (records : Records) (k : Key) (r : Record Key Value) → seen records k ≡ Some r → (e : Kept) × (kept_at records k ≡ Some e) × (record_of (keys_of records) e ≡ r)
+pub is_kept : (records : Records) (k : Key) (r : Record Key Value) → seen records k ≡ Some r → (e : NodeRecord) × (kept_at records k ≡ Some e) × (record_of (keys_of records) e ≡ r)
 is_kept records k r h = go (kept_at records k) refl
   where
-    go : (o : Option Kept) → kept_at records k ≡ o → (e : Kept) × (kept_at records k ≡ Some e) × (record_of (keys_of records) e ≡ r)
+    go : (o : Option NodeRecord) → kept_at records k ≡ o → (e : NodeRecord) × (kept_at records k ≡ Some e) × (record_of (keys_of records) e ≡ r)
     go None q = absurd (none_some (ap (option_map (record_of (keys_of records))) (sym q) ∙ h))
     go (Some e) q = (e, q, some_is (ap (option_map (record_of (keys_of records))) (sym q) ∙ h))
 
-pub is_seen : (records : Records) (k : Key) (e : Kept) → kept_at records k ≡ Some e → seen records k ≡ Some (record_of (keys_of records) e)
+pub is_seen : (records : Records) (k : Key) (e : NodeRecord) → kept_at records k ≡ Some e → seen records k ≡ Some (record_of (keys_of records) e)
 is_seen records k e h = ap (option_map (record_of (keys_of records))) h
 
 module _ (users : Users) (leaves : List Key) (old new : Records) (same : keys_of new ≡ keys_of old) (marked : List Key) (linked : IsLinked (seen old) users) (m : Marked users leaves old new marked) (passed : HasPassed users new marked) (begun : (k : Key) → In k leaves → IsDirty new k) where
   -- a record before and after
-  later : (k : Key) (e : Kept) → kept_at old k ≡ Some e → (d : Bool) × (kept_at new k ≡ Some (record e { dirty = d })) × (e.dirty ≡ true → d ≡ true) × (d ≡ true → (e.dirty ≡ true) ⊎ IsReached users leaves k)
+  later : (k : Key) (e : NodeRecord) → kept_at old k ≡ Some e → (d : Bool) × (kept_at new k ≡ Some (record e { dirty = d })) × (e.dirty ≡ true → d ≡ true) × (d ≡ true → (e.dirty ≡ true) ⊎ IsReached users leaves k)
   later k e h = elim (m.rest k) [
     | inl a ↦ let p = m.each k a in let q : p.0 ≡ e = some_is (sym p.1 ∙ h) in
-        (true, p.3 ∙ ap (λ (y : Kept). Some (record y { dirty = true })) q, λ t. refl, λ t. inr p.4)
+        (true, p.3 ∙ ap (λ (y : NodeRecord). Some (record y { dirty = true })) q, λ t. refl, λ t. inr p.4)
     | inr p ↦ (e.dirty, p ∙ h, λ t. t, λ t. inl t)
   ]
 
-  earlier : (k : Key) (e : Kept) → kept_at new k ≡ Some e → (x : Kept) × (kept_at old k ≡ Some x) × (d : Bool) × (e ≡ record x { dirty = d })
+  earlier : (k : Key) (e : NodeRecord) → kept_at new k ≡ Some e → (x : NodeRecord) × (kept_at old k ≡ Some x) × (d : Bool) × (e ≡ record x { dirty = d })
   earlier k e h = elim (m.rest k) [
     | inl a ↦ let p = m.each k a in (p.0, p.1, true, some_is (sym h ∙ p.3))
     | inr p ↦ (e, sym p ∙ h, e.dirty, refl)
   ]
 
   -- the same as a contract sees them
-  seen_new : (k : Key) (e : Kept) → kept_at new k ≡ Some e → seen new k ≡ Some (record_of (keys_of old) e)
+  seen_new : (k : Key) (e : NodeRecord) → kept_at new k ≡ Some e → seen new k ≡ Some (record_of (keys_of old) e)
   seen_new k e h = λ i. option_map (record_of (same i)) (h i)
 
-  kept_new : (k : Key) (r : Record Key Value) → seen new k ≡ Some r → (e : Kept) × (kept_at new k ≡ Some e) × (record_of (keys_of old) e ≡ r)
+  kept_new : (k : Key) (r : Record Key Value) → seen new k ≡ Some r → (e : NodeRecord) × (kept_at new k ≡ Some e) × (record_of (keys_of old) e ≡ r)
   kept_new k r h = let p = is_kept new k r h in (p.0, p.1, (λ i. record_of (sym same i) p.0) ∙ p.2)
 
   seen_later : (k : Key) (r : Record Key Value) → seen old k ≡ Some r → (d : Bool) × (seen new k ≡ Some (record r { dirty = d }))
@@ -86,11 +86,11 @@ module _ (users : Users) (leaves : List Key) (old new : Records) (same : keys_of
 
   seen_earlier : (k : Key) (r : Record Key Value) → seen new k ≡ Some r → (x : Record Key Value) × (seen old k ≡ Some x) × (x.groups ≡ r.groups)
   seen_earlier k r h = let p = kept_new k r h in let l = earlier k p.0 p.1 in
-      (record_of (keys_of old) l.0, is_seen old k l.0 l.1, ap (λ (y : Kept). (record_of (keys_of old) y).groups) (sym l.3) ∙ ap (λ (y : Record Key Value). y.groups) p.2)
+      (record_of (keys_of old) l.0, is_seen old k l.0 l.1, ap (λ (y : NodeRecord). (record_of (keys_of old) y).groups) (sym l.3) ∙ ap (λ (y : Record Key Value). y.groups) p.2)
 
   dirty_stays : (k : Key) → IsDirty old k → IsDirty new k
   dirty_stays k d e h = let p = earlier k e h in let l = later k p.0 p.1 in
-      let q : e ≡ record p.0 { dirty = l.0 } = some_is (sym h ∙ l.1) in ap (λ (y : Kept). y.dirty) q ∙ l.2 (d p.0 p.1)
+      let q : e ≡ record p.0 { dirty = l.0 } = some_is (sym h ∙ l.1) in ap (λ (y : NodeRecord). y.dirty) q ∙ l.2 (d p.0 p.1)
 
   dirty_seen : (k : Key) (x : Record Key Value) → IsDirty new k → seen new k ≡ Some x → x.dirty ≡ true
   dirty_seen k x d h = let p = kept_new k x h in ap (λ (y : Record Key Value). y.dirty) (sym p.2) ∙ d p.0 p.1
@@ -154,19 +154,19 @@ shown_keys records = go records
     go [] = refl
     go (e ∷ es) = ap (λ l. e.0 ∷ l) (go es)
 
-pub kept_seen : (records : Records) (version : ℕ) (k : Key) (found : Option (Bor Kept)) → option_copied found ≡ kept_at records k → option_map (λ e. record_of (keys_of (recorded version records).records) e.now) found ≡ record_at (recorded version records) k
+pub kept_seen : (records : Records) (version : ℕ) (k : Key) (found : Option (Bor NodeRecord)) → option_copied found ≡ kept_at records k → option_map (λ e. record_of (keys_of (recorded version records).records) e.now) found ≡ record_at (recorded version records) k
 kept_seen records version k found h = (λ i. option_map (λ e. record_of (shown_keys records i) e.now) found) ∙ go found ∙ ap (option_map (record_of (keys_of records))) h ∙ sym (seen_is records version k)
   where
-    go : (o : Option (Bor Kept)) → option_map (λ e. record_of (keys_of records) e.now) o ≡ option_map (record_of (keys_of records)) (option_copied o)
+    go : (o : Option (Bor NodeRecord)) → option_map (λ e. record_of (keys_of records) e.now) o ≡ option_map (record_of (keys_of records)) (option_copied o)
     go None = refl
     go (Some e) = refl
 
 -- marks from the leaves that edits touch
 module _ (users : Users) (leaves : List Key) (old new : Records) (same : keys_of new ≡ keys_of old) (marked : List Key) (linked : IsLinked (seen old) users) (m : Marked users leaves old new marked) (passed : HasPassed users new marked) (begins : (k : Key) → In k leaves → IsDirty new k) where
-  pub touched_marks : (paths : List (List ℕ)) → leaves ≡ touched_leaves paths → (before : Recorded) (version later_version : ℕ) → recorded version old ≡ before → Marks (record_at before) (record_at (recorded later_version new)) (IsTouched paths)
+  pub touched_marks : (paths : List (List ℕ)) → leaves ≡ touched_leaves paths → (before : GraphView) (version later_version : ℕ) → recorded version old ≡ before → Marks (record_at before) (record_at (recorded later_version new)) (IsTouched paths)
   touched_marks paths e before version later_version b =
       subst (λ (ls : List Key). Marks (record_at before) (record_at (recorded later_version new)) (λ k. In k ls)) e
-      (subst (λ (r : Recorded). Marks (record_at r) (record_at (recorded later_version new)) (λ k. In k leaves)) b
+      (subst (λ (r : GraphView). Marks (record_at r) (record_at (recorded later_version new)) (λ k. In k leaves)) b
       (subst (λ (f : Key → Option (Record Key Value)). Marks f (record_at (recorded later_version new)) (λ k. In k leaves)) (sym (seen_all old version))
       (subst (λ (f : Key → Option (Record Key Value)). Marks (seen old) f (λ k. In k leaves)) (sym (seen_all new later_version)) (edit_marks users leaves old new same marked linked m passed begins))))
 

@@ -12,7 +12,7 @@ use Rattle.numbered.specs.Tables.{key_at, value_at, value_of, number_of, AreDist
 use Rattle.numbered.specs.Flats.{members_in, HasNumber, HaveNumbers, numbers_in}
 use Rattle.numbered.proofs.Numbers.{value_by_number, none_without_number, number_iff}
 use Rattle.keys.specs.declared.key.Key.{Key}
-use Rattle.node.specs.Kept.{Records, named}
+use Rattle.node.specs.Records.{Records, named}
 use Rattle.node.specs.Marks.{Lists}
 use Rattle.std.proofs.Math.ListN.{take-append-drop}
 use Rattle.std.proofs.Math.Seq.{take-suc}

@@ -7,8 +7,8 @@ use Rattle.std.specs.Map.{keys_of}
 use Rattle.numbered.specs.Tables.{Writes, key_at}
 use Rattle.numbered.specs.Flats.{members_in}
 use Rattle.keys.specs.declared.key.Key.{Key}
-use Rattle.node.specs.declared.kept.Kept.{Kept}
-use Rattle.node.specs.Kept.{Records, Users, kept_at, numbers_of, users_at}
+use Rattle.node.specs.declared.records.NodeRecord.{NodeRecord}
+use Rattle.node.specs.Records.{Records, Users, kept_at, numbers_of, users_at}
 use Rattle.node.specs.Marks.{IsDirty, IsReached, at_leaf, by_user, Marked, HasReached, HasReachedSome, HasReachedAll, HasSpread, HasPassed, Lists}
 pub use Rattle.node.proofs.Numbering.{one_more, in_at, in_at_is}
 use Rattle.node.proofs.Numbering.{members_same, members_pushed}
@@ -17,9 +17,9 @@ use Rattle.node.proofs.Showing.{writes_lists}
 
 module _ (old new : Records) (before now : List Key) (key : Key) where
   -- the key has its mark
-  module _ (e : Kept) (had : kept_at old key ≡ Some e) (clean : e.dirty ≡ false) (u : Writes old new key (record e { dirty = true })) where
+  module _ (e : NodeRecord) (had : kept_at old key ≡ Some e) (clean : e.dirty ≡ false) (u : Writes old new key (record e { dirty = true })) where
     now_dirty : IsDirty new key
-    now_dirty x h = let q : record e { dirty = true } ≡ x = some_is (sym u.there ∙ h) in ap (λ (y : Kept). y.dirty) (sym q)
+    now_dirty x h = let q : record e { dirty = true } ≡ x = some_is (sym u.there ∙ h) in ap (λ (y : NodeRecord). y.dirty) (sym q)
 
     still_dirty : (k : Key) → IsDirty old k → IsDirty new k
     still_dirty k d = elim (same_or_value old new key _ u k) [ inl q ↦ subst (IsDirty new) q now_dirty | inr q ↦ λ x h. d x (sym q ∙ h) ]
@@ -27,7 +27,7 @@ module _ (old new : Records) (before now : List Key) (key : Key) where
     -- it was not listed
     fresh : (users : Users) (leaves : List Key) (original : Records) → Marked users leaves original old before → In key before → ⊥
     fresh users leaves original m i = let p = m.each key i in
-        let q : e ≡ record p.0 { dirty = true } = some_is (sym had ∙ p.3) in true_false (ap (λ (y : Kept). y.dirty) q) clean
+        let q : e ≡ record p.0 { dirty = true } = some_is (sym had ∙ p.3) in true_false (ap (λ (y : NodeRecord). y.dirty) q) clean
 
     more_marked : (users : Users) (leaves : List Key) (original : Records) → Marked users leaves original old before → IsReached users leaves key → Marked users leaves original new (before ++ key ∷ [])
     more_marked users leaves original m r = record {
@@ -36,7 +36,7 @@ module _ (old new : Records) (before now : List Key) (key : Key) where
           | inl q ↦ absurd (fresh users leaves original m (subst (λ x. In x before) (sym q) a))
           | inr q ↦ let p = m.each k a in (p.0, p.1, p.2, q ∙ p.3, p.4)
         ]
-        | inr b ↦ let Each : Key → Type 0 = λ x. (y : Kept) × (kept_at original x ≡ Some y) × (y.dirty ≡ false) × (kept_at new x ≡ Some (record y { dirty = true })) × IsReached users leaves x in
+        | inr b ↦ let Each : Key → Type 0 = λ x. (y : NodeRecord) × (kept_at original x ≡ Some y) × (y.dirty ≡ false) × (kept_at new x ≡ Some (record y { dirty = true })) × IsReached users leaves x in
             subst Each (sym (in_one b)) (e, was, clean, u.there, r)
       ];
       rest = λ k. elim (same_or_value old new key _ u k) [

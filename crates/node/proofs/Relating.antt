@@ -13,8 +13,8 @@ use Rattle.keys.specs.Keys.{key_eq}
 use Rattle.keys.specs.declared.key.Key.{Key}
 use Rattle.keys.specs.declared.value.Value.{Value}
 use Rattle.evaluation.specs.Graph.{Record}
-use Rattle.node.specs.declared.kept.Kept.{Kept}
-use Rattle.node.specs.Kept.{Records, UserLists, AreNumbers, AsksNumbers, KeepsRecords, kept_at, listed, numbers_of, record_of, users_in, users_of}
+use Rattle.node.specs.declared.records.NodeRecord.{NodeRecord}
+use Rattle.node.specs.Records.{Records, UserLists, AreNumbers, AsksNumbers, KeepsRecords, kept_at, listed, numbers_of, record_of, users_in, users_of}
 use Rattle.node.specs.Edges.{HasLinkedSome, HasLinkedAll, HasCut}
 use Rattle.node.specs.Batches.{HasFewer}
 use Rattle.node.specs.Writes.{SameSets}
@@ -87,7 +87,7 @@ numbers_fewer records old new f a j n i = a j n (f j n i)
 -- after more records, and without them again
 module _ (old placed more : Records) (e : placed ≡ old ++ more) where
   grows : Grows old placed
-  grows = record { more = keys_of more; keys = ap (λ (es : Records). keys_of es) e ∙ map-append (λ (x : Key × Kept). x.0) old more }
+  grows = record { more = keys_of more; keys = ap (λ (es : Records). keys_of es) e ∙ map-append (λ (x : Key × NodeRecord). x.0) old more }
 
   members_grown : (ns : List ℕ) → ((n : ℕ) → In n ns → n < length old) → members_in placed ns ≡ members_in old ns
   members_grown [] h = refl
@@ -182,23 +182,23 @@ module _ (old placed later front more rest : Records) (e : placed ≡ old ++ mor
   sets : SameSets (users_of old) (users_in old (numbers_of later))
   sets = sets_shrunk old placed more e (numbers_of later) was.ordered d a known (users_of old) same
 
-  front_lists : (j : Key) (x : Kept) → kept_at front j ≡ Some x → numbers_of later j ≡ numbers_of front j
+  front_lists : (j : Key) (x : NodeRecord) → kept_at front j ≡ Some x → numbers_of later j ≡ numbers_of front j
   front_lists j x h = ap listed (ap (λ (es : Records). kept_at es j) f ∙ value_front front rest j x h ∙ sym h)
 
-  front_users : (j : Key) (x : Kept) → kept_at front j ≡ Some x → users_of front j ≡ users_in old (numbers_of later) j
+  front_users : (j : Key) (x : NodeRecord) → kept_at front j ≡ Some x → users_of front j ≡ users_in old (numbers_of later) j
   front_users j x h = members_same old front (keeps_keys old front t) (numbers_of front j) ∙ ap (members_in old) (sym (front_lists j x h))
 
   none_before : (j : Key) → kept_at front j ≡ None → kept_at old j ≡ None
   none_before j h = go (kept_at old j) refl
     where
-      go : (o : Option Kept) → kept_at old j ≡ o → o ≡ None
+      go : (o : Option NodeRecord) → kept_at old j ≡ o → o ≡ None
       go None q = refl
       go (Some y) q = absurd (none_some (sym (ap (option_map (record_of (keys_of front))) h) ∙ (λ i. keeps_seen old front t i j) ∙ ap (option_map (record_of (keys_of old))) q))
 
   front_numbers : AreNumbers front (numbers_of front)
   front_numbers j m i = go (kept_at front j) refl
     where
-      go : (o : Option Kept) → kept_at front j ≡ o → m < length front
+      go : (o : Option NodeRecord) → kept_at front j ≡ o → m < length front
       go None h = absurd (not_in i (ap listed h))
       go (Some x) h = subst (λ l. m < l) (sym (same_length old front (keeps_keys old front t))) (below j m (subst (In m) (sym (front_lists j x h)) i))
 
@@ -208,14 +208,14 @@ module _ (old placed later front more rest : Records) (e : placed ≡ old ++ mor
       to : In k (users_of front j) → In k (users_of old j)
       to i = go (kept_at front j) refl
         where
-          go : (o : Option Kept) → kept_at front j ≡ o → In k (users_of old j)
+          go : (o : Option NodeRecord) → kept_at front j ≡ o → In k (users_of old j)
           go None h = absurd (not_in i (ap (λ o. members_in front (listed o)) h))
           go (Some x) h = (sets j k).0 (subst (In k) (front_users j x h) i)
 
       back : In k (users_of old j) → In k (users_of front j)
       back i = go (kept_at front j) refl
         where
-          go : (o : Option Kept) → kept_at front j ≡ o → In k (users_of front j)
+          go : (o : Option NodeRecord) → kept_at front j ≡ o → In k (users_of front j)
           go None h = absurd (not_in i (ap (λ o. members_in old (listed o)) (none_before j h)))
           go (Some x) h = subst (In k) (sym (front_users j x h)) ((sets j k).1 i)
 

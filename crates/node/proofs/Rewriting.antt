@@ -5,7 +5,7 @@ use Rattle.evaluation.specs.Value.{In, IsMember}
 use Rattle.keys.specs.declared.key.Key.{Key}
 use Rattle.keys.specs.declared.value.Value.{Value}
 use Rattle.evaluation.specs.Graph.{Record}
-use Rattle.node.specs.Kept.{Users, users_at}
+use Rattle.node.specs.Records.{Users, users_at}
 use Rattle.node.specs.Edges.{HasLinkedSome, HasLinkedAll, HasCut, HasUsers, among}
 use Rattle.node.specs.Graphs.{IsLinked}
 use Rattle.node.specs.Writes.{groups_at, SameSets}

@@ -12,14 +12,14 @@ use Rattle.numbered.proofs.Numbers.{value_by_number, value_pushed, others_pushed
 use Rattle.keys.specs.Keys.{key_eq}
 use Rattle.keys.specs.declared.key.Key.{Key}
 use Rattle.keys.specs.declared.value.Value.{Value}
-use Rattle.node.specs.declared.kept.Kept.{Kept}
+use Rattle.node.specs.declared.records.NodeRecord.{NodeRecord}
 use Rattle.std.specs.Prelude.{All, map}
 use Rattle.indexmap.specs.IndexMap.{set_value_at}
 use Rattle.std.specs.List.{concat, IsDistinct}
 use Rattle.std.proofs.lemmas.List.Elements.{All-nil}
 use Rattle.evaluation.specs.Value.{In, IsMember}
 use Rattle.numbered.specs.Flats.{groups_in, members_in}
-use Rattle.node.specs.Kept.{Records, AsksNumbers, KeepsRecords, asked_of, by_keys, kept_at, listed, named, numbers_of, numbers_with, record_of, row_of, rows, shown}
+use Rattle.node.specs.Records.{Records, AsksNumbers, KeepsRecords, asked_of, by_keys, kept_at, listed, named, numbers_of, numbers_with, record_of, row_of, rows, shown}
 use Rattle.node.specs.Graphs.{seen, Sets}
 use Rattle.node.specs.Writes.{groups_at, stored, written}
 use Rattle.node.specs.Batches.{HasPlacedSome}
@@ -40,14 +40,14 @@ rows_value : (es : Records) (k : Key) → value_of (rows es) k ≡ option_map ro
 rows_value [] k = refl
 rows_value (e ∷ es) k = ap (λ o. cond (key_eq k e.0) (Some (row_of e.1)) o) (rows_value es k) ∙ sym (pushed (key_eq k e.0) (kept_at es k))
   where
-    pushed : (b : Bool) (o : Option Kept) → option_map row_of (cond b (Some e.1) o) ≡ cond b (Some (row_of e.1)) (option_map row_of o)
+    pushed : (b : Bool) (o : Option NodeRecord) → option_map row_of (cond b (Some e.1) o) ≡ cond b (Some (row_of e.1)) (option_map row_of o)
     pushed true o = refl
     pushed false o = refl
 
 keeps_rows : (old new : Records) → KeepsRecords old new → (k : Key) → option_map row_of (kept_at new k) ≡ option_map row_of (kept_at old k)
 keeps_rows old new s k = sym (rows_value new k) ∙ ap (λ (es : List (Key × Record ℕ Value)). value_of es k) s ∙ rows_value old k
 
-by_rows : (keys : List Key) (o : Option Kept) → option_map (record_of keys) o ≡ option_map (by_keys keys) (option_map row_of o)
+by_rows : (keys : List Key) (o : Option NodeRecord) → option_map (record_of keys) o ≡ option_map (by_keys keys) (option_map row_of o)
 by_rows keys None = refl
 by_rows keys (Some e) = refl
 
@@ -61,7 +61,7 @@ keeps_asks old new s a k e h = go (kept_at old k) refl
     length_same : length new ≡ length old
     length_same = same_length old new (keeps_keys old new s)
 
-    go : (o : Option Kept) → kept_at old k ≡ o → All (All (λ n. n < length new)) e.groups
+    go : (o : Option NodeRecord) → kept_at old k ≡ o → All (All (λ n. n < length new)) e.groups
     go None q = absurd (none_some (sym (ap (option_map row_of) q) ∙ sym (keeps_rows old new s k) ∙ ap (option_map row_of) h))
     go (Some x) q =
         let same : row_of x ≡ row_of e = some_is (sym (ap (option_map row_of) q) ∙ sym (keeps_rows old new s k) ∙ ap (option_map row_of) h) in
@@ -72,7 +72,7 @@ pub seen_same : (old new : Records) (k : Key) → keys_of new ≡ keys_of old �
 seen_same old new k e h = λ i. option_map (record_of (e i)) (h i)
 
 -- a record whose users alone are written
-pub rows_set : (es : Records) (k : Key) (e w : Kept) → kept_at es k ≡ Some e → row_of w ≡ row_of e → rows (set_value (key_eq k) es w) ≡ rows es
+pub rows_set : (es : Records) (k : Key) (e w : NodeRecord) → kept_at es k ≡ Some e → row_of w ≡ row_of e → rows (set_value (key_eq k) es w) ≡ rows es
 rows_set [] k e w h q = refl
 rows_set (x ∷ es) k e w h q = go (key_eq k x.0) refl (λ g. rows_set es k e w g q)
   where
@@ -83,13 +83,13 @@ rows_set (x ∷ es) k e w h q = go (key_eq k x.0) refl (λ g. rows_set es k e w 
     go false t rest =
         ap (λ b. rows (cond b ((x.0, w) ∷ es) (x ∷ set_value (key_eq k) es w))) t ∙ ap (λ l. (x.0, row_of x.1) ∷ l) (rest (sym (ap (λ b. cond b (Some x.1) (kept_at es k)) t) ∙ h))
 
-pub rows_set_at : (es : Records) (n : ℕ) (e w : Kept) → value_at es n ≡ Some e → row_of w ≡ row_of e → rows (set_value_at es n w) ≡ rows es
+pub rows_set_at : (es : Records) (n : ℕ) (e w : NodeRecord) → value_at es n ≡ Some e → row_of w ≡ row_of e → rows (set_value_at es n w) ≡ rows es
 rows_set_at [] n e w h q = refl
 rows_set_at (x ∷ es) zero e w h q = let same : x.1 ≡ e = some_is h in ap (λ (r : Record ℕ Value). (x.0, r) ∷ rows es) (q ∙ ap row_of (sym same))
 rows_set_at (x ∷ es) (suc n) e w h q = ap (λ l. (x.0, row_of x.1) ∷ l) (rows_set_at es n e w h q)
 
 pub rows_append : (es fs : Records) → rows (es ++ fs) ≡ rows es ++ rows fs
-rows_append es fs = map-append (λ (e : Key × Kept). (e.0, row_of e.1)) es fs
+rows_append es fs = map-append (λ (e : Key × NodeRecord). (e.0, row_of e.1)) es fs
 
 rows_take : (n : ℕ) (es : Records) → rows (take n es) ≡ take n (rows es)
 rows_take zero es = refl
@@ -97,11 +97,11 @@ rows_take (suc n) [] = refl
 rows_take (suc n) (e ∷ es) = ap (λ l. (e.0, row_of e.1) ∷ l) (rows_take n es)
 
 -- a record that is written
-pub writes_sets : (old new : Records) (key : Key) (w : Kept) → Writes old new key w → Sets (seen old) (seen new) key (record_of (keys_of old) w)
+pub writes_sets : (old new : Records) (key : Key) (w : NodeRecord) → Writes old new key w → Sets (seen old) (seen new) key (record_of (keys_of old) w)
 writes_sets old new key w u = record { there = λ i. option_map (record_of (u.keys i)) (u.there i); others = λ j n. seen_same old new j u.keys (u.others j n) }
 
 -- and keeps its users
-pub writes_lists : (old new : Records) (key : Key) (e w : Kept) → kept_at old key ≡ Some e → w.users ≡ e.users → Writes old new key w → (j : Key) → numbers_of new j ≡ numbers_of old j
+pub writes_lists : (old new : Records) (key : Key) (e w : NodeRecord) → kept_at old key ≡ Some e → w.users ≡ e.users → Writes old new key w → (j : Key) → numbers_of new j ≡ numbers_of old j
 writes_lists old new key e w h same u j = elim (decide_key key j) [
   | inl q ↦ subst (λ x. numbers_of new x ≡ numbers_of old x) q (ap listed u.there ∙ (λ i. (same i).items) ∙ sym (ap listed h))
   | inr n ↦ ap listed (u.others j n)
@@ -118,14 +118,14 @@ lists_same old new d e s n h =
     lists_by_number new (subst (λ ks. IsDistinct key_eq ks) (sym e) d) k.0 n (key_same old new e n ∙ k.1) ∙ s k.0 ∙ sym (lists_by_number old d k.0 n k.1)
 
 -- a record without users is put after the others
-pub pushed_lists : (old new : Records) (key : Key) (e : Kept) → new ≡ old ++ (key, e) ∷ [] → e.users.items ≡ [] → kept_at old key ≡ None → (j : Key) → numbers_of new j ≡ numbers_of old j
+pub pushed_lists : (old new : Records) (key : Key) (e : NodeRecord) → new ≡ old ++ (key, e) ∷ [] → e.users.items ≡ [] → kept_at old key ≡ None → (j : Key) → numbers_of new j ≡ numbers_of old j
 pushed_lists old new key e p u none j = ap (λ (es : Records). numbers_of es j) p ∙ elim (decide_key key j) [
   | inl q ↦ subst (λ x. numbers_of (old ++ (key, e) ∷ []) x ≡ numbers_of old x) q (ap listed (value_pushed old key e none) ∙ u ∙ sym (ap listed none))
   | inr n ↦ ap listed (others_pushed old key e j n)
 ]
 
 -- the first records of a table
-pub value_front : (es fs : Records) (k : Key) (e : Kept) → kept_at es k ≡ Some e → kept_at (es ++ fs) k ≡ Some e
+pub value_front : (es fs : Records) (k : Key) (e : NodeRecord) → kept_at es k ≡ Some e → kept_at (es ++ fs) k ≡ Some e
 value_front [] fs k e h = absurd (none_some h)
 value_front (x ∷ es) fs k e h = go (key_eq k x.0) refl (λ g. value_front es fs k e g)
   where
@@ -134,10 +134,10 @@ value_front (x ∷ es) fs k e h = go (key_eq k x.0) refl (λ g. value_front es f
     go false t rest = ap (λ b. cond b (Some x.1) (kept_at (es ++ fs) k)) t ∙ rest (sym (ap (λ b. cond b (Some x.1) (kept_at es k)) t) ∙ h)
 
 -- what was put last is taken out
-pub popped_rows : (old placed later new : Records) (x : Key × Kept) (out : Option (Key × Kept)) → KeepsRecords placed later → placed ≡ old ++ x ∷ [] → later ≡ new ++ option_to_list out → (IsSome out ↔ (0 < length later)) → KeepsRecords old new
+pub popped_rows : (old placed later new : Records) (x : Key × NodeRecord) (out : Option (Key × NodeRecord)) → KeepsRecords placed later → placed ≡ old ++ x ∷ [] → later ≡ new ++ option_to_list out → (IsSome out ↔ (0 < length later)) → KeepsRecords old new
 popped_rows old placed later new x out s p r f = go out refl
   where
-    go : (o : Option (Key × Kept)) → out ≡ o → KeepsRecords old new
+    go : (o : Option (Key × NodeRecord)) → out ≡ o → KeepsRecords old new
     go None q =
         let n = same_length placed later (keeps_keys placed later s) in
         absurd (true_false (f.1 (omega (arith, n, ap length p, length-append old (x ∷ [])))) (ap is_some q))
@@ -149,18 +149,18 @@ popped_rows old placed later new x out s p r f = go out refl
 -- so are several
 pub first_rows : (old placed later more : Records) → KeepsRecords placed later → placed ≡ old ++ more → KeepsRecords old (take (length old) later)
 first_rows old placed later more s p =
-    rows_take (length old) later ∙ ap (take (length old)) (s ∙ ap rows p ∙ rows_append old more) ∙ take_at (rows old) (rows more) (length old) (length-map old (λ (e : Key × Kept). (e.0, row_of e.1)))
+    rows_take (length old) later ∙ ap (take (length old)) (s ∙ ap rows p ∙ rows_append old more) ∙ take_at (rows old) (rows more) (length old) (length-map old (λ (e : Key × NodeRecord). (e.0, row_of e.1)))
 
 -- a loan of a record through which no more than users was written
-pub through_same : (old new : Records) (k : Key) (e w : Kept) → new ≡ set_value (key_eq k) old w → Some e ≡ kept_at old k → row_of w ≡ row_of e → KeepsRecords old new
+pub through_same : (old new : Records) (k : Key) (e w : NodeRecord) → new ≡ set_value (key_eq k) old w → Some e ≡ kept_at old k → row_of w ≡ row_of e → KeepsRecords old new
 through_same old new k e w p had q = ap rows p ∙ rows_set old k e w (sym had) q
 
 -- the groups of a number are those of its key
-pub groups_by_number : (records : Records) → AreDistinct records → (k : Key) (n : ℕ) (e : Kept) → key_at records n ≡ Some k → value_at records n ≡ Some e → groups_at (seen records k) ≡ groups_in records e.groups
+pub groups_by_number : (records : Records) → AreDistinct records → (k : Key) (n : ℕ) (e : NodeRecord) → key_at records n ≡ Some k → value_at records n ≡ Some e → groups_at (seen records k) ≡ groups_in records e.groups
 groups_by_number records d k n e h v = ap (λ o. groups_at (option_map (record_of (keys_of records)) o)) (value_by_number records d k n h ∙ v)
 
 -- a record that is seen is kept
-pub some_kept : (keys : List Key) (o : Option Kept) → IsSome (option_map (record_of keys) o) → (e : Kept) × (o ≡ Some e)
+pub some_kept : (keys : List Key) (o : Option NodeRecord) → IsSome (option_map (record_of keys) o) → (e : NodeRecord) × (o ≡ Some e)
 some_kept keys None h = absurd (true_false h refl)
 some_kept keys (Some e) h = (e, refl)
 
@@ -180,7 +180,7 @@ rows_asked : Option (Record ℕ Value) → List ℕ
 rows_asked None = []
 rows_asked (Some r) = concat r.groups
 
-asked_rows : (o : Option Kept) → asked_of o ≡ rows_asked (option_map row_of o)
+asked_rows : (o : Option NodeRecord) → asked_of o ≡ rows_asked (option_map row_of o)
 unfolding rows_asked
 asked_rows None = refl
 asked_rows (Some e) = refl
@@ -191,26 +191,26 @@ keeps_asked old new s k = asked_rows (kept_at new k) ∙ ap rows_asked (keeps_ro
 pub asked_member : (records : Records) (k j : Key) → In j (members_in records (asked_of (kept_at records k))) → IsMember j (groups_at (seen records k))
 asked_member records k j i = go (kept_at records k) i
   where
-    go : (o : Option Kept) → In j (members_in records (asked_of o)) → IsMember j (groups_at (option_map (record_of (keys_of records)) o))
+    go : (o : Option NodeRecord) → In j (members_in records (asked_of o)) → IsMember j (groups_at (option_map (record_of (keys_of records)) o))
     go None x = elim x [ ]
     go (Some e) x = named_member (keys_of records) e.groups x
 
 pub member_asked : (records : Records) (k j : Key) → IsMember j (groups_at (seen records k)) → In j (members_in records (asked_of (kept_at records k)))
 member_asked records k j m = go (kept_at records k) m
   where
-    go : (o : Option Kept) → IsMember j (groups_at (option_map (record_of (keys_of records)) o)) → In j (members_in records (asked_of o))
+    go : (o : Option NodeRecord) → IsMember j (groups_at (option_map (record_of (keys_of records)) o)) → In j (members_in records (asked_of o))
     go None x = elim x.1 [ ]
     go (Some e) x = member_named (keys_of records) e.groups x
 
 pub asked_below : (records : Records) → AsksNumbers records → (k : Key) → All (λ n. n < length records) (asked_of (kept_at records k))
 asked_below records a k = go (kept_at records k) refl
   where
-    go : (o : Option Kept) → kept_at records k ≡ o → All (λ n. n < length records) (asked_of o)
+    go : (o : Option NodeRecord) → kept_at records k ≡ o → All (λ n. n < length records) (asked_of o)
     go None h = All-nil (λ n. n < length records)
     go (Some e) h = concat_below (length records) e.groups (a k e h)
 
 -- a record is written over what was kept, and then no more than users changes
-module _ (old middle wrote final : Records) (key : Key) (e : Kept) (value : Arc Value Global) (flat : List (List ℕ)) (version : ℕ) (s : KeepsRecords old middle) (had : kept_at middle key ≡ Some e)
+module _ (old middle wrote final : Records) (key : Key) (e : NodeRecord) (value : Arc Value Global) (flat : List (List ℕ)) (version : ℕ) (s : KeepsRecords old middle) (had : kept_at middle key ≡ Some e)
     (u : Writes middle wrote key (written e value flat version)) (t : KeepsRecords wrote final) where
   pub was_kept : seen old key ≡ Some (record_of (keys_of middle) e)
   was_kept = sym (λ i. keeps_seen old middle s i key) ∙ ap (option_map (record_of (keys_of middle))) had
@@ -238,6 +238,6 @@ module _ (old middle wrote final : Records) (key : Key) (e : Kept) (value : Arc 
       asks k x h = elim (decide_key key k) [
         | inl q ↦
             let is : written e value flat version ≡ x = some_is (sym u.there ∙ ap (kept_at wrote) q ∙ h) in
-            subst (λ (y : Kept). All (All (λ n. n < length wrote)) y.groups) is (subst (λ l. All (All (λ n. n < l)) flat) (sym size) within)
+            subst (λ (y : NodeRecord). All (All (λ n. n < length wrote)) y.groups) is (subst (λ l. All (All (λ n. n < l)) flat) (sym size) within)
         | inr n ↦ subst (λ l. All (All (λ m. m < l)) x.groups) (sym (same_length middle wrote u.keys)) (keeps_asks old middle s a k x (sym (u.others k n) ∙ h))
       ]

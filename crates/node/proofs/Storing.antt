@@ -6,7 +6,7 @@ use Rattle.evaluation.specs.Value.{IsMember}
 use Rattle.keys.specs.Values.{value_eq}
 use Rattle.keys.specs.declared.key.Key.{Key}
 use Rattle.keys.specs.declared.value.Value.{Value}
-use Rattle.node.specs.declared.kept.Kept.{Kept}
+use Rattle.node.specs.declared.records.NodeRecord.{NodeRecord}
 use Rattle.std.specs.Prelude.{All, ◌<◌, length}
 use Rattle.std.specs.Arc.{arc_value}
 use Rattle.std.specs.Map.{keys_of}
@@ -14,10 +14,10 @@ use Rattle.std.proofs.lemmas.List.{map-append, length-append}
 use Rattle.std.proofs.lemmas.List.Elements.{All-nil}
 use Rattle.numbered.specs.Tables.{Grows}
 use Rattle.numbered.proofs.Flats.{groups_stay}
-use Rattle.node.specs.Kept.{Records, Users, AsksNumbers, by_keys, kept_at, record_of, row_of}
+use Rattle.node.specs.Records.{Records, Users, AsksNumbers, by_keys, kept_at, record_of, row_of}
 use Rattle.node.proofs.Numbering.{all_below}
 use Rattle.node.specs.Edges.{HasUsers}
-use Rattle.node.specs.Graphs.{Recorded, recorded, record_at, seen, IsLinked, Sets}
+use Rattle.node.specs.Graphs.{GraphView, recorded, record_at, seen, IsLinked, Sets}
 use Rattle.node.specs.Writes.{stored, HasReadyMembers}
 use Rattle.node.proofs.Lists.{none_some, some_is, true_false, not_in, decide_key}
 use Rattle.node.proofs.Linking.{seen_all}
@@ -105,10 +105,10 @@ placed_linked old placed users key p there other g none linked = record {
     no_member j k x q h m = not_in (subst (λ (y : Record Key Value). IsMember j y.groups) (sym (some_is (sym there ∙ ap placed q ∙ h))) m).1 g
 
 -- where a record without groups was put after the others
-module _ (old placed : Records) (key : Key) (p : Kept) (value : Value) (version : ℕ) (e : placed ≡ old ++ (key, p) ∷ []) (none : kept_at old key ≡ None)
+module _ (old placed : Records) (key : Key) (p : NodeRecord) (value : Value) (version : ℕ) (e : placed ≡ old ++ (key, p) ∷ []) (none : kept_at old key ≡ None)
     (is : row_of p ≡ record { value = value; groups = []; settled_at = version; changed_at = version; dirty = false }) (asks : AsksNumbers old) where
   grown : Grows old placed
-  grown = record { more = key ∷ []; keys = ap (λ (es : Records). keys_of es) e ∙ map-append (λ (x : Key × Kept). x.0) old ((key, p) ∷ []) }
+  grown = record { more = key ∷ []; keys = ap (λ (es : Records). keys_of es) e ∙ map-append (λ (x : Key × NodeRecord). x.0) old ((key, p) ∷ []) }
 
   at_key : kept_at placed key ≡ Some p
   at_key = ap (λ (es : Records). kept_at es key) e ∙ value_pushed old key p none
@@ -122,7 +122,7 @@ module _ (old placed : Records) (key : Key) (p : Kept) (value : Value) (version 
   pub placed_others : (k : Key) → key ≢ k → seen placed k ≡ seen old k
   placed_others k n = ap (option_map (record_of (keys_of placed))) (at_others k n) ∙ go (kept_at old k) refl
     where
-      go : (o : Option Kept) → kept_at old k ≡ o → option_map (record_of (keys_of placed)) (kept_at old k) ≡ seen old k
+      go : (o : Option NodeRecord) → kept_at old k ≡ o → option_map (record_of (keys_of placed)) (kept_at old k) ≡ seen old k
       go None q = ap (option_map (record_of (keys_of placed))) q ∙ sym (ap (option_map (record_of (keys_of old))) q)
       go (Some x) q =
           ap (option_map (record_of (keys_of placed))) q
@@ -133,20 +133,20 @@ module _ (old placed : Records) (key : Key) (p : Kept) (value : Value) (version 
   placed_asks k x h = elim (decide_key key k) [
     | inl q ↦
         let same : p ≡ x = some_is (sym at_key ∙ ap (kept_at placed) q ∙ h) in
-        subst (λ (gs : List (List ℕ)). All (All (λ n. n < length placed)) gs) (sym (ap (λ (r : Record ℕ Value). r.groups) is) ∙ ap (λ (y : Kept). y.groups) same) (All-nil (All (λ n. n < length placed)))
+        subst (λ (gs : List (List ℕ)). All (All (λ n. n < length placed)) gs) (sym (ap (λ (r : Record ℕ Value). r.groups) is) ∙ ap (λ (y : NodeRecord). y.groups) same) (All-nil (All (λ n. n < length placed)))
     | inr n ↦ all_below (length old) (length placed) (let l = ap length e ∙ length-append old ((key, p) ∷ []) in omega arith) x.groups (asks k x (sym (at_others k n) ∙ h))
   ]
 
-pub absent : (o : Option Kept) (b : Bool) → b ≡ is_some o → b ≡ false → o ≡ None
+pub absent : (o : Option NodeRecord) (b : Bool) → b ≡ is_some o → b ≡ false → o ≡ None
 absent None b e f = refl
 absent (Some x) b e f = cc
 
-pub present_at : (keys : List Key) (o : Option Kept) (b : Bool) → b ≡ is_some o → b ≡ true → IsSome (option_map (record_of keys) o)
+pub present_at : (keys : List Key) (o : Option NodeRecord) (b : Bool) → b ≡ is_some o → b ≡ true → IsSome (option_map (record_of keys) o)
 present_at keys None b e t = absurd (true_false t e)
 present_at keys (Some x) b e t = refl
 
 -- what a contract of the graph sees of it
-module _ (old : Records) (version : ℕ) (was : Recorded) (b : recorded version old ≡ was) where
+module _ (old : Records) (version : ℕ) (was : GraphView) (b : recorded version old ≡ was) where
   pub seen_was : record_at was ≡ seen old
   seen_was = ap record_at (sym b) ∙ seen_all old version
 
@@ -156,6 +156,6 @@ module _ (old : Records) (version : ℕ) (was : Recorded) (b : recorded version 
   pub stored_seen : (new : Records) (key : Key) (value : Value) (groups : List (List Key)) → Sets (seen old) (seen new) key (stored (seen old key) value groups version)
       → Sets (record_at was) (record_at (recorded version new)) key (stored (record_at was key) value groups was.version)
   stored_seen new key value groups s =
-      subst (λ (n : ℕ). Sets (record_at was) (record_at (recorded version new)) key (stored (record_at was key) value groups n)) (ap (λ (x : Recorded). x.version) b)
+      subst (λ (n : ℕ). Sets (record_at was) (record_at (recorded version new)) key (stored (record_at was key) value groups n)) (ap (λ (x : GraphView). x.version) b)
       (subst (λ (f : Key → Option (Record Key Value)). Sets f (record_at (recorded version new)) key (stored (f key) value groups version)) (sym seen_was)
       (subst (λ (f : Key → Option (Record Key Value)). Sets (seen old) f key (stored (seen old key) value groups version)) (sym (seen_all new version)) s))

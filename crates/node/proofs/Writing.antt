@@ -7,12 +7,12 @@ use Rattle.evaluation.specs.Value.{In, IsMember}
 use Rattle.numbered.specs.Tables.{Writes}
 use Rattle.keys.specs.declared.key.Key.{Key}
 use Rattle.keys.specs.declared.value.Value.{Value}
-use Rattle.node.specs.declared.kept.Kept.{Kept}
+use Rattle.node.specs.declared.records.NodeRecord.{NodeRecord}
 use Rattle.std.specs.Prelude.{All, ◌<◌, length}
-use Rattle.node.specs.Kept.{Records, Users, AsksNumbers, kept_at, numbers_of, users_at}
+use Rattle.node.specs.Records.{Records, Users, AsksNumbers, kept_at, numbers_of, users_at}
 use Rattle.node.proofs.Numbering.{same_length}
 use Rattle.node.specs.Edges.{HasUsers}
-use Rattle.node.specs.Graphs.{Recorded, recorded, record_at, seen, IsLinked, HasCleanMembers, Sets}
+use Rattle.node.specs.Graphs.{GraphView, recorded, record_at, seen, IsLinked, HasCleanMembers, Sets}
 use Rattle.node.proofs.Lists.{some_is, true_false, decide_key}
 use Rattle.node.proofs.Linking.{seen_all, is_kept}
 use Rattle.node.proofs.Showing.{writes_sets, writes_lists}
@@ -59,16 +59,16 @@ module _ (old new : Key → Option (Record Key Value)) (old_users users : Users)
   }
 
 -- what a contract of the graph sees of it
-pub sets_shown : (old new : Records) (key : Key) (r : Record Key Value) (version later_version : ℕ) (was : Recorded) → recorded version old ≡ was → Sets (seen old) (seen new) key r → Sets (record_at was) (record_at (recorded later_version new)) key r
+pub sets_shown : (old new : Records) (key : Key) (r : Record Key Value) (version later_version : ℕ) (was : GraphView) → recorded version old ≡ was → Sets (seen old) (seen new) key r → Sets (record_at was) (record_at (recorded later_version new)) key r
 sets_shown old new key r version later_version was b s =
-    subst (λ (g : Recorded). Sets (record_at g) (record_at (recorded later_version new)) key r) b
+    subst (λ (g : GraphView). Sets (record_at g) (record_at (recorded later_version new)) key r) b
     (subst (λ (f : Key → Option (Record Key Value)). Sets f (record_at (recorded later_version new)) key r) (sym (seen_all old version))
     (subst (λ (f : Key → Option (Record Key Value)). Sets (seen old) f key r) (sym (seen_all new later_version)) s))
 
 -- a record that is only settled keeps its users
 module _ (old new : Records) (users : Users) (key : Key) (version : ℕ) (linked : IsLinked (seen old) users)
-    (u : (e : Kept) → kept_at old key ≡ Some e → Writes old new key (record e { settled_at = version; dirty = false }))
-    (was : Recorded) (b : recorded version old ≡ was) (clean : HasCleanMembers (record_at was) key) where
+    (u : (e : NodeRecord) → kept_at old key ≡ Some e → Writes old new key (record e { settled_at = version; dirty = false }))
+    (was : GraphView) (b : recorded version old ≡ was) (clean : HasCleanMembers (record_at was) key) where
   was_seen : record_at was ≡ seen old
   was_seen = ap record_at (sym b) ∙ seen_all old version
 
@@ -116,13 +116,13 @@ module _ (old new : Records) (users : Users) (key : Key) (version : ℕ) (linked
 
   pub settled_sets : (r : Record Key Value) → record_at was key ≡ Some r → Sets (record_at was) (record_at (recorded version new)) key (record r { settled_at = was.version; dirty = false })
   settled_sets r h =
-      subst (λ (v : ℕ). Sets (record_at was) (record_at (recorded version new)) key (record r { settled_at = v; dirty = false })) (ap (λ (x : Recorded). x.version) b)
+      subst (λ (v : ℕ). Sets (record_at was) (record_at (recorded version new)) key (record r { settled_at = v; dirty = false })) (ap (λ (x : GraphView). x.version) b)
       (sets_shown old new key (settled r) version version was b (sets_settled r (sym (λ i. was_seen i key) ∙ h)))
 
   pub settled_asks : IsSome (record_at was key) → AsksNumbers old → AsksNumbers new
   settled_asks g a k x h = subst (λ l. All (All (λ n. n < l)) x.groups) (sym (same_length old new (settled_keys g))) (elim (decide_key key k) [
     | inl q ↦ let p = recorded_there g in let y = is_kept old key p.0 p.1 in
         let is : record y.0 { settled_at = version; dirty = false } ≡ x = some_is (sym (u y.0 y.1).there ∙ ap (kept_at new) q ∙ h) in
-        subst (λ (z : Kept). All (All (λ n. n < length old)) z.groups) is (a key y.0 y.1)
+        subst (λ (z : NodeRecord). All (All (λ n. n < length old)) z.groups) is (a key y.0 y.1)
     | inr n ↦ let p = recorded_there g in let y = is_kept old key p.0 p.1 in a k x (sym ((u y.0 y.1).others k n) ∙ h)
   ])

@@ -7,7 +7,7 @@ use Rattle.numbered.specs.Flats.{groups_in, numbers_in}
 use Rattle.keys.specs.declared.key.Key.{Key}
 use Rattle.keys.specs.declared.value.Value.{Value}
 use Rattle.node.specs.declared.entry.Entry.{Entry}
-use Rattle.node.specs.Kept.{Records, Users, UserLists, users_at, items_of}
+use Rattle.node.specs.Records.{Records, Users, UserLists, users_at, items_of}
 use Rattle.node.specs.Writes.{stored, groups_at}
 
 -- the groups of an entry

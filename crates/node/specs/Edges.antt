@@ -4,7 +4,7 @@ use Rattle.std.specs.List.{list_any}
 use Rattle.keys.specs.Keys.{key_eq}
 use Rattle.evaluation.specs.Value.{In, IsMember}
 use Rattle.keys.specs.declared.key.Key.{Key}
-use Rattle.node.specs.Kept.{Users, users_at}
+use Rattle.node.specs.Records.{Users, users_at}
 
 module _ {X : Type 0} where
   -- a key is added

@@ -8,25 +8,25 @@ use Rattle.evaluation.specs.Value.{In, IsMember}
 use Rattle.keys.specs.Keys.{key_cmp}
 use Rattle.keys.specs.declared.key.Key.{Key}
 use Rattle.keys.specs.declared.value.Value.{Value}
-pub use Rattle.keys.specs.Touched.{touched_leaves, IsTouched}
+pub use Rattle.keys.specs.EditLeaves.{touched_leaves, IsTouched}
 use Rattle.std.specs.Borrow.{Bor}
 use Rattle.numbered.specs.Tables.{AreDistinct}
-use Rattle.node.specs.Kept.{Records, Users, AreNumbers, AsksNumbers, kept_at, users_at, users_of, numbers_of, record_of, shown}
+use Rattle.node.specs.Records.{Records, Users, AreNumbers, AsksNumbers, kept_at, users_at, users_of, numbers_of, record_of, shown}
 
 -- the paths that references point to
 abbrev pub paths_seen : List (Bor (List ℕ)) → List (List ℕ)
 paths_seen = map (λ p. p.now)
 
 -- its version, and its records in the order in which their keys were recorded first
-pub record Recorded : Type 0 where
+pub record GraphView : Type 0 where
   pub version : ℕ
   pub records : List (Key × Record Key Value)
 
-abbrev pub recorded : ℕ → Records → Recorded
+abbrev pub recorded : ℕ → Records → GraphView
 recorded version records = record { version = version; records = shown records }
 
 -- the record of a key
-abbrev pub record_at : Recorded → Key → Option (Record Key Value)
+abbrev pub record_at : GraphView → Key → Option (Record Key Value)
 record_at graph k = lookup (is_at (key_cmp k)) graph.records
 
 -- the record that a contract sees of a key

@@ -1,9 +1,9 @@
-pub mod Kept
+pub mod Records
 pub mod Marks
 pub mod Graphs
 pub mod Edges
 pub mod Writes
-pub mod Compared
+pub mod Comparisons
 pub mod Batches
 pub mod Counts
 pub mod Laws

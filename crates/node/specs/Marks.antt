@@ -4,12 +4,12 @@ use Rattle.std.specs.Map.{keys_of}
 use Rattle.evaluation.specs.Value.{In}
 use Rattle.keys.specs.declared.key.Key.{Key}
 use Rattle.numbered.specs.Tables.{Writes}
-use Rattle.node.specs.declared.kept.Kept.{Kept}
-use Rattle.node.specs.Kept.{Records, Users, kept_at, users_at, numbers_of}
+use Rattle.node.specs.declared.records.NodeRecord.{NodeRecord}
+use Rattle.node.specs.Records.{Records, Users, kept_at, users_at, numbers_of}
 
 -- if k has a record, it is dirty
 abbrev pub IsDirty : Records → Key → Type 0
-IsDirty records k = (e : Kept) → kept_at records k ≡ Some e → e.dirty ≡ true
+IsDirty records k = (e : NodeRecord) → kept_at records k ≡ Some e → e.dirty ≡ true
 
 -- k is a leaf of the list, or a user of what is reached
 pub data IsReached (users : Users) (leaves : List Key) : Key → Type 0 where
@@ -18,13 +18,13 @@ pub data IsReached (users : Users) (leaves : List Key) : Key → Type 0 where
 
 -- the listed records were clean, are reached, and are now dirty; the others are as before
 pub record Marked (users : Users) (leaves : List Key) (old new : Records) (marked : List Key) : Type 0 where
-  pub each : (k : Key) → In k marked → (e : Kept) × (kept_at old k ≡ Some e) × (e.dirty ≡ false) × (kept_at new k ≡ Some (record e { dirty = true })) × IsReached users leaves k
+  pub each : (k : Key) → In k marked → (e : NodeRecord) × (kept_at old k ≡ Some e) × (e.dirty ≡ false) × (kept_at new k ≡ Some (record e { dirty = true })) × IsReached users leaves k
   pub rest : (k : Key) → In k marked ⊎ (kept_at new k ≡ kept_at old k)
 
 -- nothing had to be done, or the record is now dirty and listed
 abbrev pub HasReached : Records → Records → List Key → List Key → Key → Type 0
 HasReached old new before after key = ((new ≡ old) × (after ≡ before) × IsDirty old key)
-    ⊎ ((e : Kept) × (kept_at old key ≡ Some e) × (e.dirty ≡ false) × Writes old new key (record e { dirty = true }) × (keys_of new ≡ keys_of old) × (after ≡ before ++ key ∷ []))
+    ⊎ ((e : NodeRecord) × (kept_at old key ≡ Some e) × (e.dirty ≡ false) × Writes old new key (record e { dirty = true }) × (keys_of new ≡ keys_of old) × (after ≡ before ++ key ∷ []))
 
 -- numbers of records were listed after the others
 abbrev pub Lists : Records → List ℕ → List ℕ → Type 0
@@ -56,6 +56,6 @@ HasPassed users records keys = (j : Key) → In j keys → (k : Key) → In k (u
 
 -- the marks of these keys' records are set to this, and nothing else changes
 pub record SetsMarks (dirty : Bool) (old new : Records) (keys : List Key) : Type 0 where
-  pub each : (k : Key) → In k keys → (e : Kept) → kept_at old k ≡ Some e → kept_at new k ≡ Some (record e { dirty = dirty })
+  pub each : (k : Key) → In k keys → (e : NodeRecord) → kept_at old k ≡ Some e → kept_at new k ≡ Some (record e { dirty = dirty })
   pub none : (k : Key) → kept_at old k ≡ None → kept_at new k ≡ None
   pub rest : (k : Key) → In k keys ⊎ (kept_at new k ≡ kept_at old k)

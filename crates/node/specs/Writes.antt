@@ -10,8 +10,8 @@ use Rattle.evaluation.specs.Value.{In, IsMember}
 use Rattle.keys.specs.Values.{value_eq}
 use Rattle.keys.specs.declared.key.Key.{Key}
 use Rattle.keys.specs.declared.value.Value.{Value}
-use Rattle.node.specs.declared.kept.Kept.{Kept}
-use Rattle.node.specs.Kept.{Records, Users, users_at, row_of}
+use Rattle.node.specs.declared.records.NodeRecord.{NodeRecord}
+use Rattle.node.specs.Records.{Records, Users, users_at, row_of}
 
 -- the version at which a value last changed: it is kept where an equal value was there
 abbrev pub change_of : Option (Record Key Value) → Value → ℕ → ℕ
@@ -39,7 +39,7 @@ abbrev pub are_ready : (Key → Option (Record Key Value)) → Key → List (Lis
 are_ready records key groups = list_all (is_ready_group records key) groups
 
 -- what is kept after a write
-abbrev pub written : Kept → Arc Value Global → List (List ℕ) → ℕ → Kept
+abbrev pub written : NodeRecord → Arc Value Global → List (List ℕ) → ℕ → NodeRecord
 written e value groups version = record e { value = value; groups = groups; settled_at = version; changed_at = (if value_eq (arc_value e.value) (arc_value value) then e.changed_at else version); dirty = false }
 
 -- the groups of what is recorded
@@ -53,4 +53,4 @@ SameSets old new = (j k : Key) → In k (users_at new j) ↔ In k (users_at old 
 
 -- a record without groups and users was put at the key
 abbrev pub HasPlaced : Records → Records → Key → Value → ℕ → Type 0
-HasPlaced old new key value version = (e : Kept) × (new ≡ old ++ (key, e) ∷ []) × (row_of e ≡ record { value = value; groups = []; settled_at = version; changed_at = version; dirty = false }) × (e.users.items ≡ [])
+HasPlaced old new key value version = (e : NodeRecord) × (new ≡ old ++ (key, e) ∷ []) × (row_of e ≡ record { value = value; groups = []; settled_at = version; changed_at = version; dirty = false }) × (e.users.items ≡ [])

@@ -7,7 +7,7 @@ ghost use Rattle.keys.specs.declared.key.Key.{Key};
 ghost use Rattle.keys.specs.declared.value.Value.{Value};
 ghost use Rattle.std.specs.Arc.{arc_value};
 ghost use Rattle.std.specs.Map.{keys_of as keys_of_records};
-ghost use Rattle.node.specs.Kept.{Records, numbers_of, users_of, AreNumbers, AsksNumbers, KeepsRecords};
+ghost use Rattle.node.specs.Records.{Records, numbers_of, users_of, AreNumbers, AsksNumbers, KeepsRecords};
 ghost use Rattle.node.specs.Writes.{stored};
 ghost use Rattle.node.specs.Edges.{HasUsers, SameUsers};
 ghost use Rattle.node.specs.Graphs.{IsLinkedBy, Sets, seen};
@@ -16,7 +16,7 @@ ghost use Rattle.node.specs.declared.entry.Entry.{Entry};
 
 use crate::edges::{cut, cut_with, link_groups, members_with};
 use crate::entry::Entry;
-use crate::kept::Records;
+use crate::records::Records;
 use crate::settling::{kept_members, place, write};
 use keys::Key;
 use numbered::Flat;

@@ -2,7 +2,7 @@
 ghost use Rattle.std.specs.Prelude.{◌≡◌, ◌<◌, IfSome, IfNone};
 ghost use Rattle.node.specs.Counts.{kept_edges};
 
-use crate::kept::Records;
+use crate::records::Records;
 
 /// How many records and how many edges a graph has.
 #[derive(Clone, Copy)]

@@ -6,12 +6,12 @@ ghost use Rattle.numbered.specs.Tables.{AreDistinct, key_at};
 ghost use Rattle.numbered.specs.Flats.{members_in};
 ghost use Rattle.keys.specs.Keys.{key_eq};
 ghost use Rattle.keys.specs.declared.key.Key.{Key};
-ghost use Rattle.node.specs.Kept.{items_of, numbers_of, AsksNumbers, KeepsRecords};
+ghost use Rattle.node.specs.Records.{items_of, numbers_of, AsksNumbers, KeepsRecords};
 ghost use Rattle.node.specs.Writes.{groups_at};
 ghost use Rattle.node.specs.Graphs.{seen};
 ghost use Rattle.node.specs.Edges.{IsAdded, HasLinked, HasUnlinked, SameUsers, HasLinkedSome, HasLinkedAll, HasCut, AddsMembers, AreMembers, among};
 
-use crate::kept::Records;
+use crate::records::Records;
 use keys::Key;
 use numbered::Number;
 use std::alloc::Global;

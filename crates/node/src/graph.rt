@@ -6,9 +6,9 @@ ghost use Rattle.std.specs.Map.{keys_of as keys_of_records};
 ghost use Rattle.evaluation.specs.Graph.{Record, Marks};
 ghost use Rattle.keys.specs.declared.key.Key.{Key};
 ghost use Rattle.keys.specs.declared.value.Value.{Value};
-ghost use Rattle.node.specs.Kept.{record_of, items_of};
+ghost use Rattle.node.specs.Records.{record_of, items_of};
 ghost use Rattle.evaluation.specs.Value.{AllDiffer};
-ghost use Rattle.node.specs.Compared.{Compares};
+ghost use Rattle.node.specs.Comparisons.{Compares};
 ghost use Rattle.node.specs.Counts.{edges_of};
 ghost use Rattle.node.specs.Batches.{keys_of, HasReadyEntries, SetsAll};
 ghost use Rattle.node.specs.Laws.{IsAlwaysLawful, TouchKeepsLawful, SettlingKeepsLawful, BatchKeepsLawful};
@@ -16,11 +16,11 @@ ghost use Rattle.node.specs.Writes.{HasReadyMembers, stored, is_ready_group, are
 ghost use Rattle.node.specs.Graphs.{record_at, present, IsTouched, paths_seen, AreReached, HasCleanMembers, Sets};
 
 use crate::batch::store_all;
-use crate::compared::{Compared, compare_next, groups_with};
+use crate::comparison::{Comparison, compare_next, groups_with};
 use crate::counts::{Counts, edges};
 use crate::entry::Entry;
-use crate::kept::{Kept, Records};
 use crate::marks::{keys_with, mark_from, set_all, touched, unmark_all};
+use crate::records::{NodeRecord, Records};
 use crate::settling::{settle, store};
 use keys::{Key, Value};
 use numbered::Table;
@@ -42,12 +42,12 @@ pub struct Graph {
 }
 
 impl Model for Graph {
-    ghost use Rattle.node.specs.Graphs.{Recorded, recorded, IsLinkedBy};
+    ghost use Rattle.node.specs.Graphs.{GraphView, recorded, IsLinkedBy};
 
-    ghost Value = { Recorded };
+    ghost Value = { GraphView };
 
     ghost use Rattle.std.specs.Coded.{codes};
-    ghost use Rattle.keys.specs.Stored.{loaded_code};
+    ghost use Rattle.keys.specs.Storage.{loaded_code};
 
     ghost coded = { Prim.hlevel (codes, loaded_code) };
 
@@ -87,7 +87,7 @@ impl Graph {
     }
 
     // Returns the record that is kept of a key.
-    fn kept(&self, key: &Key) -> Option<&Kept>
+    fn kept(&self, key: &Key) -> Option<&NodeRecord>
         ensures { option_map (λ e. record_of (keys_of_records self.now.records) e.now) result
             ≡ record_at self.now key.now }
     {
@@ -120,11 +120,11 @@ impl Graph {
     /// group is settled, and whether a member's value has changed since the record was settled. The check is over
     /// without a record and if no group is left. It takes memory for the members alone that are not settled; returns
     /// `Memory` if that was refused.
-    pub fn compare(&self, alloc: Global, key: &Key, passed: usize) -> Result<Compared, Memory>
+    pub fn compare(&self, alloc: Global, key: &Key, passed: usize) -> Result<Comparison, Memory>
         ensures { IfOk result (Compares (record_at self.now) (record_at self.now key.now) passed) }
     {
         match self.records.get(key) {
-            None => Ok(Compared::Over),
+            None => Ok(Comparison::Over),
             Some(kept) => compare_next(alloc, &self.records, kept, passed),
         }
     }

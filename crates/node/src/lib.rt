@@ -2,16 +2,16 @@
 #![tactic(auto)]
 
 mod batch;
-mod compared;
+mod comparison;
 mod counts;
 mod edges;
 mod entry;
 mod graph;
-mod kept;
 mod marks;
+mod records;
 mod settling;
 
-pub use compared::Compared;
+pub use comparison::Comparison;
 pub use counts::Counts;
 pub use entry::Entry;
 pub use graph::Graph;

@@ -5,14 +5,14 @@ ghost use Rattle.labels.specs.Labels.{ancestors};
 ghost use Rattle.numbered.specs.Tables.{AreDistinct, Writes, key_at};
 ghost use Rattle.numbered.specs.Flats.{members_in};
 ghost use Rattle.keys.specs.declared.key.Key.{Key};
-ghost use Rattle.keys.specs.Touched.{leaves_of, touched_leaves};
+ghost use Rattle.keys.specs.EditLeaves.{leaves_of, touched_leaves};
 ghost use Rattle.keys.specs.declared.key.Key.TheVariants as kind;
-ghost use Rattle.node.specs.Kept.{Records, AreNumbers, kept_at, numbers_of, numbers_with, users_of, cleans, cost};
+ghost use Rattle.node.specs.Records.{Records, AreNumbers, kept_at, numbers_of, numbers_with, users_of, cleans, cost};
 ghost use Rattle.node.specs.Marks.{HasReached, HasReachedAll, HasReachedSome, HasSpread, HasPassed, Lists, Marked, SetsMarks};
-ghost use Rattle.node.specs.declared.kept.Kept.{Kept};
+ghost use Rattle.node.specs.declared.records.NodeRecord.{NodeRecord};
 ghost use Rattle.node.specs.Graphs.{paths_seen};
 
-use crate::kept::Records;
+use crate::records::Records;
 use keys::Key;
 use numbered::Number;
 use std::alloc::Global;
@@ -57,11 +57,11 @@ pub fn touched(alloc: Global, paths: &[&str]) -> Result<Vec<Key>, Memory>
 fn set_at(records: &mut Records, number: Number, dirty: bool)
     requires within { number < length records.old }
     requires distinct { AreDistinct records.old }
-    ensures updates { (k : Key) (e : Kept) → key_at records.old number ≡ Some k
+    ensures updates { (k : Key) (e : NodeRecord) → key_at records.old number ≡ Some k
         → kept_at records.old k ≡ Some e → Writes records.old records.new k
         (record e { dirty = dirty }) }
-    ensures work { (k : Key) (e : Kept) → key_at records.old number ≡ Some k → kept_at records.old k
-        ≡ Some e → cleans records.new + cost e ≡ cleans records.old + cost
+    ensures work { (k : Key) (e : NodeRecord) → key_at records.old number ≡ Some k
+        → kept_at records.old k ≡ Some e → cleans records.new + cost e ≡ cleans records.old + cost
         (record e { dirty = dirty }) }
     ensures keys { keys_of records.new ≡ keys_of records.old }
 {
@@ -70,7 +70,7 @@ fn set_at(records: &mut Records, number: Number, dirty: bool)
 
 // Sets or takes away the mark of a key's record, if it has one.
 fn set(records: &mut Records, key: &Key, dirty: bool)
-    ensures updates { (e : Kept) → kept_at records.old key.now ≡ Some e
+    ensures updates { (e : NodeRecord) → kept_at records.old key.now ≡ Some e
         → Writes records.old records.new key.now (record e { dirty = dirty }) }
     ensures absent { kept_at records.old key.now ≡ None → records.new ≡ records.old }
     ensures keys { keys_of records.new ≡ keys_of records.old }

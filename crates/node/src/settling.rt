@@ -6,14 +6,14 @@ ghost use Rattle.evaluation.specs.Value.{IsMember};
 ghost use Rattle.numbered.specs.Tables.{AreDistinct, Writes};
 ghost use Rattle.keys.specs.Values.{value_eq};
 ghost use Rattle.keys.specs.declared.key.Key.{Key};
-ghost use Rattle.node.specs.Kept.{kept_at, items_of, numbers_of, users_of, AreNumbers, AsksNumbers, KeepsRecords, asked_of};
+ghost use Rattle.node.specs.Records.{kept_at, items_of, numbers_of, users_of, AreNumbers, AsksNumbers, KeepsRecords, asked_of};
 ghost use Rattle.node.specs.Writes.{written, stored, HasPlaced, HasReadyMembers, SameSets};
 ghost use Rattle.node.specs.Edges.{HasUsers};
 ghost use Rattle.node.specs.Graphs.{IsLinkedBy, Sets, seen};
-ghost use Rattle.node.specs.declared.kept.Kept.{Kept};
+ghost use Rattle.node.specs.declared.records.NodeRecord.{NodeRecord};
 
 use crate::edges::{cut, cut_beside, link_groups, members_beside, members_with};
-use crate::kept::{Kept, Records};
+use crate::records::{NodeRecord, Records};
 use keys::{Key, Value};
 use numbered::{Flat, Number};
 use std::alloc::Global;
@@ -23,7 +23,7 @@ use texts::Memory;
 
 /// Writes a version into a record, and takes its mark away.
 pub fn settle(records: &mut Records, key: &Key, version: u32)
-    ensures updates { (e : Kept) → kept_at records.old key.now ≡ Some e
+    ensures updates { (e : NodeRecord) → kept_at records.old key.now ≡ Some e
         → Writes records.old records.new key.now
         (record e { settled_at = version; dirty = false }) }
 {
@@ -35,7 +35,7 @@ pub fn settle(records: &mut Records, key: &Key, version: u32)
 
 // Returns when a record's value last changed, once it holds this value. A value that changed at the version is not
 // compared.
-fn changed_at(kept: &Kept, value: &Value, version: u32) -> u32
+fn changed_at(kept: &NodeRecord, value: &Value, version: u32) -> u32
     ensures { result ≡ (if value_eq (arc_value kept.now.value) value.now then kept.now.changed_at
         else version) }
 {
@@ -54,9 +54,9 @@ pub fn write(
     groups: Flat,
     version: u32,
 ) -> Flat
-    ensures updates { (e : Kept) → kept_at records.old key.now ≡ Some e
+    ensures updates { (e : NodeRecord) → kept_at records.old key.now ≡ Some e
         → Writes records.old records.new key.now (written e value groups version) }
-    ensures groups { (e : Kept) → kept_at records.old key.now ≡ Some e → result ≡ e.groups }
+    ensures groups { (e : NodeRecord) → kept_at records.old key.now ≡ Some e → result ≡ e.groups }
 {
     match records.get_mut(key) {
         None => groups,
@@ -95,7 +95,7 @@ pub fn place(
     ensures err { OnErr result (records.new ≡ records.old) }
     ensures ordered { AreDistinct records.new }
 {
-    let kept = Kept {
+    let kept = NodeRecord {
         value: Arc::try_clone(value)?,
         groups: Flat::new(alloc),
         users: Vec::new(alloc),

@@ -8,7 +8,7 @@ use Rattle.keys.specs.declared.key.Key.{Key}
 use Rattle.node.proofs.Lists.{decide_key}
 use Rattle.open_nodes.proofs.Lookups.{other_key}
 use Rattle.open_nodes.specs.Nodes.{Nodes, node_at, IsOpen}
-use Rattle.open_nodes.specs.Counted.{turns_of, asked_by, asked_at, HasMade, MakesMore, MakesNone}
+use Rattle.open_nodes.specs.TurnCounts.{turns_of, asked_by, asked_at, HasMade, MakesMore, MakesNone}
 use Rattle.open_nodes.specs.Steps.{SameRuns}
 use Rattle.open_nodes.specs.declared.run.Run.{Run}
 use Rattle.open_nodes.specs.declared.table.Node.{Node}

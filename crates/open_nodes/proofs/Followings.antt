@@ -10,7 +10,7 @@ use Rattle.evaluation.proofs.Moves.{TellsAlike}
 use Rattle.keys.specs.Cycles.{cycle}
 use Rattle.keys.specs.declared.key.Key.{Key}
 use Rattle.keys.specs.declared.value.Value.{Value}
-use Rattle.node.specs.Graphs.{Recorded, record_at}
+use Rattle.node.specs.Graphs.{GraphView, record_at}
 use Rattle.open_nodes.specs.Nodes.{groups_of, IsClean}
 use Rattle.open_nodes.specs.Truths.{Past, AreUnchanged, HasStopped, HasBegun, IsRun, IsCheck, IsDoing, TellOut, IsOpenTruly, IsRunToEnd, HasEnded, by_read, by_check, by_turns, IsSettledTruly, IsUntold}
 use Rattle.open_nodes.specs.declared.table.Node.{Node}
@@ -36,7 +36,7 @@ module _ (next : Key → List Value → Reply Key Value) (read : Key → Option 
     settled = λ k s. settled_on next cycle read (record_at past.entry) past.roots cs c s;
   }
 
-  module _ (graph new : Recorded) (clean_still : (j : Key) → IsClean (record_at graph) j → IsClean (record_at new) j) where
+  module _ (graph new : GraphView) (clean_still : (j : Key) → IsClean (record_at graph) j → IsClean (record_at new) j) where
     pub unchanged_on : {u : _} {gs : List (List Key)} → AreUnchanged next read past graph u gs → AreUnchanged next read past new u gs
     unchanged_on h = λ j m. (clean_still j (h j m).0, (h j m).1)
 

@@ -7,14 +7,14 @@ use Rattle.evaluation.specs.Value.{Grounded, is_leaf, has_run, IsUngrounded, All
 use Rattle.evaluation.specs.Graph.{Record}
 use Rattle.evaluation.specs.Choices.{Choice}
 use Rattle.evaluation.proofs.Moves.{TellsAlike}
-use Rattle.evaluation.proofs.Closed.{ungrounded}
+use Rattle.evaluation.proofs.ClosedSets.{ungrounded}
 use Rattle.evaluation.proofs.Plain.{of_grounded}
 use Rattle.keys.specs.Cycles.{cycle}
 use Rattle.keys.specs.Keys.{key_eq}
 use Rattle.keys.specs.Turns.{NoCycle}
 use Rattle.keys.specs.declared.key.Key.{Key}
 use Rattle.keys.specs.declared.value.Value.{Value}
-use Rattle.node.specs.Graphs.{Recorded, record_at, present, Sets}
+use Rattle.node.specs.Graphs.{GraphView, record_at, present, Sets}
 use Rattle.node.specs.Laws.{IsLawfulFor}
 use Rattle.node.proofs.Lists.{some_is, none_some, true_false, decide_key, in_split, in_left, in_right, in_one}
 use Rattle.open_nodes.proofs.Lookups.{other_key}
@@ -62,7 +62,7 @@ module _ (next : Key → List Value → Reply Key Value) (read : Key → Option 
   pub plain : (u : ℕ) (k : Key) (v : Value) (xs : List Key) → Grounded next (past.reads u) k v → v ≢ cycle xs
   plain u k v xs g e = subst NoCycle e (grounded_plain u k v g)
 
-  module _ (graph : Recorded) (a : IsAfter next read past graph) where
+  module _ (graph : GraphView) (a : IsAfter next read past graph) where
     -- an unsettled key has its record of the entry
     pub same_since : (k : Key) → IsUnsettled (record_at graph) k → record_at graph k ≡ record_at past.entry k
     same_since k u = elim (a.since k) [
@@ -102,7 +102,7 @@ module _ (next : Key → List Value → Reply Key Value) (read : Key → Option 
         go true q f = absurd (true_false (f q) d)
 
   -- one node is set
-  pub truth_changes : (cs ds : List (Choice Key)) (g : Grows next read past cs ds) (graph : Recorded) (nodes later : Nodes) (runs : List Run) (k : Key) (n : Node) → ((j : Key) → k ≢ j → TellsAlike j cs ds)
+  pub truth_changes : (cs ds : List (Choice Key)) (g : Grows next read past cs ds) (graph : GraphView) (nodes later : Nodes) (runs : List Run) (k : Key) (n : Node) → ((j : Key) → k ≢ j → TellsAlike j cs ds)
       → Updates key_eq nodes later k (Some n) → IsTrueOf next read past cs graph nodes runs → IsOpenTruly next read past ds graph k n → IsUnsettled (record_at graph) k → IsTrueOf next read past ds graph later runs
   truth_changes cs ds g graph nodes later runs k n alike u t o was = record {
     before = t.before;
@@ -128,7 +128,7 @@ module _ (next : Key → List Value → Reply Key Value) (read : Key → Option 
   }
 
   -- one key is settled, and leaves the open nodes
-  module _ (cs ds : List (Choice Key)) (g : Grows next read past cs ds) (graph new : Recorded) (nodes left : Nodes) (runs : List Run) (k : Key) (r : Record Key Value)
+  module _ (cs ds : List (Choice Key)) (g : Grows next read past cs ds) (graph new : GraphView) (nodes left : Nodes) (runs : List Run) (k : Key) (r : Record Key Value)
       (alike : (j : Key) → k ≢ j → TellsAlike j cs ds) (t : IsTrueOf next read past cs graph nodes runs) (version : new.version ≡ graph.version)
       (sets : Sets (record_at graph) (record_at new) k r) (was : IsUnsettled (record_at graph) k)
       (is_clean : r.dirty ≡ false) (reached : IsReached next read past k) (at : r.settled_at ≡ graph.version) (lawful : IsLawfulFor next past.reads past.edits new)

@@ -1,4 +1,4 @@
 pub mod Nodes
 pub mod Truths
 pub mod Steps
-pub mod Counted
+pub mod TurnCounts

@@ -5,7 +5,7 @@ use Rattle.std.specs.declared.cmp.Ordering.TheVariants.{Less}
 use Rattle.evaluation.specs.Reply.{Reply, Ask, Done}
 use Rattle.evaluation.specs.Value.{Grounded, AllGrounded, IsUngrounded, AllDiffer, In, IsMember}
 use Rattle.evaluation.specs.Graph.{Record}
-use Rattle.evaluation.specs.Reached.{Reached}
+use Rattle.evaluation.specs.Reachability.{Reached}
 use Rattle.evaluation.specs.Choices.{Choice, IsOut, Comes, Changed, Unchanged, Wanted, Checks, Runs, Settled}
 use Rattle.evaluation.specs.States.{HasBacks}
 use Rattle.evaluation.specs.Journal.{RunIsJustified, ReadIsJustified}
@@ -14,7 +14,7 @@ use Rattle.keys.specs.Keys.{key_cmp}
 use Rattle.keys.specs.Turns.{NoCycle}
 use Rattle.keys.specs.declared.key.Key.{Key}
 use Rattle.keys.specs.declared.value.Value.{Value}
-use Rattle.node.specs.Graphs.{Recorded, record_at, IsTouched}
+use Rattle.node.specs.Graphs.{GraphView, record_at, IsTouched}
 use Rattle.node.specs.Laws.{IsLawfulFor}
 use Rattle.open_nodes.specs.Nodes.{Nodes, node_at, groups_of, IsUnsettled, IsClean}
 use Rattle.open_nodes.specs.declared.run.Run.{Run}
@@ -31,7 +31,7 @@ pub record IsNext (next : Key → List Value → Reply Key Value) : Type 0 where
 -- the graph at the entry of a call and its roots, and the history of the files for which it is lawful: `reads u` reads the leaves at version u,
 -- and `edits u` is the path of the edit to version u
 pub record Past (read : Key → Option Value) : Type 0 where
-  pub entry : Recorded
+  pub entry : GraphView
   pub roots : List Key
   pub reads : ℕ → Key → Option Value
   pub edits : ℕ → List (List ℕ)
@@ -48,12 +48,12 @@ module _ (next : Key → List Value → Reply Key Value) (read : Key → Option 
   AreReached keys = (k : Key) → In k keys → IsReached k
 
   -- the record is that of the entry, or the key was not settled at the entry and is now, since the roots reach it
-  abbrev pub IsSince : Recorded → Key → Type 0
+  abbrev pub IsSince : GraphView → Key → Type 0
   IsSince graph k = (record_at graph k ≡ record_at past.entry k)
       ⊎ ((r : Record Key Value) × (record_at graph k ≡ Some r) × (r.dirty ≡ false) × (r.settled_at ≡ past.entry.version) × IsUnsettled (record_at past.entry) k × IsReached k)
 
   -- the graph may have come about in this call
-  pub record IsAfter (graph : Recorded) : Type 0 where
+  pub record IsAfter (graph : GraphView) : Type 0 where
     pub version : graph.version ≡ past.entry.version
     pub lawful : IsLawfulFor next past.reads past.edits graph
     pub since : (k : Key) → IsSince graph k
@@ -66,11 +66,11 @@ module _ (next : Key → List Value → Reply Key Value) (read : Key → Option 
         → next k a ≡ Ask group → AllGrounded next read group vs → Asks k (a ++ vs) groups → Asks k a (group ∷ groups)
 
   -- the members of the groups are settled, each with the value that it had at version u
-  abbrev pub AreUnchanged : Recorded → ℕ → List (List Key) → Type 0
+  abbrev pub AreUnchanged : GraphView → ℕ → List (List Key) → Type 0
   AreUnchanged graph u groups = (j : Key) → IsMember j groups → IsClean (record_at graph) j × Unchanged next cycle read (record_at past.entry) u j
 
   -- the check of the record stopped at a group with a changed member
-  pub record HasStopped (graph : Recorded) (r : Record Key Value) : Type 0 where
+  pub record HasStopped (graph : GraphView) (r : Record Key Value) : Type 0 where
     pub passed : List (List Key)
     pub group : List Key
     pub rest : List (List Key)
@@ -82,7 +82,7 @@ module _ (next : Key → List Value → Reply Key Value) (read : Key → Option 
     pub changed : Changed next cycle read (record_at past.entry) r.settled_at member
 
   -- the key had no record at the entry, or the check of its record stopped
-  abbrev pub HasBegun : Recorded → Key → Type 0
+  abbrev pub HasBegun : GraphView → Key → Type 0
   HasBegun graph k = (record_at past.entry k ≡ None) ⊎ ((r : Record Key Value) × (record_at past.entry k ≡ Some r) × (r.dirty ≡ true) × HasStopped graph r)
 
   -- what is true of the nodes after these choices, the newest first
@@ -95,7 +95,7 @@ module _ (next : Key → List Value → Reply Key Value) (read : Key → Option 
     AreSought keys = (k : Key) → In k keys → IsReached k × IsWantedBy k
 
     -- a node that makes turns: it may, its turns asked these groups, and each of these turns was taken back
-    pub record IsRun (graph : Recorded) (k : Key) (groups : List (List Key)) : Type 0 where
+    pub record IsRun (graph : GraphView) (k : Key) (groups : List (List Key)) : Type 0 where
       pub justified : RunIsJustified next cycle past.reads (λ u j. IsTouched (past.edits u) j) past.entry.version (record_at past.entry k)
       pub asks : Asks k [] groups
       pub runs : Runs next cycle read (record_at past.entry) past.roots cs k
@@ -103,7 +103,7 @@ module _ (next : Key → List Value → Reply Key Value) (read : Key → Option 
       pub taken : HasBacks k (length groups) cs
 
     -- a node whose record is checked, and that passed so many groups
-    pub record IsCheck (graph : Recorded) (k : Key) (at : ℕ) : Type 0 where
+    pub record IsCheck (graph : GraphView) (k : Key) (at : ℕ) : Type 0 where
       pub of_entry : Record Key Value
       pub recorded : record_at past.entry k ≡ Some of_entry
       pub marked : of_entry.dirty ≡ true
@@ -113,7 +113,7 @@ module _ (next : Key → List Value → Reply Key Value) (read : Key → Option 
       pub unchanged : AreUnchanged graph of_entry.settled_at (take at of_entry.groups)
       pub none_taken : HasBacks k 0 cs
 
-    abbrev pub IsDoing : Recorded → Key → List (List Key) → Phase → Type 0
+    abbrev pub IsDoing : GraphView → Key → List (List Key) → Phase → Type 0
     IsDoing graph k groups (phase.Checking at) = IsCheck graph k at
     IsDoing graph k groups phase.Running = IsRun graph k groups
     IsDoing graph k groups phase.Out = IsRun graph k groups
@@ -125,7 +125,7 @@ module _ (next : Key → List Value → Reply Key Value) (read : Key → Option 
     TellOut k phase.Out = IsOut k cs
 
     -- an open node
-    pub record IsOpenTruly (graph : Recorded) (k : Key) (n : Node) : Type 0 where
+    pub record IsOpenTruly (graph : GraphView) (k : Key) (n : Node) : Type 0 where
       pub no_leaf : read k ≡ None
       pub reached : IsReached k
       pub wanted : IsWantedBy k
@@ -134,7 +134,7 @@ module _ (next : Key → List Value → Reply Key Value) (read : Key → Option 
       pub out : TellOut k n.phase
 
     -- a node that its turns settled
-    pub record IsRunToEnd (graph : Recorded) (k : Key) : Type 0 where
+    pub record IsRunToEnd (graph : GraphView) (k : Key) : Type 0 where
       pub no_leaf : read k ≡ None
       pub begun : HasBegun graph k
       pub groups : List (List Key)
@@ -146,17 +146,17 @@ module _ (next : Key → List Value → Reply Key Value) (read : Key → Option 
       pub taken : HasBacks k (suc (length groups)) cs
 
     -- how a key was settled: a leaf was read, all groups of a record were passed, or turns ended it
-    pub data HasEnded (graph : Recorded) (k : Key) : Type 0 where
+    pub data HasEnded (graph : GraphView) (k : Key) : Type 0 where
       by_read : {v : Value} → read k ≡ Some v → HasBacks k 0 cs → HasEnded graph k
       by_check : {r : Record Key Value} → read k ≡ None → record_at past.entry k ≡ Some r → AreUnchanged graph r.settled_at r.groups → HasBacks k 0 cs → HasEnded graph k
       by_turns : IsRunToEnd graph k → HasEnded graph k
 
     -- the value of a record is that of the entry, which changed when it did then, or it changed in this call
-    abbrev pub TellsChange : Recorded → Key → Type 0
+    abbrev pub TellsChange : GraphView → Key → Type 0
     TellsChange graph k = (r s : Record Key Value) → record_at graph k ≡ Some r → record_at past.entry k ≡ Some s → ((s.value ≡ r.value) × (r.changed_at ≡ s.changed_at)) ⊎ ((r.changed_at ≡ past.entry.version) × (s.value ≢ r.value))
 
     -- a key that was settled in this call
-    pub record IsSettledTruly (graph : Recorded) (k : Key) : Type 0 where
+    pub record IsSettledTruly (graph : GraphView) (k : Key) : Type 0 where
       pub settled : Settled next cycle read (record_at past.entry) past.roots cs k
       pub not_out : ¬ IsOut k cs
       pub how : HasEnded graph k
@@ -173,7 +173,7 @@ module _ (next : Key → List Value → Reply Key Value) (read : Key → Option 
       × ((Grounded next read run.key r.value × (run.turns ≡ suc (length r.groups))) ⊎ (IsUngrounded next read run.key × (run.turns ≡ length r.groups))))
 
   -- an item of the run list
-  pub record IsRunOf (graph : Recorded) (run : Run) : Type 0 where
+  pub record IsRunOf (graph : GraphView) (run : Run) : Type 0 where
     pub of_key : Record Key Value
     pub recorded : record_at graph run.key ≡ Some of_key
     pub clean : of_key.dirty ≡ false
@@ -188,7 +188,7 @@ module _ (next : Key → List Value → Reply Key Value) (read : Key → Option 
   IsTold runs k r = In k (run_keys runs) ⊎ ((s : Record Key Value) × (record_at past.entry k ≡ Some s) × ((r.value ≡ s.value) ⊎ IsUngrounded next read k))
 
   -- each run stands behind the runs of those members that its node's record has, unless neither of the two nodes is grounded
-  abbrev pub AreBehind : Recorded → List Run → Type 0
+  abbrev pub AreBehind : GraphView → List Run → Type 0
   AreBehind graph runs = (before rest : List Run) (run : Run) → runs ≡ before ++ run ∷ rest → (r : Record Key Value) → record_at graph run.key ≡ Some r
       → (j : Key) → IsMember j r.groups → In j (run_keys runs) → (IsUngrounded next read run.key → IsUngrounded next read j → ⊥) → In j (run_keys before)
 
@@ -198,7 +198,7 @@ module _ (next : Key → List Value → Reply Key Value) (read : Key → Option 
       → (later : Run) → In later rest → IsUngrounded next read later.key × (key_cmp run.key later.key ≡ Less)
 
   module _ (cs : List (Choice Key)) where
-    pub record IsTrueOf (graph : Recorded) (nodes : Nodes) (runs : List Run) : Type 0 where
+    pub record IsTrueOf (graph : GraphView) (nodes : Nodes) (runs : List Run) : Type 0 where
       pub before : IsLawfulFor next past.reads past.edits past.entry
       pub after : IsAfter graph
       pub opened : (k : Key) (n : Node) → node_at nodes k ≡ Some n → IsOpenTruly cs graph k n
@@ -213,7 +213,7 @@ module _ (next : Key → List Value → Reply Key Value) (read : Key → Option 
       pub untold : (k : Key) → node_at nodes k ≡ None → record_at graph k ≡ record_at past.entry k → IsUntold cs k
 
   -- what is true once a stall was closed: no node is open any more
-  pub record IsTrueAtEnd (graph : Recorded) (runs : List Run) : Type 0 where
+  pub record IsTrueAtEnd (graph : GraphView) (runs : List Run) : Type 0 where
     pub after : IsAfter graph
     pub ran : (run : Run) → In run runs → IsRunOf graph run
     pub differ : AllDiffer (run_keys runs)
@@ -222,20 +222,20 @@ module _ (next : Key → List Value → Reply Key Value) (read : Key → Option 
     pub closed : AreClosedLast runs
 
 -- where the state was true before, it is after these further choices, the newest first; and after want of memory the graph is as after a stop
-abbrev pub LeadsBy : {X E : Type 0} → List (Choice Key) → (Key → List Value → Reply Key Value) → (Key → Option Value) → Recorded → Recorded → Table → Table → Result X E → Type 0
+abbrev pub LeadsBy : {X E : Type 0} → List (Choice Key) → (Key → List Value → Reply Key Value) → (Key → Option Value) → GraphView → GraphView → Table → Table → Result X E → Type 0
 LeadsBy added next read old new before after (Ok x) = (laws : IsNext next) (past : Past read) (cs : List (Choice Key)) → IsTrueOf next read past cs old before.nodes before.runs.items → IsTrueOf next read past (added ++ cs) new after.nodes after.runs.items
 LeadsBy added next read old new before after (Err e) = (laws : IsNext next) (past : Past read) (cs : List (Choice Key)) → IsTrueOf next read past cs old before.nodes before.runs.items → IsAfter next read past new
 
 -- the same without a choice
-abbrev pub Leads : {X E : Type 0} → (Key → List Value → Reply Key Value) → (Key → Option Value) → Recorded → Recorded → Table → Table → Result X E → Type 0
+abbrev pub Leads : {X E : Type 0} → (Key → List Value → Reply Key Value) → (Key → Option Value) → GraphView → GraphView → Table → Table → Result X E → Type 0
 Leads next read old new before after result = LeadsBy [] next read old new before after result
 
 -- the same for what is known of these keys: an evaluation of the roots reaches them, and the choices made them wanted
-abbrev pub LeadsOf : {X E : Type 0} → (Key → List Value → Reply Key Value) → (Key → Option Value) → List Key → Recorded → Recorded → Table → Table → Result X E → Type 0
+abbrev pub LeadsOf : {X E : Type 0} → (Key → List Value → Reply Key Value) → (Key → Option Value) → List Key → GraphView → GraphView → Table → Table → Result X E → Type 0
 LeadsOf next read keys old new before after (Ok x) = (laws : IsNext next) (past : Past read) (cs : List (Choice Key)) → AreSought next read past cs keys → IsTrueOf next read past cs old before.nodes before.runs.items → IsTrueOf next read past cs new after.nodes after.runs.items
 LeadsOf next read keys old new before after (Err e) = (laws : IsNext next) (past : Past read) (cs : List (Choice Key)) → AreSought next read past cs keys → IsTrueOf next read past cs old before.nodes before.runs.items → IsAfter next read past new
 
 -- where the state was true before, what is true at the end is; and after want of memory the graph is as after a stop
-abbrev pub LeadsToEnd : {X E : Type 0} → (Key → List Value → Reply Key Value) → (Key → Option Value) → Recorded → Recorded → Table → Table → Result X E → Type 0
+abbrev pub LeadsToEnd : {X E : Type 0} → (Key → List Value → Reply Key Value) → (Key → Option Value) → GraphView → GraphView → Table → Table → Result X E → Type 0
 LeadsToEnd next read old new before after (Ok x) = (laws : IsNext next) (past : Past read) (cs : List (Choice Key)) → IsTrueOf next read past cs old before.nodes before.runs.items → IsTrueAtEnd next read past new after.runs.items
 LeadsToEnd next read old new before after (Err e) = (laws : IsNext next) (past : Past read) (cs : List (Choice Key)) → IsTrueOf next read past cs old before.nodes before.runs.items → IsAfter next read past new

@@ -7,20 +7,20 @@ use Rattle.heap.specs.declared.halt.Halt.TheVariants.{Code, Memory}
 use Rattle.heap.specs.View.{Says}
 use Rattle.meaning.specs.declared.val.Val.{Val}
 use Rattle.meaning.specs.Outcome as m
-use Rattle.meaning.specs.Outcome.{Out, gives, faults, Does, Checked, good, bad, checked}
+use Rattle.meaning.specs.Outcome.{Out, gives, faults, Does, ValueOrFault, good, bad, checked}
 use Rattle.meaning.specs.Heap.{Store, makes_list, is_sized}
-use Rattle.meaning.specs.Functions.{Named}
+use Rattle.meaning.specs.Functions.{KeywordArguments}
 use Rattle.meaning.specs.Methods.{makes_texts}
 use Rattle.language.specs.World.{World, Here, ended, waits, then_runs, at_site}
 use Rattle.language.specs.Environment.{Answers}
 use Rattle.language.specs.Globs.{Glob, read_call, questions, unanswered, found, makes_paths, answered, glob}
 use Rattle.language.proofs.HeapSteps.{HeapAtMost, Lowers, d_if, d_then, d_list, d_fault}
 use Rattle.language.proofs.MethodSteps.{makes_texts_down}
-use Rattle.package_calls.specs.Asked.{asked_of}
+use Rattle.package_calls.specs.GlobCalls.{asked_of}
 use Rattle.package_calls.specs.View.{EndsAs, ChecksAs}
 
-module _ (answers : Answers) (xs : List Val) (ns : Named) (here : Here) (w : World) (s : Store) (e : w.store ≡ s) where
-  ends : (r : Checked Glob) → read_call xs ns s ≡ r → glob answers xs ns here w ≡ then_runs (at_site here.site w (checked r w.store)) (λ g. answered (unanswered answers [] (questions g)) answers g here)
+module _ (answers : Answers) (xs : List Val) (ns : KeywordArguments) (here : Here) (w : World) (s : Store) (e : w.store ≡ s) where
+  ends : (r : ValueOrFault Glob) → read_call xs ns s ≡ r → glob answers xs ns here w ≡ then_runs (at_site here.site w (checked r w.store)) (λ g. answered (unanswered answers [] (questions g)) answers g here)
   unfolding glob
   ends r h = ap (λ r. then_runs (at_site here.site w (checked r w.store)) (λ g. answered (unanswered answers [] (questions g)) answers g here)) (ap (read_call xs ns) e ∙ h)
 

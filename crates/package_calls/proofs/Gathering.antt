@@ -7,8 +7,8 @@ use Rattle.meaning.specs.Comparing.{same_text}
 use Rattle.language.specs.Names.{has_name}
 use Rattle.language.specs.Environment.{Answers}
 use Rattle.language.specs.Globs.{answer_to, found_or_none, unanswered}
-use Rattle.package_calls.specs.Gathered.{kept_of, found_all, with_unanswered}
-use Rattle.builtins.proofs.Zipped.{drop_item}
+use Rattle.package_calls.specs.GlobResults.{kept_of, found_all, with_unanswered}
+use Rattle.builtins.proofs.Rows.{drop_item}
 
 kept-append : (excludes xs ys : List (List ℕ)) → kept_of excludes (xs ++ ys) ≡ kept_of excludes xs ++ kept_of excludes ys
 kept-append excludes xs ys = filter-append _ xs ys

@@ -1,10 +1,10 @@
 pub mod AsciiTexts
 pub mod Twice
-pub mod Named
-pub mod Ordered
+pub mod ArgumentsByName
+pub mod TextSets
 pub mod Steps
 pub mod Gathering
 pub mod Asking
-pub mod Ruled
+pub mod RuleCalls
 pub mod Within
-pub mod Spelled
+pub mod LabelTexts

@@ -1,16 +1,16 @@
 -- One item more of a list whose results are gathered.
 use Rattle.std.proofs.Common.{◌≡◌, ◌+◌, ◌<◌, ℕ, List, [], ◌∷◌, ◌++◌, length, drop, get_or, map, refl, ap, sym, ◌∙◌, append_assoc}
 use Rattle.std.proofs.lemmas.List.{map-append}
-use Rattle.meaning.specs.Outcome.{Checked, good, bad, then_checked}
+use Rattle.meaning.specs.Outcome.{ValueOrFault, good, bad, then_checked}
 use Rattle.language.specs.Rules.{label_in, labels_in, as_shape, all_shaped}
 use Rattle.names.specs.View.{attribute_of, attributed_of}
-use Rattle.names.specs.declared.state.Attributed.{Attributed}
+use Rattle.names.specs.declared.state.TargetAttribute.{TargetAttribute}
 use Rattle.package_calls.specs.Fields.{field_name, field_shape}
-use Rattle.package_calls.specs.Given.{given_of}
-use Rattle.package_calls.specs.declared.attributes.Given.{Given}
-use Rattle.builtins.proofs.Zipped.{drop_item}
+use Rattle.package_calls.specs.RuleArguments.{given_of}
+use Rattle.package_calls.specs.declared.attributes.RuleArgument.{RuleArgument}
+use Rattle.builtins.proofs.Rows.{drop_item}
 
-pub more_checked : {B : Type 0} (r : Checked (List B)) (b : B) (all : List B) → then_checked (then_checked r (λ bs. good (b ∷ bs))) (λ bs. good (all ++ bs)) ≡ then_checked r (λ bs. good ((all ++ b ∷ []) ++ bs))
+pub more_checked : {B : Type 0} (r : ValueOrFault (List B)) (b : B) (all : List B) → then_checked (then_checked r (λ bs. good (b ∷ bs))) (λ bs. good (all ++ bs)) ≡ then_checked r (λ bs. good ((all ++ b ∷ []) ++ bs))
 more_checked (good bs) b all = ap good (sym (append_assoc all (b ∷ []) bs))
 more_checked (bad c) b all = refl
 
@@ -25,7 +25,7 @@ labels_step name texts i t l done more lt is e m inv =
     ∙ ap (λ ts. then_checked (labels_in name ts) (λ ls. good (done ++ ls))) (sym first)
     ∙ inv
 
-pub shaped_step : (name : List ℕ) (given : List Given) (i : ℕ) (g : Given) (x : Attributed) (done more : List Attributed) → i < length given → g ≡ get_or given i g
+pub shaped_step : (name : List ℕ) (given : List RuleArgument) (i : ℕ) (g : RuleArgument) (x : TargetAttribute) (done more : List TargetAttribute) → i < length given → g ≡ get_or given i g
     → as_shape name (field_shape g.field) (attribute_of g.value) ≡ good (attribute_of x.value) → x.name ≡ field_name g.field → more ≡ done ++ x ∷ []
     → then_checked (all_shaped name (map given_of (drop i given))) (λ rest. good (map attributed_of done ++ rest)) ≡ all_shaped name (map given_of given)
     → then_checked (all_shaped name (map given_of (drop (i + 1) given))) (λ rest. good (map attributed_of more ++ rest)) ≡ all_shaped name (map given_of given)

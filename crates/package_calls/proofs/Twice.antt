@@ -2,18 +2,18 @@
 use Rattle.std.proofs.Common.{◌≡◌, ◌≤◌, Bool, true, false, cond, List, [], ◌∷◌, length, refl, arith, ap, ◌∙◌}
 use Rattle.std.specs.Prelude.{codes, ◌||◌}
 use Rattle.meaning.specs.declared.val.Val.{Val}
-use Rattle.meaning.specs.Functions.{Named, is_named}
+use Rattle.meaning.specs.Functions.{KeywordArguments, is_named}
 use Rattle.language.specs.Globs.{plain_parameters, given_twice}
 
 same : (b : Bool) → cond b true false ≡ b
 same true = refl
 same false = refl
 
-none_left : (xs : List Val) (ns : Named) → given_twice xs [] ns ≡ false
+none_left : (xs : List Val) (ns : KeywordArguments) → given_twice xs [] ns ≡ false
 none_left [] ns = refl
 none_left (x ∷ xs) ns = refl
 
-pub given_one : (xs : List Val) (ns : Named) → length xs ≡ 1 → given_twice xs plain_parameters ns ≡ is_named (codes "include") ns
+pub given_one : (xs : List Val) (ns : KeywordArguments) → length xs ≡ 1 → given_twice xs plain_parameters ns ≡ is_named (codes "include") ns
 given_one [] ns h = absurd (omega arith)
 given_one (x ∷ []) ns h = same (is_named (codes "include") ns)
 given_one (x ∷ y ∷ xs) ns h = absurd (omega arith)
@@ -22,7 +22,7 @@ or_is : (a b : Bool) → cond a true b ≡ (a || b)
 or_is true b = refl
 or_is false b = refl
 
-pub given_two : (xs : List Val) (ns : Named) → length xs ≡ 2 → given_twice xs plain_parameters ns ≡ (is_named (codes "include") ns || is_named (codes "exclude") ns)
+pub given_two : (xs : List Val) (ns : KeywordArguments) → length xs ≡ 2 → given_twice xs plain_parameters ns ≡ (is_named (codes "include") ns || is_named (codes "exclude") ns)
 given_two [] ns h = absurd (omega arith)
 given_two (x ∷ []) ns h = absurd (omega arith)
 given_two (x ∷ y ∷ []) ns h = ap (λ b. cond (is_named (codes "include") ns) true b) (same (is_named (codes "exclude") ns)) ∙ or_is (is_named (codes "include") ns) (is_named (codes "exclude") ns)
@@ -33,7 +33,7 @@ or_or true b c = refl
 or_or false true c = refl
 or_or false false c = refl
 
-pub given_three : (xs : List Val) (ns : Named) → 3 ≤ length xs → given_twice xs plain_parameters ns ≡ ((is_named (codes "include") ns || is_named (codes "exclude") ns) || is_named (codes "allow_empty") ns)
+pub given_three : (xs : List Val) (ns : KeywordArguments) → 3 ≤ length xs → given_twice xs plain_parameters ns ≡ ((is_named (codes "include") ns || is_named (codes "exclude") ns) || is_named (codes "allow_empty") ns)
 given_three [] ns h = absurd (omega arith)
 given_three (x ∷ []) ns h = absurd (omega arith)
 given_three (x ∷ y ∷ []) ns h = absurd (omega arith)

@@ -4,7 +4,7 @@ use Rattle.grammar.specs.declared.kind.FileKind.TheVariants as k
 use Rattle.meaning.specs.declared.val.Val.{Val}
 use Rattle.meaning.specs.declared.builtin.Builtin.{Builtin}
 use Rattle.meaning.specs.declared.builtin.Builtin.TheVariants as b
-use Rattle.meaning.specs.Functions.{Named}
+use Rattle.meaning.specs.Functions.{KeywordArguments}
 use Rattle.heap.specs.declared.halt.Halt.{Halt}
 use Rattle.heap.specs.declared.halt.Halt.TheVariants.{Code, Memory}
 use Rattle.language.specs.World.{World, Site, Here, Ends, Runs, failed}
@@ -15,23 +15,23 @@ use Rattle.names.specs.View.{Ran}
 use Rattle.package_calls.specs.Within.{within}
 use Rattle.package_calls.specs.View.{EndsAs}
 
-pub within_rule : (name : List ℕ) (answers : Answers) (f : Builtin) (xs : List Val) (ns : Named) (here : Here) → (f ≡ b.PackageName → ⊥) → (f ≡ b.Glob → ⊥) → within name answers f xs ns here ≡ rule f name xs ns here
+pub within_rule : (name : List ℕ) (answers : Answers) (f : Builtin) (xs : List Val) (ns : KeywordArguments) (here : Here) → (f ≡ b.PackageName → ⊥) → (f ≡ b.Glob → ⊥) → within name answers f xs ns here ≡ rule f name xs ns here
 within_rule name answers b.PackageName xs ns here p g = absurd (p refl)
 within_rule name answers b.Glob xs ns here p g = absurd (g refl)
 within_rule name answers f xs ns here p g = refl
 
-same_call : (env : Env) (f : Builtin) (xs : List Val) (ns : Named) (here : Here) → in_package env f xs ns here ≡ within env.package_name env.globs f xs ns here
+same_call : (env : Env) (f : Builtin) (xs : List Val) (ns : KeywordArguments) (here : Here) → in_package env f xs ns here ≡ within env.package_name env.globs f xs ns here
 same_call env b.PackageName [] [] here = refl
 same_call env b.PackageName [] (n ∷ ns) here = refl
 same_call env b.PackageName (x ∷ xs) ns here = refl
 same_call env b.Glob xs ns here = refl
 same_call env f xs ns here = refl
 
-pub in_module : (env : Env) (f : Builtin) (xs : List Val) (ns : Named) (here : Here) (w : World) → env.kind ≡ k.Bzl → package_call env f xs ns here w ≡ failed 23 here.site
+pub in_module : (env : Env) (f : Builtin) (xs : List Val) (ns : KeywordArguments) (here : Here) (w : World) → env.kind ≡ k.Bzl → package_call env f xs ns here w ≡ failed 23 here.site
 unfolding package_call
 in_module env f xs ns here w e = ap (λ kind. if_build kind here (in_package env f xs ns here) w) e
 
-pub in_build : (env : Env) (name : List ℕ) (answers : Answers) (f : Builtin) (xs xs' : List Val) (ns ns' : Named) (here : Here) (w : World) → env.kind ≡ k.Build → env.package_name ≡ name → env.globs ≡ answers → xs ≡ xs' → ns ≡ ns'
+pub in_build : (env : Env) (name : List ℕ) (answers : Answers) (f : Builtin) (xs xs' : List Val) (ns ns' : KeywordArguments) (here : Here) (w : World) → env.kind ≡ k.Build → env.package_name ≡ name → env.globs ≡ answers → xs ≡ xs' → ns ≡ ns'
     → package_call env f xs' ns' here w ≡ within name answers f xs ns here w
 unfolding package_call
 in_build env name answers f xs xs' ns ns' here w e n a x y =

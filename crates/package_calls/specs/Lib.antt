@@ -1,6 +1,6 @@
 pub mod Fields
-pub mod Given
-pub mod Asked
-pub mod Gathered
+pub mod RuleArguments
+pub mod GlobCalls
+pub mod GlobResults
 pub mod View
 pub mod Within

@@ -4,13 +4,13 @@ use Rattle.std.specs.Arc.{arc_value}
 use Rattle.heap.specs.declared.halt.Halt.{Halt}
 use Rattle.heap.specs.declared.halt.Halt.TheVariants.{Code, Memory}
 use Rattle.meaning.specs.declared.val.Val.{Val}
-use Rattle.meaning.specs.Outcome.{Checked, good, bad}
+use Rattle.meaning.specs.Outcome.{ValueOrFault, good, bad}
 use Rattle.language.specs.World.{World, Site, Ends, ended, failed, waits}
 use Rattle.language.specs.Environment.{Env, Answers}
 use Rattle.package_calls.specs.declared.kinds.Answer.{Answer}
 use Rattle.package_calls.specs.declared.kinds.Package.{Package}
-use Rattle.package_calls.specs.declared.kinds.Called.{Called}
-use Rattle.package_calls.specs.declared.kinds.Called.TheVariants.{Value, Waits}
+use Rattle.package_calls.specs.declared.kinds.CallOutcome.{CallOutcome}
+use Rattle.package_calls.specs.declared.kinds.CallOutcome.TheVariants.{Value, Waits}
 
 abbrev pub answer_of : Answer → List ℕ × List (List ℕ)
 answer_of a = (a.pattern, (arc_value a.paths).items)
@@ -26,19 +26,19 @@ pub record IsOf (p : Package) (env : Env) : Type 0 where
 
 -- the call ends as the definition does: with its value and the same state after it, waiting for the same patterns, or
 -- at its fault; where memory is refused nothing is said
-abbrev pub EndsAs : Site → Ends Val → Result Called Halt → World → Type 0
+abbrev pub EndsAs : Site → Ends Val → Result CallOutcome Halt → World → Type 0
 EndsAs site out (Ok (Value x)) u = out ≡ ended x u
 EndsAs site out (Ok (Waits patterns)) u = out ≡ waits patterns.items
 EndsAs site out (Err (Code c)) u = out ≡ failed c site
 EndsAs site out (Err Memory) u = Unit {0}
 
 -- a fact of a call that waits
-abbrev pub IfWaits : Result Called Halt → Type 0 → Type 0
+abbrev pub IfWaits : Result CallOutcome Halt → Type 0 → Type 0
 IfWaits (Ok (Waits patterns)) fact = fact
 IfWaits r fact = Unit {0}
 
 -- the call gives what the definition gives, as a view shows it, or its fault
-abbrev pub ChecksAs : {A B : Type 0} → (B → A) → Checked A → Result B Halt → Type 0
+abbrev pub ChecksAs : {A B : Type 0} → (B → A) → ValueOrFault A → Result B Halt → Type 0
 ChecksAs view out (Ok b) = out ≡ good (view b)
 ChecksAs view out (Err (Code c)) = out ≡ bad c
 ChecksAs view out (Err Memory) = Unit {0}

@@ -9,7 +9,7 @@ ghost use Rattle.language.specs.Sorting.{in_order};
 ghost use Rattle.language.specs.Globs as globs;
 ghost use Rattle.language.specs.Globs.{answer_to, found_or_none, makes_paths};
 ghost use Rattle.heap.specs.View.{store_of, Says, SaysItems};
-ghost use Rattle.package_calls.specs.Gathered.{kept_of, found_all, with_unanswered};
+ghost use Rattle.package_calls.specs.GlobResults.{kept_of, found_all, with_unanswered};
 ghost use Rattle.package_calls.specs.View.{answers_of};
 
 use crate::kinds::Answer;

@@ -7,7 +7,7 @@ ghost use Rattle.language.specs.Rules.{all_typed, typed, all_shaped, as_shape, l
 ghost use Rattle.heap.specs.View.{store_of, ChecksItems};
 ghost use Rattle.names.specs.View.{attribute_of, attributed_of};
 ghost use Rattle.package_calls.specs.Fields.{field_shape, shapes};
-ghost use Rattle.package_calls.specs.Given.{given_of};
+ghost use Rattle.package_calls.specs.RuleArguments.{given_of};
 ghost use Rattle.package_calls.specs.View.{ChecksAs};
 
 use crate::arguments::value_named;
@@ -16,19 +16,23 @@ use crate::spelling::{is_path, label_in};
 use crate::strings::{text_in, texts_in};
 use heap::{Bytes, Halt, Heap, Val};
 use meaning::faults;
-use names::{Attribute, Attributed};
+use names::{Attribute, TargetAttribute};
 use std::alloc::Global;
 use texts::{Memory, Text};
 
 /// An attribute that is given, with its texts as they were written.
 #[derive(Drop)]
-pub struct Given {
+pub struct RuleArgument {
     pub field: Field,
     pub value: Attribute,
 }
 
 /// Returns the attributes that are given, in byte order, or fault 5.
-pub fn all_typed(heap: &Heap, fields: &[Field], ns: &[(Text, Val)]) -> Result<Vec<Given>, Halt>
+pub fn all_typed(
+    heap: &Heap,
+    fields: &[Field],
+    ns: &[(Text, Val)],
+) -> Result<Vec<RuleArgument>, Halt>
     ensures { ChecksAs (λ v. map given_of v.items)
         (all_typed (shapes fields.now) ns.now (store_of heap.now)) result }
 {
@@ -36,7 +40,7 @@ pub fn all_typed(heap: &Heap, fields: &[Field], ns: &[(Text, Val)]) -> Result<Ve
     for field in fields {
         if let Some(x) = value_named(field_name(*field), ns) {
             match typed(heap, *field, x) {
-                Ok(value) => all.push(Given {
+                Ok(value) => all.push(RuleArgument {
                     field: *field,
                     value,
                 })?,
@@ -67,8 +71,8 @@ fn typed(heap: &Heap, field: Field, x: Val) -> Result<Attribute, Halt>
 pub fn all_shaped(
     alloc: Global,
     package_name: &Text,
-    given: &[Given],
-) -> Result<Vec<Attributed>, Halt>
+    given: &[RuleArgument],
+) -> Result<Vec<TargetAttribute>, Halt>
     ensures { ChecksAs (λ v. map attributed_of v.items)
         (all_shaped package_name.now (map given_of given.now)) result }
 {
@@ -77,7 +81,7 @@ pub fn all_shaped(
         match as_shape(alloc, package_name, g) {
             Ok(value) => {
                 let name = Bytes::of_text(Text::new(alloc, field_name(g.field))?);
-                all.push(Attributed { name, value })?;
+                all.push(TargetAttribute { name, value })?;
             }
             Err(halt) => return Err(halt),
         }
@@ -86,7 +90,7 @@ pub fn all_shaped(
 }
 
 // Returns an attribute with its labels read in the package, or fault 15.
-fn as_shape(alloc: Global, package_name: &Text, given: &Given) -> Result<Attribute, Halt>
+fn as_shape(alloc: Global, package_name: &Text, given: &RuleArgument) -> Result<Attribute, Halt>
     ensures { ChecksAs attribute_of (as_shape package_name.now (field_shape given.now.field)
         (attribute_of given.now.value)) result }
 {

@@ -9,7 +9,7 @@ ghost use Rattle.language.specs.Globs as globs;
 ghost use Rattle.globs.specs.Globs.{question};
 ghost use Rattle.language.specs.Globs.{parameters, plain_parameters, texts_or_none, truth_or, int_or};
 ghost use Rattle.heap.specs.View.{store_of, Checks, ChecksItems};
-ghost use Rattle.package_calls.specs.Asked.{asked_of, written_of};
+ghost use Rattle.package_calls.specs.GlobCalls.{asked_of, written_of};
 ghost use Rattle.package_calls.specs.View.{ChecksAs};
 
 use crate::arguments::{is_named, is_twice, value_named};
@@ -23,7 +23,7 @@ use texts::{Memory, Text};
 
 /// What a call asks for.
 #[derive(Drop)]
-pub struct Asked {
+pub struct GlobCall {
     pub includes: Vec<Pattern>,
     pub excludes: Vec<Pattern>,
     pub allow_empty: bool,
@@ -33,7 +33,7 @@ pub struct Asked {
 
 /// The same, before its patterns are read.
 #[derive(Drop)]
-pub struct Written {
+pub struct GlobArguments {
     pub includes: Vec<Bytes>,
     pub excludes: Vec<Bytes>,
     pub allow_empty: bool,
@@ -41,7 +41,7 @@ pub struct Written {
 }
 
 /// Reads what a call asks for, or returns fault 25, 5 or 21.
-pub fn read_call(heap: &Heap, xs: &[Val], ns: &[(Text, Val)]) -> Result<Asked, Halt>
+pub fn read_call(heap: &Heap, xs: &[Val], ns: &[(Text, Val)]) -> Result<GlobCall, Halt>
     ensures { ChecksAs asked_of (globs.read_call xs.now ns.now (store_of heap.now)) result }
 {
     if !are_arguments(heap.alloc, xs, ns)? {
@@ -139,7 +139,7 @@ fn argument(i: usize, name: &str, xs: &[Val], ns: &[(Text, Val)]) -> Option<Val>
 }
 
 // Reads the arguments of a call, with its patterns as texts, or returns fault 5 or 25.
-fn typed(heap: &Heap, xs: &[Val], ns: &[(Text, Val)]) -> Result<Written, Halt>
+fn typed(heap: &Heap, xs: &[Val], ns: &[(Text, Val)]) -> Result<GlobArguments, Halt>
     ensures { ChecksAs written_of (globs.typed xs.now ns.now (store_of heap.now)) result }
 {
     let includes = texts_or_none(heap, argument(0, "include", xs, ns))?;
@@ -147,7 +147,7 @@ fn typed(heap: &Heap, xs: &[Val], ns: &[(Text, Val)]) -> Result<Written, Halt>
     let allow_empty = truth_or(true, argument(2, "allow_empty", xs, ns))?;
     let number = int_or(1, value_named("exclude_directories", ns))?;
     let directories = with_directories(number)?;
-    Ok(Written {
+    Ok(GlobArguments {
         includes,
         excludes,
         allow_empty,
@@ -201,12 +201,12 @@ fn with_directories(n: i64) -> Result<bool, Halt>
 }
 
 // Reads the texts as patterns, or returns fault 21.
-fn with_patterns(alloc: Global, written: &Written) -> Result<Asked, Halt>
+fn with_patterns(alloc: Global, written: &GlobArguments) -> Result<GlobCall, Halt>
     ensures { ChecksAs asked_of (globs.with_patterns (written_of written.now)) result }
 {
     let includes = all_patterns(alloc, written.includes.as_slice())?;
     let excludes = all_patterns(alloc, written.excludes.as_slice())?;
-    Ok(Asked {
+    Ok(GlobCall {
         includes,
         excludes,
         allow_empty: written.allow_empty,

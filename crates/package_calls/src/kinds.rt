@@ -25,7 +25,7 @@ pub struct Package {
 
 /// How a package call ends: with a value, or waiting for the paths of patterns, asked for as in `Answer`, in order and each once.
 #[derive(Drop)]
-pub enum Called {
+pub enum CallOutcome {
     Value(Val),
     Waits(Vec<Text>),
 }

@@ -12,5 +12,5 @@ mod rules;
 mod spelling;
 mod strings;
 
-pub use kinds::{Answer, Called, Package};
+pub use kinds::{Answer, CallOutcome, Package};
 pub use rules::package_call;

@@ -13,16 +13,16 @@ ghost use Rattle.heap.specs.View.{store_of, Checks, Says};
 ghost use Rattle.names.specs.View as view;
 ghost use Rattle.names.specs.View.{world_of, Ran};
 ghost use Rattle.package_calls.specs.Fields.{shapes, known_names};
-ghost use Rattle.package_calls.specs.Given.{given_of};
+ghost use Rattle.package_calls.specs.RuleArguments.{given_of};
 ghost use Rattle.package_calls.specs.View.{ChecksAs, IsOf, EndsAs, IfWaits, answers_of};
 ghost use Rattle.package_calls.specs.Within.{within, named_package};
 
 use crate::answering::{found, make_paths, make_text, unanswered};
 use crate::arguments::{is_named, is_twice, named_part, not_none, plain_part, value_named};
-use crate::attributes::{Given, all_shaped, all_typed};
+use crate::attributes::{RuleArgument, all_shaped, all_typed};
 use crate::fields::{Field, field_name, fields_of};
 use crate::globbing::{questions, read_call};
-use crate::kinds::{Answer, Called, Package};
+use crate::kinds::{Answer, CallOutcome, Package};
 use crate::spelling::is_path;
 use crate::strings::text_in;
 use grammar::FileKind;
@@ -41,7 +41,7 @@ pub fn package_call(
     f: Builtin,
     xs: &[Val],
     names: &[Text],
-) -> Result<Called, Halt>
+) -> Result<CallOutcome, Halt>
     ensures says { (env : Env) (here : Here) → IsOf known.now env → EndsAs here.site
         (package_call env f (plain_part xs.now names.now) (named_part xs.now names.now) here
         (world_of state.old)) result (world_of state.new) }
@@ -65,7 +65,7 @@ fn in_package(
     f: Builtin,
     xs: &[Val],
     ns: &[(Text, Val)],
-) -> Result<Called, Halt>
+) -> Result<CallOutcome, Halt>
     ensures says { (here : Here) → EndsAs here.site
         (within known.now.name (answers_of known.now.answers.items) f xs.now ns.now here
         (world_of state.old)) result (world_of state.new) }
@@ -74,12 +74,12 @@ fn in_package(
 {
     match f {
         Builtin::PackageName => match package_name(&mut state.heap, &known.name, xs, ns) {
-            Ok(name) => Ok(Called::Value(name)),
+            Ok(name) => Ok(CallOutcome::Value(name)),
             Err(halt) => Err(halt),
         },
         Builtin::Glob => glob(&mut state.heap, known.answers.as_slice(), xs, ns),
         _ => match rule(state, f, &known.name, xs, ns) {
-            Ok(made) => Ok(Called::Value(made)),
+            Ok(made) => Ok(CallOutcome::Value(made)),
             Err(halt) => Err(halt),
         },
     }
@@ -99,7 +99,12 @@ fn package_name(heap: &mut Heap, name: &Text, xs: &[Val], ns: &[(Text, Val)]) ->
 }
 
 // Calls `glob`.
-fn glob(heap: &mut Heap, answers: &[Answer], xs: &[Val], ns: &[(Text, Val)]) -> Result<Called, Halt>
+fn glob(
+    heap: &mut Heap,
+    answers: &[Answer],
+    xs: &[Val],
+    ns: &[(Text, Val)],
+) -> Result<CallOutcome, Halt>
     ensures says { (here : Here) (w : World) → w.store ≡ store_of heap.old → EndsAs here.site
         (glob (answers_of answers.now) xs.now ns.now here w) result
         (record w { store = store_of heap.new }) }
@@ -113,7 +118,7 @@ fn glob(heap: &mut Heap, answers: &[Answer], xs: &[Val], ns: &[(Text, Val)]) -> 
     let questions = questions(heap.alloc, asked.directories, asked.includes.as_slice())?;
     let open = unanswered(heap.alloc, answers, questions.as_slice())?;
     if !open.is_empty() {
-        return Ok(Called::Waits(open));
+        return Ok(CallOutcome::Waits(open));
     }
     let paths = found(
         heap.alloc,
@@ -122,7 +127,7 @@ fn glob(heap: &mut Heap, answers: &[Answer], xs: &[Val], ns: &[(Text, Val)]) -> 
         asked.excludes.as_slice(),
     )?;
     match make_paths(heap, asked.allow_empty, paths.as_slice()) {
-        Ok(made) => Ok(Called::Value(made)),
+        Ok(made) => Ok(CallOutcome::Value(made)),
         Err(halt) => Err(halt),
     }
 }
@@ -250,7 +255,7 @@ fn make_target(
     f: Builtin,
     package_name: &Text,
     name: Bytes,
-    given: &[Given],
+    given: &[RuleArgument],
 ) -> Result<Target, Halt>
     ensures { ChecksAs view.target_of (makes_target (builtin_name f) package_name.now name
         (map given_of given.now)) result }

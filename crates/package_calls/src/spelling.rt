@@ -24,7 +24,7 @@ pub fn is_path(bytes: &[u8]) -> bool
 }
 
 /// Returns the text of a label that is read in a package, or fault 15.
-#[tactic(auto, using(crate::proofs::Spelled::spelled, crate::proofs::Spelled::misspelled))]
+#[tactic(auto, using(crate::proofs::LabelTexts::spelled, crate::proofs::LabelTexts::misspelled))]
 pub fn label_in(alloc: Global, package_name: &Text, bytes: &[u8]) -> Result<Bytes, Halt>
     ensures { Checks (label_in package_name.now bytes.now) result }
 {

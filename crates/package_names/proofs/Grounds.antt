@@ -13,7 +13,7 @@ use Rattle.filetree.specs.Lawful.{HasPaths}
 use Rattle.filetree.specs.Listings.{sorted_names, listing}
 use Rattle.globs.specs.Globs.{path_in}
 use Rattle.globs.proofs.Members.{In, own_bytes, or_left, or_right}
-use Rattle.globs.proofs.Sorted.{in_sorted}
+use Rattle.globs.proofs.NameOrder.{in_sorted}
 use Rattle.keys.specs.declared.key.Key.{Key}
 use Rattle.keys.specs.declared.key.Key.TheVariants as key
 use Rattle.keys.specs.declared.value.Value.{Value}

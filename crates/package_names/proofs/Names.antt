@@ -16,7 +16,7 @@ use Rattle.filetree.specs.Files.{Files, is_file}
 use Rattle.filetree.specs.Lawful.{HasPaths}
 use Rattle.globs.specs.Globs.{path_in, is_package}
 use Rattle.globs.proofs.Members.{In, own_bytes, or_left, or_right, in_any, in_all, in_filter}
-use Rattle.globs.proofs.Sorted.{in_sorted}
+use Rattle.globs.proofs.NameOrder.{in_sorted}
 use Rattle.package_names.specs.Below.{directories_below, packages_below}
 use Rattle.package_names.specs.Finds.{HavePackageNames}
 

@@ -11,7 +11,7 @@ use Rattle.keys.specs.declared.key.Key.{Key}
 use Rattle.keys.specs.declared.key.Key.TheVariants as key
 use Rattle.functions.specs.Once.{has_key, once_behind}
 use Rattle.functions.specs.Modules as modules
-use Rattle.packages.proofs.KeysAsked.{one_key}
+use Rattle.packages.proofs.GroupKeys.{one_key}
 
 abbrev RiseFrom : ℕ → List (List ℕ) → Type 0
 RiseFrom n [] = Unit {0}

@@ -8,7 +8,7 @@ use Rattle.meaning.specs.Functions.{the_items}
 use Rattle.language.specs.World.{World, Here, Ends, ended, failed, waits, Runs, then_runs, on_heap}
 use Rattle.language.specs.Environment.{Answers}
 use Rattle.language.specs.Laws.{KnowsMore}
-use Rattle.language.specs.Loops.{Gathered, gather, over, locks, unlocks}
+use Rattle.language.specs.Loops.{Collection, gather, over, locks, unlocks}
 use Rattle.language.specs.Packages.{if_build}
 use Rattle.language.proofs.Quiet.{DoesNotWait, Quiet, ends_quiet, fails_quiet, heap_quiet, then_quiet}
 use Rattle.packages.proofs.RightAnswers.{Right}
@@ -82,6 +82,6 @@ module _ (found : List ℕ → List (List ℕ)) where
       after (on_heap here (locks x) u) (heap_quiet here (locks x) u) λ _ v.
       both (p xs v) λ y z. same _ (then_quiet (on_heap here (unlocks x) z) _ (heap_quiet here (unlocks x) z) λ _ s. ends_quiet y s)
 
-  pub gathering : (m : Answers → Val → Gathered → Runs Gathered) → ((x : Val) (g : Gathered) → Closing (λ a. m a x g)) → (xs : List Val) (g : Gathered) → Closing (λ a. gather (m a) xs g)
+  pub gathering : (m : Answers → Val → Collection → Runs Collection) → ((x : Val) (g : Collection) → Closing (λ a. m a x g)) → (xs : List Val) (g : Collection) → Closing (λ a. gather (m a) xs g)
   gathering m p [] g w = same _ (ends_quiet g w)
   gathering m p (x ∷ xs) g w = both (p x g w) λ h u. gathering m p xs h u

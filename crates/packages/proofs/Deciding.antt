@@ -8,15 +8,15 @@ use Rattle.labels.specs.Labels.{Target, label_file, boundaries}
 use Rattle.filetree.specs.Files.{Files}
 use Rattle.globs.specs.Globs.{is_package}
 use Rattle.grammar.specs.declared.kind.FileKind.TheVariants as k
-use Rattle.module_values.specs.Values.{Loaded}
+use Rattle.module_values.specs.Values.{ModuleValue}
 use Rattle.language.specs.Files.{Outcome, a_module, a_package, a_need, a_fault, evaluate}
 use Rattle.language.specs.Laws.{IsFinished}
 use Rattle.language.proofs.MoreStatements.{modules_finish}
 use Rattle.keys.specs.declared.value.Fault.{Fault}
 use Rattle.functions.specs.Sources.{fault_at}
 use Rattle.packages.specs.Loads.{Node, of_module, File, of_text, loads_in, file_of, loads, Path, stay, load, ReachesCycle, FirstCyclic, at_head, further}
-use Rattle.packages.specs.Loaded.{Module, IsModule, AreModules, none, one, of_file, of_load, evaluated, all_loaded, module_env, LeavesModule, a_value, faulty}
-use Rattle.packages.proofs.CyclesShown.{acyclic}
+use Rattle.packages.specs.Packages.{Module, IsModule, AreModules, none, one, of_file, of_load, evaluated, all_loaded, module_env, LeavesModule, a_value, faulty}
+use Rattle.packages.proofs.NodeCycles.{acyclic}
 use Rattle.packages.proofs.NoValue.{is_member}
 use Rattle.packages.proofs.NodesHold.{no_package}
 use Rattle.packages.proofs.TargetsOfFiles.{without, one_less, or_left, targets_of, in_targets}
@@ -81,14 +81,14 @@ module _ (files : Files) where
   module_of : (t : Target) (f : File) (modules : List Module) → file_of files (of_module t) ≡ Ok f → AreModules files f.loads modules → (m : Module) × IsModule files t m
   module_of t f modules found are = go (all_loaded modules) refl
     where
-      left : (ms : List Loaded) → all_loaded modules ≡ Ok ms → (o : Outcome) → evaluate (module_env t f ms) ≡ o → (m : Module) × IsModule files t m
+      left : (ms : List ModuleValue) → all_loaded modules ≡ Ok ms → (o : Outcome) → evaluate (module_env t f ms) ≡ o → (m : Module) × IsModule files t m
       left ms e (a_module m) d = (Ok m, evaluated found are e (subst (λ (o : Outcome). LeavesModule o (Ok m)) (sym d) a_value))
       left ms e (a_fault code site) d =
           let fault = fault_at code site.path site.line in (Err fault, evaluated found are e (subst (λ (o : Outcome). LeavesModule o (Err fault)) (sym d) faulty))
       left ms e (a_package targets) d = absurd (no_package (module_env t f ms) targets refl d)
       left ms e (a_need patterns) d = absurd (subst (λ (o : Outcome). IsFinished o) d (modules_finish (module_env t f ms) refl))
 
-      go : (r : Result (List Loaded) Fault) → all_loaded modules ≡ r → (m : Module) × IsModule files t m
+      go : (r : Result (List ModuleValue) Fault) → all_loaded modules ≡ r → (m : Module) × IsModule files t m
       go (Err fault) e = (Err fault, of_load found are e)
       go (Ok ms) e = left ms e (evaluate (module_env t f ms)) refl
 

@@ -5,12 +5,12 @@ use Rattle.std.specs.List.{AllByRecursion}
 use lib.Pointwise.{bytes_decides}
 use Rattle.meaning.specs.Comparing.{same_text}
 use Rattle.evaluation.specs.Value.{In, first, after, AllDiffer}
-use Rattle.evaluation.specs.Rotated.{rotated}
+use Rattle.evaluation.specs.Rotation.{rotated}
 use Rattle.labels.specs.Labels.{Target, label_text}
 use Rattle.filetree.specs.Files.{Files}
 use Rattle.keys.specs.declared.value.Fault.{Fault}
 use Rattle.packages.specs.Loads.{Node, of_module, File, loads_in, file_of, loads, ReachesCycle, FirstCyclic, Follows, once, more, ShowsCycle}
-use Rattle.packages.proofs.CyclesShown.{Nearer, nearer, no_member, all_acyclic}
+use Rattle.packages.proofs.NodeCycles.{Nearer, nearer, no_member, all_acyclic}
 use Rattle.packages.proofs.OneCycle.{one_more}
 use Rattle.packages.proofs.TargetsOfFiles.{without, one_less, or_left, targets_of, in_left, in_right}
 use Rattle.packages.proofs.Deciding.{HasFile, has_file, reaching, loads_decided}

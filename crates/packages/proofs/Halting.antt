@@ -15,7 +15,7 @@ use Rattle.labels.proofs.Segments.{reads_back}
 use Rattle.tree.specs.Tree.{Fi}
 use Rattle.tokens.specs.Reading as tokens
 use Rattle.grammar.specs.Files.{parse_of}
-use Rattle.module_values.specs.Values.{Loaded}
+use Rattle.module_values.specs.Values.{ModuleValue}
 use Rattle.filetree.specs.Files.{Files}
 use Rattle.filetree.specs.Lawful.{HasPaths}
 use Rattle.globs.specs.Globs.{is_package}
@@ -37,14 +37,14 @@ use Rattle.functions.specs.Sources.{fault_at, before, each_or_fault, load_key, a
 use Rattle.functions.specs.Modules as modules
 use Rattle.functions.specs.Packages as packages
 use Rattle.packages.specs.Loads.{Node, of_module, of_package, File, loaded_by, with_loads, parsed, of_text, loads_in, file_of, build_file, loads}
-use Rattle.packages.proofs.Walked.{lookup_grounded, lookup_value, glob_grounded}
+use Rattle.packages.proofs.WalkValues.{lookup_grounded, lookup_value, glob_grounded}
 use Rattle.globs.proofs.Questions.{NoSpace}
 use Rattle.walks.proofs.GlobTexts.{name_no_space}
 use Rattle.packages.proofs.Runs as runs
 use Rattle.packages.proofs.Runs.{AllOf, same_length, enough, rest_of, taken}
-use Rattle.packages.proofs.KeysAsked.{load_of, one_key}
-use Rattle.packages.proofs.LoadsRead.{IsValid, names_of, keyed, same_loads, loads_valid, found_file}
-use Rattle.packages.proofs.LookedUp.{Looked, all_looked}
+use Rattle.packages.proofs.GroupKeys.{load_of, one_key}
+use Rattle.packages.proofs.NodeLoads.{IsValid, names_of, keyed, same_loads, loads_valid, found_file}
+use Rattle.packages.proofs.Lookups.{Looked, all_looked}
 use Rattle.packages.proofs.Boundaries.{look_up, lookups_are}
 
 -- ---- turns that stop, told by what they ask
@@ -208,7 +208,7 @@ module _ (files : Files) (good : HasPaths files) where
     loads_ask : (tree : Fi) (keys : List Key) (answers : List Value) (asked : List Key) → after_loads s tree (Ok keys) answers ≡ Ask asked → (asked ≡ once keys) ⊎ AllByRecursion Ground asked
     loads_ask tree keys answers asked e = go (nat_lt (length answers) (length (once keys))) e
       where
-        evaluated : (r : Result (List Loaded) Fault) (rest : List Value) → after_modules s tree r rest ≡ Ask asked → AllByRecursion Ground asked
+        evaluated : (r : Result (List ModuleValue) Fault) (rest : List Value) → after_modules s tree r rest ≡ Ask asked → AllByRecursion Ground asked
         evaluated (Ok ms) rest e = rounds_ask (length rest) (env_of s tree ms) plain rest asked e
         evaluated (Err f) rest e = absurd cc
 

@@ -5,9 +5,9 @@ use Rattle.labels.specs.Labels.{Target}
 use Rattle.filetree.specs.Files.{Files}
 use Rattle.keys.specs.declared.value.Fault.{Fault}
 use Rattle.packages.specs.Loads.{Node, of_module, of_package, File, loads_in, Path, stay, load, ReachesCycle, FirstCyclic, at_head, further, Follows, once, more, ShowsCycle}
-use Rattle.packages.specs.Loaded.{Package, IsPackage, of_file, of_load, evaluated}
-use Rattle.packages.specs.LoadedLaws.{CyclesHaveNoModule, CyclesHaveNoPackage}
-use Rattle.packages.proofs.CyclesShown.{nearer, no_member, acyclic, all_acyclic}
+use Rattle.packages.specs.Packages.{Package, IsPackage, of_file, of_load, evaluated}
+use Rattle.packages.specs.PackageLaws.{CyclesHaveNoModule, CyclesHaveNoPackage}
+use Rattle.packages.proofs.NodeCycles.{nearer, no_member, acyclic, all_acyclic}
 
 module _ (files : Files) where
   pub is_member : {ts : List Target} {u : Target} → FirstCyclic files ts u → In u ts

@@ -17,7 +17,7 @@ use Rattle.filetree.specs.Lawful.{HasPaths}
 use Rattle.globs.specs.Globs.{is_package, answer_below}
 use Rattle.grammar.specs.declared.kind.FileKind.{FileKind}
 use Rattle.grammar.specs.declared.kind.FileKind.TheVariants as k
-use Rattle.module_values.specs.Values.{Loaded, Target as Made}
+use Rattle.module_values.specs.Values.{ModuleValue, Target as Made}
 use Rattle.language.specs.Environment.{Env, Answers}
 use Rattle.language.specs.Globs.{answer_to}
 use Rattle.language.specs.World.{Here, Ends, ended, failed, waits, then_runs, pure}
@@ -39,29 +39,29 @@ use Rattle.functions.specs.Sources.{fault_at, env_of, glob_keys, glob_group, pat
 use Rattle.functions.specs.Modules as modules
 use Rattle.functions.specs.Packages as packages
 use Rattle.packages.specs.Loads.{of_module, of_package, File, file_of, build_file}
-use Rattle.packages.specs.Loaded.{Module, Package, IsModule, IsPackage, of_file, of_load, evaluated, module_env, package_env, LeavesModule, LeavesPackage, a_value, faulty}
-use Rattle.packages.proofs.Walked.{lookup_value, glob_grounded}
+use Rattle.packages.specs.Packages.{Module, Package, IsModule, IsPackage, of_file, of_load, evaluated, module_env, package_env, LeavesModule, LeavesPackage, a_value, faulty}
+use Rattle.packages.proofs.WalkValues.{lookup_value, glob_grounded}
 use Rattle.walks.proofs.GlobTexts.{name_no_space}
 use Rattle.packages.proofs.Runs as runs
 use Rattle.packages.proofs.Runs.{AllOf, all_first, Runs, shifted, run_ended, run_asked, same_length, enough, rest_of, taken, all_hold}
-use Rattle.packages.proofs.KeysAsked.{module_value, own_key, asked_once, answered, same_answer, either_left, either_right}
+use Rattle.packages.proofs.GroupKeys.{module_value, own_key, asked_once, answered, same_answer, either_left, either_right}
 use Rattle.packages.proofs.Boundaries.{lookups_are}
-use Rattle.packages.proofs.LookedUp.{Looked, all_looked}
-use Rattle.packages.proofs.LoadsRead.{IsValid, names_of, package_value, IsOfFiles, IsHeld, found_file, evaluation, Comes, to_fault, to_load, to_run, file_runs}
+use Rattle.packages.proofs.Lookups.{Looked, all_looked}
+use Rattle.packages.proofs.NodeLoads.{IsValid, names_of, package_value, IsOfFiles, IsHeld, found_file, evaluation, Comes, to_fault, to_load, to_run, file_runs}
 
 -- ---- the kind of a file tells what its evaluation leaves
 
 left_module : (e : Ends (Unit {0})) (env : Env) (h : Here) (ts : List Made) → outcome_of (then_runs e (λ _. leaves k.Bzl env h)) ≡ a_package ts → ⊥
 left_module (ended x w) env h ts e = go (frozen_module env h w) e
   where
-    go : (m : Ends Loaded) → outcome_of (then_runs m (λ m. pure (a_module m))) ≡ a_package ts → ⊥
+    go : (m : Ends ModuleValue) → outcome_of (then_runs m (λ m. pure (a_module m))) ≡ a_package ts → ⊥
     go (ended m u) e = absurd cc
     go (failed code site) e = absurd cc
     go (waits patterns) e = absurd cc
 left_module (failed code site) env h ts e = absurd cc
 left_module (waits patterns) env h ts e = absurd cc
 
-left_package : (e : Ends (Unit {0})) (env : Env) (h : Here) (m : Loaded) → outcome_of (then_runs e (λ _. leaves k.Build env h)) ≡ a_module m → ⊥
+left_package : (e : Ends (Unit {0})) (env : Env) (h : Here) (m : ModuleValue) → outcome_of (then_runs e (λ _. leaves k.Build env h)) ≡ a_module m → ⊥
 left_package (ended x w) env h m e = absurd cc
 left_package (failed code site) env h m e = absurd cc
 left_package (waits patterns) env h m e = absurd cc
@@ -71,7 +71,7 @@ unfolding evaluate
 no_package env ts kind e =
     left_module (statements env (file_level env) (start all_steps env)) env (file_level env) ts (ap (λ (f : FileKind). outcome_of (then_runs (statements env (file_level env) (start all_steps env)) (λ _. leaves f env (file_level env)))) (sym kind) ∙ e)
 
-pub no_module : (env : Env) (m : Loaded) → env.kind ≡ k.Build → evaluate env ≡ a_module m → ⊥
+pub no_module : (env : Env) (m : ModuleValue) → env.kind ≡ k.Build → evaluate env ≡ a_module m → ⊥
 unfolding evaluate
 no_module env m kind e =
     left_package (statements env (file_level env) (start all_steps env)) env (file_level env) m (ap (λ (f : FileKind). outcome_of (then_runs (statements env (file_level env) (start all_steps env)) (λ _. leaves f env (file_level env)))) (sym kind) ∙ e)
@@ -84,7 +84,7 @@ module _ (files : Files) (good : HasPaths files) where
 
   module _ (t : Target) (v : Value) where
     -- the evaluation of a module's file
-    module_left : (f : File) (ms : List Loaded) (n : ℕ) (found : (m : Module) → LeavesModule (evaluate (module_env t f ms)) m → IsModule files t m)
+    module_left : (f : File) (ms : List ModuleValue) (n : ℕ) (found : (m : Module) → LeavesModule (evaluate (module_env t f ms)) m → IsModule files t m)
         → f.path ≡ label_file t → Runs (IsHeld files) (evaluation files (modules.source_of t) f.tree ms) [] n v → ModuleOf t v
     module_left f ms n found at run = go (evaluate env) refl
       where
@@ -302,7 +302,7 @@ module _ (files : Files) (good : HasPaths files) (name : List ℕ) (is_name : is
   PackageOf v = (p : Package) × IsPackage files name p × (v ≡ package_value p)
 
   module _ (v : Value) where
-    package_left : (build : BuildName) (f : File) (modules : List Module) (ms : List Loaded) (n : ℕ) → f.path ≡ (packages.source_of name build).path
+    package_left : (build : BuildName) (f : File) (modules : List Module) (ms : List ModuleValue) (n : ℕ) → f.path ≡ (packages.source_of name build).path
         → ((answers : Answers) (p : Package) → Right answers → LeavesPackage (evaluate (package_env name f ms answers)) p → IsPackage files name p)
         → Runs (IsHeld files) (evaluation files (packages.source_of name build) f.tree ms) [] n v → PackageOf v
     package_left build f modules ms n at found run =

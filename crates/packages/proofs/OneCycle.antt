@@ -3,7 +3,7 @@ use Rattle.std.proofs.Common.{◌≡◌, ◌≢◌, ℕ, List, [], ◌∷◌, �
 use Rattle.std.specs.FinMap as map_of
 use Rattle.std.specs.List.{AllByRecursion, list_any}
 use Rattle.evaluation.specs.Value.{AllDiffer}
-use Rattle.evaluation.specs.Rotated.{rotated}
+use Rattle.evaluation.specs.Rotation.{rotated}
 use Rattle.evaluation.proofs.Loops.{differ_turned}
 use Rattle.evaluation.proofs.Rotating.{rotated_turned}
 use Rattle.labels.specs.Labels.{Target, label_text, label_file, boundaries}
@@ -19,8 +19,8 @@ use Rattle.keys.specs.declared.value.BuildName.{BuildName}
 use Rattle.walks.specs.Lookups.{build_of, build_path}
 use Rattle.functions.specs.Sources.{fault_at, each_or_fault}
 use Rattle.packages.specs.Loads.{Node, of_module, of_package, File, loaded_by, with_loads, parsed, of_text, loads_in, build_file, loads, FirstCyclic, at_head, further, Follows, once, more, ShowsCycle}
-use Rattle.packages.specs.LoadedLaws.{OneCycle}
-use Rattle.packages.proofs.LoadsRead.{IsValid, loads_valid, one_label}
+use Rattle.packages.specs.PackageLaws.{OneCycle}
+use Rattle.packages.proofs.NodeLoads.{IsValid, loads_valid, one_label}
 
 -- ---- all that is loaded can be a module
 

@@ -4,7 +4,7 @@ use Rattle.std.specs.FinMap as map_of
 use Rattle.labels.specs.Labels.{Target}
 use Rattle.filetree.specs.Files.{Files}
 use Rattle.globs.specs.Globs.{is_package}
-use Rattle.module_values.specs.Values.{Loaded}
+use Rattle.module_values.specs.Values.{ModuleValue}
 use Rattle.language.specs.Environment.{Answers}
 use Rattle.language.specs.Globs.{answer_to}
 use Rattle.language.specs.Files.{Outcome, evaluate}
@@ -13,8 +13,8 @@ use Rattle.language.proofs.MoreAnswers.{answer_stays}
 use Rattle.language.proofs.MoreStatements.{finished_stays}
 use Rattle.keys.specs.declared.value.Fault.{Fault}
 use Rattle.packages.specs.Loads.{of_module, File, file_of}
-use Rattle.packages.specs.Loaded.{Module, Package, IsModule, IsPackage, AreModules, none, one, of_file, of_load, evaluated, all_loaded, module_env, package_env, LeavesModule, LeavesPackage, a_value, faulty}
-use Rattle.packages.specs.LoadedLaws.{OneModule, OnePackage}
+use Rattle.packages.specs.Packages.{Module, Package, IsModule, IsPackage, AreModules, none, one, of_file, of_load, evaluated, all_loaded, module_env, package_env, LeavesModule, LeavesPackage, a_value, faulty}
+use Rattle.packages.specs.PackageLaws.{OneModule, OnePackage}
 use Rattle.packages.proofs.NodesHold.{answer_last}
 
 -- ---- what an evaluation leaves
@@ -98,12 +98,12 @@ module _ (files : Files) where
         go (Some found) h = answer_stays a b p found h ∙ ap (λ (x : List (List ℕ)). Some x) (ra p found h ∙ sym (rb p paths e))
         go None h = answer_last a b p h ∙ e
 
-    same_outcome : (f : File) (ms : List Loaded) (a b : Answers) → Right a → Right b → IsFinished (evaluate (package_env name f ms a)) → IsFinished (evaluate (package_env name f ms b))
+    same_outcome : (f : File) (ms : List ModuleValue) (a b : Answers) → Right a → Right b → IsFinished (evaluate (package_env name f ms a)) → IsFinished (evaluate (package_env name f ms b))
         → evaluate (package_env name f ms a) ≡ evaluate (package_env name f ms b)
     same_outcome f ms a b ra rb first second =
         sym (finished_stays (package_env name f ms a) (a ++ b) (answer_stays a b) first) ∙ finished_stays (package_env name f ms b) (a ++ b) (known a b ra rb) second
 
-    same_evaluated : (a b : Answers) (f g : File) (ms ns : List Loaded) (p q : Package) → f ≡ g → ms ≡ ns → Right a → Right b
+    same_evaluated : (a b : Answers) (f g : File) (ms ns : List ModuleValue) (p q : Package) → f ≡ g → ms ≡ ns → Right a → Right b
         → LeavesPackage (evaluate (package_env name f ms a)) p → LeavesPackage (evaluate (package_env name g ns b)) q → p ≡ q
     same_evaluated a b f g ms ns p q file loaded ra rb leaves left =
         let own : LeavesPackage (evaluate (package_env name f ms b)) q = subst (λ (o : Outcome). LeavesPackage o q) (λ i. evaluate (package_env name (sym file i) (sym loaded i) b)) left in

@@ -1,3 +1,3 @@
 pub mod Loads
-pub mod Loaded
-pub mod LoadedLaws
+pub mod Packages
+pub mod PackageLaws

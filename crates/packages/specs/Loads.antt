@@ -12,7 +12,7 @@ use Rattle.labels.specs.Labels.{Target, label_of, label_text, label_file, is_mod
 use Rattle.filetree.specs.Files.{Files}
 use Rattle.globs.specs.Globs.{is_package}
 use Rattle.evaluation.specs.Value.{In, AllDiffer}
-use Rattle.evaluation.specs.Rotated.{rotated}
+use Rattle.evaluation.specs.Rotation.{rotated}
 use Rattle.keys.specs.declared.value.Fault.{Fault}
 use Rattle.keys.specs.declared.value.BuildName.{BuildName}
 use Rattle.walks.specs.Lookups.{build_of, build_path}

@@ -1,13 +1,13 @@
 //! What the nodes of modules and packages hold, told by the files alone.
 //!
 //! `specs/Loads` says which file is evaluated for a module or a package, which modules its load statements name, and
-//! where loads run in a circle. `specs/Loaded` says what the module of a label and the package of a directory are at one
+//! where loads run in a circle. `specs/Packages` says what the module of a label and the package of a directory are at one
 //! state of the files: the first fault of the file, else the first fault of its loads, else what the evaluation of the
 //! file leaves. Both look at the files, and at nothing that a node asks or keeps; the laws below tie the nodes to them.
 #![tactic(auto)]
 
-ghost use Rattle.packages.specs.Loaded.{ModulesHold, PackagesHold};
-ghost use Rattle.packages.specs.LoadedLaws.{CyclesHaveNoModule, CyclesHaveNoPackage, SomeModuleHeld, SomePackageHeld, OneCycle, OneModule, OneModuleHeld, OnePackage, OnePackageHeld};
+ghost use Rattle.packages.specs.Packages.{ModulesHold, PackagesHold};
+ghost use Rattle.packages.specs.PackageLaws.{CyclesHaveNoModule, CyclesHaveNoPackage, SomeModuleHeld, SomePackageHeld, OneCycle, OneModule, OneModuleHeld, OnePackage, OnePackageHeld};
 
 /// States the law of the modules, at files whose names are paths. The node of a module's label holds the module that
 /// the files mean, or its fault. Where a walk along its loads meets a module twice, it holds the cycle to which they

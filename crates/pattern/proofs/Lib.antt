@@ -1,2 +1,2 @@
-pub mod Cut
+pub mod FirstSegment
 pub mod WildLemmas

@@ -1,3 +1,3 @@
-pub mod Ran
-pub mod Aimed
-pub mod Named
+pub mod HeapPieces
+pub mod Targets
+pub mod ListEnds

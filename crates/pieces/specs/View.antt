@@ -14,7 +14,7 @@ use Rattle.language.specs.Targets.{Aims, no_aims, aim_at, to_name, to_member, to
 use Rattle.language.specs.Loops as l
 use Rattle.pieces.specs.declared.aims.Aim.{Aim, fold-Aim}
 use Rattle.pieces.specs.declared.aims.Aim.TheOpen.{Aim-F}
-use Rattle.pieces.specs.declared.gathering.Gathered.{Gathered}
+use Rattle.pieces.specs.declared.gathering.Collection.{Collection}
 
 -- aims before others
 abbrev pub before : List t.Aim → Aims → Aims
@@ -32,7 +32,7 @@ aim_step (Aim-F.Each aims) = to_each (aims_of aims.items)
 abbrev pub aim_of : Aim → t.Aim
 aim_of = fold-Aim t.Aim aim_step
 
-abbrev pub gathered_of : Gathered → l.Gathered
+abbrev pub gathered_of : Collection → l.Collection
 gathered_of g = record { members = g.members.items; entries = g.entries.entries }
 
 -- the call leaves, in the place that it is lent, what the definition gives, with the same state after it, or its fault

@@ -14,23 +14,23 @@ use std::alloc::Global;
 
 /// The members of a list, or the entries of a dictionary.
 #[derive(Drop)]
-pub struct Gathered {
+pub struct Collection {
     pub members: Vec<Val>,
     pub entries: IndexMap<Key, Entry>,
 }
 
 /// Makes a record without members and entries.
-pub fn nothing_yet(alloc: Global) -> Gathered
+pub fn nothing_yet(alloc: Global) -> Collection
     ensures { gathered_of result ≡ l.nothing_yet }
 {
-    Gathered {
+    Collection {
         members: Vec::new(alloc),
         entries: IndexMap::new(alloc),
     }
 }
 
 /// Adds one more member, or returns fault 13.
-pub fn one_more(g: &mut Gathered, x: Val) -> Result<(), Halt>
+pub fn one_more(g: &mut Collection, x: Val) -> Result<(), Halt>
     ensures { (here : Here) (u : World) → RanInto here.site
         (l.one_more x (gathered_of g.old) here u) result (gathered_of g.new) u }
 {
@@ -42,7 +42,7 @@ pub fn one_more(g: &mut Gathered, x: Val) -> Result<(), Halt>
 }
 
 /// Adds one more entry, or returns fault 5, 11, 12 or 13. At a key that is there the later value stays.
-pub fn one_entry(heap: &mut Heap, g: &mut Gathered, k: Val, x: Val) -> Result<(), Halt>
+pub fn one_entry(heap: &mut Heap, g: &mut Collection, k: Val, x: Val) -> Result<(), Halt>
     ensures says { SaysInto (grows k x g.old.entries.entries (store_of heap.old)) result
         g.new.entries.entries (store_of heap.new) }
     ensures members { g.new.members ≡ g.old.members }

@@ -11,7 +11,7 @@ mod reaching;
 
 pub use aims::{Aim, present, store};
 pub use calling::{add, call_builtin, call_method};
-pub use gathering::{Gathered, fresh, nothing_yet, one_entry, one_more};
+pub use gathering::{Collection, fresh, nothing_yet, one_entry, one_more};
 pub use objects::{
     hash, index, items, lock, make_dict, make_list, make_text, make_tuple, set_index, slice, tick,
     unlock,

@@ -33,7 +33,7 @@ use Rattle.keys.specs.contracts.value.Value
 use Rattle.keys.specs.declared.rules.Rules.{Ghosts}
 use Rattle.module_values.proofs.targets.Targets.TheSendSync as TargetsSends
 use Rattle.module_values.specs.contracts.bindings.Function
-use Rattle.module_values.specs.contracts.modules.Loaded
+use Rattle.module_values.specs.contracts.modules.ModuleValue
 use Rattle.module_values.specs.contracts.modules.Module
 use Rattle.texts.proofs.text.Text.TheSendSync as TextSends
 use Rattle.pool.proofs.bell.Bells.TheSendSync as BellsSends
@@ -61,10 +61,10 @@ module_send = search parts_cross depth 60 fits 20000
 module_sync : IsSync Module.the_row
 module_sync = search parts_cross depth 60 fits 20000
 
-loaded_send : IsSend Loaded.the_row
+loaded_send : IsSend ModuleValue.the_row
 loaded_send = search (module_send, crosses, sendable) depth 60 fits 20000
 
-loaded_sync : IsSync Loaded.the_row
+loaded_sync : IsSync ModuleValue.the_row
 loaded_sync = search (module_sync, crosses, sendable) depth 60 fits 20000
 
 -- values of nodes

@@ -6,7 +6,7 @@ use Rattle.board.specs.Places.{IsHandAtRest, IsNewHand}
 use Rattle.board.specs.Rule.{total}
 use Rattle.board.specs.declared.board.Hand.{Hand}
 use Rattle.keys.specs.declared.key.Key.{Key}
-use Rattle.node.specs.Graphs.{Recorded}
+use Rattle.node.specs.Graphs.{GraphView}
 use Rattle.pool.specs.Serving.{made_in}
 use Rattle.round.specs.declared.stop.Stop.{Stop}
 use Rattle.round.specs.declared.stop.Stop.TheVariants as stop
@@ -34,7 +34,7 @@ if_err (Ok x) f p = tt
 if_err (Err e) f p = f e p
 
 -- what is true of these roots and this graph
-pub moved : (P : List Key → Recorded → Type 0) (roots other : List Key) (old entry : Recorded) → other ≡ roots → entry ≡ old → P other entry → P roots old
+pub moved : (P : List Key → GraphView → Type 0) (roots other : List Key) (old entry : GraphView) → other ≡ roots → entry ≡ old → P other entry → P roots old
 moved P roots other old entry same at p = subst (λ rs. P rs old) same (subst (P other) at p)
 
 module _ {R S : Type 0} (id : TableId) where

@@ -6,15 +6,15 @@ use Rattle.board.specs.Rule.{total}
 use Rattle.evaluation.specs.Reply.{Reply}
 use Rattle.keys.specs.declared.key.Key.{Key}
 use Rattle.keys.specs.declared.value.Value.{Value}
-use Rattle.node.specs.Graphs.{Recorded}
-use Rattle.open_nodes.specs.Counted.{turns_of}
+use Rattle.node.specs.Graphs.{GraphView}
+use Rattle.open_nodes.specs.TurnCounts.{turns_of}
 use Rattle.pool.specs.Serving.{made_in, jobs_out}
-use Rattle.pool.specs.declared.evaluations.Ran.{Ran}
+use Rattle.pool.specs.declared.evaluations.ScopeResult.{ScopeResult}
 use Rattle.round.specs.Call.{Calls, HasOpenRoot, HasTurnToMake}
 use Rattle.round.specs.declared.stop.Stop.TheVariants as stop
 
 -- the evaluation of the roots since the graph was as before, of which the first turns were made, by these rules, in at most `budget` turns
-pub record HasRun {R S : Type 0} (next : Key → List Value → Reply Key Value) (turns : R → ℕ) (read : Key → Option Value) (id : TableId) (places : ℕ) (roots : List Key) (before : Recorded) (first : ℕ) (given : List R) (budget : ℕ) (ran : Ran R S) : Type 0 where
+pub record HasRun {R S : Type 0} (next : Key → List Value → Reply Key Value) (turns : R → ℕ) (read : Key → Option Value) (id : TableId) (places : ℕ) (roots : List Key) (before : GraphView) (first : ℕ) (given : List R) (budget : ℕ) (ran : ScopeResult R S) : Type 0 where
   pub law : IfOk ran.ended (λ runs. Calls next read roots before ran.graph (Ok runs.items))
   pub within : IfOk ran.ended (λ runs. turns_of runs.items ≤ budget)
   pub stopped : IfErr ran.ended (λ e. Calls next read roots before ran.graph (Err e))

@@ -6,11 +6,11 @@ use Rattle.board.specs.Rule.{total}
 use Rattle.board.specs.declared.view.View.{View}
 use Rattle.evaluation.specs.Reply.{Reply}
 use Rattle.evaluation.specs.Value.{In}
-use Rattle.keys.specs.Jobs.{Asked, Outcome, turns_made}
+use Rattle.keys.specs.Jobs.{JobView, Outcome, turns_made}
 use Rattle.keys.specs.declared.key.Key.{Key}
 use Rattle.keys.specs.declared.value.Value.{Value}
-use Rattle.node.specs.Graphs.{Recorded}
-use Rattle.open_nodes.specs.Counted.{HasMade}
+use Rattle.node.specs.Graphs.{GraphView}
+use Rattle.open_nodes.specs.TurnCounts.{HasMade}
 use Rattle.open_nodes.specs.declared.table.Table.{Table}
 use Rattle.round.specs.Rounds.{Standing, standing, StandsBeside, IsOfJobOut}
 use Rattle.round.specs.Since.{IsTrueSinceSome, IsAfterSince}
@@ -20,12 +20,12 @@ use Rattle.round.specs.declared.rounds.Round.{Round}
 abbrev pub made_in : List Outcome → ℕ
 made_in turns = total (λ t. turns_made t.ending) turns
 
-abbrev pub one_out : Option Asked → ℕ
+abbrev pub one_out : Option JobView → ℕ
 one_out None = 0
 one_out (Some job) = 1
 
 -- how many jobs are out
-abbrev pub jobs_out : View Asked Outcome → ℕ
+abbrev pub jobs_out : View JobView Outcome → ℕ
 jobs_out v = total one_out v.out
 
 -- how many are out after one was taken back, or none
@@ -34,28 +34,28 @@ left_out true out = out - 1
 left_out false out = out
 
 -- a host with as many places and hands, whose own answers are the same
-abbrev pub IsSameHost : View Asked Outcome → View Asked Outcome → Type 0
+abbrev pub IsSameHost : View JobView Outcome → View JobView Outcome → Type 0
 IsSameHost v w = (length w.out ≡ length v.out) × (w.hands ≡ v.hands) × (w.answers ≡ v.answers)
 
 -- the host may have shut the board, and did nothing else
-abbrev pub IsShutOnly : View Asked Outcome → View Asked Outcome → Type 0
+abbrev pub IsShutOnly : View JobView Outcome → View JobView Outcome → Type 0
 IsShutOnly v w = (w.out ≡ v.out) × (w.hands ≡ v.hands) × (w.answers ≡ v.answers) × (w.collected ≡ v.collected)
 
 -- the key's job is out at some place
-abbrev pub IsPostedKey : View Asked Outcome → Key → Type 0
-IsPostedKey v k = (p : ℕ) × (job : Asked) × (get_elem? v.out p ≡ some (Some job)) × (job.key ≡ k)
+abbrev pub IsPostedKey : View JobView Outcome → Key → Type 0
+IsPostedKey v k = (p : ℕ) × (job : JobView) × (get_elem? v.out p ≡ some (Some job)) × (job.key ≡ k)
 
 -- each job on the board is one of the round's that are out
-abbrev pub AreKnown : Recorded → Standing → View Asked Outcome → Type 0
-AreKnown graph s v = (p : ℕ) (job : Asked) → get_elem? v.out p ≡ some (Some job) → IsOfJobOut graph s job
+abbrev pub AreKnown : GraphView → Standing → View JobView Outcome → Type 0
+AreKnown graph s v = (p : ℕ) (job : JobView) → get_elem? v.out p ≡ some (Some job) → IsOfJobOut graph s job
 
 -- no key has two
-abbrev pub AreApart : View Asked Outcome → Type 0
-AreApart v = (p q : ℕ) (job other : Asked) → get_elem? v.out p ≡ some (Some job) → get_elem? v.out q ≡ some (Some other) → job.key ≡ other.key → p ≡ q
+abbrev pub AreApart : View JobView Outcome → Type 0
+AreApart v = (p q : ℕ) (job other : JobView) → get_elem? v.out p ≡ some (Some job) → get_elem? v.out q ≡ some (Some other) → job.key ≡ other.key → p ≡ q
 
 -- The round stands beside the graph, and each of its jobs that is out lies on the board of so many places. The turns that were made first, with
 -- those that were collected, are those that the round has counted. With the jobs that are out they are as many as were handed out.
-pub record IsServing {R S : Type 0} (graph : Recorded) (round : Round R S) (v : View Asked Outcome) (roots : List Key) (first places hands out handed : ℕ) : Type 0 where
+pub record IsServing {R S : Type 0} (graph : GraphView) (round : Round R S) (v : View JobView Outcome) (roots : List Key) (first places hands out handed : ℕ) : Type 0 where
   pub beside : StandsBeside graph round
   pub same_roots : (standing round).roots ≡ roots
   pub made : HasMade round.table (first + made_in v.collected)
@@ -69,9 +69,9 @@ pub record IsServing {R S : Type 0} (graph : Recorded) (round : Round R S) (v : 
   pub apart : AreApart v
 
 -- what was true after some choices since an entry is true after some more
-abbrev pub StaysTrueSince : (Key → List Value → Reply Key Value) → (Key → Option Value) → Recorded → Recorded → Table → Table → Type 0
-StaysTrueSince next read old new before after = (roots : List Key) (entry : Recorded) → IsTrueSinceSome next read roots entry old before → IsTrueSinceSome next read roots entry new after
+abbrev pub StaysTrueSince : (Key → List Value → Reply Key Value) → (Key → Option Value) → GraphView → GraphView → Table → Table → Type 0
+StaysTrueSince next read old new before after = (roots : List Key) (entry : GraphView) → IsTrueSinceSome next read roots entry old before → IsTrueSinceSome next read roots entry new after
 
 -- where it was true, the graph is as after a stop
-abbrev pub IsAfterStop : (Key → List Value → Reply Key Value) → (Key → Option Value) → Recorded → Recorded → Table → Type 0
-IsAfterStop next read old new before = (roots : List Key) (entry : Recorded) → IsTrueSinceSome next read roots entry old before → IsAfterSince next read roots entry new
+abbrev pub IsAfterStop : (Key → List Value → Reply Key Value) → (Key → Option Value) → GraphView → GraphView → Table → Type 0
+IsAfterStop next read old new before = (roots : List Key) (entry : GraphView) → IsTrueSinceSome next read roots entry old before → IsAfterSince next read roots entry new

@@ -3,7 +3,7 @@ ghost use Rattle.std.specs.Prelude.{◌≡◌, ◌+◌, ◌<◌, ◌≤◌, [], 
 ghost use Rattle.board.specs.Places.{IsNewHost, IsNewHand};
 ghost use Rattle.board.specs.Rule.{total};
 ghost use Rattle.leaves.specs.Leaves as leaves;
-ghost use Rattle.open_nodes.specs.Counted.{turns_of};
+ghost use Rattle.open_nodes.specs.TurnCounts.{turns_of};
 ghost use Rattle.pool.specs.Running.{HasRun};
 ghost use Rattle.round.specs.Call.{Calls, HasOpenRoot, HasTurnToMake};
 ghost use Rattle.round.specs.Here.{IsResting};
@@ -32,7 +32,7 @@ use texts::Memory;
 const CAPACITY: usize = 64;
 
 // What comes back from the scope of the workers.
-struct Ran<R: Rules> {
+struct ScopeResult<R: Rules> {
     graph: Graph,
     host: Host<R>,
     rules: Vec<R>,
@@ -63,7 +63,7 @@ fn run<'s, E, R: Rules + Send + Drop + 's, T: Threads + Wait + Sync>(
     round: Round<R>,
     first: u64,
     budget: u64,
-) -> Ran<R>
+) -> ScopeResult<R>
     requires host { IsNewHost board.now.table.shared.table_id board.now.capacity
         (length rules.items) host.seat }
     requires hands { All (λ h. IsNewHand board.now.table.shared.table_id h.seat) hands.items
@@ -78,7 +78,7 @@ fn run<'s, E, R: Rules + Send + Drop + 's, T: Threads + Wait + Sync>(
     let workers = match with_room(alloc, rules.len()) {
         Ok(workers) => workers,
         Err(_) => {
-            return Ran {
+            return ScopeResult {
                 graph,
                 host,
                 rules,
@@ -99,7 +99,7 @@ fn run<'s, E, R: Rules + Send + Drop + 's, T: Threads + Wait + Sync>(
     board.shut(&mut host);
     bells.jobs.ring_all();
     let (rules, hands) = join_all(rt, board, crew);
-    Ran {
+    ScopeResult {
         graph,
         host,
         rules,
@@ -123,7 +123,7 @@ fn scoped<R: Rules + Send + Drop, T: Threads + Wait + Sync>(
     round: Round<R>,
     first: u64,
     budget: u64,
-) -> Ran<R>
+) -> ScopeResult<R>
     requires host { IsNewHost board.now.table.shared.table_id board.now.capacity
         (length rules.items) host.seat }
     requires hands { All (λ h. IsNewHand board.now.table.shared.table_id h.seat) hands.items
@@ -138,7 +138,7 @@ fn scoped<R: Rules + Send + Drop, T: Threads + Wait + Sync>(
     thread::scope(
         thread::scope_env(),
         rt,
-        move |scope| -> Ran<R>
+        move |scope| -> ScopeResult<R>
             requires host { IsNewHost board.now.table.shared.table_id board.now.capacity
                 (length rules.items) host.seat }
             requires hands { All (λ h. IsNewHand board.now.table.shared.table_id h.seat) hands.items
@@ -195,7 +195,7 @@ fn by_workers<R: Rules + Send + Drop, T: Threads + Wait + Sync>(
     };
     let bells = Bells::new();
     let lent = mem::replace(graph, Graph::new(alloc));
-    let Ran {
+    let ScopeResult {
         graph: after,
         host,
         rules,

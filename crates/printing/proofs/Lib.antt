@@ -1,3 +1,3 @@
-pub mod Told
-pub mod Printed
+pub mod TextBufferLaws
+pub mod PrintLaws
 pub mod Reprs

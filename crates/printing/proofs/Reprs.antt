@@ -4,9 +4,9 @@ use Rattle.meaning.specs.declared.val.Val.{Val}
 use Rattle.meaning.specs.Outcome.{Out, gives, faults, and_then}
 use Rattle.meaning.specs.Heap.{Store, is_sized, walk_done, makes_text}
 use Rattle.meaning.specs.Printing.{print, repr}
-use Rattle.printing.specs.declared.written.Written.{Written}
-use Rattle.printing.specs.Kept.{keep, kept, more, told}
-use Rattle.printing.proofs.Told.{kept_alike}
+use Rattle.printing.specs.declared.text_buffer.TextBuffer.{TextBuffer}
+use Rattle.printing.specs.TextBuffers.{keep, kept, more, told}
+use Rattle.printing.proofs.TextBufferLaws.{kept_alike}
 
 module _ (s : Store) (t : ℕ) where
   after : ℕ → Store
@@ -34,10 +34,10 @@ module _ (s : Store) (t : ℕ) where
     pub repr_kept : (bytes : List ℕ) → p ≡ keep bytes → repr x s ≡ makes_text bytes (record s { steps = t })
     repr_kept bytes h = whole ∙ ap (λ m. m (record s { steps = t })) (kept_alike found.0 bytes (sym found.1.0 ∙ h))
 
-pub long_kept : (w : Written) → w.long ≡ true → kept w ≡ None
+pub long_kept : (w : TextBuffer) → w.long ≡ true → kept w ≡ None
 unfolding kept
 long_kept w h = rw h refl
 
-pub short_kept : (w : Written) → w.long ≡ false → kept w ≡ keep w.bytes.items
+pub short_kept : (w : TextBuffer) → w.long ≡ false → kept w ≡ keep w.bytes.items
 unfolding kept
 short_kept w h = rw h refl

@@ -3,7 +3,7 @@
 
 mod quoting;
 mod strings;
+mod text_buffer;
 mod walk;
-mod written;
 
 pub use strings::{print, text};

@@ -1,14 +1,14 @@
 //! Strings between quotes.
 ghost use Rattle.std.specs.Prelude.{◌≡◌, OnOk};
 ghost use Rattle.meaning.specs.Printing.{escaped, quoted};
-ghost use Rattle.printing.specs.Kept.{kept, more};
+ghost use Rattle.printing.specs.TextBuffers.{kept, more};
 
-use crate::written::Written;
+use crate::text_buffer::TextBuffer;
 use texts::Memory;
 
 /// Writes a string between quotes.
-#[tactic(auto, using(crate::proofs::Told::too_long_stays))]
-pub fn write_quoted(out: &mut Written, bytes: &[u8]) -> Result<(), Memory>
+#[tactic(auto, using(crate::proofs::TextBufferLaws::too_long_stays))]
+pub fn write_quoted(out: &mut TextBuffer, bytes: &[u8]) -> Result<(), Memory>
     ensures { OnOk result (kept out.new ≡ more (kept out.old) (quoted bytes.now)) }
 {
     if out.long {
@@ -23,7 +23,7 @@ pub fn write_quoted(out: &mut Written, bytes: &[u8]) -> Result<(), Memory>
 }
 
 // Writes one byte of a string between quotes.
-fn write_escaped(out: &mut Written, byte: u8) -> Result<(), Memory>
+fn write_escaped(out: &mut TextBuffer, byte: u8) -> Result<(), Memory>
     ensures { OnOk result (kept out.new ≡ more (kept out.old) (escaped byte)) }
 {
     match byte {

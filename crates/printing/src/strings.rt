@@ -4,8 +4,8 @@ ghost use Rattle.meaning.specs.Printing.{repr, str, str_object};
 ghost use Rattle.meaning.specs.declared.val.Val.TheVariants.{At};
 ghost use Rattle.heap.specs.View.{store_of, Says};
 
+use crate::text_buffer::TextBuffer;
 use crate::walk;
-use crate::written::Written;
 use heap::{DEEPEST, Halt, Heap, Object, Val};
 use meaning::faults;
 
@@ -13,7 +13,7 @@ use meaning::faults;
 pub fn print(heap: &mut Heap, x: Val) -> Result<Val, Halt>
     ensures { Says (repr x (store_of heap.old)) result (store_of heap.new) }
 {
-    let mut out = Written::new(heap.alloc);
+    let mut out = TextBuffer::new(heap.alloc);
     walk::print(
         heap.objects.as_slice(),
         &mut heap.steps,
@@ -21,7 +21,7 @@ pub fn print(heap: &mut Heap, x: Val) -> Result<Val, Halt>
         DEEPEST,
         &mut out,
     )?;
-    let Written { bytes, long } = out;
+    let TextBuffer { bytes, long } = out;
     if long {
         return Err(Halt::Code(faults::TOO_LARGE));
     }

@@ -3,10 +3,10 @@ ghost use Rattle.meaning.specs.Builtins.{builtin_name};
 ghost use Rattle.std.specs.Prelude.{◌≡◌, ◌++◌, map, slice_get, codes, OnOk};
 ghost use Rattle.meaning.specs.Printing.{print, inner_print, visit_shown, shown_object, listed, tupled, mapped, separated, container, plain, int_text, entry_text, pair_text, tuple_end, quoted};
 ghost use Rattle.heap.specs.View.{object_in};
-ghost use Rattle.printing.specs.Kept.{kept, more, before, Tells};
+ghost use Rattle.printing.specs.TextBuffers.{kept, more, before, Tells};
 
 use crate::quoting::write_quoted;
-use crate::written::Written;
+use crate::text_buffer::TextBuffer;
 use heap::{Builtin, Entry, Halt, HeapObject, Key, Object, Val, object_at, tick, val_at};
 use indexmap::IndexMap;
 use itoa::Buffer;
@@ -16,13 +16,13 @@ use texts::Memory;
 /// Writes the text of a value, or returns fault 11 or 12, or 5. Each value entered is a step, and so many containers
 /// more may be entered.
 #[cycle(printing)]
-#[tactic(auto, using(crate::proofs::Printed::print_is, crate::proofs::Printed::print_plainly))]
+#[tactic(auto, using(crate::proofs::PrintLaws::print_is, crate::proofs::PrintLaws::print_plainly))]
 pub fn print(
     objects: &[HeapObject],
     steps: &mut u64,
     x: Val,
     left: u32,
-    out: &mut Written,
+    out: &mut TextBuffer,
 ) -> Result<(), Halt>
     ensures { Tells (print left (map object_in objects.now) x) steps.old (kept out.old) result
         steps.new (kept out.new) }
@@ -39,7 +39,7 @@ pub fn print(
 }
 
 // Writes a text at once.
-fn print_plain(steps: &mut u64, text: &[u8], out: &mut Written) -> Result<(), Halt>
+fn print_plain(steps: &mut u64, text: &[u8], out: &mut TextBuffer) -> Result<(), Halt>
     ensures { Tells (plain text.now) steps.old (kept out.old) result steps.new (kept out.new) }
 {
     tick(steps)?;
@@ -49,7 +49,7 @@ fn print_plain(steps: &mut u64, text: &[u8], out: &mut Written) -> Result<(), Ha
 
 // Writes a number.
 #[tactic(auto, unfolding(meaning::specs::Printing::int_text))]
-fn print_int(steps: &mut u64, n: i64, out: &mut Written) -> Result<(), Halt>
+fn print_int(steps: &mut u64, n: i64, out: &mut TextBuffer) -> Result<(), Halt>
     ensures { Tells (plain (int_text n)) steps.old (kept out.old) result steps.new (kept out.new) }
 {
     let mut buffer = Buffer::new();
@@ -58,7 +58,7 @@ fn print_int(steps: &mut u64, n: i64, out: &mut Written) -> Result<(), Halt>
 }
 
 // Writes a built-in function.
-fn print_builtin(steps: &mut u64, f: Builtin, out: &mut Written) -> Result<(), Halt>
+fn print_builtin(steps: &mut u64, f: Builtin, out: &mut TextBuffer) -> Result<(), Halt>
     ensures { Tells (plain (codes "<built-in " ++ builtin_name f ++ codes ">")) steps.old
         (kept out.old) result steps.new (kept out.new) }
 {
@@ -70,7 +70,7 @@ fn print_builtin(steps: &mut u64, f: Builtin, out: &mut Written) -> Result<(), H
 }
 
 // Writes a function of a file.
-fn print_function(steps: &mut u64, name: &[u8], out: &mut Written) -> Result<(), Halt>
+fn print_function(steps: &mut u64, name: &[u8], out: &mut TextBuffer) -> Result<(), Halt>
     ensures { Tells (plain (codes "<function " ++ name.now ++ codes ">")) steps.old (kept out.old)
         result steps.new (kept out.new) }
 {
@@ -82,7 +82,7 @@ fn print_function(steps: &mut u64, name: &[u8], out: &mut Written) -> Result<(),
 }
 
 // Writes a string.
-fn print_text(steps: &mut u64, bytes: &[u8], out: &mut Written) -> Result<(), Halt>
+fn print_text(steps: &mut u64, bytes: &[u8], out: &mut TextBuffer) -> Result<(), Halt>
     ensures { Tells (plain (quoted bytes.now)) steps.old (kept out.old) result steps.new
         (kept out.new) }
 {
@@ -98,7 +98,7 @@ fn print_object(
     steps: &mut u64,
     place: usize,
     left: u32,
-    out: &mut Written,
+    out: &mut TextBuffer,
 ) -> Result<(), Halt>
     ensures { Tells (visit_shown (inner_print left (map object_in objects.now))
         (shown_object (slice_get (map object_in objects.now) place))) steps.old (kept out.old)
@@ -126,13 +126,13 @@ fn print_object(
 
 // Writes a list.
 #[cycle(printing)]
-#[tactic(auto, using(crate::proofs::Printed::list_deep, crate::proofs::Printed::list_more))]
+#[tactic(auto, using(crate::proofs::PrintLaws::list_deep, crate::proofs::PrintLaws::list_more))]
 fn print_list(
     objects: &[HeapObject],
     steps: &mut u64,
     members: &[Val],
     left: u32,
-    out: &mut Written,
+    out: &mut TextBuffer,
 ) -> Result<(), Halt>
     ensures { Tells (visit_shown (inner_print left (map object_in objects.now))
         (listed members.now)) steps.old (kept out.old) result steps.new (kept out.new) }
@@ -146,13 +146,13 @@ fn print_list(
 
 // Writes a tuple.
 #[cycle(printing)]
-#[tactic(auto, using(crate::proofs::Printed::tuple_deep, crate::proofs::Printed::tuple_more))]
+#[tactic(auto, using(crate::proofs::PrintLaws::tuple_deep, crate::proofs::PrintLaws::tuple_more))]
 fn print_tuple(
     objects: &[HeapObject],
     steps: &mut u64,
     members: &[Val],
     left: u32,
-    out: &mut Written,
+    out: &mut TextBuffer,
 ) -> Result<(), Halt>
     ensures { Tells (visit_shown (inner_print left (map object_in objects.now))
         (tupled members.now)) steps.old (kept out.old) result steps.new (kept out.new) }
@@ -181,7 +181,7 @@ fn tuple_end(members: &[Val]) -> &'static [u8]
 
 // Writes members between brackets.
 #[cycle(printing)]
-#[tactic(auto, using(crate::proofs::Told::contained))]
+#[tactic(auto, using(crate::proofs::TextBufferLaws::contained))]
 fn print_enclosed(
     objects: &[HeapObject],
     steps: &mut u64,
@@ -189,7 +189,7 @@ fn print_enclosed(
     members: &[Val],
     after: &[u8],
     left: u32,
-    out: &mut Written,
+    out: &mut TextBuffer,
 ) -> Result<(), Halt>
     ensures { Tells
         (container before.now (separated (print left (map object_in objects.now)) members.now)
@@ -209,7 +209,7 @@ fn print_members(
     steps: &mut u64,
     members: &[Val],
     left: u32,
-    out: &mut Written,
+    out: &mut TextBuffer,
 ) -> Result<(), Halt>
     ensures { Tells (separated (print left (map object_in objects.now)) members.now) steps.old
         (kept out.old) result steps.new (kept out.new) }
@@ -228,7 +228,7 @@ fn print_members(
 }
 
 // Writes a comma and a space, but not before the first item.
-fn write_before(out: &mut Written, i: usize) -> Result<(), Memory>
+fn write_before(out: &mut TextBuffer, i: usize) -> Result<(), Memory>
     ensures { OnOk result (kept out.new ≡ more (kept out.old) (before i)) }
 {
     if i == 0 {
@@ -241,13 +241,13 @@ fn write_before(out: &mut Written, i: usize) -> Result<(), Memory>
 
 // Writes a dictionary.
 #[cycle(printing)]
-#[tactic(auto, using(crate::proofs::Printed::dict_deep, crate::proofs::Printed::dict_more))]
+#[tactic(auto, using(crate::proofs::PrintLaws::dict_deep, crate::proofs::PrintLaws::dict_more))]
 fn print_dict(
     objects: &[HeapObject],
     steps: &mut u64,
     entries: &IndexMap<Key, Entry>,
     left: u32,
-    out: &mut Written,
+    out: &mut TextBuffer,
 ) -> Result<(), Halt>
     ensures { Tells (visit_shown (inner_print left (map object_in objects.now))
         (mapped entries.now.entries)) steps.old (kept out.old) result steps.new (kept out.new) }
@@ -261,13 +261,13 @@ fn print_dict(
 
 // Writes entries between braces.
 #[cycle(printing)]
-#[tactic(auto, using(crate::proofs::Told::contained))]
+#[tactic(auto, using(crate::proofs::TextBufferLaws::contained))]
 fn print_braced(
     objects: &[HeapObject],
     steps: &mut u64,
     entries: &IndexMap<Key, Entry>,
     left: u32,
-    out: &mut Written,
+    out: &mut TextBuffer,
 ) -> Result<(), Halt>
     ensures { Tells
         (container
@@ -288,7 +288,7 @@ fn print_entries(
     steps: &mut u64,
     entries: &IndexMap<Key, Entry>,
     left: u32,
-    out: &mut Written,
+    out: &mut TextBuffer,
 ) -> Result<(), Halt>
     ensures { Tells (separated (pair_text (print left (map object_in objects.now)))
         entries.now.entries) steps.old (kept out.old) result steps.new (kept out.new) }
@@ -313,7 +313,7 @@ fn print_entry(
     steps: &mut u64,
     entry: Entry,
     left: u32,
-    out: &mut Written,
+    out: &mut TextBuffer,
 ) -> Result<(), Halt>
     ensures { Tells (entry_text (print left (map object_in objects.now)) entry) steps.old
         (kept out.old) result steps.new (kept out.new) }

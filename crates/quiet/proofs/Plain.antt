@@ -15,7 +15,7 @@ use Rattle.heap.specs.declared.halt.Halt.{Halt}
 use Rattle.meaning.specs.declared.val.Val.{Val}
 use Rattle.meaning.specs.Outcome as o
 use Rattle.meaning.specs.Heap.{Store, walks}
-use Rattle.meaning.specs.Functions.{Named, builtin}
+use Rattle.meaning.specs.Functions.{KeywordArguments, builtin}
 use Rattle.meaning.specs.Methods.{method}
 use Rattle.language.specs.World.{World, Here, Ends, ended, failed, waits, Runs, then_runs, ◌>>=◌, pure, fault, or_fault, on_heap, tick}
 use Rattle.language.specs.Environment.{Env}
@@ -26,7 +26,7 @@ use Rattle.names.specs.Scope.{is_free}
 use Rattle.names.specs.View.{Ran}
 use Rattle.quiet.proofs.Runs.{ticked}
 use Rattle.language.specs.Names.{first_named, universal, is_native, is_native_name, slot, read, read_slot, or_else}
-use Rattle.names.proofs.Found.{first_append, read_is}
+use Rattle.names.proofs.Searches.{first_append, read_is}
 use Rattle.quiet.specs.Quiet.{is_plain, plain_of, is_word_native}
 
 abbrev Others : List Builtin → Type 0
@@ -124,7 +124,7 @@ plain_call env call scope (t.call f es names) g k here w s r u same plain named 
 plain_call env call scope (t.method e name es names) g k here w s r u same plain named ticks h = absurd cc
 
 -- a call of such a function
-pub plain_applied : (env : Env) (call : Call) (f : Ex) (g : Builtin) (xs : List Val) (ns : Named) (here : Here) → plain_of f ≡ Some g → apply env call (v.Builtin g) xs ns here ≡ on_heap here (builtin g xs ns)
+pub plain_applied : (env : Env) (call : Call) (f : Ex) (g : Builtin) (xs : List Val) (ns : KeywordArguments) (here : Here) → plain_of f ≡ Some g → apply env call (v.Builtin g) xs ns here ≡ on_heap here (builtin g xs ns)
 unfolding apply
 plain_applied env call (t.name x) g xs ns here named = ap (λ c. if c then package_call env g xs ns here else on_heap here (builtin g xs ns)) (no_package x g named)
 plain_applied env call (t.int n) g xs ns here named = absurd cc
@@ -154,6 +154,6 @@ received e m k here w r u word h =
     let before = ap (λ c. then_runs ((if c then (tick here >>= λ _. pure native) else (m >>= λ x. pure (receiver x))) w) k) (no_native e here w word) in
     subst (λ q. Ran here.site q r u) (sym (before ∙ given_on (m w) receiver k)) h
 
-pub method_applied : (env : Env) (x : Val) (name : List ℕ) (xs : List Val) (ns : Named) (here : Here) → apply_method env (receiver x) name xs ns here ≡ on_heap here (method x name xs ns)
+pub method_applied : (env : Env) (x : Val) (name : List ℕ) (xs : List Val) (ns : KeywordArguments) (here : Here) → apply_method env (receiver x) name xs ns here ≡ on_heap here (method x name xs ns)
 unfolding apply_method
 method_applied env x name xs ns here = refl

@@ -18,7 +18,7 @@ use Rattle.language.specs.Environment.{Env}
 use Rattle.language.specs.Expressions.{Call, operator_of, between, value, values}
 use Rattle.language.specs.Statements.{Exit}
 use Rattle.names.specs.View.{Ran, RanItems}
-use Rattle.quiet.specs.Done.{Done, Tested}
+use Rattle.quiet.specs.StatementResults.{Done, Tested}
 use Rattle.tree.specs.declared.expr.Expr.{Expr}
 use Rattle.tree.specs.View.{tree_of, trees_of}
 use Rattle.quiet.specs.Parts.{right}

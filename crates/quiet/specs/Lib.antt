@@ -2,5 +2,5 @@ pub mod Quiet
 pub mod Making
 pub mod Parts
 pub mod View
-pub mod Done
+pub mod StatementResults
 pub mod Running

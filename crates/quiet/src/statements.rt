@@ -11,7 +11,7 @@ ghost use Rattle.tree.specs.View.{tree_of};
 ghost use Rattle.names.specs.View.{world_of, here_of, Ran};
 ghost use Rattle.quiet.specs.View.{free_at};
 ghost use Rattle.quiet.specs.Running.{at_once, assigned_at_once, augmented_at_once, run_at_once};
-ghost use Rattle.quiet.specs.Done.{Done, Costs, Tested, TestCosts, test_does, stmt_line, eval_does, assign_does, augment_does};
+ghost use Rattle.quiet.specs.StatementResults.{Done, Costs, Tested, TestCosts, test_does, stmt_line, eval_does, assign_does, augment_does};
 
 use crate::standing::{is_quiet_at, value_at};
 use heap::{Halt, Heap, Val};

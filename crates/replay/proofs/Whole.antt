@@ -6,10 +6,10 @@ use Rattle.evaluation.specs.Value.{In, first, AllDiffer}
 use Rattle.evaluation.specs.Choices as choices
 use Rattle.keys.specs.Jobs.{Outcome}
 use Rattle.keys.specs.declared.key.Key.{Key}
-use Rattle.node.specs.Graphs.{Recorded}
+use Rattle.node.specs.Graphs.{GraphView}
 use Rattle.open_nodes.proofs.Settlings.{in_map}
 use Rattle.open_nodes.specs.Nodes.{IsOpen}
-use Rattle.open_nodes.specs.Counted.{HasMade}
+use Rattle.open_nodes.specs.TurnCounts.{HasMade}
 use Rattle.replay.specs.Playing.{turn_keys, AreOutTurns, IsPlaying, HasHanded, CountsIf}
 use Rattle.replay.specs.Replays.{chosen, newest_after, hands, hand_of}
 use Rattle.replay.specs.declared.choice.Choice.{Choice}
@@ -25,7 +25,7 @@ hands_snoc [] c = let z : hand_of c + 0 ≡ 0 + hand_of c = omega arith in z
 hands_snoc (x ∷ made) c = let h = hands_snoc made c in omega (arith, h)
 
 -- no turn is out where no job is
-pub none_out : (graph : Recorded) (s : Standing) (turns : List Outcome) → turns ≡ [] → s.out ≡ [] → AreOutTurns graph s turns
+pub none_out : (graph : GraphView) (s : Standing) (turns : List Outcome) → turns ≡ [] → s.out ≡ [] → AreOutTurns graph s turns
 none_out graph s turns e o = record {
   each = λ t i. elim (subst (λ (xs : List Outcome). In t xs) e i) [ ];
   all = λ k i. elim (subst (λ (xs : List Key). In k xs) o i) [ ];
@@ -33,7 +33,7 @@ none_out graph s turns e o = record {
 }
 
 -- where a round is not at a stall, a node is open
-pub one_open : {R S : Type 0} (graph : Recorded) (round : Round R S) (turns : List Outcome) → IsPlaying graph round turns → (IsStalled (standing round) → ⊥) → (k : Key) × IsOpen round.table.nodes k
+pub one_open : {R S : Type 0} (graph : GraphView) (round : Round R S) (turns : List Outcome) → IsPlaying graph round turns → (IsStalled (standing round) → ⊥) → (k : Key) × IsOpen round.table.nodes k
 one_open graph round turns p n = go round.table.ready.keys refl round.out.keys refl
   where
     go : (ready : List Key) → round.table.ready.keys ≡ ready → (out : List Key) → round.out.keys ≡ out → (k : Key) × IsOpen round.table.nodes k
@@ -45,7 +45,7 @@ one_open graph round turns p n = go round.table.ready.keys refl round.out.keys r
         (x.0.asked.key, (o.node, o.there))
 
 -- where no job is out, no turn is
-pub no_turns : {R S : Type 0} (graph : Recorded) (round : Round R S) (turns : List Outcome) → IsPlaying graph round turns → (standing round).out ≡ [] → turns ≡ []
+pub no_turns : {R S : Type 0} (graph : GraphView) (round : Round R S) (turns : List Outcome) → IsPlaying graph round turns → (standing round).out ≡ [] → turns ≡ []
 no_turns graph round turns p none = go turns refl
   where
     go : (ts : List Outcome) → turns ≡ ts → turns ≡ []

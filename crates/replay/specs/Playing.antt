@@ -6,8 +6,8 @@ use Rattle.evaluation.specs.Choices.{Choice}
 use Rattle.keys.specs.Jobs.{Outcome}
 use Rattle.keys.specs.declared.key.Key.{Key}
 use Rattle.keys.specs.declared.value.Value.{Value}
-use Rattle.node.specs.Graphs.{Recorded}
-use Rattle.open_nodes.specs.Counted.{HasMade}
+use Rattle.node.specs.Graphs.{GraphView}
+use Rattle.open_nodes.specs.TurnCounts.{HasMade}
 use Rattle.open_nodes.specs.Truths.{IsNext, Past, IsAfter, IsTrueOf}
 use Rattle.round.specs.Choosing.{IsPossibleAfter, IsFollowing}
 use Rattle.round.specs.Rounds.{Standing, standing, StandsBeside, IsOfJobOut}
@@ -22,27 +22,27 @@ abbrev pub turn_keys : List Outcome → List Key
 turn_keys turns = map (λ turn. turn.asked.key) turns
 
 -- the turns that did not come back are those of the jobs that are out, one each
-pub record AreOutTurns (graph : Recorded) (s : Standing) (turns : List Outcome) : Type 0 where
+pub record AreOutTurns (graph : GraphView) (s : Standing) (turns : List Outcome) : Type 0 where
   pub each : (turn : Outcome) → In turn turns → IsOfJobOut graph s turn.asked
   pub all : (k : Key) → In k s.out → In k (turn_keys turns)
   pub differ : AllDiffer (turn_keys turns)
 
-abbrev pub IsPlaying : {R S : Type 0} → Recorded → Round R S → List Outcome → Type 0
+abbrev pub IsPlaying : {R S : Type 0} → GraphView → Round R S → List Outcome → Type 0
 IsPlaying graph round turns = StandsBeside graph round × AreOutTurns graph (standing round) turns
 
 -- the round may have come about by these choices, in a call with this history
-pub record HasCome {R S : Type 0} (next : Key → List Value → Reply Key Value) (read : Key → Option Value) (past : Past read) (cs : List (Choice Key)) (graph : Recorded) (round : Round R S) : Type 0 where
+pub record HasCome {R S : Type 0} (next : Key → List Value → Reply Key Value) (read : Key → Option Value) (past : Past read) (cs : List (Choice Key)) (graph : GraphView) (round : Round R S) : Type 0 where
   pub roots : past.roots ≡ (standing round).roots
   pub truth : IsTrueOf next read past cs graph round.table.nodes round.table.runs.items
   pub follows : IsFollowing cs round
 
 -- the choice was possible after those by which the round came about, and the round is as after it; or it was not possible, and the graph is as before
-abbrev pub Plays : {R S : Type 0} → (Key → List Value → Reply Key Value) → (Key → Option Value) → Choice Key → Recorded → Recorded → Round R S → Round R S → Bool → Type 0
+abbrev pub Plays : {R S : Type 0} → (Key → List Value → Reply Key Value) → (Key → Option Value) → Choice Key → GraphView → GraphView → Round R S → Round R S → Bool → Type 0
 Plays next read c old new before after true = (laws : IsNext next) (past : Past read) (cs : List (Choice Key)) → HasCome next read past cs old before → IsPossibleAfter next read past cs c × HasCome next read past (c ∷ cs) new after
 Plays next read c old new before after false = (laws : IsNext next) (past : Past read) (cs : List (Choice Key)) → HasCome next read past cs old before → (IsPossibleAfter next read past cs c → ⊥) × HasCome next read past cs new after × (new ≡ old)
 
 -- the choice is possible after those by which the round came about
-abbrev pub IsPossibleNow : {R S : Type 0} → (Key → List Value → Reply Key Value) → (Key → Option Value) → Choice Key → Recorded → Round R S → Type 0
+abbrev pub IsPossibleNow : {R S : Type 0} → (Key → List Value → Reply Key Value) → (Key → Option Value) → Choice Key → GraphView → Round R S → Type 0
 IsPossibleNow next read c graph round = (laws : IsNext next) (past : Past read) (cs : List (Choice Key)) → HasCome next read past cs graph round → IsPossibleAfter next read past cs c
 
 -- so many turns were handed out: those that came back, which the round has counted, and those that did not
@@ -59,5 +59,5 @@ CountsIf true more old new = new ≡ old + more
 CountsIf false more old new = new ≡ old
 
 -- the graph is as after a stop
-abbrev pub StopsAfter : {R S : Type 0} → (Key → List Value → Reply Key Value) → (Key → Option Value) → Recorded → Recorded → Round R S → Type 0
+abbrev pub StopsAfter : {R S : Type 0} → (Key → List Value → Reply Key Value) → (Key → Option Value) → GraphView → GraphView → Round R S → Type 0
 StopsAfter next read old new before = (laws : IsNext next) (past : Past read) (cs : List (Choice Key)) → HasCome next read past cs old before → IsAfter next read past new

@@ -7,8 +7,8 @@ use Rattle.evaluation.specs.Choices as choices
 use Rattle.keys.specs.Cycles.{cycle}
 use Rattle.keys.specs.declared.key.Key.{Key}
 use Rattle.keys.specs.declared.value.Value.{Value}
-use Rattle.node.specs.Graphs.{Recorded, record_at}
-use Rattle.open_nodes.specs.Counted.{turns_of}
+use Rattle.node.specs.Graphs.{GraphView, record_at}
+use Rattle.open_nodes.specs.TurnCounts.{turns_of}
 use Rattle.open_nodes.specs.Nodes.{IsUnsettled}
 use Rattle.open_nodes.specs.Truths.{IsNext, Past, IsAfter}
 use Rattle.open_nodes.specs.declared.run.Run.{Run}
@@ -53,7 +53,7 @@ abbrev pub IsAt : List Choice → ℕ → Choice → Type 0
 IsAt made n c = made ≡ take n made ++ c ∷ drop (n + 1) made
 
 -- a root is not settled
-abbrev pub HasOpenRoot : List Key → Recorded → Type 0
+abbrev pub HasOpenRoot : List Key → GraphView → Type 0
 HasOpenRoot roots graph = (k : Key) × In k roots × IsUnsettled (record_at graph) k
 
 module _ (next : Key → List Value → Reply Key Value) (read : Key → Option Value) where
@@ -71,13 +71,13 @@ module _ (next : Key → List Value → Reply Key Value) (read : Key → Option 
 
   -- the law of a call holds, and choices were read up to a stall; or all were possible, and a root is not settled; or the one at the place was
   -- not possible after those before it, and a root is not settled. After the latter two the graph is as after a stop.
-  abbrev pub Replays : List Key → Recorded → Recorded → List Choice → Replayed → Type 0
+  abbrev pub Replays : List Key → GraphView → GraphView → List Choice → Replayed → Type 0
   Replays roots old new made (replayed.Done runs) = (past : Past read) → IsHistory next read past roots old → IsCall next read past new runs.items × HasRead past made runs.items
   Replays roots old new made replayed.ChoicesEnded = (past : Past read) → IsHistory next read past roots old → IsAfter next read past new × HasOpenRoot roots new × AreLegal past made
   Replays roots old new made (replayed.NotLegal n) = (past : Past read) → IsHistory next read past roots old → IsAfter next read past new × HasOpenRoot roots new × AreLegal past (take n made)
       × (c : Choice) × IsAt made n c × (IsPossibleAfter next read past (newest (take n made)) (chosen c) → ⊥)
 
   -- the budget's turns were handed out, and a further one could be at the next choice; a root is not settled
-  abbrev pub SpendsBudget : List Key → Recorded → Recorded → List Choice → ℕ → Type 0
+  abbrev pub SpendsBudget : List Key → GraphView → GraphView → List Choice → ℕ → Type 0
   SpendsBudget roots old new made budget = (past : Past read) → IsHistory next read past roots old → HasOpenRoot roots new × (n : ℕ) × (c : Choice) × IsAt made n c × (hand_of c ≡ 1) × (hands (take n made) ≡ budget)
       × AreLegal past (take n made) × IsPossibleAfter next read past (newest (take n made)) (chosen c)

@@ -3,7 +3,7 @@ ghost use Rattle.std.specs.Prelude.{◌≡◌, ◌≤◌, ◌+◌, ◌∷◌, �
 ghost use Rattle.evaluation.specs.Choices.{Hand, Back, Drop};
 ghost use Rattle.keys.specs.Jobs.{Outcome};
 ghost use Rattle.keys.specs.declared.key.Key.{Key};
-ghost use Rattle.node.specs.Graphs.{Recorded};
+ghost use Rattle.node.specs.Graphs.{GraphView};
 ghost use Rattle.keys.specs.declared.value.Value.{Value};
 ghost use Rattle.leaves.specs.Leaves as leaves;
 ghost use Rattle.replay.specs.Playing.{IsPlaying, Plays, IsPossibleNow, StopsAfter, HasPlace, HandsMore, CountsIf};
@@ -107,9 +107,9 @@ pub fn back<R: Rules>(
 
 /// Drops the state of a key. Returns whether that was possible.
 pub fn drop_state<R: Rules>(round: &mut Round<R>, key: &Key) -> bool
-    ensures playing { (graph : Recorded) (turns : List Outcome) → IsPlaying graph round.old turns
+    ensures playing { (graph : GraphView) (turns : List Outcome) → IsPlaying graph round.old turns
         → IsPlaying graph round.new turns }
-    ensures plays { (read : Key → Option Value) (graph : Recorded) (turns : List Outcome)
+    ensures plays { (read : Key → Option Value) (graph : GraphView) (turns : List Outcome)
         → IsPlaying graph round.old turns → Plays R.next read (Drop key.now) graph graph round.old
         round.new result }
     ensures hands { (turns : List Outcome) → HandsMore 0 round.old round.new turns turns }

@@ -15,8 +15,8 @@ use Rattle.keys.specs.Cycles.{cycle}
 use Rattle.keys.specs.Keys.{key_eq}
 use Rattle.keys.specs.declared.key.Key.{Key}
 use Rattle.keys.specs.declared.value.Value.{Value}
-use Rattle.node.specs.Graphs.{Recorded, record_at, IsTouched}
-use Rattle.node.specs.Kept.{items_of}
+use Rattle.node.specs.Graphs.{GraphView, record_at, IsTouched}
+use Rattle.node.specs.Records.{items_of}
 use Rattle.node.proofs.Lists.{some_is, decide_key, in_left, in_right}
 use Rattle.open_nodes.proofs.Lookups.{other_key}
 use Rattle.open_nodes.specs.Nodes.{node_at, groups_of, pending, IsClean, IsStill, IsCurrent, Stands, IsWhole, AreOut}
@@ -28,13 +28,13 @@ use Rattle.open_nodes.specs.declared.table.Phase.{Phase}
 use Rattle.open_nodes.specs.declared.table.Phase.TheVariants as phase
 use Rattle.open_nodes.specs.declared.table.Table.{Table}
 use Rattle.open_nodes.proofs.Wholes.{node_changes}
-use Rattle.open_nodes.specs.Counted.{MakesNone}
+use Rattle.open_nodes.specs.TurnCounts.{MakesNone}
 use Rattle.open_nodes.proofs.Counting.{same_asked}
 use Rattle.open_nodes.proofs.Followings.{grows_none}
 use Rattle.open_nodes.proofs.Settlings.{truth_changes}
-use Rattle.node.specs.Compared.{has_changed, Compares}
-use Rattle.node.specs.declared.compared.Compared.{Compared}
-use Rattle.node.specs.declared.compared.Compared.TheVariants as compared
+use Rattle.node.specs.Comparisons.{has_changed, Compares}
+use Rattle.node.specs.declared.comparison.Comparison.{Comparison}
+use Rattle.node.specs.declared.comparison.Comparison.TheVariants as compared
 use Rattle.round.specs.Members.{IsMissing}
 use Rattle.round.proofs.Comparing.{IsNextGroup, HasChanged, HasNotChanged, over_is, waits_is, differs_is, passes_is}
 use Rattle.round.specs.Moves.{KeepsWanted}
@@ -52,7 +52,7 @@ next_taken zero (x ∷ gs) g rest e = let q : x ≡ g = cc in ap (λ y. y ∷ []
 next_taken (suc i) [] g rest e = cc
 next_taken (suc i) (x ∷ gs) g rest e = let q : gs ≡ take i gs ++ g ∷ rest = cc in ap (λ y. x ∷ y) (next_taken i gs g rest q)
 
-module _ (graph : Recorded) (before later : Table) (k : Key) (at : ℕ) (c : IsChecking before k at)
+module _ (graph : GraphView) (before later : Table) (k : Key) (at : ℕ) (c : IsChecking before k at)
     (w : IsWhole (record_at graph) before.nodes before.ready.keys (k ∷ pending before)) where
   abbrev n : Node
   n = c.0
@@ -67,11 +67,11 @@ module _ (graph : Recorded) (before later : Table) (k : Key) (at : ℕ) (c : IsC
   its_record = (stand.0, stand.1)
 
   -- what a check finds, by the node's record
-  compared_there : (found : Compared) → Compares (record_at graph) (record_at graph k) at found → Compares (record_at graph) (Some r) at found
+  compared_there : (found : Comparison) → Compares (record_at graph) (record_at graph k) at found → Compares (record_at graph) (Some r) at found
   compared_there found f = subst (λ o. Compares (record_at graph) o at found) stand.1 f
 
   -- all groups are passed
-  pub passes_all : (found : Compared) → Compares (record_at graph) (record_at graph k) at found → found ≡ compared.Over → HasPassed graph before k
+  pub passes_all : (found : Comparison) → Compares (record_at graph) (record_at graph k) at found → found ≡ compared.Over → HasPassed graph before k
   passes_all found f e = record {
     node = n;
     there = c.1;
@@ -84,13 +84,13 @@ module _ (graph : Recorded) (before later : Table) (k : Key) (at : ℕ) (c : IsC
   pub awaits : (missing : List Key) → (group : List Key) × IsNextGroup r at group × IsMissing (record_at graph) group missing → IsAwaiting graph before k missing
   awaits missing f = record { node = n; there = c.1; group = f.0; current = subst (λ p. IsCurrent (record_at graph) k (groups_of n) p f.0) (sym c.2) (r, f.1.0, stand.1, f.1.1); of_group = f.2 }
 
-  pub awaits_found : (found : Compared) → Compares (record_at graph) (record_at graph k) at found → (missing : Vec Key Global) → found ≡ compared.Waits missing → (slice : List Key) → slice ≡ missing.items → IsAwaiting graph before k slice
+  pub awaits_found : (found : Comparison) → Compares (record_at graph) (record_at graph k) at found → (missing : Vec Key Global) → found ≡ compared.Waits missing → (slice : List Key) → slice ≡ missing.items → IsAwaiting graph before k slice
   awaits_found found f missing e slice q = let y = waits_is (record_at graph) r at found (compared_there found f) missing e in awaits slice (y.0, y.1, subst (IsMissing (record_at graph) y.0) (sym q) y.2)
 
-  pub differs_found : (found : Compared) → Compares (record_at graph) (record_at graph k) at found → found ≡ compared.Differs → (group : List Key) × IsNextGroup r at group × HasChanged (record_at graph) group r.settled_at
+  pub differs_found : (found : Comparison) → Compares (record_at graph) (record_at graph k) at found → found ≡ compared.Differs → (group : List Key) × IsNextGroup r at group × HasChanged (record_at graph) group r.settled_at
   differs_found found f e = differs_is (record_at graph) r at found (compared_there found f) e
 
-  pub passes_found : (found : Compared) → Compares (record_at graph) (record_at graph k) at found → (next : ℕ) → found ≡ compared.Passes next
+  pub passes_found : (found : Comparison) → Compares (record_at graph) (record_at graph k) at found → (next : ℕ) → found ≡ compared.Passes next
       → ((group : List Key) × IsNextGroup r at group × HasNotChanged (record_at graph) group r.settled_at) × (next ≡ at + 1)
   passes_found found f next e = passes_is (record_at graph) r at found (compared_there found f) next e
 

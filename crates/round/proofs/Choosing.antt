@@ -13,10 +13,10 @@ use Rattle.evaluation.proofs.Least.{Keeping, least_runs, least_settled}
 use Rattle.keys.specs.Cycles.{cycle}
 use Rattle.keys.proofs.CycleLaws.{turned}
 use Rattle.keys.specs.Turns.{NoCycle}
-use Rattle.keys.specs.Jobs.{Asked}
+use Rattle.keys.specs.Jobs.{JobView}
 use Rattle.keys.specs.declared.key.Key.{Key}
 use Rattle.keys.specs.declared.value.Value.{Value}
-use Rattle.node.specs.Graphs.{Recorded, record_at}
+use Rattle.node.specs.Graphs.{GraphView, record_at}
 use Rattle.node.proofs.Lists.{some_is, none_some, true_false, in_left, in_right}
 use Rattle.open_nodes.specs.Nodes.{node_at, groups_of, pending, IsOpen, IsUnsettled, IsClean, IsPlain, IsCurrent, IsBlocked, Stands, KeepsBack}
 use Rattle.open_nodes.specs.Truths.{IsNext, Past, IsWantedBy, AreUnchanged, HasStopped, HasBegun, IsRun, IsCheck, IsDoing, TellOut, IsOpenTruly, IsRunToEnd, HasEnded, by_read, by_check, by_turns, IsTrueOf}
@@ -52,7 +52,7 @@ regroup : (p : List (List Key)) (g : List Key) (rest : List (List Key)) → p ++
 regroup [] g rest = refl
 regroup (x ∷ p) g rest = ap (λ y. x ∷ y) (regroup p g rest)
 
-module _ (next : Key → List Value → Reply Key Value) (read : Key → Option Value) (laws : IsNext next) (past : Past read) (cs : List (Choice Key)) (graph : Recorded) (s : Standing)
+module _ (next : Key → List Value → Reply Key Value) (read : Key → Option Value) (laws : IsNext next) (past : Past read) (cs : List (Choice Key)) (graph : GraphView) (s : Standing)
     (b : IsBeside graph s) (roots : past.roots ≡ s.roots) (t : IsTrueOf next read past cs graph s.table.nodes s.table.runs.items) where
   abbrev records : Key → Option (Record Key Value)
   records = record_at past.entry
@@ -420,7 +420,7 @@ module _ (next : Key → List Value → Reply Key Value) (read : Key → Option 
   at_out k n e p = subst (λ (y : Phase). TellOut next read past cs k y) p (t.opened k n e).out
 
   -- its job is out with these answers, as the choices tell it
-  pub job_out : (job : Asked) → IsJobOut next read past cs job → IsOfJobOut graph s job
+  pub job_out : (job : JobView) → IsJobOut next read past cs job → IsOfJobOut graph s job
   job_out job x = go (out_at job.key x.out)
     where
       values : (j : Key) → IsPlain (record_at graph) j → (v : Value) × (plain_value (record_at graph j) ≡ Some v)
@@ -456,7 +456,7 @@ module _ (next : Key → List Value → Reply Key Value) (read : Key → Option 
           let same : vs.0 ≡ job.answers = same_end next cycle read comes x.comes refl (omega (arith, l, m)) in
           record { node = y.0; there = y.1; out = y.2; answered = subst (AreAnswers (record_at graph) (groups_of y.0)) same vs.1 }
 
-  pub out_job : (job : Asked) → IsOfJobOut graph s job → IsJobOut next read past cs job
+  pub out_job : (job : JobView) → IsOfJobOut graph s job → IsJobOut next read past cs job
   out_job job o =
       let does = subst (λ (p : Phase). IsDoing next read past cs graph job.key (groups_of o.node) p) o.out (t.opened job.key o.node o.there).doing in
       record {

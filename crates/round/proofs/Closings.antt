@@ -9,14 +9,14 @@ use Rattle.evaluation.specs.Graph.{Record}
 use Rattle.evaluation.specs.Choices.{Choice}
 use Rattle.evaluation.specs.Journal.{RunIsJustified}
 use Rattle.evaluation.proofs.Stall.{never, stops_after, walk_on}
-use Rattle.evaluation.proofs.Closed.{stops_map}
+use Rattle.evaluation.proofs.ClosedSets.{stops_map}
 use Rattle.keys.specs.Cycles.{cycle}
 use Rattle.keys.specs.Turns.{NoCycle}
 use Rattle.keys.specs.declared.key.Key.{Key}
 use Rattle.keys.specs.declared.value.Value.{Value}
 use Rattle.node.specs.Batches.{asked, keys_of, SetsAll}
-use Rattle.node.specs.Graphs.{Recorded, record_at, present, IsTouched}
-use Rattle.node.specs.Kept.{items_of}
+use Rattle.node.specs.Graphs.{GraphView, record_at, present, IsTouched}
+use Rattle.node.specs.Records.{items_of}
 use Rattle.node.specs.Laws.{IsLawfulFor, BatchKeepsLawful}
 use Rattle.node.specs.Writes.{stored}
 use Rattle.node.specs.declared.entry.Entry.{Entry}
@@ -41,7 +41,7 @@ use Rattle.round.specs.declared.closing.Closing.{Closing}
 use Rattle.round.specs.declared.closing.Stall.{Stall}
 use Rattle.round.proofs.Grouping.{clean_cycle, items_length}
 use Rattle.round.proofs.Reaching.{AsksAfter, asks_last, check_asks}
-use Rattle.round.proofs.Stalled.{ComesBy, IsStopped, stop_among, stopped, all_closed, has_stop, is_stall}
+use Rattle.round.proofs.Stalls.{ComesBy, IsStopped, stop_among, stopped, all_closed, has_stop, is_stall}
 use Rattle.round.proofs.Walking.{chain_end}
 
 -- one element has the key
@@ -79,7 +79,7 @@ map_join : {X Y : Type 0} (f : X → Y) (xs ys : List X) → map f (xs ++ ys) �
 map_join f [] ys = refl
 map_join f (x ∷ xs) ys = ap (λ zs. f x ∷ zs) (map_join f xs ys)
 
-module _ (old : Recorded) (start later : Table) (stall : Stall) (w : IsWholeNow old start) (idle : IsIdle start)
+module _ (old : GraphView) (start later : Table) (stall : Stall) (w : IsWholeNow old start) (idle : IsIdle start)
     (t : HasTaken (record_at old) old.version start later stall) (none : (k : Key) → node_at later.nodes k ≡ None)
     (next : Key → List Value → Reply Key Value) (read : Key → Option Value) (laws : IsNext next) (past : Past read) (cs : List (Choice Key)) (h : IsTrueOf next read past cs old start.nodes start.runs.items) where
   abbrev records : Records
@@ -190,7 +190,7 @@ module _ (old : Recorded) (start later : Table) (stall : Stall) (w : IsWholeNow 
       ]
 
   -- the entries are stored
-  module _ (new : Recorded) (entries : List Entry) (a : AreEntries (stop_at stall.stops) records stall.closing.items entries)
+  module _ (new : GraphView) (entries : List Entry) (a : AreEntries (stop_at stall.stops) records stall.closing.items entries)
       (same_version : new.version ≡ old.version) (sets : SetsAll records (record_at new) entries old.version) (keeps : BatchKeepsLawful old new entries) where
     abbrev closing_of : (e : Entry) → In e entries → Closing
     closing_of e i = (a.each e i).0

@@ -8,10 +8,10 @@ use Rattle.evaluation.specs.Graph.{Record}
 use Rattle.evaluation.specs.Value.{In, first, after}
 use Rattle.keys.specs.declared.key.Key.{Key}
 use Rattle.keys.specs.declared.value.Value.{Value}
-use Rattle.node.specs.Compared.{unsettled, any_changed, has_changed, ComparesGroup, ComparesNext, Compares}
+use Rattle.node.specs.Comparisons.{unsettled, any_changed, has_changed, ComparesGroup, ComparesNext, Compares}
 use Rattle.node.specs.Writes.{is_clean}
-use Rattle.node.specs.declared.compared.Compared.{Compared}
-use Rattle.node.specs.declared.compared.Compared.TheVariants as compared
+use Rattle.node.specs.declared.comparison.Comparison.{Comparison}
+use Rattle.node.specs.declared.comparison.Comparison.TheVariants as compared
 use Rattle.node.proofs.Lists.{some_is, none_some, true_false}
 use Rattle.open_nodes.specs.Nodes.{Records, IsClean}
 use Rattle.round.specs.Members.{IsMissing}
@@ -87,7 +87,7 @@ past_end [] i e = omega arith
 past_end (y ∷ xs) zero e = absurd (none_some (sym e))
 past_end (y ∷ xs) (suc i) e = let h = past_end xs i e in omega (arith, h)
 
-module _ (records : Records) (r : Record Key Value) (at : ℕ) (found : Compared) (c : Compares records (Some r) at found) where
+module _ (records : Records) (r : Record Key Value) (at : ℕ) (found : Comparison) (c : Compares records (Some r) at found) where
   -- no group is left
   pub over_is : found ≡ compared.Over → length r.groups ≤ at
   over_is e = go (slice_get r.groups at) refl

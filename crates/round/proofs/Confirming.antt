@@ -13,7 +13,7 @@ use Rattle.keys.specs.Cycles.{cycle}
 use Rattle.keys.specs.declared.key.Key.{Key}
 use Rattle.keys.specs.declared.value.Value.{Value}
 use Rattle.keys.proofs.CycleLaws.{turned}
-use Rattle.node.specs.Graphs.{Recorded, record_at, Sets, IsTouched, HasCleanMembers}
+use Rattle.node.specs.Graphs.{GraphView, record_at, Sets, IsTouched, HasCleanMembers}
 use Rattle.node.specs.Laws.{SettlingKeepsLawful}
 use Rattle.node.proofs.Lists.{some_is, none_some, decide_key, in_left, in_right}
 use Rattle.open_nodes.proofs.Lookups.{other_key}
@@ -28,8 +28,8 @@ use Rattle.open_nodes.specs.declared.table.Table.{Table}
 use Rattle.open_nodes.proofs.Wholes.{node_settles}
 use Rattle.std.specs.declared.alloc.Global.{Global}
 use Rattle.std.specs.declared.vec.Vec.{Vec}
-use Rattle.node.specs.Kept.{items_of}
-use Rattle.open_nodes.specs.Counted.{turns_of, asked_by, MakesNone}
+use Rattle.node.specs.Records.{items_of}
+use Rattle.open_nodes.specs.TurnCounts.{turns_of, asked_by, MakesNone}
 use Rattle.open_nodes.proofs.Counting.{counts_none}
 use Rattle.open_nodes.proofs.Followings.{grows_none, unchanged_on}
 use Rattle.open_nodes.proofs.Settlings.{plain, settles_quietly}
@@ -55,7 +55,7 @@ take_whole {X} xs i h = sym (nil (take i xs)) ∙ ap (λ ys. take i xs ++ ys) (s
     nil [] = refl
     nil (y ∷ ys) = ap (λ z. y ∷ z) (nil ys)
 
-module _ (graph : Recorded) (table : Table) (k : Key) (p : HasPassed graph table k) (w : IsWhole (record_at graph) table.nodes table.ready.keys (k ∷ pending table)) where
+module _ (graph : GraphView) (table : Table) (k : Key) (p : HasPassed graph table k) (w : IsWhole (record_at graph) table.nodes table.ready.keys (k ∷ pending table)) where
   pub all_still : (r : Record Key Value) → record_at graph k ≡ Some r → (j : Key) → IsMember j r.groups → IsStill (record_at graph) r.settled_at j
   all_still r e j m = passed_members (record_at graph) table.nodes w.holds k p.node p.there p.at p.checking r e j (subst (IsMember j) (sym (take_whole r.groups p.at (p.over r e))) m)
 
@@ -66,7 +66,7 @@ module _ (graph : Recorded) (table : Table) (k : Key) (p : HasPassed graph table
   clean_members r s j e m f = let t = all_still r e j m in ap (λ (x : Record Key Value). x.dirty) (some_is (sym f ∙ t.1)) ∙ t.2
 
   -- it is settled
-  module _ (new : Recorded) (later : Table) (left : HasLeft table later k p.node) (version : new.version ≡ graph.version)
+  module _ (new : GraphView) (later : Table) (left : HasLeft table later k p.node) (version : new.version ≡ graph.version)
       (sets : (r : Record Key Value) → record_at graph k ≡ Some r → Sets (record_at graph) (record_at new) k (record r { settled_at = graph.version; dirty = false })) where
     r : Record Key Value
     r = recorded.0
@@ -154,5 +154,5 @@ module _ (graph : Recorded) (table : Table) (k : Key) (p : HasPassed graph table
             go None q = q
             go (Some y) q = let z = past.leaf_stays v u k y q in absurd (none_some (sym e ∙ z.1))
 
-pub is_recorded : (graph : Recorded) (table : Table) (k : Key) (p : HasPassed graph table k) (w : IsWhole (record_at graph) table.nodes table.ready.keys (k ∷ pending table)) → IsSome (record_at graph k)
+pub is_recorded : (graph : GraphView) (table : Table) (k : Key) (p : HasPassed graph table k) (w : IsWhole (record_at graph) table.nodes table.ready.keys (k ∷ pending table)) → IsSome (record_at graph k)
 is_recorded graph table k p w = subst (λ o. IsSome o) (sym (recorded graph table k p w).1) refl

@@ -11,8 +11,8 @@ use Rattle.keys.specs.declared.value.Value.{Value}
 use Rattle.std.specs.declared.alloc.Global.{Global}
 use Rattle.std.specs.declared.vec.Vec.{Vec}
 use Rattle.keys.specs.Cycles.{cycle}
-use Rattle.node.specs.Graphs.{Recorded, record_at, Sets}
-use Rattle.node.specs.Kept.{items_of}
+use Rattle.node.specs.Graphs.{GraphView, record_at, Sets}
+use Rattle.node.specs.Records.{items_of}
 use Rattle.node.specs.Writes.{stored, HasReadyMembers}
 use Rattle.node.specs.Laws.{SettlingKeepsLawful}
 use Rattle.node.proofs.Lists.{some_is, none_some, decide_key, in_left, in_right}
@@ -26,7 +26,7 @@ use Rattle.open_nodes.specs.declared.table.Phase.{Phase}
 use Rattle.open_nodes.specs.declared.table.Phase.TheVariants as phase
 use Rattle.open_nodes.specs.declared.table.Table.{Table}
 use Rattle.open_nodes.proofs.Wholes.{node_settles}
-use Rattle.open_nodes.specs.Counted.{turns_of, asked_by, MakesMore}
+use Rattle.open_nodes.specs.TurnCounts.{turns_of, asked_by, MakesMore}
 use Rattle.open_nodes.proofs.Counting.{counts, turns_snoc}
 use Rattle.open_nodes.proofs.Followings.{Grows, grows_one, begun_on}
 use Rattle.open_nodes.proofs.Settlings.{now_is, plain_grounded, settles_by_run}
@@ -101,13 +101,13 @@ module _ (next : Key → List Value → Reply Key Value) (read : Key → Option 
       subst (λ ys. choices.Comes next cycle read k a (g ∷ gs) ys) (sym (join a us s.1) ∙ ap (λ ys. a ++ (ys ++ s.1)) q ∙ ap (λ ys. a ++ ys) (sym s.2)) (choices.asks f u (asks_come t s.1 s.4))
 
 -- a plain value of the graph is the key's value
-pub plain_values : (next : Key → List Value → Reply Key Value) (read : Key → Option Value) (laws : IsNext next) (past : Past read) (graph : Recorded) → IsAfter next read past graph
+pub plain_values : (next : Key → List Value → Reply Key Value) (read : Key → Option Value) (laws : IsNext next) (past : Past read) (graph : GraphView) → IsAfter next read past graph
     → (k : Key) (v : Value) → plain_value (record_at graph k) ≡ Some v → Grounded next read k v
 plain_values next read laws past graph a k v e = let p = plain_is (record_at graph) k v e in
     subst (Grounded next read k) p.4 (plain_grounded next read laws past graph a k p.0 p.1 p.2 p.3)
 
 -- a node ends by its turns
-module _ (old new : Recorded) (before mid later : Table) (k : Key) (v : Value) (answers : List Value) (o : IsOutWith old before k answers)
+module _ (old new : GraphView) (before mid later : Table) (k : Key) (v : Value) (answers : List Value) (o : IsOutWith old before k answers)
     (w : IsWhole (record_at old) before.nodes before.ready.keys (pending before))
     (left : HasLeft before mid k o.node) (at turns : ℕ) (noted : HasNoted mid later (record { key = k; version = at; turns = turns }))
     (version : new.version ≡ old.version)
@@ -203,14 +203,14 @@ module _ (old new : Recorded) (before mid later : Table) (k : Key) (v : Value) (
       present_now = ap past.reads t.after.version ∙ now_is next read laws past
 
 -- what a call stores where a node ends
-pub end_sets : (old new : Recorded) (k : Key) (v : Value) (gs : List (Vec Key Global)) (groups : List (List Key)) → items_of gs ≡ groups → Sets (record_at old) (record_at new) k (stored (record_at old k) v (items_of gs) old.version) → Sets (record_at old) (record_at new) k (stored (record_at old k) v groups old.version)
+pub end_sets : (old new : GraphView) (k : Key) (v : Value) (gs : List (Vec Key Global)) (groups : List (List Key)) → items_of gs ≡ groups → Sets (record_at old) (record_at new) k (stored (record_at old k) v (items_of gs) old.version) → Sets (record_at old) (record_at new) k (stored (record_at old k) v groups old.version)
 end_sets old new k v gs groups e s = subst (λ (x : List (List Key)). Sets (record_at old) (record_at new) k (stored (record_at old k) v x old.version)) e s
 
-pub end_keeps : (old new : Recorded) (k : Key) (v : Value) (gs : List (Vec Key Global)) (groups : List (List Key)) → items_of gs ≡ groups → SettlingKeepsLawful old new k v (items_of gs) → SettlingKeepsLawful old new k v groups
+pub end_keeps : (old new : GraphView) (k : Key) (v : Value) (gs : List (Vec Key Global)) (groups : List (List Key)) → items_of gs ≡ groups → SettlingKeepsLawful old new k v (items_of gs) → SettlingKeepsLawful old new k v groups
 end_keeps old new k v gs groups e s = subst (λ (x : List (List Key)). SettlingKeepsLawful old new k v x) e s
 
 -- the members are settled where its job is out
-pub end_ready : (old : Recorded) (before : Table) (k : Key) (answers : List Value) (o : IsOutWith old before k answers) → IsWhole (record_at old) before.nodes before.ready.keys (pending before) → (gs : List (List Key)) → gs ≡ groups_of o.node → HasReadyMembers (record_at old) k gs
+pub end_ready : (old : GraphView) (before : Table) (k : Key) (answers : List Value) (o : IsOutWith old before k answers) → IsWhole (record_at old) before.nodes before.ready.keys (pending before) → (gs : List (List Key)) → gs ≡ groups_of o.node → HasReadyMembers (record_at old) k gs
 end_ready old before k answers o w gs e j m =
     let s = subst (λ (p : Phase). Stands (record_at old) k (groups_of o.node) p) o.out (w.holds k o.node o.there).1 in
     let p = s j (subst (IsMember j) e m) in inr (p.0, p.1, p.2)

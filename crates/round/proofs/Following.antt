@@ -8,12 +8,12 @@ use Rattle.evaluation.specs.Graph.{Record}
 use Rattle.evaluation.specs.Choices.{Choice, Hand, Back, Drop, Backs, nothing, back, other, IsOut, handed, still, Keeps, taken, kept, Settled, CanHand, IsStall}
 use Rattle.evaluation.proofs.Moves.{TellsAlike}
 use Rattle.keys.specs.Cycles.{cycle}
-use Rattle.keys.specs.Jobs.{Asked, Waits}
+use Rattle.keys.specs.Jobs.{JobView, Waits}
 use Rattle.keys.specs.Keys.{key_eq}
 use Rattle.keys.specs.declared.key.Key.{Key}
 use Rattle.keys.specs.declared.value.Value.{Value}
 use Rattle.node.specs.Edges.{IsAdded, IsRemoved}
-use Rattle.node.specs.Graphs.{Recorded, record_at}
+use Rattle.node.specs.Graphs.{GraphView, record_at}
 use Rattle.node.proofs.Lists.{some_is, none_some, decide_key}
 use Rattle.open_nodes.proofs.Followings.{grows_one, opened_on, settled_still, untold_on}
 use Rattle.open_nodes.proofs.Lookups.{other_key, same_or_key}
@@ -28,7 +28,7 @@ use Rattle.open_nodes.specs.declared.table.Table.{Table}
 use Rattle.round.specs.Choosing.{Follows, FollowsHand, IsPossibleAfter}
 use Rattle.round.specs.Frames.{KeepsSettled}
 use Rattle.round.specs.Moves.{IsWholeNow}
-use Rattle.round.specs.Paused.{Kept, ArePaused, HasState, DropsState, PutsState, TakesState}
+use Rattle.round.specs.NodeStates.{NodeStates, ArePaused, HasState, DropsState, PutsState, TakesState}
 use Rattle.round.specs.Rounds.{Standing, IsBeside, IsStalled, CanDrop}
 use Rattle.round.proofs.Choosing.{settled_clean, ready_can, can_ready, out_at}
 
@@ -65,7 +65,7 @@ out_drop : {K : Type 0} {k j : K} {cs : List (Choice K)} → IsOut k cs → IsOu
 out_drop o = still (λ e. cc) o
 
 -- nothing is kept and nothing is out
-pub follows_none : (s : Standing) (states : Kept) → states.entries ≡ [] → s.out ≡ [] → Follows [] s states
+pub follows_none : (s : Standing) (states : NodeStates) → states.entries ≡ [] → s.out ≡ [] → Follows [] s states
 follows_none s states e o = record {
   states = λ k h. absurd (none_some (sym (empty k) ∙ h.1));
   all_states = λ k h. elim h [ ];
@@ -76,7 +76,7 @@ follows_none s states e o = record {
     empty k = rw e refl
 
 -- a job is handed out
-pub follows_hand : (before later : Standing) (old new : Kept) (k : Key) (n : Node) → node_at before.table.nodes k ≡ Some n → HasPhase before.table.nodes later.table.nodes k phase.Out → Updates key_eq old new k None → IsAdded before.out later.out k
+pub follows_hand : (before later : Standing) (old new : NodeStates) (k : Key) (n : Node) → node_at before.table.nodes k ≡ Some n → HasPhase before.table.nodes later.table.nodes k phase.Out → Updates key_eq old new k None → IsAdded before.out later.out k
     → (cs : List (Choice Key)) → Follows cs before old → Follows (Hand k ∷ cs) later new
 follows_hand before later old new k n there h u added cs f = record {
   states = λ j s. elim (same_or_key old new k None u j) [
@@ -94,7 +94,7 @@ follows_hand before later old new k n there h u added cs f = record {
     gone j s q = none_some (sym u.1 ∙ ap (get key_eq new) q ∙ s.1)
 
 -- no job was handed out
-pub follows_still : (before later : Standing) (old new : Kept) → later ≡ before → ((k : Key) → get key_eq new k ≡ get key_eq old k) → (cs : List (Choice Key)) → Follows cs before old → Follows cs later new
+pub follows_still : (before later : Standing) (old new : NodeStates) → later ≡ before → ((k : Key) → get key_eq new k ≡ get key_eq old k) → (cs : List (Choice Key)) → Follows cs before old → Follows cs later new
 follows_still before later old new e same cs f = record {
   states = λ j s. f.states j (s.0, sym (same j) ∙ s.1);
   all_states = λ j x o. let z = f.all_states j x (o.0, ap (λ (y : Standing). node_at y.table.nodes j) (sym e) ∙ o.1) in (z.0, same j ∙ z.1);
@@ -102,7 +102,7 @@ follows_still before later old new e same cs f = record {
 }
 
 -- a turn comes back
-module _ (next : Key → List Value → Reply Key Value) (read : Key → Option Value) (laws : IsNext next) (past : Past read) (cs : List (Choice Key)) (old new : Recorded) (before later : Standing) (k : Key)
+module _ (next : Key → List Value → Reply Key Value) (read : Key → Option Value) (laws : IsNext next) (past : Past read) (cs : List (Choice Key)) (old new : GraphView) (before later : Standing) (k : Key)
     (settled_stays : KeepsSettled old new) (whole : IsWholeNow new later.table) (t : IsTrueOf next read past cs old before.table.nodes before.table.runs.items) where
   clean_closed : (j : Key) → IsClean (record_at new) j → IsOpen later.table.nodes j → ⊥
   clean_closed j c o = unsettled_not_clean (record_at new j) c.0 (whole.holds j o.0 o.1).0 c.1 c.2
@@ -120,7 +120,7 @@ module _ (next : Key → List Value → Reply Key Value) (read : Key → Option 
       go None e = absurd (closed e)
       go (Some m) e = (m, e)
 
-  pub follows_back : (states after : Kept) (paused : Option Waits) → PutsState states after k paused → (paused ≡ None → IsClean (record_at new) k) → IsRemoved before.out later.out k → Follows cs before states → Follows (Back k ∷ cs) later after
+  pub follows_back : (states after : NodeStates) (paused : Option Waits) → PutsState states after k paused → (paused ≡ None → IsClean (record_at new) k) → IsRemoved before.out later.out k → Follows cs before states → Follows (Back k ∷ cs) later after
   follows_back states after paused p ended removed f = record {
     states = λ j s. elim (decide_key k j) [
       | inl q ↦ subst (λ y. Keeps y (Back k ∷ cs)) q taken
@@ -145,7 +145,7 @@ module _ (next : Key → List Value → Reply Key Value) (read : Key → Option 
       own None e c j q o = absurd (clean_closed j (subst (IsClean (record_at new)) q (c refl)) o)
 
 -- a state is dropped
-pub follows_drop : (s : Standing) (old new : Kept) (k : Key) → Updates key_eq old new k None → (cs : List (Choice Key)) → Follows cs s old → Follows (Drop k ∷ cs) s new
+pub follows_drop : (s : Standing) (old new : NodeStates) (k : Key) → Updates key_eq old new k None → (cs : List (Choice Key)) → Follows cs s old → Follows (Drop k ∷ cs) s new
 follows_drop s old new k u cs f = record {
   states = λ j h. elim (same_or_key old new k None u j) [
     | inl q ↦ absurd (gone j h q)
@@ -171,7 +171,7 @@ alike_drop {K} k j cs = record { backs = λ n b. other b; backs_before = λ n b.
     out_go (still n o) e = o
 
 -- what was true of the round is true after a state was dropped
-pub true_drop : (next : Key → List Value → Reply Key Value) (read : Key → Option Value) (past : Past read) (cs : List (Choice Key)) (graph : Recorded) (nodes : Nodes) (runs : List Run) (k : Key) → IsTrueOf next read past cs graph nodes runs → IsTrueOf next read past (Drop k ∷ cs) graph nodes runs
+pub true_drop : (next : Key → List Value → Reply Key Value) (read : Key → Option Value) (past : Past read) (cs : List (Choice Key)) (graph : GraphView) (nodes : Nodes) (runs : List Run) (k : Key) → IsTrueOf next read past cs graph nodes runs → IsTrueOf next read past (Drop k ∷ cs) graph nodes runs
 true_drop next read past cs graph nodes runs k t = record {
   before = t.before;
   after = t.after;
@@ -186,7 +186,7 @@ true_drop next read past cs graph nodes runs k t = record {
 }
 
 -- a state can be dropped exactly where the choices allow it
-module _ (next : Key → List Value → Reply Key Value) (read : Key → Option Value) (laws : IsNext next) (past : Past read) (cs : List (Choice Key)) (graph : Recorded) (s : Standing)
+module _ (next : Key → List Value → Reply Key Value) (read : Key → Option Value) (laws : IsNext next) (past : Past read) (cs : List (Choice Key)) (graph : GraphView) (s : Standing)
     (b : IsBeside graph s) (roots : past.roots ≡ s.roots) (t : IsTrueOf next read past cs graph s.table.nodes s.table.runs.items) where
   pub stalled_is : IsStalled s → IsStall next cycle read (record_at past.entry) past.roots cs
   stalled_is x = (
@@ -204,7 +204,7 @@ module _ (next : Key → List Value → Reply Key Value) (read : Key → Option 
     none_in s.out (λ k i. x.1 k (out k i)),
   )
 
-  pub drops_where_possible : (states : Kept) (k : Key) (r : _) → ArePaused graph s.table states → Follows cs s states → Decides r (CanDrop s states k) → Decides r (IsPossibleAfter next read past cs (Drop k))
+  pub drops_where_possible : (states : NodeStates) (k : Key) (r : _) → ArePaused graph s.table states → Follows cs s states → Decides r (CanDrop s states k) → Decides r (IsPossibleAfter next read past cs (Drop k))
   drops_where_possible states k r paused f d = (to, λ h. d.1 (from h))
     where
       open_of : HasState states k → IsOpen s.table.nodes k

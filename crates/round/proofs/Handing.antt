@@ -11,7 +11,7 @@ use Rattle.evaluation.proofs.Moves.{alike_hand, alike_back, has_hand, has_back, 
 use Rattle.keys.specs.Keys.{key_eq}
 use Rattle.keys.specs.declared.key.Key.{Key}
 use Rattle.keys.specs.declared.value.Value.{Value}
-use Rattle.node.specs.Graphs.{Recorded, record_at}
+use Rattle.node.specs.Graphs.{GraphView, record_at}
 use Rattle.node.specs.Edges.{IsRemoved}
 use Rattle.node.proofs.Lists.{some_is, decide_key, in_left, in_right}
 use Rattle.open_nodes.proofs.Lookups.{other_key}
@@ -25,8 +25,8 @@ use Rattle.open_nodes.specs.declared.table.Phase.TheVariants as phase
 use Rattle.open_nodes.specs.declared.table.Table.{Table}
 use Rattle.open_nodes.proofs.Wholes.{node_changes}
 use Rattle.std.specs.declared.vec.Vec.{Vec}
-use Rattle.node.specs.Kept.{items_of}
-use Rattle.open_nodes.specs.Counted.{turns_of, asked_by, MakesNone, MakesMore}
+use Rattle.node.specs.Records.{items_of}
+use Rattle.open_nodes.specs.TurnCounts.{turns_of, asked_by, MakesNone, MakesMore}
 use Rattle.open_nodes.proofs.Counting.{counts, same_asked}
 use Rattle.open_nodes.proofs.Followings.{Grows, grows_one}
 use Rattle.open_nodes.proofs.Settlings.{truth_changes}
@@ -38,7 +38,7 @@ use Rattle.round.proofs.Wanting.{wanted_set}
 use Rattle.round.proofs.Ending.{asks_more, plain_values}
 
 -- the job of a node that is ready is handed out
-module _ (graph : Recorded) (before later : Table) (k : Key) (w : IsWhole (record_at graph) before.nodes before.ready.keys (pending before)) (ready : In k before.ready.keys) where
+module _ (graph : GraphView) (before later : Table) (k : Key) (w : IsWhole (record_at graph) before.nodes before.ready.keys (pending before)) (ready : In k before.ready.keys) where
   abbrev n : Node
   n = (w.ready_now k ready).0
 
@@ -95,7 +95,7 @@ module _ (graph : Recorded) (before later : Table) (k : Key) (w : IsWhole (recor
         }) (w.holds k n there).0)
 
 -- a turn that asks a group comes back
-module _ (graph : Recorded) (before later : Table) (k : Key) (answers : List Value) (o : IsOutWith graph before k answers)
+module _ (graph : GraphView) (before later : Table) (k : Key) (answers : List Value) (o : IsOutWith graph before k answers)
     (w : IsWhole (record_at graph) before.nodes before.ready.keys (pending before)) (group : List Key)
     (asked : HasAsked before.nodes later.nodes k group) (pends : Pends before later k) where
   abbrev new_node : Node

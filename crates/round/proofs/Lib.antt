@@ -11,14 +11,14 @@ pub mod Seeking
 pub mod Descents
 pub mod Stalling
 pub mod Walking
-pub mod Stalled
+pub mod Stalls
 pub mod Closings
 pub mod Resting
 pub mod Rounding
 pub mod Rotations
 pub mod Framing
 pub mod Pausing
-pub mod NoneTaken
+pub mod NoOpenNodes
 pub mod NextTurns
 pub mod Choosing
 pub mod Following

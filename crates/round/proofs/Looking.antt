@@ -10,8 +10,8 @@ use Rattle.evaluation.proofs.Moves.{alike}
 use Rattle.keys.specs.Keys.{key_eq}
 use Rattle.keys.specs.declared.key.Key.{Key}
 use Rattle.keys.specs.declared.value.Value.{Value}
-use Rattle.node.specs.Graphs.{Recorded, record_at}
-use Rattle.node.specs.Kept.{items_of}
+use Rattle.node.specs.Graphs.{GraphView, record_at}
+use Rattle.node.specs.Records.{items_of}
 use Rattle.node.proofs.Lists.{some_is, true_false, none_of, not_in, decide_key, in_split, in_left, in_right, in_one}
 use Rattle.open_nodes.proofs.Lookups.{other_key}
 use Rattle.open_nodes.specs.Nodes.{Nodes, node_at, Records, groups_of, pending, IsOpen, IsUnsettled, IsClean, IsPlain, Stands, IsCurrent, IsBlocked, IsWhole, AreOut}
@@ -23,7 +23,7 @@ use Rattle.open_nodes.specs.declared.table.Phase.{Phase}
 use Rattle.open_nodes.specs.declared.table.Phase.TheVariants as phase
 use Rattle.open_nodes.specs.declared.table.Table.{Table}
 use Rattle.open_nodes.proofs.Wholes.{unsettled_not_clean, node_changes, open_on, blocked_on, looked_at, more_waiting, current_on, clean_on, becomes_ready}
-use Rattle.open_nodes.specs.Counted.{turns_of, MakesNone}
+use Rattle.open_nodes.specs.TurnCounts.{turns_of, MakesNone}
 use Rattle.open_nodes.proofs.Counting.{counts_same, same_asked}
 use Rattle.open_nodes.proofs.Followings.{grows_none}
 use Rattle.open_nodes.proofs.Settlings.{truth_changes}
@@ -43,7 +43,7 @@ last_same (z ∷ w ∷ xs) [] x y e = cc
 last_same (z ∷ xs) (w ∷ ys) x y e = let q : xs ++ x ∷ [] ≡ ys ++ y ∷ [] = cc in last_same xs ys x y q
 
 -- after the members of its group are wanted, the node has its group still, and its members are open or settled
-module _ (old new : Recorded) (before later : Table) (k : Key) (missing : List Key) (a : IsAwaiting old before k missing) (w : Wants old new before later)
+module _ (old new : GraphView) (before later : Table) (k : Key) (missing : List Key) (a : IsAwaiting old before k missing) (w : Wants old new before later)
     (wanted : (j : Key) → In j missing → IsWanted new later j) where
   pub still_there : node_at later.nodes k ≡ Some a.node
   still_there = w.widens.open_still k a.node a.there
@@ -55,7 +55,7 @@ module _ (old new : Recorded) (before later : Table) (k : Key) (missing : List K
   all_wanted j i = elim (a.of_group.rest j i) [ inl m ↦ wanted j m | inr c ↦ inr (clean_on (record_at old) (record_at new) w.widens.clean j c) ]
 
 -- a node comes to wait for a member of its group
-module _ (graph : Recorded) (before later : Table) (k member : Key) (n : Node) (group : List Key)
+module _ (graph : GraphView) (before later : Table) (k member : Key) (n : Node) (group : List Key)
     (w : IsWhole (record_at graph) before.nodes before.ready.keys (k ∷ pending before))
     (there : node_at before.nodes k ≡ Some n) (current : IsCurrent (record_at graph) k (groups_of n) n.phase group)
     (wanted : (j : Key) → In j group → IsOpen before.nodes j ⊎ IsClean (record_at graph) j)
@@ -147,7 +147,7 @@ module _ (graph : Recorded) (before later : Table) (k member : Key) (n : Node) (
       }) (w.holds member m open_member.1).0)
 
 -- a node is to be looked at again
-module _ (graph : Recorded) (before later : Table) (k : Key) (pends : Pends before later k) (nodes : later.nodes ≡ before.nodes) where
+module _ (graph : GraphView) (before later : Table) (k : Key) (pends : Pends before later k) (nodes : later.nodes ≡ before.nodes) where
   pub again_whole : IsWhole (record_at graph) before.nodes before.ready.keys (k ∷ pending before) → IsWhole (record_at graph) later.nodes later.ready.keys (pending later)
   again_whole w = subst (λ (x : Nodes). IsWhole (record_at graph) x later.ready.keys (pending later)) (sym nodes) (subst (λ (xs : List Key). IsWhole (record_at graph) before.nodes xs (pending later)) (sym pends.ready)
       (more_waiting (record_at graph) before.nodes before.ready.keys (k ∷ pending before) (pending later) w (λ j i. subst (In j) (sym pends.pends) (turn (pending before) i))))
@@ -169,12 +169,12 @@ module _ (graph : Recorded) (before later : Table) (k : Key) (pends : Pends befo
   again_true read = λ next laws past cs t. subst (λ (x : Nodes). IsTrueOf next read past cs graph x later.runs.items) (sym nodes) (subst (λ (x : List Run). IsTrueOf next read past cs graph before.nodes x) (sym pends.runs) t)
 
 -- an unsettled key that is wanted is open
-pub wanted_open : (graph : Recorded) (table : Table) (k : Key) → IsWanted graph table k → IsUnsettled (record_at graph) k → IsOpen table.nodes k
+pub wanted_open : (graph : GraphView) (table : Table) (k : Key) → IsWanted graph table k → IsUnsettled (record_at graph) k → IsOpen table.nodes k
 wanted_open graph table k (inl o) u = o
 wanted_open graph table k (inr c) u = absurd (unsettled_not_clean (record_at graph k) c.0 u c.1 c.2)
 
 -- a node that makes turns, whose last group is settled
-module _ (graph : Recorded) (before : Table) (k : Key) (group : List Key) (run : IsRunningAt before k group)
+module _ (graph : GraphView) (before : Table) (k : Key) (group : List Key) (run : IsRunningAt before k group)
     (w : IsWhole (record_at graph) before.nodes before.ready.keys (k ∷ pending before)) (settled : (j : Key) → In j group → IsClean (record_at graph) j) where
   abbrev node : Node
   node = run.0
@@ -220,11 +220,11 @@ module _ (graph : Recorded) (before : Table) (k : Key) (group : List Key) (run :
 pub ready_out : (before later : Table) → later.nodes ≡ before.nodes → (keys : List Key) → AreOut before.nodes keys → AreOut later.nodes keys
 ready_out before later nodes keys out j m e f = out j m (ap (λ x. node_at x j) (sym nodes) ∙ e) f
 
-pub ready_true : (graph : Recorded) (before later : Table) (k : Key) → Readies before later k → later.nodes ≡ before.nodes → (read : Key → Option Value) → StaysTrue read graph graph before later
+pub ready_true : (graph : GraphView) (before later : Table) (k : Key) → Readies before later k → later.nodes ≡ before.nodes → (read : Key → Option Value) → StaysTrue read graph graph before later
 ready_true graph before later k readies nodes read = λ next laws past cs t. subst (λ (x : Nodes). IsTrueOf next read past cs graph x later.runs.items) (sym nodes) (subst (λ (x : List Run). IsTrueOf next read past cs graph before.nodes x) (sym readies.runs) t)
 
 -- the members that wait of a node that makes turns
-pub running_awaits : (graph : Recorded) (before : Table) (k : Key) (group missing : List Key) → IsRunningAt before k group → IsMissing (record_at graph) group missing → (missing ≡ [] → ⊥) → IsAwaiting graph before k missing
+pub running_awaits : (graph : GraphView) (before : Table) (k : Key) (group missing : List Key) → IsRunningAt before k group → IsMissing (record_at graph) group missing → (missing ≡ [] → ⊥) → IsAwaiting graph before k missing
 running_awaits graph before k group missing run m n = record { node = run.0; there = run.1; group = group; current = subst (λ (p : Phase). IsCurrent (record_at graph) k (groups_of run.0) p group) (sym run.2) (current run.3); of_group = m }
   where
     none : (xs : List Key) → ((j : Key) → In j xs → In j group) → group ≡ [] → xs ≡ []
@@ -236,7 +236,7 @@ running_awaits graph before k group missing run m n = record { node = run.0; the
     current (inr p) = p
 
 -- a node that does neither is looked at for nothing
-pub looked_idle : (graph : Recorded) (table : Table) (k : Key) → IsWhole (record_at graph) table.nodes table.ready.keys (k ∷ pending table)
+pub looked_idle : (graph : GraphView) (table : Table) (k : Key) → IsWhole (record_at graph) table.nodes table.ready.keys (k ∷ pending table)
     → ((n : Node) (at : ℕ) → node_at table.nodes k ≡ Some n → n.phase ≡ phase.Checking at → ⊥) → ((n : Node) → node_at table.nodes k ≡ Some n → n.phase ≡ phase.Running → ⊥) → IsWhole (record_at graph) table.nodes table.ready.keys (pending table)
 looked_idle graph table k w not_checking not_running = looked_at (record_at graph) table.nodes table.ready.keys (pending table) k w (λ n e o. absurd (go n e n.phase refl o))
   where
@@ -260,7 +260,7 @@ none_missing records group missing m b h t j i = elim (m.rest j i) [ inl x ↦ a
     empty = none_of missing.items (sym missing.ok.0 ∙ (unsigned_Decides (vec_len missing) 0).0 (sym h ∙ t))
 
 -- the first of those that are to be looked at is taken off
-module _ (graph : Recorded) (before later : Table) (k : Key) (next_key : IsNextKey before later (Some k)) where
+module _ (graph : GraphView) (before later : Table) (k : Key) (next_key : IsNextKey before later (Some k)) where
   pub next_whole : IsWhole (record_at graph) before.nodes before.ready.keys (pending before) → IsWhole (record_at graph) later.nodes later.ready.keys (k ∷ pending later)
   next_whole w = subst (λ (x : Nodes). IsWhole (record_at graph) x later.ready.keys (k ∷ pending later)) (sym next_key.1) (subst (λ (xs : List Key). IsWhole (record_at graph) before.nodes xs (k ∷ pending later)) (sym next_key.2)
       (subst (λ (xs : List Key). IsWhole (record_at graph) before.nodes before.ready.keys xs) next_key.0 w))

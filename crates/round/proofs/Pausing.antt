@@ -9,12 +9,12 @@ use Rattle.std.specs.declared.alloc.Global.{Global}
 use Rattle.std.specs.declared.vec.Vec.{Vec}
 use Rattle.evaluation.specs.Graph.{Record}
 use Rattle.evaluation.specs.Value.{In, after, IsMember}
-use Rattle.keys.specs.Jobs.{Asked, Waits}
+use Rattle.keys.specs.Jobs.{JobView, Waits}
 use Rattle.keys.specs.Keys.{key_eq}
 use Rattle.keys.specs.declared.key.Key.{Key}
 use Rattle.keys.specs.declared.value.Value.{Value}
-use Rattle.node.specs.Graphs.{Recorded, record_at}
-use Rattle.node.specs.Kept.{items_of}
+use Rattle.node.specs.Graphs.{GraphView, record_at}
+use Rattle.node.specs.Records.{items_of}
 use Rattle.node.proofs.Lists.{some_is, none_some, decide_key}
 use Rattle.open_nodes.proofs.Lookups.{other_key, same_or_key}
 use Rattle.open_nodes.specs.Nodes.{Records, node_at, groups_of, IsPlain}
@@ -25,7 +25,7 @@ use Rattle.open_nodes.specs.declared.table.Table.{Table}
 use Rattle.round.specs.Frames.{KeepsSettled, KeepsRunning, KeepsFrameBut}
 use Rattle.round.specs.Members.{no_cycle, plain_value, all_values, AreAnswers, Answers}
 use Rattle.round.specs.Moves.{IsWholeNow}
-use Rattle.round.specs.Paused.{IsPaused, Kept, ArePaused, FewerKept, HasState, DropsState, PutsState, TakesState, Keeps}
+use Rattle.round.specs.NodeStates.{IsPaused, NodeStates, ArePaused, FewerKept, HasState, DropsState, PutsState, TakesState, Keeps}
 use Rattle.round.specs.Turning.{IsOutWith, IsOutAt, NextJob}
 use Rattle.round.proofs.Grouping.{never_none}
 use Rattle.round.proofs.Wanting.{some_there, none_there}
@@ -40,7 +40,7 @@ some_all [] = none_left
 some_all (v ∷ vs) = one (some_all vs)
 
 -- a value that is there is that of a record that stays
-module _ (old new : Recorded) (keeps : KeepsSettled old new) where
+module _ (old new : GraphView) (keeps : KeepsSettled old new) where
   value_stays : (k : Key) (v : Value) → plain_value (record_at old k) ≡ Some v → plain_value (record_at new k) ≡ Some v
   value_stays k v e = go (record_at old k) refl e
     where
@@ -73,7 +73,7 @@ module _ (old new : Recorded) (keeps : KeepsSettled old new) where
   answers_stay groups answers a = sym (all_stay groups (subst AllSome (sym a) (some_all answers))) ∙ a
 
 -- a move leaves states that are kept as they are
-pub paused_on : (old new : Recorded) (before later : Table) → KeepsSettled old new × KeepsRunning before later → (k : Key) (w : Waits) → IsPaused old before k w → IsPaused new later k w
+pub paused_on : (old new : GraphView) (before later : Table) → KeepsSettled old new × KeepsRunning before later → (k : Key) (w : Waits) → IsPaused old before k w → IsPaused new later k w
 paused_on old new before later f k w p = let n = f.1 k p.node p.there p.running in record {
   same_key = p.same_key;
   node = n.0;
@@ -85,16 +85,16 @@ paused_on old new before later f k w p = let n = f.1 k p.node p.there p.running 
   answered = answers_stay old new f.0 p.passed w.answers p.answered;
 }
 
-pub are_paused_on : (old new : Recorded) (before later : Table) (kept : Kept) → KeepsSettled old new × KeepsRunning before later → ArePaused old before kept → ArePaused new later kept
+pub are_paused_on : (old new : GraphView) (before later : Table) (kept : NodeStates) → KeepsSettled old new × KeepsRunning before later → ArePaused old before kept → ArePaused new later kept
 are_paused_on old new before later kept f a k w e = paused_on old new before later f k w (a k w e)
 
-pub none_paused : (graph : Recorded) (table : Table) (kept : Kept) → kept.entries ≡ [] → ArePaused graph table kept
+pub none_paused : (graph : GraphView) (table : Table) (kept : NodeStates) → kept.entries ≡ [] → ArePaused graph table kept
 none_paused graph table kept q k w e = absurd (none_some (sym empty ∙ e))
   where
     empty : get key_eq kept k ≡ None
     empty = rw q refl
 
-pub fewer_paused : (graph : Recorded) (table : Table) (old new : Kept) → FewerKept old new → ArePaused graph table old → ArePaused graph table new
+pub fewer_paused : (graph : GraphView) (table : Table) (old new : NodeStates) → FewerKept old new → ArePaused graph table old → ArePaused graph table new
 fewer_paused graph table old new f a k w e = a k w (f k w e)
 
 not_both : (n : Node) → n.phase ≡ phase.Running → n.phase ≡ phase.Out → ⊥
@@ -104,11 +104,11 @@ not_both n p q = no (sym p ∙ q)
     no e = cc
 
 -- a node whose state is kept has no job out
-pub kept_not_out : (graph : Recorded) (table : Table) (kept : Kept) (key : Key) → ArePaused graph table kept → HasState kept key → IsOutAt table key → ⊥
+pub kept_not_out : (graph : GraphView) (table : Table) (kept : NodeStates) (key : Key) → ArePaused graph table kept → HasState kept key → IsOutAt table key → ⊥
 kept_not_out graph table kept key a h o = let p = a key h.0 h.1 in not_both p.node p.running (ap (λ (n : Node). n.phase) (some_is (sym p.there ∙ o.1)) ∙ o.2)
 
 -- a job is handed out whose state is kept no more
-pub handed_paused : (graph : Recorded) (before later : Table) (kept : Kept) (key : Key) (n : Node) → node_at before.nodes key ≡ Some n → HasPhase before.nodes later.nodes key phase.Out → get key_eq kept key ≡ None → ArePaused graph before kept → ArePaused graph later kept
+pub handed_paused : (graph : GraphView) (before later : Table) (kept : NodeStates) (key : Key) (n : Node) → node_at before.nodes key ≡ Some n → HasPhase before.nodes later.nodes key phase.Out → get key_eq kept key ≡ None → ArePaused graph before kept → ArePaused graph later kept
 handed_paused graph before later kept key n there h gone a k w e = let p = a k w e in elim (decide_key key k) [
   | inl q ↦ absurd (none_some (sym gone ∙ ap (get key_eq kept) q ∙ e))
   | inr d ↦ record {
@@ -124,7 +124,7 @@ handed_paused graph before later kept key n there h gone a k w e = let p = a k w
 ]
 
 -- a turn that asked a group leaves a state
-pub asked_paused : (graph : Recorded) (before later : Table) (key : Key) (answers : List Value) (o : IsOutWith graph before key answers) (group : List Key) → HasAsked before.nodes later.nodes key group → (w : Waits) → w.key ≡ key → w.answers ≡ answers → IsPaused graph later key w
+pub asked_paused : (graph : GraphView) (before later : Table) (key : Key) (answers : List Value) (o : IsOutWith graph before key answers) (group : List Key) → HasAsked before.nodes later.nodes key group → (w : Waits) → w.key ≡ key → w.answers ≡ answers → IsPaused graph later key w
 asked_paused graph before later key answers o group h w q e = let n = h o.node o.there in record {
   same_key = q;
   node = n.0;
@@ -141,7 +141,7 @@ all_values-append records [] ys = refl
 all_values-append records (x ∷ xs) ys = ap (λ r. map (λ k. plain_value (records k)) x ++ r) (all_values-append records xs ys) ∙ sym (append_assoc (map (λ k. plain_value (records k)) x) (all_values records xs) (all_values records ys))
 
 -- the state's answers and those to the last group are all
-module _ (graph : Recorded) (table : Table) (k : Key) (w : Waits) (p : IsPaused graph table k w) (whole : IsWholeNow graph table) (ready : In k table.ready.keys) where
+module _ (graph : GraphView) (table : Table) (k : Key) (w : Waits) (p : IsPaused graph table k w) (whole : IsWholeNow graph table) (ready : In k table.ready.keys) where
   same_node : (n : Node) → node_at table.nodes k ≡ Some n → groups_of n ≡ p.passed ++ p.group ∷ []
   same_node n e = ap groups_of (some_is (sym e ∙ p.there)) ∙ p.split
 
@@ -180,39 +180,39 @@ last_one gs passed group n e q =
     place = let l = ap length e ∙ length-append passed (group ∷ []) in let m = length-map gs (λ (g : Vec Key Global). g.items) in omega (arith, l, m, q)
 
 -- one state more
-pub one_kept : (old new : Kept) (key : Key) (w : Waits) → Updates key_eq old new key (Some w) → Keeps old new key (Some w)
+pub one_kept : (old new : NodeStates) (key : Key) (w : Waits) → Updates key_eq old new key (Some w) → Keeps old new key (Some w)
 one_kept old new key w u k x e = elim (same_or_key old new key _ u k) [
   | inl q ↦ inr (q, sym u.1 ∙ ap (get key_eq new) q ∙ e)
   | inr p ↦ inl (sym p ∙ e)
 ]
 
-pub none_kept : (old new : Kept) (key : Key) → new ≡ old → Keeps old new key None
+pub none_kept : (old new : NodeStates) (key : Key) → new ≡ old → Keeps old new key None
 none_kept old new key q k x e = inl (ap (λ m. get key_eq m k) (sym q) ∙ e)
 
-pub keeps_of : (old new : Kept) (key : Key) (paused : Option Waits) → PutsState old new key paused → Keeps old new key paused
+pub keeps_of : (old new : NodeStates) (key : Key) (paused : Option Waits) → PutsState old new key paused → Keeps old new key paused
 keeps_of old new key (Some w) u = one_kept old new key w u
 keeps_of old new key None e = none_kept old new key e
 
 -- the state goes with the job; a key that is ready has one
-pub takes_of : (graph : Recorded) (table : Table) (old new : Kept) (key : Key) → In key table.ready.keys → Updates key_eq old new key None → (job : Option Asked) → NextJob graph key table job → TakesState old new key job
+pub takes_of : (graph : GraphView) (table : Table) (old new : NodeStates) (key : Key) → In key table.ready.keys → Updates key_eq old new key None → (job : Option JobView) → NextJob graph key table job → TakesState old new key job
 takes_of graph table old new key i u (Some job) n = u
 takes_of graph table old new key i u None n = absurd (n i)
 
 -- and one less
-pub one_fewer : (old new : Kept) (key : Key) → Updates key_eq old new key None → FewerKept old new
+pub one_fewer : (old new : NodeStates) (key : Key) → Updates key_eq old new key None → FewerKept old new
 one_fewer old new key u k w e = elim (same_or_key old new key _ u k) [
   | inl q ↦ absurd (none_some (sym u.1 ∙ ap (get key_eq new) q ∙ e))
   | inr p ↦ sym p ∙ e
 ]
 
-pub drops_fewer : (old new : Kept) (key : Key) (b : Bool) → DropsState old new key b → FewerKept old new
+pub drops_fewer : (old new : NodeStates) (key : Key) (b : Bool) → DropsState old new key b → FewerKept old new
 drops_fewer old new key true u k w e = one_fewer old new key u k w e
 drops_fewer old new key false same k w e = sym (same k) ∙ e
 
-pub has_state : (kept : Kept) (key : Key) (b : Bool) → b ≡ is_some (get key_eq kept key) → Decides b (HasState kept key)
+pub has_state : (kept : NodeStates) (key : Key) (b : Bool) → b ≡ is_some (get key_eq kept key) → Decides b (HasState kept key)
 has_state kept key b e = (λ t. some_there (get key_eq kept key) (sym e ∙ t), λ h. e ∙ ap is_some h.1)
 
-pub drops_state : (old new : Kept) (key : Key) → Updates key_eq old new key None → (b : Bool) → b ≡ is_some (get key_eq old key) → DropsState old new key b
+pub drops_state : (old new : NodeStates) (key : Key) → Updates key_eq old new key None → (b : Bool) → b ≡ is_some (get key_eq old key) → DropsState old new key b
 drops_state old new key u true e = u
 drops_state old new key u false e = λ k. elim (same_or_key old new key None u k) [
   | inl q ↦ ap (get key_eq new) (sym q) ∙ u.1 ∙ sym (ap (get key_eq old) (sym q) ∙ none_there (get key_eq old key) (sym e))
@@ -220,14 +220,14 @@ drops_state old new key u false e = λ k. elim (same_or_key old new key None u k
 ]
 
 -- what is kept with one more state
-pub kept_paused : (graph : Recorded) (table : Table) (old new : Kept) (key : Key) (paused : Option Waits) → Keeps old new key paused → ArePaused graph table old → ((w : Waits) → paused ≡ Some w → IsPaused graph table key w) → ArePaused graph table new
+pub kept_paused : (graph : GraphView) (table : Table) (old new : NodeStates) (key : Key) (paused : Option Waits) → Keeps old new key paused → ArePaused graph table old → ((w : Waits) → paused ≡ Some w → IsPaused graph table key w) → ArePaused graph table new
 kept_paused graph table old new key paused h a f k w e = elim (h k w e) [
   | inl o ↦ a k w o
   | inr p ↦ subst (λ x. IsPaused graph table x w) p.0 (f w p.1)
 ]
 
 -- jobs that are out stay out, where another one comes back
-pub jobs_stay : (key : Key) (old new : Recorded) (before later : Table) → KeepsFrameBut key old new before later → (k : Key) (answers : List Value) → key ≢ k → IsOutWith old before k answers → IsOutWith new later k answers
+pub jobs_stay : (key : Key) (old new : GraphView) (before later : Table) → KeepsFrameBut key old new before later → (k : Key) (answers : List Value) → key ≢ k → IsOutWith old before k answers → IsOutWith new later k answers
 jobs_stay key old new before later f k answers other o = let m = f.2 k o.node other o.there o.out in record {
   node = m.0;
   there = m.1;
@@ -236,7 +236,7 @@ jobs_stay key old new before later f k answers other o = let m = f.2 k o.node ot
 }
 
 -- jobs that are out stay out, where one is handed out
-pub jobs_beside : (graph : Recorded) (before later : Table) (key : Key) (n : Node) → node_at before.nodes key ≡ Some n → n.phase ≡ phase.Running → HasPhase before.nodes later.nodes key phase.Out
+pub jobs_beside : (graph : GraphView) (before later : Table) (key : Key) (n : Node) → node_at before.nodes key ≡ Some n → n.phase ≡ phase.Running → HasPhase before.nodes later.nodes key phase.Out
     → (k : Key) (answers : List Value) → IsOutWith graph before k answers → IsOutWith graph later k answers
 jobs_beside graph before later key n there running h k answers o = elim (decide_key key k) [
   | inl q ↦ absurd (not_both n running (ap (λ (x : Node). x.phase) (some_is (sym there ∙ ap (node_at before.nodes) q ∙ o.there)) ∙ o.out))

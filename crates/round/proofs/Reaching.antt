@@ -6,15 +6,15 @@ use Rattle.evaluation.specs.Graph.{Record, IsLawful}
 use Rattle.evaluation.specs.Choices.{Choice, Comes, stay, asks}
 use Rattle.evaluation.specs.Choices as choices
 use Rattle.evaluation.proofs.Deciding.{length_snoc}
-use Rattle.evaluation.specs.Reached.{AsksGroup, member}
+use Rattle.evaluation.specs.Reachability.{AsksGroup, member}
 use Rattle.evaluation.proofs.Passing.{pass_comes}
-use Rattle.evaluation.proofs.Pruned.{Same}
+use Rattle.evaluation.proofs.ChangePruning.{Same}
 use Rattle.evaluation.proofs.Touch.{each_member}
 use Rattle.keys.specs.Cycles.{cycle}
 use Rattle.keys.proofs.CycleLaws.{turned}
 use Rattle.keys.specs.declared.key.Key.{Key}
 use Rattle.keys.specs.declared.value.Value.{Value}
-use Rattle.node.specs.Graphs.{Recorded, record_at}
+use Rattle.node.specs.Graphs.{GraphView, record_at}
 use Rattle.node.proofs.Lists.{some_is, in_left}
 use Rattle.open_nodes.specs.Nodes.{Nodes, node_at, groups_of, pending, IsStill, Stands, Holds, IsCurrent, IsWhole}
 use Rattle.open_nodes.specs.Truths.{IsNext, Past, AreSought, IsWantedBy, Asks, nothing, last, more, IsDoing, IsTrueOf}
@@ -49,7 +49,7 @@ module _ (next : Key → List Value → Reply Key Value) (read : Key → Option 
       let r = asks_last s p group u in
       (r.0, asks (cc) (subst (λ (z : List Key). AllGrounded next read z vs) q g) r.1, r.2)
 
-  module _ (graph : Recorded) (nodes : Nodes) (runs : List Run) (t : IsTrueOf next read past cs graph nodes runs) where
+  module _ (graph : GraphView) (nodes : Nodes) (runs : List Run) (t : IsTrueOf next read past cs graph nodes runs) where
     -- a record's group, where the members of those before it did not change since the record was settled
     pub check_asks : (k : Key) (r : Record Key Value) → record_at graph k ≡ Some r → (passed rest : List (List Key)) (group : List Key) → r.groups ≡ passed ++ group ∷ rest
         → ((j : Key) → IsMember j passed → IsStill (record_at graph) r.settled_at j) → AsksAfter k [] passed group
@@ -96,7 +96,7 @@ module _ (next : Key → List Value → Reply Key Value) (read : Key → Option 
         go phase.Out d c = absurd c
 
   -- what a node waits for is reached
-  pub missing_reached : (graph : Recorded) (table : Table) (k : Key) (missing : List Key) → IsTrueOf next read past cs graph table.nodes table.runs.items
+  pub missing_reached : (graph : GraphView) (table : Table) (k : Key) (missing : List Key) → IsTrueOf next read past cs graph table.nodes table.runs.items
       → IsWhole (record_at graph) table.nodes table.ready.keys (k ∷ pending table) → IsAwaiting graph table k missing → AreSought next read past cs missing
   missing_reached graph table k missing t w a j i = (
     member (t.opened k a.node a.there).reached (current_asked graph table.nodes table.runs.items t k a.node a.there w.holds a.group a.current) (a.of_group.among j i),

@@ -5,16 +5,16 @@ use Rattle.evaluation.specs.Value.{In, first, after, AllDiffer}
 use Rattle.evaluation.specs.Graph.{Record}
 use Rattle.evaluation.specs.Choices.{Choice, Backs, nothing, back, other}
 use Rattle.evaluation.specs.Choices as choices
-use Rattle.evaluation.specs.Reached.{root, member}
-use Rattle.evaluation.proofs.Asked.{asked_recorded}
+use Rattle.evaluation.specs.Reachability.{root, member}
+use Rattle.evaluation.proofs.Groups.{asked_recorded}
 use Rattle.keys.specs.Cycles.{cycle}
 use Rattle.keys.specs.declared.key.Key.{Key}
 use Rattle.keys.specs.declared.value.Value.{Value}
-use Rattle.node.specs.Graphs.{Recorded, record_at, present}
+use Rattle.node.specs.Graphs.{GraphView, record_at, present}
 use Rattle.node.proofs.Lists.{none_some, true_false}
 use Rattle.node.specs.Laws.{IsLawfulFor}
 use Rattle.open_nodes.specs.Nodes.{Records, node_at, IsOpen, IsUnsettled, IsClean, AreOut}
-use Rattle.open_nodes.specs.Counted.{turns_of, HasMade}
+use Rattle.open_nodes.specs.TurnCounts.{turns_of, HasMade}
 use Rattle.open_nodes.specs.Truths.{IsNext, Past, IsReached, AreSought, IsAfter, IsTrueOf, IsTrueAtEnd, run_keys}
 use Rattle.open_nodes.specs.declared.table.Table.{Table}
 use Rattle.open_nodes.proofs.Counting.{none_made, all_made}
@@ -25,7 +25,7 @@ use Rattle.round.specs.Call.{IsCall, IsHistory}
 use Rattle.round.specs.Since.{IsFresh}
 use Rattle.round.specs.Moves.{IsWholeNow, IsWanted}
 
-module _ (graph : Recorded) (table : Table) (f : IsFresh table) where
+module _ (graph : GraphView) (table : Table) (f : IsFresh table) where
   none_open : (k : Key) → IsOpen table.nodes k → ⊥
   none_open k o = none_some (sym (f.none_open k) ∙ o.1)
 
@@ -46,7 +46,7 @@ module _ (graph : Recorded) (table : Table) (f : IsFresh table) where
   fresh_true next read roots past h = record {
     before = subst (IsLawfulFor next past.reads past.edits) (sym h.at_entry) h.lawful;
     after = record {
-      version = ap (λ (g : Recorded). g.version) (sym h.at_entry);
+      version = ap (λ (g : GraphView). g.version) (sym h.at_entry);
       lawful = h.lawful;
       since = λ k. inl (ap (λ g. record_at g k) (sym h.at_entry));
     };
@@ -65,11 +65,11 @@ module _ (graph : Recorded) (table : Table) (f : IsFresh table) where
       none_back e (other b) = cc
 
 -- the roots are reached, and wanted
-pub roots_reached : (next : Key → List Value → Reply Key Value) (read : Key → Option Value) (roots : List Key) (past : Past read) (graph : Recorded) → IsHistory next read past roots graph → AreSought next read past [] roots
+pub roots_reached : (next : Key → List Value → Reply Key Value) (read : Key → Option Value) (roots : List Key) (past : Past read) (graph : GraphView) → IsHistory next read past roots graph → AreSought next read past [] roots
 roots_reached next read roots past graph h k i = (root (subst (In k) (sym h.of_roots) i), choices.root (subst (In k) (sym h.of_roots) i))
 
 -- where the roots are settled, all that they reach is
-pub all_settled : (next : Key → List Value → Reply Key Value) (read : Key → Option Value) (laws : IsNext next) (past : Past read) (graph : Recorded) → IsAfter next read past graph
+pub all_settled : (next : Key → List Value → Reply Key Value) (read : Key → Option Value) (laws : IsNext next) (past : Past read) (graph : GraphView) → IsAfter next read past graph
     → ((k : Key) → In k past.roots → IsClean (record_at graph) k) → (k : Key) → IsReached next read past k → IsClean (record_at graph) k
 all_settled next read laws past graph a settled k (root i) = settled k i
 all_settled next read laws past graph a settled k (member {k = j} {group = g} r q i) =
@@ -107,7 +107,7 @@ decide_settled records (x ∷ keys) = go (present (records x)) refl (decide_sett
     go (Some v) e (inr u) = inr (u.0, after u.1, u.2)
 
 -- where a node is open, a root is
-pub root_open : (next : Key → List Value → Reply Key Value) (read : Key → Option Value) (laws : IsNext next) (past : Past read) (cs : List (Choice Key)) (graph : Recorded) (table : Table) → IsWholeNow graph table → IsTrueOf next read past cs graph table.nodes table.runs.items
+pub root_open : (next : Key → List Value → Reply Key Value) (read : Key → Option Value) (laws : IsNext next) (past : Past read) (cs : List (Choice Key)) (graph : GraphView) (table : Table) → IsWholeNow graph table → IsTrueOf next read past cs graph table.nodes table.runs.items
     → (k : Key) → IsOpen table.nodes k → (j : Key) × In j past.roots × IsUnsettled (record_at graph) j
 root_open next read laws past cs graph table w t k o = elim (decide_settled (record_at graph) past.roots) [
   | inr u ↦ u
@@ -116,7 +116,7 @@ root_open next read laws past cs graph table w t k o = elim (decide_settled (rec
 ]
 
 -- at the end: no node is open
-module _ (next : Key → List Value → Reply Key Value) (read : Key → Option Value) (laws : IsNext next) (past : Past read) (graph : Recorded) (table : Table)
+module _ (next : Key → List Value → Reply Key Value) (read : Key → Option Value) (laws : IsNext next) (past : Past read) (graph : GraphView) (table : Table)
     (none : (k : Key) → node_at table.nodes k ≡ None) where
   pub call_ends : (roots : List Key) → past.roots ≡ roots → ((k : Key) → In k roots → IsWanted graph table k) → IsTrueAtEnd next read past graph table.runs.items → IsCall next read past graph table.runs.items
   call_ends roots e wanted t = record {

@@ -4,7 +4,7 @@ use Rattle.std.specs.List.{AllByRecursion, filter_map, cons_option}
 use Rattle.std.proofs.Math.Seq.{take_all, drop-append_seam, take-append_seam, get_or-append_seam}
 use Rattle.std.proofs.lemmas.List.{take-append-drop, length-append, length-take-le}
 use Rattle.std.proofs.lemmas.List.Elements.{filter_map-append}
-use Rattle.evaluation.specs.Rotated.{is_least, text_le, rotated}
+use Rattle.evaluation.specs.Rotation.{is_least, text_le, rotated}
 use Rattle.evaluation.proofs.Rotating.{rotated_from, least_stays, least_moves, greater_than, least_alone}
 use Rattle.keys.specs.Cycles.{label_of}
 use Rattle.keys.specs.declared.key.Key.{Key}

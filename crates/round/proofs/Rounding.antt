@@ -14,7 +14,7 @@ use Rattle.keys.specs.ValueLaws.{exact_values}
 use Rattle.keys.specs.declared.key.Key.{Key}
 use Rattle.keys.specs.declared.value.Value.{Value}
 use Rattle.node.specs.Edges.{IsAdded, IsRemoved}
-use Rattle.node.specs.Graphs.{Recorded, record_at}
+use Rattle.node.specs.Graphs.{GraphView, record_at}
 use Rattle.node.proofs.Lists.{in_split, in_one, some_is, true_false}
 use Rattle.node.proofs.Reaching.{one_more}
 use Rattle.open_nodes.specs.Nodes.{Nodes, node_at, groups_of, pending, IsOpen, IsPlain, Stands, AreOut}
@@ -53,7 +53,7 @@ some_values (v ∷ vs) (w ∷ ws) e =
     ap (λ x. x ∷ vs) p ∙ ap (λ xs. w ∷ xs) (some_values vs ws t)
 
 -- whether a job is out with these answers
-module _ (graph : Recorded) (table : Table) (w : IsWholeNow graph table) (k : Key) (slice : List (List Key)) (asked : (n : Node) → node_at table.nodes k ≡ Some n → slice ≡ groups_of n) where
+module _ (graph : GraphView) (table : Table) (w : IsWholeNow graph table) (k : Key) (slice : List (List Key)) (asked : (n : Node) → node_at table.nodes k ≡ Some n → slice ≡ groups_of n) where
   pub out_never_none : (answers : List Value) → IsOutWith graph table k answers → Answers (record_at graph) slice None → ⊥
   out_never_none answers o a = never_none (record_at graph) (groups_of o.node) plain (subst (λ gs. Answers (record_at graph) gs None) (asked o.node o.there) a)
     where

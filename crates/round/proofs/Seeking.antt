@@ -4,11 +4,11 @@ use Rattle.evaluation.specs.Reply.{Reply}
 use Rattle.evaluation.specs.Value.{HasValue, IsMember}
 use Rattle.evaluation.specs.Graph.{Record}
 use Rattle.evaluation.specs.Choices.{Choice, Changed, Unchanged, Settled, clean}
-use Rattle.evaluation.proofs.Justified.{changed_test, unchanged_test}
+use Rattle.evaluation.proofs.Justification.{changed_test, unchanged_test}
 use Rattle.keys.specs.Cycles.{cycle}
 use Rattle.keys.specs.declared.key.Key.{Key}
 use Rattle.keys.specs.declared.value.Value.{Value}
-use Rattle.node.specs.Graphs.{Recorded, record_at, present, IsTouched}
+use Rattle.node.specs.Graphs.{GraphView, record_at, present, IsTouched}
 use Rattle.node.specs.Writes.{change_of, stored}
 use Rattle.node.proofs.Lists.{some_is, none_some, true_false, in_left}
 use Rattle.node.proofs.Lawfulness.{is_change}
@@ -16,7 +16,7 @@ use Rattle.open_nodes.specs.Nodes.{Nodes, IsUnsettled, IsClean, IsStill}
 use Rattle.open_nodes.specs.Truths.{IsNext, Past, IsWantedBy, IsTrueOf, TellsChange}
 use Rattle.open_nodes.specs.declared.run.Run.{Run}
 use Rattle.open_nodes.proofs.Settlings.{now_is, clean_settles, same_since}
-use Rattle.node.specs.Compared.{has_changed}
+use Rattle.node.specs.Comparisons.{has_changed}
 
 -- nothing is left of a whole list
 pub no_rest : {X : Type 0} (xs rest : List X) → xs ≡ xs ++ rest → rest ≡ []
@@ -28,7 +28,7 @@ abbrev IsChange : Option (Record Key Value) → Value → ℕ → ℕ → Type 0
 IsChange o value version at = ((r : Record Key Value) × (o ≡ Some r) × (r.value ≡ value) × (at ≡ r.changed_at)) ⊎ ((at ≡ version) × ((r : Record Key Value) → o ≡ Some r → r.value ≢ value))
 
 module _ (next : Key → List Value → Reply Key Value) (read : Key → Option Value) (laws : IsNext next) (past : Past read) (cs : List (Choice Key)) where
-  module _ (graph : Recorded) (nodes : Nodes) (runs : List Run) (t : IsTrueOf next read past cs graph nodes runs) where
+  module _ (graph : GraphView) (nodes : Nodes) (runs : List Run) (t : IsTrueOf next read past cs graph nodes runs) where
     -- a wanted key that is settled in the graph is settled by the choices
     pub settled_by : (j : Key) → IsClean (record_at graph) j → IsWantedBy next read past cs j → Settled next cycle read (record_at past.entry) past.roots cs j
     settled_by j c w = elim (t.after.since j) [
@@ -69,7 +69,7 @@ module _ (next : Key → List Value → Reply Key Value) (read : Key → Option 
         late e = grind (arith, e)
 
     -- what is stored for a key tells whether its value changed
-    pub stored_change : (new : Recorded) (k : Key) (v : Value) (gs : List (List Key)) → IsUnsettled (record_at graph) k → record_at new k ≡ Some (stored (record_at graph k) v gs graph.version) → TellsChange next read past cs new k
+    pub stored_change : (new : GraphView) (k : Key) (v : Value) (gs : List (List Key)) → IsUnsettled (record_at graph) k → record_at new k ≡ Some (stored (record_at graph k) v gs graph.version) → TellsChange next read past cs new k
     stored_change new k v gs was there r s e f = go (is_change (record_at graph k) v graph.version)
       where
         is : stored (record_at graph k) v gs graph.version ≡ r

@@ -11,12 +11,12 @@ use Rattle.indexmap.specs.IndexMap.{Updates}
 use Rattle.evaluation.specs.Value.{In, first, AllDiffer}
 use Rattle.keys.specs.Keys.{key_cmp, key_eq}
 use Rattle.keys.specs.declared.key.Key.{Key}
-use Rattle.node.specs.Kept.{items_of}
+use Rattle.node.specs.Records.{items_of}
 use Rattle.keys.proofs.KeyLaws.{keys_total, exact_keys}
 use Rattle.node.proofs.Lists.{some_is, none_some, true_false, decide_key, other_key as other_stop, in_split, in_left, in_right, in_one}
 use Rattle.open_nodes.proofs.Lookups.{other_key}
 use Rattle.open_nodes.specs.Nodes.{Nodes, Records, node_at, groups_of, IsOpen, Stands, Holds}
-use Rattle.open_nodes.specs.Counted.{turns_of, asked_by, MakesNone}
+use Rattle.open_nodes.specs.TurnCounts.{turns_of, asked_by, MakesNone}
 use Rattle.open_nodes.specs.Steps.{HasNoted}
 use Rattle.open_nodes.specs.declared.run.Run.{Run}
 use Rattle.open_nodes.specs.declared.table.Node.{Node}

@@ -15,7 +15,7 @@ use Rattle.keys.specs.declared.key.Key.{Key}
 use Rattle.keys.specs.declared.value.Value.{Value}
 use Rattle.node.specs.Batches.{asked, keys_of}
 use Rattle.node.specs.Graphs.{present}
-use Rattle.node.specs.Kept.{items_of}
+use Rattle.node.specs.Records.{items_of}
 use Rattle.node.specs.declared.entry.Entry.{Entry}
 use Rattle.node.proofs.Lists.{some_is, none_some, true_false, decide_key, other_key, in_left, in_right}
 use Rattle.open_nodes.specs.Nodes.{Records, IsClean}
@@ -23,7 +23,7 @@ use Rattle.open_nodes.proofs.Counting.{decide_in}
 use Rattle.open_nodes.proofs.Settlings.{differ_snoc, map_snoc, map_in}
 use Rattle.round.specs.Closing.{Stops, stop_at, closing_keys}
 use Rattle.round.specs.declared.closing.Closing.{Closing}
-use Rattle.round.specs.Showing.{Chain, stay, step, Shows, IsStall, Shown, shown_at, IsShowing, HasWalked, IsFrom, value_in, EndsWith, ShowsAll, AreEntries}
+use Rattle.round.specs.Showing.{Chain, stay, step, Shows, IsStall, CycleValues, shown_at, IsShowing, HasWalked, IsFrom, value_in, EndsWith, ShowsAll, AreEntries}
 use Rattle.round.proofs.Stalling.{empty_has}
 use Rattle.round.proofs.Confirming.{take_whole}
 use Rattle.round.proofs.Grouping.{taken_next, snoc_in, rest_at}
@@ -114,7 +114,7 @@ walk_ends old now later start path at w e u = record {
 }
 
 -- the value of a path's end is shown by all of its keys
-module _ (all : Key → Option Key) (records : Records) (stall : IsStall all records) (left later : Stops) (shown more : Shown) (start : Key) (path : List Key) (end : Key) (v : Value)
+module _ (all : Key → Option Key) (records : Records) (stall : IsStall all records) (left later : Stops) (shown more : CycleValues) (start : Key) (path : List Key) (end : Key) (v : Value)
     (h : IsShowing all records left shown) (has : (j : Key) × (all start ≡ Some j)) (w : HasWalked left later start path end)
     (e : EndsWith (shown_at shown end) (value_in (records end)) path end v) (a : ShowsAll shown more path v) where
   some_all : (k i : Key) → stop_at left k ≡ Some i → all k ≡ Some i
@@ -203,7 +203,7 @@ module _ (all : Key → Option Key) (records : Records) (stall : IsStall all rec
   }
 
 -- one more key shows the value
-pub shows_snoc : (old now later : Shown) (path : List Key) (k : Key) (w : Arc Value Global) (v : Value) → arc_value w ≡ v → ShowsAll old now path v → Updates key_cmp now later k (Some w) → ShowsAll old later (path ++ k ∷ []) v
+pub shows_snoc : (old now later : CycleValues) (path : List Key) (k : Key) (w : Arc Value Global) (v : Value) → arc_value w ≡ v → ShowsAll old now path v → Updates key_cmp now later k (Some w) → ShowsAll old later (path ++ k ∷ []) v
 shows_snoc old now later path k w v q s u = record {
   there = λ j i. elim (decide_key k j) [
     | inl e ↦ ap (shown_at later) (sym e) ∙ ap (λ o. option_map (λ x. arc_value x) o) u.1 ∙ ap (λ x. Some x) q
@@ -216,7 +216,7 @@ shows_snoc old now later path k w v q s u = record {
       ∙ s.others j (λ i. n (in_left (k ∷ []) i));
 }
 
-pub shows_none : (old : Shown) (v : Value) → ShowsAll old old [] v
+pub shows_none : (old : CycleValues) (v : Value) → ShowsAll old old [] v
 shows_none old v = record { there = λ k i. elim i [ ]; others = λ k n. refl }
 
 -- the key is at a place of the path
@@ -304,7 +304,7 @@ listing_ends stops records all rest entries none h = record {
   differ = h.differ;
 }
 
-pub showing_begins : (stops : Key → Option Key) (left : Stops) (records : Records) (shown : Shown) → ((k : Key) → stops k ≡ stop_at left k) → shown.entries ≡ [] → IsShowing stops records left shown
+pub showing_begins : (stops : Key → Option Key) (left : Stops) (records : Records) (shown : CycleValues) → ((k : Key) → stops k ≡ stop_at left k) → shown.entries ≡ [] → IsShowing stops records left shown
 showing_begins stops left records shown same none = record {
   split = λ k j e. inl (sym (same k) ∙ e, nothing k);
   none = λ k e. (sym (same k) ∙ e, nothing k);

@@ -7,7 +7,7 @@ use Rattle.std.specs.declared.vec.Vec.{Vec}
 use Rattle.filetree.specs.Files.{Files}
 use Rattle.leaves.specs.Leaves as leaves
 use Rattle.keys.specs.declared.key.Key.TheVariants as key
-use Rattle.node.specs.Kept.{items_of}
+use Rattle.node.specs.Records.{items_of}
 use Rattle.evaluation.specs.Reply.{Reply}
 use Rattle.evaluation.specs.Value.{leaf, In, first, IsMember}
 use Rattle.evaluation.specs.Value as value
@@ -21,14 +21,14 @@ use Rattle.keys.specs.Cycles.{cycle}
 use Rattle.keys.specs.Keys.{key_eq}
 use Rattle.keys.specs.declared.key.Key.{Key}
 use Rattle.keys.specs.declared.value.Value.{Value}
-use Rattle.node.specs.Graphs.{Recorded, record_at, Sets, IsTouched}
+use Rattle.node.specs.Graphs.{GraphView, record_at, Sets, IsTouched}
 use Rattle.node.specs.Writes.{stored}
 use Rattle.node.specs.Laws.{SettlingKeepsLawful}
 use Rattle.node.proofs.Lists.{some_is, none_some, true_false, decide_key, in_split, in_left, in_right}
 use Rattle.open_nodes.proofs.Lookups.{other_key}
 use Rattle.open_nodes.specs.Nodes.{Nodes, Records, node_at, groups_of, pending, IsOpen, IsUnsettled, Stands, IsWhole}
 use Rattle.open_nodes.specs.Steps.{HasEntered, Pends, Readies, HasNoted, SameRuns}
-use Rattle.open_nodes.specs.Counted.{turns_of, asked_by}
+use Rattle.open_nodes.specs.TurnCounts.{turns_of, asked_by}
 use Rattle.open_nodes.specs.Truths.{LeadsBy, LeadsOf, LeadsToEnd, AreSought, IsWantedBy, IsNext, Past, IsAfter, IsTrueOf, IsRun, nothing, IsDoing, TellOut, IsUntold, IsSettledTruly, by_read}
 use Rattle.open_nodes.specs.declared.run.Run.{Run}
 use Rattle.open_nodes.specs.declared.table.Node.{Node}
@@ -43,10 +43,10 @@ use Rattle.round.specs.Moves.{StaysTrueBy, Wants, IsWanted, KeepsWanted}
 use Rattle.round.proofs.Seeking.{stored_change}
 
 -- what was true of the round is true after a move
-abbrev pub StaysTrue : (Key → Option Value) → Recorded → Recorded → Table → Table → Type 0
+abbrev pub StaysTrue : (Key → Option Value) → GraphView → GraphView → Table → Table → Type 0
 StaysTrue read old new before later = StaysTrueBy [] read old new before later
 
-abbrev pub StaysTrueOf : List Key → (Key → Option Value) → Recorded → Recorded → Table → Table → Type 0
+abbrev pub StaysTrueOf : List Key → (Key → Option Value) → GraphView → GraphView → Table → Table → Type 0
 StaysTrueOf keys read old new before later = (next : Key → List Value → Reply Key Value) (laws : IsNext next) (past : Past read) (cs : List (Choice Key)) → AreSought next read past cs keys → IsTrueOf next read past cs old before.nodes before.runs.items → IsTrueOf next read past cs new later.nodes later.runs.items
 
 -- an unsettled record is dirty
@@ -58,7 +58,7 @@ unsettled_dirty records k r u e = go r.dirty refl
     go false t = absurd (unsettled_not_clean (records k) r u e t)
 
 -- a leaf is read
-module _ (old new : Recorded) (before after : Table) (k : Key) (v : Value) (turns : Run)
+module _ (old new : GraphView) (before after : Table) (k : Key) (v : Value) (turns : Run)
     (version : new.version ≡ old.version)
     (sets : Sets (record_at old) (record_at new) k (stored (record_at old k) v [] old.version))
     (was : IsUnsettled (record_at old) k) (closed : node_at before.nodes k ≡ None)
@@ -117,7 +117,7 @@ module _ (old new : Recorded) (before after : Table) (k : Key) (v : Value) (turn
         (inl (ap read of_k ∙ is_leaf, no_turns, justified)) (λ j m. elim m.1 [ ]) (value.is_leaf is_leaf)))
 
 -- a node begins
-module _ (graph : Recorded) (before after : Table) (k : Key) (p : Phase) (no_out : p ≢ phase.Out)
+module _ (graph : GraphView) (before after : Table) (k : Key) (p : Phase) (no_out : p ≢ phase.Out)
     (closed : node_at before.nodes k ≡ None) (was : IsUnsettled (record_at graph) k)
     (entered : HasEntered before.nodes after.nodes k p)
     (stands : Stands (record_at graph) k [] p) where
@@ -185,7 +185,7 @@ module _ (graph : Recorded) (before after : Table) (k : Key) (p : Phase) (no_out
         does = doing same (t.untold k closed same)
 
 -- a node without a record may make turns
-pub first_run : (next : Key → List Value → Reply Key Value) (read : Key → Option Value) (past : Past read) (cs : List (Choice Key)) (graph : Recorded) (k : Key) → read k ≡ None → IsWantedBy next read past cs k → record_at graph k ≡ None
+pub first_run : (next : Key → List Value → Reply Key Value) (read : Key → Option Value) (past : Past read) (cs : List (Choice Key)) (graph : GraphView) (k : Key) → read k ≡ None → IsWantedBy next read past cs k → record_at graph k ≡ None
     → record_at graph k ≡ record_at past.entry k → HasBacks k 0 cs → IsRun next read past cs graph k []
 first_run next read past cs graph k no_leaf wanted e same none = record {
   justified = subst (RunIsJustified next cycle past.reads (λ u j. IsTouched (past.edits u) j) past.entry.version) (sym e ∙ same) never_settled;
@@ -196,7 +196,7 @@ first_run next read past cs graph k no_leaf wanted e same none = record {
 }
 
 -- the check of a record begins
-module _ (graph : Recorded) (before after : Table) (k : Key) (closed : node_at before.nodes k ≡ None) (was : IsUnsettled (record_at graph) k)
+module _ (graph : GraphView) (before after : Table) (k : Key) (closed : node_at before.nodes k ≡ None) (was : IsUnsettled (record_at graph) k)
     (entered : HasEntered before.nodes after.nodes k (phase.Checking 0)) (pends : Pends before after k) (r : Record Key Value) (there : record_at graph k ≡ Some r) where
   not_out : phase.Checking 0 ≢ phase.Out
   not_out e = cc
@@ -225,7 +225,7 @@ module _ (graph : Recorded) (before after : Table) (k : Key) (closed : node_at b
   ))
 
 -- the turns of a node without a record begin
-module _ (graph : Recorded) (before after : Table) (k : Key) (closed : node_at before.nodes k ≡ None) (was : IsUnsettled (record_at graph) k)
+module _ (graph : GraphView) (before after : Table) (k : Key) (closed : node_at before.nodes k ≡ None) (was : IsUnsettled (record_at graph) k)
     (entered : HasEntered before.nodes after.nodes k phase.Running) (readies : Readies before after k) (none : record_at graph k ≡ None) where
   running_not_out : phase.Running ≢ phase.Out
   running_not_out e = cc
@@ -240,16 +240,16 @@ module _ (graph : Recorded) (before after : Table) (k : Key) (closed : node_at b
       (λ same untold. (first_run next read past cs graph k no_leaf (sought k first).1 none same untold.0, untold.1))
 
 -- what a call stores for a leaf
-pub read_sets : (old new : Recorded) (a k : Key) (v : Value) (gs : List (Vec Key Global)) → a ≡ k → gs ≡ [] → Sets (record_at old) (record_at new) a (stored (record_at old a) v (items_of gs) old.version) → Sets (record_at old) (record_at new) k (stored (record_at old k) v [] old.version)
+pub read_sets : (old new : GraphView) (a k : Key) (v : Value) (gs : List (Vec Key Global)) → a ≡ k → gs ≡ [] → Sets (record_at old) (record_at new) a (stored (record_at old a) v (items_of gs) old.version) → Sets (record_at old) (record_at new) k (stored (record_at old k) v [] old.version)
 read_sets old new a k v gs e f s = subst (λ (x : Key). Sets (record_at old) (record_at new) x (stored (record_at old x) v [] old.version)) e (subst (λ (xs : List (Vec Key Global)). Sets (record_at old) (record_at new) a (stored (record_at old a) v (items_of xs) old.version)) f s)
 
-pub read_keeps : (old new : Recorded) (a k : Key) (v : Value) (gs : List (Vec Key Global)) → a ≡ k → gs ≡ [] → SettlingKeepsLawful old new a v (items_of gs) → SettlingKeepsLawful old new k v []
+pub read_keeps : (old new : GraphView) (a k : Key) (v : Value) (gs : List (Vec Key Global)) → a ≡ k → gs ≡ [] → SettlingKeepsLawful old new a v (items_of gs) → SettlingKeepsLawful old new k v []
 read_keeps old new a k v gs e f s = subst (λ (x : Key). SettlingKeepsLawful old new x v []) e (subst (λ (xs : List (Vec Key Global)). SettlingKeepsLawful old new a v (items_of xs)) f s)
 
-pub wants_refl : (graph : Recorded) (table : Table) → Wants graph graph table table
+pub wants_refl : (graph : GraphView) (table : Table) → Wants graph graph table table
 wants_refl graph table = record { version = refl; widens = widens_refl (record_at graph) table.nodes; whole = λ spare w. w; out = λ keys o. o; turns = λ made h. h }
 
-pub wants_on : (a b c : Recorded) (x y z : Table) → Wants a b x y → Wants b c y z → Wants a c x z
+pub wants_on : (a b c : GraphView) (x y z : Table) → Wants a b x y → Wants b c y z → Wants a c x z
 wants_on a b c x y z f g = record {
   version = g.version ∙ f.version;
   widens = widens_on (record_at a) (record_at b) (record_at c) x.nodes y.nodes z.nodes f.widens g.widens;
@@ -258,7 +258,7 @@ wants_on a b c x y z f g = record {
   turns = makes_on x y z f.turns g.turns;
 }
 
-pub wanted_on : (a b : Recorded) (x y : Table) (k : Key) → Wants a b x y → IsWanted a x k → IsWanted b y k
+pub wanted_on : (a b : GraphView) (x y : Table) (k : Key) → Wants a b x y → IsWanted a x k → IsWanted b y k
 wanted_on a b x y k w (inl o) = inl (o.0, w.widens.open_still k o.0 o.1)
 wanted_on a b x y k w (inr c) = inr (c.0, w.widens.clean k c.0 c.1 c.2, c.2)
 
@@ -282,23 +282,23 @@ no_leaf files (key.Package name) e = refl
 no_leaf files (key.Under directory) e = refl
 
 -- after a stop
-pub leads_err : {X E : Type 0} (added : List (Choice Key)) (next : Key → List Value → Reply Key Value) (read : Key → Option Value) (old new : Recorded) (before later : Table) (r : Result X E) → IsErr r
+pub leads_err : {X E : Type 0} (added : List (Choice Key)) (next : Key → List Value → Reply Key Value) (read : Key → Option Value) (old new : GraphView) (before later : Table) (r : Result X E) → IsErr r
     → ((laws : IsNext next) (past : Past read) (cs : List (Choice Key)) → IsTrueOf next read past cs old before.nodes before.runs.items → IsAfter next read past new) → LeadsBy added next read old new before later r
 leads_err added next read old new before later (Ok x) e h = absurd (true_false e refl)
 leads_err added next read old new before later (Err x) e h = h
 
-pub leads_of_err : {X E : Type 0} (next : Key → List Value → Reply Key Value) (read : Key → Option Value) (keys : List Key) (old new : Recorded) (before later : Table) (r : Result X E) → IsErr r
+pub leads_of_err : {X E : Type 0} (next : Key → List Value → Reply Key Value) (read : Key → Option Value) (keys : List Key) (old new : GraphView) (before later : Table) (r : Result X E) → IsErr r
     → ((laws : IsNext next) (past : Past read) (cs : List (Choice Key)) → AreSought next read past cs keys → IsTrueOf next read past cs old before.nodes before.runs.items → IsAfter next read past new) → LeadsOf next read keys old new before later r
 leads_of_err next read keys old new before later (Ok x) e h = absurd (true_false e refl)
 leads_of_err next read keys old new before later (Err x) e h = h
 
-pub leads_to_end_err : {X E : Type 0} (next : Key → List Value → Reply Key Value) (read : Key → Option Value) (old new : Recorded) (before later : Table) (r : Result X E) → IsErr r
+pub leads_to_end_err : {X E : Type 0} (next : Key → List Value → Reply Key Value) (read : Key → Option Value) (old new : GraphView) (before later : Table) (r : Result X E) → IsErr r
     → ((laws : IsNext next) (past : Past read) (cs : List (Choice Key)) → IsTrueOf next read past cs old before.nodes before.runs.items → IsAfter next read past new) → LeadsToEnd next read old new before later r
 leads_to_end_err next read old new before later (Ok x) e h = absurd (true_false e refl)
 leads_to_end_err next read old new before later (Err x) e h = h
 
 -- one node is set: what was wanted is
-pub wanted_set : (graph : Recorded) (before later : Table) (k : Key) (n : Node) → Updates key_eq before.nodes later.nodes k (Some n) → KeepsWanted graph graph before later
+pub wanted_set : (graph : GraphView) (before later : Table) (k : Key) (n : Node) → Updates key_eq before.nodes later.nodes k (Some n) → KeepsWanted graph graph before later
 wanted_set graph before later k n u j (inr c) = inr c
 wanted_set graph before later k n u j (inl o) = elim (decide_key k j) [
   | inl e ↦ inl (n, ap (node_at later.nodes) (sym e) ∙ u.1)
@@ -306,7 +306,7 @@ wanted_set graph before later k n u j (inl o) = elim (decide_key k j) [
 ]
 
 -- one node leaves, and is settled
-pub wanted_leaves : (old new : Recorded) (before later : Table) (k : Key) (r : Record Key Value) → record_at new k ≡ Some r → r.dirty ≡ false → ((j : Key) → k ≢ j → record_at new j ≡ record_at old j)
+pub wanted_leaves : (old new : GraphView) (before later : Table) (k : Key) (r : Record Key Value) → record_at new k ≡ Some r → r.dirty ≡ false → ((j : Key) → k ≢ j → record_at new j ≡ record_at old j)
     → ((j : Key) → k ≢ j → node_at later.nodes j ≡ node_at before.nodes j) → KeepsWanted old new before later
 wanted_leaves old new before later k r there clean records nodes j (inl o) = elim (decide_key k j) [
   | inl e ↦ inr (r, ap (record_at new) (sym e) ∙ there, clean)
@@ -317,6 +317,6 @@ wanted_leaves old new before later k r there clean records nodes j (inr c) = eli
   | inr d ↦ inr (c.0, records j d ∙ c.1, c.2)
 ]
 
-pub wanted_same : (graph : Recorded) (before later : Table) → later.nodes ≡ before.nodes → KeepsWanted graph graph before later
+pub wanted_same : (graph : GraphView) (before later : Table) → later.nodes ≡ before.nodes → KeepsWanted graph graph before later
 wanted_same graph before later e j (inl o) = inl (o.0, ap (λ x. node_at x j) e ∙ o.1)
 wanted_same graph before later e j (inr c) = inr c

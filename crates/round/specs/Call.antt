@@ -8,7 +8,7 @@ use Rattle.evaluation.specs.Journal.{RunIsJustified}
 use Rattle.keys.specs.Cycles.{cycle}
 use Rattle.keys.specs.declared.key.Key.{Key}
 use Rattle.keys.specs.declared.value.Value.{Value}
-use Rattle.node.specs.Graphs.{Recorded, record_at, IsTouched}
+use Rattle.node.specs.Graphs.{GraphView, record_at, IsTouched}
 use Rattle.node.specs.Laws.{IsLawfulFor}
 use Rattle.open_nodes.specs.Nodes.{IsUnsettled, IsClean}
 use Rattle.open_nodes.specs.Truths.{Past, IsReached, IsAfter, IsRunOf, IsTold, AreBehind, AreClosedLast, run_keys}
@@ -17,11 +17,11 @@ use Rattle.round.specs.declared.stop.Stop.{Stop}
 
 module _ (next : Key → List Value → Reply Key Value) (read : Key → Option Value) where
   -- the key is settled, with its value at the present files
-  abbrev pub IsAnswered : Recorded → Key → Type 0
+  abbrev pub IsAnswered : GraphView → Key → Type 0
   IsAnswered graph k = (r : Record Key Value) × (record_at graph k ≡ Some r) × (r.dirty ≡ false) × HasValue next read cycle k r.value
 
   -- the law of a call that ended well
-  pub record IsCall (past : Past read) (graph : Recorded) (runs : List Run) : Type 0 where
+  pub record IsCall (past : Past read) (graph : GraphView) (runs : List Run) : Type 0 where
     -- the graph is lawful for the same history, and each record is that of the entry, or settled in this call
     pub after : IsAfter next read past graph
     -- each root has its value
@@ -38,22 +38,22 @@ module _ (next : Key → List Value → Reply Key Value) (read : Key → Option 
     pub closed : AreClosedLast next read past runs
 
   -- a history for which the graph is lawful, and these roots
-  pub record IsHistory (past : Past read) (roots : List Key) (graph : Recorded) : Type 0 where
+  pub record IsHistory (past : Past read) (roots : List Key) (graph : GraphView) : Type 0 where
     pub at_entry : past.entry ≡ graph
     pub of_roots : past.roots ≡ roots
     pub lawful : IsLawfulFor next past.reads past.edits graph
 
-  abbrev pub Calls : List Key → Recorded → Recorded → Result (List Run) Stop → Type 0
+  abbrev pub Calls : List Key → GraphView → GraphView → Result (List Run) Stop → Type 0
   Calls roots old new (Ok runs) = (past : Past read) → IsHistory past roots old → IsCall past new runs
   Calls roots old new (Err e) = (past : Past read) → IsHistory past roots old → IsAfter next read past new
 
   -- a root is not settled, whatever the history is
-  abbrev pub HasOpenRoot : List Key → Recorded → Recorded → Type 0
+  abbrev pub HasOpenRoot : List Key → GraphView → GraphView → Type 0
   HasOpenRoot roots old new = (past : Past read) → IsHistory past roots old → (k : Key) × In k roots × IsUnsettled (record_at new) k
 
   -- the next turn of a key is to be made: the roots reach it, it is not settled, and it may make turns; these asked the groups, whose members
   -- are settled, each with a grounded value
-  pub record WantsTurn (past : Past read) (graph : Recorded) (k : Key) : Type 0 where
+  pub record WantsTurn (past : Past read) (graph : GraphView) (k : Key) : Type 0 where
     pub no_leaf : read k ≡ None
     pub reached : IsReached next read past k
     pub unsettled : IsUnsettled (record_at graph) k
@@ -64,5 +64,5 @@ module _ (next : Key → List Value → Reply Key Value) (read : Key → Option 
     pub settled : (j : Key) → IsMember j groups → IsClean (record_at graph) j
 
   -- some key's next turn is to be made, whatever the history is
-  abbrev pub HasTurnToMake : List Key → Recorded → Recorded → Type 0
+  abbrev pub HasTurnToMake : List Key → GraphView → GraphView → Type 0
   HasTurnToMake roots old new = (k : Key) × ((past : Past read) → IsHistory past roots old → WantsTurn past new k)

@@ -4,56 +4,56 @@ use Rattle.evaluation.specs.Reply.{Reply}
 use Rattle.evaluation.specs.Choices.{Choice, Hand, Keeps, IsOut, Comes, IsPossible}
 use Rattle.evaluation.specs.States.{HasBacks}
 use Rattle.keys.specs.Cycles.{cycle}
-use Rattle.keys.specs.Jobs.{Asked}
+use Rattle.keys.specs.Jobs.{JobView}
 use Rattle.keys.specs.declared.key.Key.{Key}
 use Rattle.keys.specs.declared.value.Value.{Value}
-use Rattle.node.specs.Graphs.{Recorded, record_at}
+use Rattle.node.specs.Graphs.{GraphView, record_at}
 use Rattle.open_nodes.specs.Truths.{IsNext, Past, IsTrueOf}
 use Rattle.evaluation.specs.Value.{In}
 use Rattle.open_nodes.specs.Nodes.{IsOpen}
-use Rattle.round.specs.Paused.{Kept, HasState}
+use Rattle.round.specs.NodeStates.{NodeStates, HasState}
 use Rattle.round.specs.Rounds.{Standing, standing}
 use Rattle.round.specs.declared.rounds.Round.{Round}
-use Rattle.round.specs.declared.rounds.NotTaken.{NotTaken}
-use Rattle.round.specs.declared.rounds.NotTaken.TheVariants as not_taken
+use Rattle.round.specs.declared.rounds.TakeBackError.{TakeBackError}
+use Rattle.round.specs.declared.rounds.TakeBackError.TheVariants as not_taken
 
 -- the choice is possible after these, which were made since the entry of a call with this history
 abbrev pub IsPossibleAfter : (next : Key → List Value → Reply Key Value) (read : Key → Option Value) (past : Past read) → List (Choice Key) → Choice Key → Type 0
 IsPossibleAfter next read past cs c = IsPossible next cycle read (record_at past.entry) past.roots cs c
 
 -- what holds for each history, and for all choices after which the round may stand so
-abbrev pub ForChoices : (read : Key → Option Value) → Recorded → Standing → ((next : Key → List Value → Reply Key Value) (past : Past read) → List (Choice Key) → Type 0) → Type 0
+abbrev pub ForChoices : (read : Key → Option Value) → GraphView → Standing → ((next : Key → List Value → Reply Key Value) (past : Past read) → List (Choice Key) → Type 0) → Type 0
 ForChoices read graph s holds = (next : Key → List Value → Reply Key Value) (laws : IsNext next) (past : Past read) (cs : List (Choice Key)) → past.roots ≡ s.roots
     → IsTrueOf next read past cs graph s.table.nodes s.table.runs.items → holds next past cs
 
 -- a job was handed out: that was possible; none was: it was not
-abbrev pub HandsWherePossible : (Key → Option Value) → Recorded → Standing → Key → Option Asked → Type 0
+abbrev pub HandsWherePossible : (Key → Option Value) → GraphView → Standing → Key → Option JobView → Type 0
 HandsWherePossible read graph s k (Some job) = ForChoices read graph s (λ next past cs. IsPossibleAfter next read past cs (Hand k))
 HandsWherePossible read graph s k None = ForChoices read graph s (λ next past cs. ¬ IsPossibleAfter next read past cs (Hand k))
 
 -- the job is out after the choices: it was handed out and not taken back since, and its answers are those to the groups that its key's turns asked
-pub record IsJobOut (next : Key → List Value → Reply Key Value) (read : Key → Option Value) (past : Past read) (cs : List (Choice Key)) (job : Asked) : Type 0 where
+pub record IsJobOut (next : Key → List Value → Reply Key Value) (read : Key → Option Value) (past : Past read) (cs : List (Choice Key)) (job : JobView) : Type 0 where
   pub out : IsOut job.key cs
   pub groups : List (List Key)
   pub comes : Comes next cycle read job.key [] groups job.answers
   pub taken : HasBacks job.key (length groups) cs
 
 -- a turn is taken back only of a job that is out; a turn that is a stranger is of no job that is out
-abbrev pub TakesJobOut : (Key → Option Value) → Recorded → Standing → Asked → Type 0
+abbrev pub TakesJobOut : (Key → Option Value) → GraphView → Standing → JobView → Type 0
 TakesJobOut read graph s job = ForChoices read graph s (λ next past cs. IsJobOut next read past cs job)
 
-abbrev pub StrangerWhereNotOut : {R S : Type 0} → (Key → Option Value) → Recorded → Standing → Asked → NotTaken R S → Type 0
+abbrev pub StrangerWhereNotOut : {R S : Type 0} → (Key → Option Value) → GraphView → Standing → JobView → TakeBackError R S → Type 0
 StrangerWhereNotOut read graph s job (not_taken.Stranger t) = ForChoices read graph s (λ next past cs. ¬ IsJobOut next read past cs job)
 StrangerWhereNotOut read graph s job not_taken.Memory = ⊤
 
 -- a state is kept exactly of the open nodes whose last turn was taken back, if it was neither dropped nor resumed since; and what is out is so by the choices
-pub record Follows (cs : List (Choice Key)) (s : Standing) (kept : Kept) : Type 0 where
+pub record Follows (cs : List (Choice Key)) (s : Standing) (kept : NodeStates) : Type 0 where
   pub states : (k : Key) → HasState kept k → Keeps k cs
   pub all_states : (k : Key) → Keeps k cs → IsOpen s.table.nodes k → HasState kept k
   pub out : (k : Key) → In k s.out → IsOut k cs
 
 -- a round that followed the choices follows them and the hand; without a job it follows them still
-abbrev pub FollowsHand : Key → Standing → Kept → Standing → Kept → Option Asked → Type 0
+abbrev pub FollowsHand : Key → Standing → NodeStates → Standing → NodeStates → Option JobView → Type 0
 FollowsHand k before old later new (Some job) = (cs : List (Choice Key)) → Follows cs before old → Follows (Hand k ∷ cs) later new
 FollowsHand k before old later new None = (cs : List (Choice Key)) → Follows cs before old → Follows cs later new
 

@@ -8,8 +8,8 @@ use Rattle.evaluation.specs.Value.{In, AllDiffer}
 use Rattle.keys.specs.Keys.{key_cmp}
 use Rattle.keys.specs.declared.key.Key.{Key}
 use Rattle.keys.specs.declared.value.Value.{Value}
-use Rattle.node.specs.Kept.{items_of}
-use Rattle.open_nodes.specs.Counted.{MakesNone}
+use Rattle.node.specs.Records.{items_of}
+use Rattle.open_nodes.specs.TurnCounts.{MakesNone}
 use Rattle.open_nodes.specs.Nodes.{Nodes, Records, node_at, groups_of, IsOpen, pending, AreOut}
 use Rattle.open_nodes.specs.declared.run.Run.{Run}
 use Rattle.open_nodes.specs.declared.table.Node.{Node}

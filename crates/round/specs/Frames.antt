@@ -3,14 +3,14 @@ use Rattle.std.specs.Prelude.{◌≡◌, ◌≢◌, false, Some}
 use Rattle.evaluation.specs.Graph.{Record}
 use Rattle.keys.specs.declared.key.Key.{Key}
 use Rattle.keys.specs.declared.value.Value.{Value}
-use Rattle.node.specs.Graphs.{Recorded, record_at}
+use Rattle.node.specs.Graphs.{GraphView, record_at}
 use Rattle.open_nodes.specs.Nodes.{node_at, groups_of}
 use Rattle.open_nodes.specs.declared.table.Node.{Node}
 use Rattle.open_nodes.specs.declared.table.Phase.TheVariants as phase
 use Rattle.open_nodes.specs.declared.table.Table.{Table}
 
 -- what is settled keeps its record
-abbrev pub KeepsSettled : Recorded → Recorded → Type 0
+abbrev pub KeepsSettled : GraphView → GraphView → Type 0
 KeepsSettled old new = (j : Key) (s : Record Key Value) → record_at old j ≡ Some s → s.dirty ≡ false → record_at new j ≡ Some s
 
 -- what makes turns still does, and keeps the groups that it asked
@@ -25,8 +25,8 @@ KeepsHanded before after = (k : Key) (n : Node) → node_at before.nodes k ≡ S
 abbrev pub KeepsHandedBut : Key → Table → Table → Type 0
 KeepsHandedBut key before after = (k : Key) (n : Node) → key ≢ k → node_at before.nodes k ≡ Some n → n.phase ≡ phase.Out → (m : Node) × (node_at after.nodes k ≡ Some m) × (m.phase ≡ phase.Out) × (groups_of m ≡ groups_of n)
 
-abbrev pub KeepsFrame : Recorded → Recorded → Table → Table → Type 0
+abbrev pub KeepsFrame : GraphView → GraphView → Table → Table → Type 0
 KeepsFrame old new before after = KeepsSettled old new × KeepsRunning before after × KeepsHanded before after
 
-abbrev pub KeepsFrameBut : Key → Recorded → Recorded → Table → Table → Type 0
+abbrev pub KeepsFrameBut : Key → GraphView → GraphView → Table → Table → Type 0
 KeepsFrameBut key old new before after = KeepsSettled old new × KeepsRunning before after × KeepsHandedBut key before after

@@ -10,4 +10,4 @@ pub mod Here
 pub mod Rounds
 pub mod Choosing
 pub mod Frames
-pub mod Paused
+pub mod NodeStates

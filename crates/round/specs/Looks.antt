@@ -4,14 +4,14 @@ use Rattle.evaluation.specs.Graph.{Record}
 use Rattle.keys.specs.declared.key.Key.{Key}
 use Rattle.keys.specs.declared.value.Value.{Value}
 use Rattle.open_nodes.specs.declared.table.Phase.TheVariants as phase
-use Rattle.node.specs.Graphs.{Recorded, record_at}
+use Rattle.node.specs.Graphs.{GraphView, record_at}
 use Rattle.open_nodes.specs.Nodes.{node_at, groups_of, pending, IsCurrent}
 use Rattle.open_nodes.specs.declared.table.Node.{Node}
 use Rattle.open_nodes.specs.declared.table.Table.{Table}
 use Rattle.round.specs.Members.{IsMissing}
 
 -- an open node, and the members of its group that are not settled
-pub record IsAwaiting (graph : Recorded) (table : Table) (k : Key) (missing : List Key) : Type 0 where
+pub record IsAwaiting (graph : GraphView) (table : Table) (k : Key) (missing : List Key) : Type 0 where
   pub node : Node
   pub there : node_at table.nodes k ≡ Some node
   pub group : List Key
@@ -19,7 +19,7 @@ pub record IsAwaiting (graph : Recorded) (table : Table) (k : Key) (missing : Li
   pub of_group : IsMissing (record_at graph) group missing
 
 -- an open node whose record is checked, and all its groups are passed
-pub record HasPassed (graph : Recorded) (table : Table) (k : Key) : Type 0 where
+pub record HasPassed (graph : GraphView) (table : Table) (k : Key) : Type 0 where
   pub node : Node
   pub there : node_at table.nodes k ≡ Some node
   pub at : ℕ

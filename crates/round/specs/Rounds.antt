@@ -1,20 +1,20 @@
 -- What a contract sees of a round, and how it stands beside the graph that it is lent.
 use Rattle.std.specs.Prelude.{◌≡◌, ◌≢◌, List, [], Option, Some, None, Result, Ok, Err, ⊤}
 use Rattle.evaluation.specs.Value.{In}
-use Rattle.keys.specs.Jobs.{Asked, Outcome}
+use Rattle.keys.specs.Jobs.{JobView, Outcome}
 use Rattle.keys.specs.declared.key.Key.{Key}
 use Rattle.node.specs.Edges.{IsAdded, IsRemoved}
-use Rattle.node.specs.Graphs.{Recorded}
-use Rattle.open_nodes.specs.Counted.{MakesNone, MakesMore}
+use Rattle.node.specs.Graphs.{GraphView}
+use Rattle.open_nodes.specs.TurnCounts.{MakesNone, MakesMore}
 use Rattle.open_nodes.specs.Nodes.{IsOpen, node_at, pending, AreOut}
 use Rattle.open_nodes.specs.declared.run.Run.{Run}
 use Rattle.open_nodes.specs.declared.table.Table.{Table}
 use Rattle.round.specs.Moves.{IsWanted, IsWholeNow}
-use Rattle.round.specs.Paused.{Kept, ArePaused, HasState}
+use Rattle.round.specs.NodeStates.{NodeStates, ArePaused, HasState}
 use Rattle.round.specs.Turning.{IsOutWith}
 use Rattle.round.specs.declared.rounds.Round.{Round}
-use Rattle.round.specs.declared.rounds.NotTaken.{NotTaken}
-use Rattle.round.specs.declared.rounds.NotTaken.TheVariants as not_taken
+use Rattle.round.specs.declared.rounds.TakeBackError.{TakeBackError}
+use Rattle.round.specs.declared.rounds.TakeBackError.TheVariants as not_taken
 
 -- the roots, the open nodes with the runs so far, and the keys whose jobs are out
 pub record Standing : Type 0 where
@@ -26,14 +26,14 @@ abbrev pub standing : {R S : Type 0} → Round R S → Standing
 standing round = record { roots = round.roots.items; table = round.table; out = round.out.keys }
 
 -- the round stands beside the graph: nothing is to be looked at, no other job is out, and each root is settled or open
-pub record IsBeside (graph : Recorded) (s : Standing) : Type 0 where
+pub record IsBeside (graph : GraphView) (s : Standing) : Type 0 where
   pub whole : IsWholeNow graph s.table
   pub none_pending : pending s.table ≡ []
   pub only_out : AreOut s.table.nodes s.out
   pub wanted : (k : Key) → In k s.roots → IsWanted graph s.table k
 
 -- and the states that it keeps may be resumed
-abbrev pub StandsBeside : {R S : Type 0} → Recorded → Round R S → Type 0
+abbrev pub StandsBeside : {R S : Type 0} → GraphView → Round R S → Type 0
 StandsBeside graph round = IsBeside graph (standing round) × ArePaused graph round.table round.kept
 
 -- no turn can be handed out, and no job is out
@@ -41,24 +41,24 @@ abbrev pub IsStalled : Standing → Type 0
 IsStalled s = (s.table.ready.keys ≡ []) × (s.out ≡ [])
 
 -- the state of the key may be given up: one is kept, and the round is not at a stall
-abbrev pub CanDrop : Standing → Kept → Key → Type 0
+abbrev pub CanDrop : Standing → NodeStates → Key → Type 0
 CanDrop s kept k = HasState kept k × (IsStalled s → ⊥)
 
 -- the job of a key that is ready is out, with all answers so far; a key that is not ready has none, and nothing changes
-abbrev pub HandsOut : Recorded → Key → Standing → Standing → Option Asked → Type 0
+abbrev pub HandsOut : GraphView → Key → Standing → Standing → Option JobView → Type 0
 HandsOut graph k before later (Some job) = In k before.table.ready.keys × (job.key ≡ k) × IsOutWith graph later.table k job.answers × IsAdded before.out later.out k × (later.roots ≡ before.roots) × MakesNone before.table later.table
 HandsOut graph k before later None = (In k before.table.ready.keys → ⊥) × (later ≡ before)
 
 -- the job of an earlier turn of this round that is out
-abbrev pub IsOfJobOut : Recorded → Standing → Asked → Type 0
+abbrev pub IsOfJobOut : GraphView → Standing → JobView → Type 0
 IsOfJobOut graph s job = IsOutWith graph s.table job.key job.answers
 
 -- each other job that is out stays out, with its answers
-abbrev pub KeepsJobs : Key → Recorded → Recorded → Standing → Standing → Type 0
-KeepsJobs key old new before after = (job : Asked) → key ≢ job.key → IsOfJobOut old before job → IsOfJobOut new after job
+abbrev pub KeepsJobs : Key → GraphView → GraphView → Standing → Standing → Type 0
+KeepsJobs key old new before after = (job : JobView) → key ≢ job.key → IsOfJobOut old before job → IsOfJobOut new after job
 
-abbrev pub KeepsAllJobs : Recorded → Standing → Standing → Type 0
-KeepsAllJobs graph before after = (job : Asked) → IsOfJobOut graph before job → IsOfJobOut graph after job
+abbrev pub KeepsAllJobs : GraphView → Standing → Standing → Type 0
+KeepsAllJobs graph before after = (job : JobView) → IsOfJobOut graph before job → IsOfJobOut graph after job
 
 -- no node is open any more
 abbrev pub NoneOpen : Standing → Type 0
@@ -70,7 +70,7 @@ EndsWith s (Ok runs) = (runs ≡ s.table.runs.items) × ((k : Key) → In k s.ro
 EndsWith s (Err round) = (round ≡ s) × (k : Key) × In k s.roots × IsOpen s.table.nodes k
 
 -- the turn was of no job that is out and comes back, and nothing has changed; want of memory tells nothing
-abbrev pub Refuses : {R S : Type 0} → Recorded → Recorded → Standing → Standing → Outcome → NotTaken R S → Type 0
+abbrev pub Refuses : {R S : Type 0} → GraphView → GraphView → Standing → Standing → Outcome → TakeBackError R S → Type 0
 Refuses old new before after turned (not_taken.Stranger t) = (t ≡ turned) × (IsOfJobOut old before turned.asked → ⊥) × (new ≡ old) × (after ≡ before)
 Refuses old new before after turned not_taken.Memory = ⊤
 

@@ -13,7 +13,7 @@ use Rattle.keys.specs.declared.key.Key.{Key}
 use Rattle.keys.specs.declared.value.Value.{Value}
 use Rattle.node.specs.Batches.{asked, keys_of}
 use Rattle.node.specs.Graphs.{present}
-use Rattle.node.specs.Kept.{items_of}
+use Rattle.node.specs.Records.{items_of}
 use Rattle.node.specs.declared.entry.Entry.{Entry}
 use Rattle.open_nodes.specs.Nodes.{Records, IsClean, IsUnsettled}
 use Rattle.round.specs.Closing.{Stops, stop_at}
@@ -39,14 +39,14 @@ pub record Shows (stops : Key → Option Key) (records : Records) (k : Key) (v :
 abbrev pub IsStall : (Key → Option Key) → Records → Type 0
 IsStall stops records = (k j : Key) → stops k ≡ Some j → IsUnsettled records k × (((i : Key) × (stops j ≡ Some i)) ⊎ IsClean records j)
 
-abbrev pub Shown : Type 0
-Shown = BTreeMap Key (Arc Value Global)
+abbrev pub CycleValues : Type 0
+CycleValues = BTreeMap Key (Arc Value Global)
 
-abbrev pub shown_at : Shown → Key → Option Value
+abbrev pub shown_at : CycleValues → Key → Option Value
 shown_at shown k = option_map (λ v. arc_value v) (get key_cmp shown k)
 
 -- some nodes show their value, and the others still have their stop
-pub record IsShowing (stops : Key → Option Key) (records : Records) (left : Stops) (shown : Shown) : Type 0 where
+pub record IsShowing (stops : Key → Option Key) (records : Records) (left : Stops) (shown : CycleValues) : Type 0 where
   pub split : (k j : Key) → stops k ≡ Some j → ((stop_at left k ≡ Some j) × (shown_at shown k ≡ None)) ⊎ ((stop_at left k ≡ None) × ((v : Value) × (shown_at shown k ≡ Some v)))
   pub none : (k : Key) → stops k ≡ None → (stop_at left k ≡ None) × (shown_at shown k ≡ None)
   pub shows : (k : Key) (v : Value) → shown_at shown k ≡ Some v → Shows stops records k v
@@ -73,7 +73,7 @@ EndsWith None (Some w) path key v = v ≡ w
 EndsWith None None path key v = (part : List Key) × IsFrom path key part × (v ≡ cycle part)
 
 -- the keys of the path show the value, and the others what they showed
-pub record ShowsAll (old new : Shown) (path : List Key) (v : Value) : Type 0 where
+pub record ShowsAll (old new : CycleValues) (path : List Key) (v : Value) : Type 0 where
   pub there : (k : Key) → In k path → shown_at new k ≡ Some v
   pub others : (k : Key) → (In k path → ⊥) → shown_at new k ≡ shown_at old k
 

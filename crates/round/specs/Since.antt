@@ -4,7 +4,7 @@ use Rattle.evaluation.specs.Reply.{Reply}
 use Rattle.evaluation.specs.Choices.{Choice}
 use Rattle.keys.specs.declared.key.Key.{Key}
 use Rattle.keys.specs.declared.value.Value.{Value}
-use Rattle.node.specs.Graphs.{Recorded}
+use Rattle.node.specs.Graphs.{GraphView}
 use Rattle.open_nodes.specs.Nodes.{node_at, pending}
 use Rattle.open_nodes.specs.Truths.{IsNext, Past, IsAfter, IsTrueOf}
 use Rattle.open_nodes.specs.declared.table.Table.{Table}
@@ -18,12 +18,12 @@ pub record IsFresh (table : Table) : Type 0 where
   pub no_runs : table.runs.items ≡ []
 
 -- what is true of it after these choices since the entry, for each history
-abbrev pub IsTrueSince : List (Choice Key) → (Key → List Value → Reply Key Value) → (Key → Option Value) → List Key → Recorded → Recorded → Table → Type 0
+abbrev pub IsTrueSince : List (Choice Key) → (Key → List Value → Reply Key Value) → (Key → Option Value) → List Key → GraphView → GraphView → Table → Type 0
 IsTrueSince cs next read roots old graph table = (laws : IsNext next) (past : Past read) → IsHistory next read past roots old → IsTrueOf next read past cs graph table.nodes table.runs.items
 
 -- the same after some choices
-abbrev pub IsTrueSinceSome : (Key → List Value → Reply Key Value) → (Key → Option Value) → List Key → Recorded → Recorded → Table → Type 0
+abbrev pub IsTrueSinceSome : (Key → List Value → Reply Key Value) → (Key → Option Value) → List Key → GraphView → GraphView → Table → Type 0
 IsTrueSinceSome next read roots old graph table = (laws : IsNext next) (past : Past read) → IsHistory next read past roots old → (cs : List (Choice Key)) × IsTrueOf next read past cs graph table.nodes table.runs.items
 
-abbrev pub IsAfterSince : (Key → List Value → Reply Key Value) → (Key → Option Value) → List Key → Recorded → Recorded → Type 0
+abbrev pub IsAfterSince : (Key → List Value → Reply Key Value) → (Key → Option Value) → List Key → GraphView → GraphView → Type 0
 IsAfterSince next read roots old graph = (laws : IsNext next) (past : Past read) → IsHistory next read past roots old → IsAfter next read past graph

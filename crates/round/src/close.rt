@@ -2,7 +2,7 @@
 ghost use Rattle.std.specs.Prelude.{◌≡◌, OnOk, None, Option};
 ghost use Rattle.keys.specs.declared.key.Key.{Key};
 ghost use Rattle.keys.specs.declared.value.Value.{Value};
-ghost use Rattle.open_nodes.specs.Counted.{MakesNone};
+ghost use Rattle.open_nodes.specs.TurnCounts.{MakesNone};
 ghost use Rattle.open_nodes.specs.Nodes.{node_at};
 ghost use Rattle.round.specs.Closing.{IsIdle};
 ghost use Rattle.round.specs.Moves.{Ends, KeepsWanted, IsWholeNow};

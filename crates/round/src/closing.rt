@@ -7,7 +7,7 @@ ghost use Rattle.evaluation.specs.Graph.{Record};
 ghost use Rattle.keys.specs.declared.key.Key.{Key};
 ghost use Rattle.keys.specs.declared.value.Value.{Value};
 ghost use Rattle.node.specs.Graphs.{record_at};
-ghost use Rattle.node.specs.Kept.{items_of};
+ghost use Rattle.node.specs.Records.{items_of};
 ghost use Rattle.open_nodes.specs.Nodes.{node_at, Holds};
 ghost use Rattle.open_nodes.specs.Steps.{HasNoted};
 ghost use Rattle.open_nodes.specs.declared.table.Table.{Table};

@@ -12,5 +12,5 @@ mod turns;
 
 pub use members::share_all;
 pub use open_nodes::Run;
-pub use rounds::{NotTaken, Round, close_stall, evaluate_here, has_ready, next_key, turn};
+pub use rounds::{Round, TakeBackError, close_stall, evaluate_here, has_ready, next_key, turn};
 pub use stop::Stop;

@@ -10,7 +10,7 @@ ghost use Rattle.leaves.specs.Leaves as leaves;
 ghost use Rattle.keys.specs.declared.key.Key.{Key};
 ghost use Rattle.keys.specs.declared.value.Value.{Value};
 ghost use Rattle.node.specs.Graphs.{record_at};
-ghost use Rattle.open_nodes.specs.Counted.{MakesNone};
+ghost use Rattle.open_nodes.specs.TurnCounts.{MakesNone};
 ghost use Rattle.open_nodes.specs.declared.table.Node.{Node};
 ghost use Rattle.open_nodes.specs.declared.table.Phase.TheVariants as phase;
 ghost use Rattle.open_nodes.specs.Truths.{LeadsBy};
@@ -23,7 +23,7 @@ use crate::members::{first_stop, is_settled, last_unsettled, unsettled};
 use filetree::Tree;
 use keys::{Key, Value};
 use leaves::{is_leaf, read_leaf};
-use node::{Compared, Graph};
+use node::{Comparison, Graph};
 use open_nodes::{
     Nodes, Phase, Table, begin_check, begin_run, leave, look_again, note, pass, put_ready,
     run_anew, watch,
@@ -231,10 +231,10 @@ fn check(
 {
     let found = graph.compare(alloc, key, passed)?;
     match found {
-        Compared::Over => return confirm(alloc, graph, table, key),
-        Compared::Waits(missing) => wait_for(alloc, graph, tree, table, key, missing.as_slice())?,
-        Compared::Differs => run_anew(table, key)?,
-        Compared::Passes(next) => pass(table, key, next)?,
+        Comparison::Over => return confirm(alloc, graph, table, key),
+        Comparison::Waits(missing) => wait_for(alloc, graph, tree, table, key, missing.as_slice())?,
+        Comparison::Differs => run_anew(table, key)?,
+        Comparison::Passes(next) => pass(table, key, next)?,
     }
     Ok(())
 }

@@ -2,7 +2,7 @@
 ghost use Rattle.std.specs.Prelude.{◌≡◌, ◌≤◌, ◌++◌, [], length, take, drop, IfOk, OnOk, Some, None, Option};
 ghost use Rattle.std.specs.List.{filter_map};
 ghost use Rattle.std.specs.Option.{option_map};
-ghost use Rattle.evaluation.specs.Rotated.{rotated, text_le};
+ghost use Rattle.evaluation.specs.Rotation.{rotated, text_le};
 ghost use Rattle.std.specs.Arc.{arc_value};
 ghost use Rattle.evaluation.specs.Value.{In, AllDiffer};
 ghost use Rattle.keys.specs.Cycles.{cycle, label_of};

@@ -4,7 +4,7 @@ ghost use Rattle.std.specs.Option.{option_map, is_some};
 ghost use Rattle.std.specs.Arc.{arc_value};
 ghost use Rattle.keys.specs.Turns.{values};
 ghost use Rattle.node.specs.Graphs.{record_at, present};
-ghost use Rattle.node.specs.Kept.{items_of};
+ghost use Rattle.node.specs.Records.{items_of};
 ghost use Rattle.round.specs.Members as specs;
 
 use keys::{Key, Value};

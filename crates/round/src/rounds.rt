@@ -4,8 +4,8 @@ ghost use Rattle.std.specs.Bool.{Decides};
 ghost use Rattle.std.specs.List.{All};
 ghost use Rattle.std.specs.BTreeMap.Range.{IsLeBy};
 ghost use Rattle.texts.specs.declared.memory.Memory.{Memory};
-ghost use Rattle.node.specs.Graphs.{Recorded};
-ghost use Rattle.round.specs.Paused.{PutsState, HasState, DropsState};
+ghost use Rattle.node.specs.Graphs.{GraphView};
+ghost use Rattle.round.specs.NodeStates.{PutsState, HasState, DropsState};
 ghost use Rattle.evaluation.specs.Reply.{Reply};
 ghost use Rattle.evaluation.specs.Choices.{Choice, Hand, Back, Drop};
 ghost use Rattle.evaluation.specs.Value.{In};
@@ -15,7 +15,7 @@ ghost use Rattle.keys.specs.Keys.{key_cmp};
 ghost use Rattle.keys.specs.declared.key.Key.{Key};
 ghost use Rattle.keys.specs.declared.value.Value.{Value};
 ghost use Rattle.node.specs.Edges.{IsAdded, IsRemoved};
-ghost use Rattle.open_nodes.specs.Counted.{HasMade, MakesNone, turns_of};
+ghost use Rattle.open_nodes.specs.TurnCounts.{HasMade, MakesNone, turns_of};
 ghost use Rattle.open_nodes.specs.Nodes.{IsOpen};
 ghost use Rattle.open_nodes.specs.Truths.{LeadsBy};
 ghost use Rattle.round.specs.Choosing.{IsPossibleAfter, ForChoices, HandsWherePossible, TakesJobOut, StrangerWhereNotOut, Follows, FollowsHand};
@@ -55,21 +55,21 @@ pub struct Round<R: Rules> {
 
 /// Why a turn was not taken back.
 #[derive(Drop)]
-pub enum NotTaken<R: Rules> {
+pub enum TakeBackError<R: Rules> {
     /// It is of no job that is out; the turn comes back, and nothing has changed.
     Stranger(Turned<R>),
     /// A growth was refused, in the turn or now. The round can only be given up.
     Memory,
 }
 
-impl<R: Rules> From<Memory> for NotTaken<R> {
+impl<R: Rules> From<Memory> for TakeBackError<R> {
     ghost use Rattle.std.specs.Prelude.{◌≡◌};
-    ghost use Rattle.round.specs.declared.rounds.NotTaken.TheVariants as not_taken;
+    ghost use Rattle.round.specs.declared.rounds.TakeBackError.TheVariants as not_taken;
 
     ghost from_gives = { λ _ e. e ≡ not_taken.Memory };
 
-    fn from(_error: Memory) -> NotTaken<R> {
-        NotTaken::Memory
+    fn from(_error: Memory) -> TakeBackError<R> {
+        TakeBackError::Memory
     }
 }
 
@@ -213,7 +213,7 @@ impl<R: Rules> Round<R> {
         graph: &mut Graph,
         tree: &Tree,
         turned: Turned<R>,
-    ) -> Result<(), NotTaken<R>>
+    ) -> Result<(), TakeBackError<R>>
         requires { StandsBeside graph.old self.old }
         ensures beside { OnOk result (StandsBeside graph.new self.new) }
         ensures back { OnOk result (IsOfJobOut graph.old (standing self.old) turned.asked
@@ -231,7 +231,7 @@ impl<R: Rules> Round<R> {
             (standing self.new) turned) }
     {
         if !is_out_with(self.alloc, graph, &self.table, &turned)? {
-            return Err(NotTaken::Stranger(turned));
+            return Err(TakeBackError::Stranger(turned));
         }
         self.take_known(graph, tree, turned)?;
         Ok(())
@@ -273,19 +273,19 @@ impl<R: Rules> Round<R> {
     /// did: exactly if a state is kept and the round is not at a stall. If not, nothing changes. It takes no memory.
     pub fn drop_state(&mut self, key: &Key) -> bool
         ensures dropped { Decides result (CanDrop (standing self.old) self.old.kept key.now) }
-        ensures not_out { (graph : Recorded) → StandsBeside graph self.old → IsTrue result
+        ensures not_out { (graph : GraphView) → StandsBeside graph self.old → IsTrue result
             → IsOutAt self.old.table key.now → ⊥ }
         ensures kept { DropsState self.old.kept self.new.kept key.now result }
-        ensures possible { (read : Key → Option Value) (graph : Recorded)
+        ensures possible { (read : Key → Option Value) (graph : GraphView)
             → StandsBeside graph self.old → ForChoices read graph (standing self.old)
             (λ next past cs. Follows cs (standing self.old) self.old.kept
             → Decides result (IsPossibleAfter next read past cs (Drop key.now))) }
         ensures follows { IsTrue result → (cs : List (Choice Key)) → Follows cs (standing self.old)
             self.old.kept → Follows (Drop key.now ∷ cs) (standing self.new) self.new.kept }
-        ensures truth { (read : Key → Option Value) (graph : Recorded)
+        ensures truth { (read : Key → Option Value) (graph : GraphView)
             → StaysTrueBy (Drop key.now ∷ []) read graph graph self.old.table self.new.table }
         ensures same { standing self.new ≡ standing self.old }
-        ensures beside { (graph : Recorded) → StandsBeside graph self.old
+        ensures beside { (graph : GraphView) → StandsBeside graph self.old
             → StandsBeside graph self.new }
     {
         if self.stalled() {

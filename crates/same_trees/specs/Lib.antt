@@ -1,3 +1,3 @@
 pub mod Same
 pub mod SameLaws
-pub mod Stored
+pub mod Storage

@@ -5,7 +5,7 @@ use Rattle.keys.specs.declared.key.Key.{Key}
 use Rattle.keys.specs.declared.key.Key.TheVariants as key
 use Rattle.keys.specs.declared.value.Value.{Value}
 use Rattle.keys.specs.declared.value.Value.TheVariants as value
-use Rattle.small_graphs.specs.declared.rules.Kept.{Kept}
+use Rattle.small_graphs.specs.declared.rules.NodeState.{NodeState}
 use Rattle.small_graphs.specs.declared.rules.Reply as made
 use Rattle.small_graphs.specs.declared.rules.Reply.TheVariants as reply
 
@@ -70,7 +70,7 @@ next (key.Module label) answers = Done (with_text None)
 next (key.Package name) answers = Done (with_text None)
 next (key.Under directory) answers = Done (with_text None)
 
-abbrev pub fits : Kept → Key → List Value → Type 0
+abbrev pub fits : NodeState → Key → List Value → Type 0
 fits state k answers = state.key ≡ k
 
 abbrev pub IsReply : Reply Key Value → made.Reply → Type 0

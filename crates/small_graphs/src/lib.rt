@@ -5,4 +5,4 @@
 mod rules;
 mod table;
 
-pub use rules::{Kept, SmallGraphs};
+pub use rules::{NodeState, SmallGraphs};

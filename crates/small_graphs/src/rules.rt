@@ -22,7 +22,7 @@ pub(crate) enum Reply {
 
 /// What is kept of a node between two turns: its key.
 #[derive(Drop)]
-pub struct Kept {
+pub struct NodeState {
     key: Key,
 }
 
@@ -93,7 +93,7 @@ impl SmallGraphs {
 }
 
 impl Rules for SmallGraphs {
-    type State = Kept;
+    type State = NodeState;
 
     ghost use Rattle.small_graphs.specs.Next.{next, fits};
     ghost use Rattle.small_graphs.specs.NextLaws.{groups_differ, ends_plain};
@@ -108,11 +108,15 @@ impl Rules for SmallGraphs {
 
     ghost ends_plain = { ends_plain };
 
-    fn begin(&self, key: &Key) -> Result<Kept, Memory> {
-        Ok(Kept { key: key.share()? })
+    fn begin(&self, key: &Key) -> Result<NodeState, Memory> {
+        Ok(NodeState { key: key.share()? })
     }
 
-    fn turn(&mut self, state: Kept, answers: &[Arc<Value>]) -> Result<Turn<Kept>, Memory> {
+    fn turn(
+        &mut self,
+        state: NodeState,
+        answers: &[Arc<Value>],
+    ) -> Result<Turn<NodeState>, Memory> {
         self.made.add_one();
         let reply = match &state.key {
             Key::Lookup(name) => lookup_reply(self.alloc, name, answers)?,

@@ -1,2 +1,2 @@
 pub mod Turns
-pub mod Parsed
+pub mod ParseResults

@@ -1,7 +1,7 @@
 -- What a text is parsed to.
 use Rattle.std.specs.Prelude.{◌≡◌, ℕ, List, Result, Ok, Err}
-use Rattle.tokens.specs.declared.refused.Refused.{Refused}
-use Rattle.tokens.specs.declared.refused.Refused.TheVariants as r
+use Rattle.tokens.specs.declared.refusal.Refused.{Refused}
+use Rattle.tokens.specs.declared.refusal.Refused.TheVariants as r
 use Rattle.tokens.specs.Reading.{Fault, Refuses}
 use Rattle.tree.specs.Tree.{Fi}
 use Rattle.tree.specs.declared.def.File.{File}

@@ -3,4 +3,4 @@ pub mod Numbers
 pub mod Strings
 pub mod Scan
 pub mod Depths
-pub mod Unescaped
+pub mod PlainTexts

@@ -1,7 +1,7 @@
 -- How a string goes on byte by byte.
 use Rattle.std.proofs.Common.{◌≡◌, ℕ, ◌+◌, Bool, true, false, not, ◌&&◌, List, [], ◌∷◌, length, Option, Some, None, refl, sym, ap, ◌∙◌, arith}
-use Rattle.tokens.specs.declared.quoted.Extent.{Extent}
-use Rattle.tokens.specs.declared.quoted.Inside.{Inside}
+use Rattle.tokens.specs.declared.string_extent.Extent.{Extent}
+use Rattle.tokens.specs.declared.string_extent.Inside.{Inside}
 use Rattle.tokens.specs.Strings.{ends, inside, extent, farther}
 
 farther_twice : (n k m j : ℕ) (e : Option Extent) → farther n k (farther m j e) ≡ farther (n + m) (k + j) e

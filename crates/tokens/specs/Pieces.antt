@@ -3,7 +3,7 @@ use Rattle.std.specs.Prelude.{ℕ, pos, ◌+◌, List, [], ◌∷◌, true, fals
 use Rattle.tokens.specs.declared.symbol.Symbol.{Symbol}
 use Rattle.tokens.specs.declared.symbol.Symbol.TheVariants as s
 use Rattle.tokens.specs.declared.operator.Sign.{Sign}
-use Rattle.tokens.specs.declared.quoted.Extent.{Extent}
+use Rattle.tokens.specs.declared.string_extent.Extent.{Extent}
 use Rattle.tokens.specs.Bytes.{is_digit, is_letter, is_name_byte, is_text_byte, run, begins}
 use Rattle.tokens.specs.Token.{Tok, int, string, symbol}
 use Rattle.tokens.specs.Words.{word_of}

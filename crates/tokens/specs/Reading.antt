@@ -3,9 +3,9 @@ use Rattle.std.specs.Prelude.{◌≡◌, ℕ, ◌+◌, List, [], ◌∷◌, ◌=
 use Rattle.meaning.specs.declared.faults.TheConstants.{NOT_ASCII, SYNTAX, TOO_DEEP}
 use Rattle.std.specs.declared.alloc.Global.{Global}
 use Rattle.std.specs.declared.vec.Vec.{Vec}
-use Rattle.tokens.specs.declared.refused.Refused.{Refused}
-use Rattle.tokens.specs.declared.refused.Refused.TheVariants as r
-use Rattle.tokens.specs.declared.token.Lexed.{Lexed}
+use Rattle.tokens.specs.declared.refusal.Refused.{Refused}
+use Rattle.tokens.specs.declared.refusal.Refused.TheVariants as r
+use Rattle.tokens.specs.declared.token.Lexeme.{Lexeme}
 use Rattle.tokens.specs.Token.{Lex, lex_of}
 use Rattle.tokens.specs.Lines.{start, scan}
 use Rattle.tokens.specs.Nesting.{too_deep, outermost}
@@ -39,6 +39,6 @@ abbrev pub Refuses : {A : Type 0} → Result A Fault → Refused → Type 0
 Refuses expected (r.Syntax code line) = expected ≡ fault code line
 Refuses expected r.Memory = Unit {0}
 
-abbrev pub Reads : Result (List Lex) Fault → Result (Vec Lexed Global) Refused → Type 0
+abbrev pub Reads : Result (List Lex) Fault → Result (Vec Lexeme Global) Refused → Type 0
 Reads expected (Ok found) = expected ≡ Ok (map lex_of found.items)
 Reads expected (Err refused) = Refuses expected refused

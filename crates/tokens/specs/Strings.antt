@@ -1,7 +1,7 @@
 -- Strings: where one ends, and the text that it stands for.
 use Rattle.std.specs.Prelude.{ℕ, ◌+◌, List, [], ◌∷◌, Bool, true, false, not, ◌==◌, ◌&&◌, ◌||◌, if◌then◌else◌, Option, Some, None}
-use Rattle.tokens.specs.declared.quoted.Extent.{Extent}
-use Rattle.tokens.specs.declared.quoted.Inside.{Inside}
+use Rattle.tokens.specs.declared.string_extent.Extent.{Extent}
+use Rattle.tokens.specs.declared.string_extent.Inside.{Inside}
 use Rattle.tokens.specs.Bytes.{is_escape, is_text_byte}
 
 -- the first two bytes are that quote

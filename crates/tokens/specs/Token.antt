@@ -3,7 +3,7 @@ use Rattle.std.specs.Prelude.{ℕ, ℤ, List}
 use Rattle.tokens.specs.declared.symbol.Symbol.{Symbol}
 use Rattle.tokens.specs.declared.token.Token.{Token}
 use Rattle.tokens.specs.declared.token.Token.TheVariants as v
-use Rattle.tokens.specs.declared.token.Lexed.{Lexed}
+use Rattle.tokens.specs.declared.token.Lexeme.{Lexeme}
 
 pub data Tok : Type 0 where
   -- its bytes
@@ -24,5 +24,5 @@ tok_of (v.Int n) = int n
 tok_of (v.Text bytes) = string bytes.bytes.now
 tok_of (v.Symbol s) = symbol s
 
-abbrev pub lex_of : Lexed → Lex
+abbrev pub lex_of : Lexeme → Lex
 lex_of l = record { token = tok_of l.token; line = l.line }

@@ -2,7 +2,7 @@
 use Rattle.std.specs.Prelude.{◌≡◌, List, map, reverse, Option, Some, None, Result, Ok, Err}
 use Rattle.std.specs.declared.alloc.Global.{Global}
 use Rattle.std.specs.declared.vec.Vec.{Vec}
-use Rattle.tokens.specs.declared.token.Lexed.{Lexed}
+use Rattle.tokens.specs.declared.token.Lexeme.{Lexeme}
 use Rattle.tokens.specs.declared.scanner.Scanner as sc
 use Rattle.tokens.specs.declared.scanner.Stop.{Stop}
 use Rattle.tokens.specs.declared.scanner.Stop.TheVariants as stops
@@ -41,7 +41,7 @@ Ends expected old new (Ok _) = before old expected ≡ Some new
 Ends expected old new (Err stops.Malformed) = expected ≡ None
 Ends expected old new (Err stops.Memory) = Unit {0}
 
-abbrev pub Scans : Option (List Lex) → Result (Vec Lexed Global) Stop → Type 0
+abbrev pub Scans : Option (List Lex) → Result (Vec Lexeme Global) Stop → Type 0
 Scans expected (Ok found) = expected ≡ Some (map lex_of found.items)
 Scans expected (Err stops.Malformed) = expected ≡ None
 Scans expected (Err stops.Memory) = Unit {0}

@@ -2,22 +2,22 @@
 #![tactic(auto)]
 
 mod bytes;
+mod lexer;
 mod nesting;
 mod number;
 mod operator;
 mod piece;
-mod quoted;
-mod read;
-mod refused;
+mod refusal;
 mod scanner;
+mod string_extent;
 mod symbol;
 mod token;
 mod value;
 mod word;
 
-pub use read::read_tokens;
-pub use refused::Refused;
+pub use lexer::read_tokens;
+pub use refusal::Refused;
 pub use symbol::Symbol;
-pub use token::{Ascii, Lexed, Token};
+pub use token::{Ascii, Lexeme, Token};
 pub use value::string_text;
 pub use word::is_name;

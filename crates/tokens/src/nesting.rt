@@ -6,7 +6,7 @@ ghost use Rattle.tokens.specs.declared.nesting.Role.TheVariants.{Counts, Opens, 
 ghost use Rattle.tokens.specs.Token.{tok_of, lex_of};
 
 use crate::symbol::Symbol;
-use crate::token::{Lexed, Token};
+use crate::token::{Lexeme, Token};
 use std::alloc::{AllocError, Global};
 
 /// What a token does to the counts of the levels.
@@ -171,7 +171,7 @@ fn outermost(alloc: Global) -> Result<Depth, AllocError>
 }
 
 /// Returns whether some token is nested deeper than 64.
-pub(crate) fn too_deep(alloc: Global, tokens: &[Lexed<'_>]) -> Result<bool, AllocError>
+pub(crate) fn too_deep(alloc: Global, tokens: &[Lexeme<'_>]) -> Result<bool, AllocError>
     ensures { IfOk result (λ deep. deep ≡ too_deep outermost (map lex_of tokens.now)) }
 {
     let mut depth = outermost(alloc)?;

@@ -9,7 +9,7 @@ ghost use Rattle.tokens.specs.View.{piece_of};
 use crate::bytes::{begins_with_letter, digit_run, is_digit, is_letter, name_run, text_run};
 use crate::number::number_of;
 use crate::operator::operator_at;
-use crate::quoted::{begins_with_two, extent_of};
+use crate::string_extent::{begins_with_two, extent_of};
 use crate::token::{Ascii, Token};
 use crate::word::word_of;
 

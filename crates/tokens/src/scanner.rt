@@ -8,7 +8,7 @@ ghost use Rattle.tokens.specs.declared.scanner.Place.TheVariants.{Between, Withi
 
 use crate::piece::{Part, Piece};
 use crate::symbol::Symbol;
-use crate::token::{Lexed, Token};
+use crate::token::{Lexeme, Token};
 use std::alloc::{AllocError, AllocFailed, Global};
 
 /// Where in the file a piece stands.
@@ -60,7 +60,7 @@ pub(crate) struct Scanner<'a> {
     pub(crate) levels: Vec<usize>,
     pub(crate) brackets: Vec<Bracket>,
     pub(crate) line: usize,
-    pub(crate) out: Vec<Lexed<'a>>,
+    pub(crate) out: Vec<Lexeme<'a>>,
 }
 
 impl<'a> Scanner<'a> {
@@ -87,7 +87,7 @@ impl<'a> Scanner<'a> {
             self.old.line ∷ []) }
         ensures err { IsOkUnless result Memory }
     {
-        self.out.push(Lexed {
+        self.out.push(Lexeme {
             token,
             line: self.line,
         })?;

@@ -25,7 +25,7 @@ pub enum Token<'a> {
 
 /// A token with its line, counted from 1.
 #[derive(Clone, Copy)]
-pub struct Lexed<'a> {
+pub struct Lexeme<'a> {
     pub token: Token<'a>,
     pub line: usize,
 }

@@ -35,7 +35,7 @@ fn has_escape(written: &[u8]) -> bool
 
 /// Returns the text that a string stands for, from the bytes written between its quotes. Each backslash and the byte
 /// behind it stand for one byte.
-#[tactic(auto, using(crate::proofs::Unescaped::as_written))]
+#[tactic(auto, using(crate::proofs::PlainTexts::as_written))]
 pub fn string_text(alloc: Global, written: Ascii<'_>) -> Result<Text, Memory>
     ensures { IfOk result (λ t. t ≡ unescaped written.entry.bytes.now) }
 {

@@ -2,4 +2,4 @@ pub mod Tree
 pub mod View
 pub mod Statements
 pub mod Suites
-pub mod Bound
+pub mod Bindings

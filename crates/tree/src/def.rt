@@ -2,7 +2,7 @@
 ghost use Rattle.std.specs.Prelude.{◌≡◌, true, cond, map};
 ghost use Rattle.std.specs.Arc.{arc_value};
 ghost use Rattle.tree.specs.Suites.{stmts_of, param_of};
-ghost use Rattle.tree.specs.Bound.{function_names, differ};
+ghost use Rattle.tree.specs.Bindings.{function_names, differ};
 
 use crate::expr::Expr;
 use crate::stmt::Stmt;

@@ -3,4 +3,4 @@ pub mod LookupLaws
 pub mod Globs
 pub mod GlobLaws
 pub mod Replies
-pub mod Found
+pub mod NodeValues

@@ -12,7 +12,7 @@
 //! An empty group is not asked, and a key that repeats in a group is asked once, at its first place.
 #![tactic(auto)]
 
-ghost use Rattle.walks.specs.Found.{LookupsHold, GlobsHold};
+ghost use Rattle.walks.specs.NodeValues.{LookupsHold, GlobsHold};
 
 mod build_files;
 mod glob_node;

@@ -1,4 +1,4 @@
-use Rattle.language.proofs.Found.{globs_find}
+use Rattle.language.proofs.GlobResults.{globs_find}
 use Rattle.language.proofs.globs_find_files.Goals as goal
 
 pub returns : goal.returns

@@ -1,19 +1,19 @@
 //! Requests whose packages are published for readers beside the loader.
 ghost use Rattle.std.specs.Prelude.{◌≡◌, ◌≤◌, ◌⊎◌, None, IfOk, OnOk, OnErr, string_bytes};
-ghost use Rattle.open_nodes.specs.Counted.{turns_of};
+ghost use Rattle.open_nodes.specs.TurnCounts.{turns_of};
 ghost use Rattle.commands.specs.Commands.{load};
 ghost use Rattle.commands.specs.Refusals.{request_refusal};
-ghost use Rattle.commands.specs.Seen.{request_seen, texts_seen};
+ghost use Rattle.commands.specs.View.{request_seen, texts_seen};
 ghost use Rattle.shelf.specs.Lists.{version_of};
 ghost use Rattle.shelf.specs.Shelves.{published_by, shown_by, shelf_of};
 ghost use Rattle.loader.specs.Answers as answers;
 ghost use Rattle.loader.specs.Effects.{Moves, StopsAfter, StopsRequest, request_effect, request_roots};
-ghost use Rattle.loader.specs.Held.{state_of, files_of, IsLawful};
+ghost use Rattle.loader.specs.Sessions.{state_of, files_of, IsLawful};
 ghost use Rattle.loader.specs.Publishing.{AreEntries, Publishes, Shows, names_to_publish};
 
 use super::{Reply, Session};
 use crate::publishing::packages_told;
-use crate::told::package_keys;
+use crate::request_answers::package_keys;
 use commands::{Request, refusal};
 use round::Stop;
 use shelf::{Keeper, Told};

@@ -1,4 +1,4 @@
-use Rattle.packages.proofs.SomeHeld.{some_module_held, some_package_held}
+use Rattle.packages.proofs.Existence.{some_module_held, some_package_held}
 use Rattle.packages.proofs.each_has_a_value.Goals as goal
 
 pub returns-clause-module : goal.returns-clause-module

@@ -1,4 +1,4 @@
-use Rattle.packages.proofs.OneHeld.{one_module_held, one_package_held}
+use Rattle.packages.proofs.Uniqueness.{one_module_held, one_package_held}
 use Rattle.packages.proofs.files_determine_what_nodes_hold.Goals as goal
 
 pub returns-clause-module : goal.returns-clause-module

@@ -1,4 +1,4 @@
-use Rattle.packages.proofs.Held.{packages_hold}
+use Rattle.packages.proofs.NodeValues.{packages_hold}
 use Rattle.packages.proofs.packages_are_those_of_the_files.Goals as goal
 
 pub returns : goal.returns

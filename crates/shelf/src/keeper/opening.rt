@@ -3,7 +3,7 @@ ghost use Rattle.std.specs.Prelude.{◌≡◌, ◌↔◌, ◌<◌, ◌≤◌, []
 ghost use Rattle.std.specs.Vec.{vec_len};
 ghost use Rattle.left_right.specs.Sides.{view};
 ghost use Rattle.shelf.specs.Lists.{is_number_of_readers};
-ghost use Rattle.shelf.specs.Shared.{after, state_of, id_of, IsReady};
+ghost use Rattle.shelf.specs.CopyRule.{after, state_of, id_of, IsReady};
 ghost use Rattle.shelf.specs.Shelves.{published_by, shown_by, IsUpToDate};
 ghost use Rattle.shelf.specs.declared.keeper.opening.OpenError.TheVariants.{Range};
 

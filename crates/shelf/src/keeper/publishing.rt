@@ -2,7 +2,7 @@
 ghost use Rattle.std.specs.Prelude.{◌≡◌, ◌⊎◌, ◌≤◌, ◌++◌, [], None, IfOk, OnOk, OnErr, drop, fold};
 ghost use Rattle.left_right.specs.Sides.{view};
 ghost use Rattle.shelf.specs.Lists.{version_of, then_published};
-ghost use Rattle.shelf.specs.Shared.{after, state_of, id_of, waits, IsReady};
+ghost use Rattle.shelf.specs.CopyRule.{after, state_of, id_of, waits, IsReady};
 ghost use Rattle.shelf.specs.Shelves.{published_by, shown_by, shelf_of, told_in, shelf_told_of};
 
 use super::Keeper;

@@ -1,6 +1,6 @@
 use Rattle.std.proofs.Common.{◌∙◌, ap, sym, arith}
 use Rattle.language.specs.Modules.{is_private}
-use Rattle.answers.proofs.Exported.{put_in}
+use Rattle.answers.proofs.Exports.{put_in}
 use Rattle.answers.proofs.module_json.public_names.Goals as goal
 
 pub loop-i-preserved-in_ok-insert : goal.loop-i-preserved-in_ok-insert

@@ -1,5 +1,5 @@
 use Rattle.std.proofs.Common.{◌≡◌, drop}
-use Rattle.tree.specs.Bound.{has_name}
+use Rattle.tree.specs.Bindings.{has_name}
 use Rattle.bindings.proofs.finding.is_among.Given as goal
 
 abbrev pub invariant-loop-name : goal.invariant-loop-name

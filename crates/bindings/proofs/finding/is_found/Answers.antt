@@ -1,5 +1,5 @@
 use Rattle.std.proofs.Common.{◌∙◌, ap, sym, true, cond}
-use Rattle.tree.specs.Bound.{has_name}
+use Rattle.tree.specs.Bindings.{has_name}
 use Rattle.bindings.proofs.Finds.{has-append, has_any}
 use Rattle.bindings.proofs.finding.is_found.Goals as goal
 

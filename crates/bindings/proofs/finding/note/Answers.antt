@@ -2,7 +2,7 @@ use Rattle.std.proofs.Common.{◌∷◌, ◌++◌, ℕ, List, ap, sym, ◌∙◌
 use Rattle.std.specs.Prelude.{nat_eq}
 use Rattle.std.specs.Cmp.Lexicographic.{pointwise}
 use Rattle.indexmap.specs.IndexSet.{insert_key}
-use Rattle.bindings.specs.Found.{SameNames}
+use Rattle.bindings.specs.NameSets.{SameNames}
 use Rattle.bindings.proofs.Finds.{same_front, same_inserted}
 use Rattle.bindings.proofs.finding.note.Goals as goal
 

@@ -1,5 +1,5 @@
 use Rattle.std.proofs.Common.{drop}
-use Rattle.tree.specs.Bound.{suite_names, branches_names}
+use Rattle.tree.specs.Bindings.{suite_names, branches_names}
 use Rattle.tree.specs.Statements.{stmts_of, branch_trees}
 use Rattle.bindings.proofs.Finds.{Left}
 use Rattle.bindings.proofs.gathering.+statements.Given as goal

@@ -1,5 +1,5 @@
 use Rattle.std.proofs.Common.{drop}
-use Rattle.tree.specs.Bound.{targets_names}
+use Rattle.tree.specs.Bindings.{targets_names}
 use Rattle.tree.specs.View.{trees_of}
 use Rattle.bindings.proofs.Finds.{Left}
 use Rattle.bindings.proofs.gathering.+targets.Given as goal

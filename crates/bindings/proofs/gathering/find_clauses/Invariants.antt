@@ -1,5 +1,5 @@
 use Rattle.std.proofs.Common.{drop}
-use Rattle.tree.specs.Bound.{clause_names}
+use Rattle.tree.specs.Bindings.{clause_names}
 use Rattle.tree.specs.View.{clause_trees}
 use Rattle.bindings.proofs.Finds.{Left}
 use Rattle.bindings.proofs.gathering.find_clauses.Given as goal

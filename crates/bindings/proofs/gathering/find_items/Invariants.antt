@@ -1,5 +1,5 @@
 use Rattle.std.proofs.Common.{drop, map}
-use Rattle.tree.specs.Bound.{item_names}
+use Rattle.tree.specs.Bindings.{item_names}
 use Rattle.tree.specs.Statements.{item_of}
 use Rattle.bindings.proofs.Finds.{Left}
 use Rattle.bindings.proofs.gathering.find_items.Given as goal

@@ -1,5 +1,5 @@
 use Rattle.std.proofs.Common.{drop, map}
-use Rattle.tree.specs.Bound.{load_names}
+use Rattle.tree.specs.Bindings.{load_names}
 use Rattle.tree.specs.Statements.{load_of}
 use Rattle.bindings.proofs.Finds.{Left}
 use Rattle.bindings.proofs.gathering.find_loads.Given as goal

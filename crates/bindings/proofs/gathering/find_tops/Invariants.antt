@@ -1,5 +1,5 @@
 use Rattle.std.proofs.Common.{drop, map}
-use Rattle.tree.specs.Bound.{top_names}
+use Rattle.tree.specs.Bindings.{top_names}
 use Rattle.tree.specs.Statements.{top_of}
 use Rattle.bindings.proofs.Finds.{Left}
 use Rattle.bindings.proofs.gathering.find_tops.Given as goal

@@ -1,5 +1,5 @@
 use Rattle.std.proofs.Common.{◌≡◌, drop}
-use Rattle.tree.specs.Bound.{differ}
+use Rattle.tree.specs.Bindings.{differ}
 use Rattle.bindings.proofs.names.are_known_to_differ.Given as goal
 
 abbrev pub invariant-loop-i : goal.invariant-loop-i

@@ -1,7 +1,7 @@
 use Rattle.std.proofs.Common.{[], ap, ◌∙◌, Vec, Global}
 use Rattle.texts.specs.declared.text.Text.{Text}
 use Rattle.tree.specs.View.{clause_trees}
-use Rattle.tree.specs.Bound.{clause_names}
+use Rattle.tree.specs.Bindings.{clause_names}
 use Rattle.bindings.proofs.Finds.{kept_at_last, none_seen}
 use Rattle.bindings.proofs.names.clause_names.Goals as goal
 

@@ -1,7 +1,7 @@
 use Rattle.std.proofs.Common.{[], ◌++◌, map, ap, ◌∙◌, Vec, Global}
 use Rattle.texts.specs.declared.text.Text.{Text}
 use Rattle.tree.specs.Statements.{load_of, top_of}
-use Rattle.tree.specs.Bound.{load_names, top_names}
+use Rattle.tree.specs.Bindings.{load_names, top_names}
 use Rattle.bindings.proofs.Finds.{kept_at_last, none_seen, finds_both}
 use Rattle.bindings.proofs.names.file_names.Goals as goal
 

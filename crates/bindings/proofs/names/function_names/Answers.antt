@@ -1,8 +1,8 @@
 use Rattle.std.proofs.Common.{ap, ◌∙◌, Vec, Global}
 use Rattle.texts.specs.declared.text.Text.{Text}
 use Rattle.tree.specs.Statements.{stmts_of}
-use Rattle.tree.specs.Bound.{suite_names}
-use Rattle.bindings.specs.Found.{seen, names_of_params}
+use Rattle.tree.specs.Bindings.{suite_names}
+use Rattle.bindings.specs.NameSets.{seen, names_of_params}
 use Rattle.bindings.proofs.Finds.{kept_at_last, only_these}
 use Rattle.bindings.proofs.names.function_names.Goals as goal
 

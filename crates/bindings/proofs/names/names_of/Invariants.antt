@@ -1,5 +1,5 @@
 use Rattle.std.proofs.Common.{◌≡◌, ◌++◌, drop}
-use Rattle.bindings.specs.Found.{names_of_params}
+use Rattle.bindings.specs.NameSets.{names_of_params}
 use Rattle.bindings.proofs.names.names_of.Given as goal
 
 abbrev pub invariant-loop-param : goal.invariant-loop-param

@@ -1,6 +1,6 @@
 use Rattle.std.proofs.Common.{◌≡◌, ◌∷◌, ◌++◌, List, suc, drop, drop-cons, add-one, ap, sym, subst, ◌∙◌}
 use Rattle.tree.specs.declared.def.Param.{Param}
-use Rattle.bindings.specs.Found.{seen, SameNames, names_of_params}
+use Rattle.bindings.specs.NameSets.{seen, SameNames, names_of_params}
 use Rattle.bindings.proofs.Finds.{params_more}
 use Rattle.bindings.proofs.names.note_params.Goals as goal
 

@@ -1,5 +1,5 @@
 use Rattle.std.proofs.Common.{◌≡◌, ◌++◌, drop}
-use Rattle.bindings.specs.Found.{seen, SameNames, names_of_params}
+use Rattle.bindings.specs.NameSets.{seen, SameNames, names_of_params}
 use Rattle.bindings.proofs.names.note_params.Given as goal
 
 abbrev pub invariant-loop-param : goal.invariant-loop-param

@@ -1,7 +1,7 @@
 use Rattle.std.proofs.Common.{[], ap, ◌∙◌, Vec, Global, map}
 use Rattle.texts.specs.declared.text.Text.{Text}
 use Rattle.tree.specs.Statements.{top_of}
-use Rattle.tree.specs.Bound.{top_names}
+use Rattle.tree.specs.Bindings.{top_names}
 use Rattle.bindings.proofs.Finds.{kept_at_last, none_seen}
 use Rattle.bindings.proofs.names.top_names.Goals as goal
 

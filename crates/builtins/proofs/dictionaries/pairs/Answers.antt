@@ -1,4 +1,4 @@
-use Rattle.builtins.proofs.Paired.{pairs_more}
+use Rattle.builtins.proofs.Pairs.{pairs_more}
 use Rattle.builtins.proofs.dictionaries.pairs.Goals as goal
 
 pub loop-i-preserved : goal.loop-i-preserved

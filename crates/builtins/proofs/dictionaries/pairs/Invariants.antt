@@ -1,5 +1,5 @@
 use Rattle.std.proofs.Common.{◌≡◌, ◌++◌, drop}
-use Rattle.builtins.specs.Seen.{pairs_of}
+use Rattle.builtins.specs.Results.{pairs_of}
 use Rattle.builtins.proofs.dictionaries.pairs.Given as goal
 
 abbrev pub invariant-loop-i : goal.invariant-loop-i

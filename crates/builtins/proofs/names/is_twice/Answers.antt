@@ -1,14 +1,14 @@
 use Rattle.std.proofs.Common.{◌≡◌, ◌-◌, ℕ, List, Bool, true, false, not, get_or, sym, ap, ◌∙◌, arith}
 use Rattle.meaning.specs.declared.val.Val.{Val}
-use Rattle.meaning.specs.Functions.{Named}
-use Rattle.builtins.proofs.Paired.{given_again, still_once, seen_too}
+use Rattle.meaning.specs.Functions.{KeywordArguments}
+use Rattle.builtins.proofs.Pairs.{given_again, still_once, seen_too}
 use Rattle.builtins.proofs.names.is_twice.Goals as goal
 
 turned : (a b : Bool) → a ≡ not b → b ≡ not a
 turned a true e = ap not (sym e)
 turned a false e = ap not (sym e)
 
-key_is : (ns : Named) (i : ℕ) (n : List ℕ × Val) (key : List ℕ) → n ≡ get_or ns (i - 1) n → key ≡ (get_or ns (i - 1) n).0 → key ≡ n.0
+key_is : (ns : KeywordArguments) (i : ℕ) (n : List ℕ × Val) (key : List ℕ) → n ≡ get_or ns (i - 1) n → key ≡ (get_or ns (i - 1) n).0 → key ≡ n.0
 key_is ns i n key is e = e ∙ ap (λ m. m.0) (sym is)
 
 pub returns-then-not-branch : goal.returns-then-not-branch

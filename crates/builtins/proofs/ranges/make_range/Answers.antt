@@ -1,7 +1,7 @@
 use Rattle.std.proofs.Common.{FitsSigned, w64, ◌∙◌}
 use Rattle.std.proofs.lemmas.Int.{to_z-of_z}
 use Rattle.heap.specs.View.{store_of}
-use Rattle.builtins.proofs.Spanned.{range_made}
+use Rattle.builtins.proofs.RangeNumbers.{range_made}
 use Rattle.builtins.proofs.ranges.make_range.Goals as goal
 
 pub returns : goal.returns

@@ -3,7 +3,7 @@ use Rattle.std.proofs.lemmas.Int.{to_z-of_z}
 use Rattle.meaning.specs.declared.val.Val.{Val}
 use Rattle.meaning.specs.Heap.{is_sized}
 use Rattle.meaning.specs.Functions.{range_count, numbers}
-use Rattle.builtins.proofs.Spanned.{range_ends, range_goes, range_last, range_long, past_the_end, sized}
+use Rattle.builtins.proofs.RangeNumbers.{range_ends, range_goes, range_last, range_long, past_the_end, sized}
 use Rattle.builtins.proofs.ranges.numbers.Goals as goal
 
 pub loop-members-init : goal.loop-members-init

@@ -1,7 +1,7 @@
 use Rattle.std.proofs.Common.{rules}
 use Rattle.std.proofs.lemmas.List.Sorted.{answers_always}
 use Rattle.builtins.specs.Ranks.{int_of}
-use Rattle.builtins.proofs.Ordered.{ints_sorted}
+use Rattle.builtins.proofs.SortOrder.{ints_sorted}
 use Rattle.builtins.proofs.sorting.sort_ints.Goals as goal
 
 pub returns : goal.returns

@@ -1,6 +1,6 @@
 use Rattle.std.proofs.Common.{rules, map, ap, ◌∙◌}
 use Rattle.heap.specs.View.{store_of}
-use Rattle.builtins.proofs.Ordered.{pairs_by_closure}
+use Rattle.builtins.proofs.SortOrder.{pairs_by_closure}
 use Rattle.builtins.proofs.sorting.sort_texts.Goals as goal
 
 pub returns : goal.returns

@@ -2,7 +2,7 @@ use Rattle.std.proofs.Common.{◌≡◌, ◌++◌, drop}
 use Rattle.meaning.specs.Outcome.{and_then, gives}
 use Rattle.meaning.specs.Functions.{each_items}
 use Rattle.heap.specs.View.{store_of}
-use Rattle.builtins.specs.Seen.{lists_of}
+use Rattle.builtins.specs.Results.{lists_of}
 use Rattle.builtins.proofs.zipping.each_items.Given as goal
 
 abbrev pub invariant-loop-x : goal.invariant-loop-x

@@ -1,6 +1,6 @@
 use Rattle.std.proofs.Common.{rules, ◌≡◌, length, arith, sym}
-use Rattle.builtins.specs.Seen.{lists_of}
-use Rattle.builtins.proofs.Zipped.{rows_begin, rows_end, rows_go, rows_stop, unmade}
+use Rattle.builtins.specs.Results.{lists_of}
+use Rattle.builtins.proofs.Rows.{rows_begin, rows_end, rows_go, rows_stop, unmade}
 use Rattle.builtins.proofs.zipping.make_rows.Goals as goal
 
 pub loop-i-init : goal.loop-i-init

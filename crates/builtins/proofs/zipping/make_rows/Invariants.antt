@@ -2,7 +2,7 @@ use Rattle.std.proofs.Common.{◌≡◌, ◌-◌, ◌++◌, drop, map}
 use Rattle.meaning.specs.Outcome.{and_then, gives}
 use Rattle.meaning.specs.Functions.{zipped, rows, makes_tuples}
 use Rattle.heap.specs.View.{store_of}
-use Rattle.builtins.specs.Seen.{lists_of}
+use Rattle.builtins.specs.Results.{lists_of}
 use Rattle.builtins.proofs.zipping.make_rows.Given as goal
 
 abbrev pub invariant-loop-i : goal.invariant-loop-i

@@ -1,5 +1,5 @@
 use Rattle.std.proofs.Common.{arith, sym}
-use Rattle.builtins.proofs.Zipped.{row_goes, row_ends}
+use Rattle.builtins.proofs.Rows.{row_goes, row_ends}
 use Rattle.builtins.proofs.zipping.row_at.Goals as goal
 
 pub returns-in-None : goal.returns-in-None

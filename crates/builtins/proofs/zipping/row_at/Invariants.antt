@@ -1,6 +1,6 @@
 use Rattle.std.proofs.Common.{◌≡◌, ◌++◌, drop, map, option_map}
 use Rattle.meaning.specs.Functions.{heads}
-use Rattle.builtins.specs.Seen.{lists_of}
+use Rattle.builtins.specs.Results.{lists_of}
 use Rattle.builtins.proofs.zipping.row_at.Given as goal
 
 abbrev pub invariant-loop-list : goal.invariant-loop-list

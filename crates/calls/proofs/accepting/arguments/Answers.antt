@@ -1,7 +1,7 @@
 use Rattle.std.proofs.Common.{◌≡◌, ◌∙◌, ap, sym, subst, take, drop, map, List}
 use Rattle.std.specs.Prelude.{zip}
-use Rattle.meaning.specs.Functions.{Named}
-use Rattle.meaning.specs.Outcome.{Checked}
+use Rattle.meaning.specs.Functions.{KeywordArguments}
+use Rattle.meaning.specs.Outcome.{ValueOrFault}
 use Rattle.language.specs.World.{Block}
 use Rattle.language.specs.Arguments.{plain_part, named_part, are_parameters, given, arguments}
 use Rattle.tree.specs.Statements.{fn_of, param_of}
@@ -15,14 +15,14 @@ returns-then-is_twice c =
     let f = fn_of c.args.def.now in let xs = c.args.xs.now in let names = c.args.names.now in let ds = c.args.defaults.now in let plain = c.split_at.result.0.now in let named = zip names c.split_at.result.1.now in
     let first : plain ≡ plain_part xs names = c.split_at.ensures.front ∙ ap (λ n. take n xs) c.saturating_sub.ensures in
     let behind : named ≡ named_part xs names = ap (λ l. zip names l) (c.split_at.ensures.back ∙ ap (λ n. drop n xs) c.saturating_sub.ensures) in
-    ap (λ (ns : Named). arguments f (plain_part xs names) ns ds) (sym behind) ∙ arguments_twice f (plain_part xs names) named ds (sym c.if-is_twice.ensures)
+    ap (λ (ns : KeywordArguments). arguments f (plain_part xs names) ns ds) (sym behind) ∙ arguments_twice f (plain_part xs names) named ds (sym c.if-is_twice.ensures)
 
 pub returns-then-not-are_parameters : goal.returns-then-not-are_parameters
 returns-then-not-are_parameters c =
     let f = fn_of c.args.def.now in let xs = c.args.xs.now in let names = c.args.names.now in let ds = c.args.defaults.now in let plain = c.split_at.result.0.now in let named = zip names c.split_at.result.1.now in
     let first : plain ≡ plain_part xs names = c.split_at.ensures.front ∙ ap (λ n. take n xs) c.saturating_sub.ensures in
     let behind : named ≡ named_part xs names = ap (λ l. zip names l) (c.split_at.ensures.back ∙ ap (λ n. drop n xs) c.saturating_sub.ensures) in
-    ap (λ (ns : Named). arguments f (plain_part xs names) ns ds) (sym behind) ∙ arguments_unknown f (plain_part xs names) named ds (sym c.if-is_twice.ensures) (sym (c.if-not-are_parameters.ensures ∙ ap (λ (ps : List Param). are_parameters named (map param_of ps)) c.as_slice-params.ensures.value))
+    ap (λ (ns : KeywordArguments). arguments f (plain_part xs names) ns ds) (sym behind) ∙ arguments_unknown f (plain_part xs names) named ds (sym c.if-is_twice.ensures) (sym (c.if-not-are_parameters.ensures ∙ ap (λ (ps : List Param). are_parameters named (map param_of ps)) c.as_slice-params.ensures.value))
 
 pub returns : goal.returns
 returns c =
@@ -30,7 +30,7 @@ returns c =
     let first : plain ≡ plain_part xs names = c.split_at.ensures.front ∙ ap (λ n. take n xs) c.saturating_sub.ensures in
     let behind : named ≡ named_part xs names = ap (λ l. zip names l) (c.split_at.ensures.back ∙ ap (λ n. drop n xs) c.saturating_sub.ensures) in
     let known = sym (c.if-not-are_parameters.ensures ∙ ap (λ (ps : List Param). are_parameters named (map param_of ps)) c.as_slice-params.ensures.value) in
-    subst (λ (o : Checked Block). Blocks o c.given.result)
+    subst (λ (o : ValueOrFault Block). Blocks o c.given.result)
     (ap (λ (ps : List Param). given (map param_of ps) plain named ds) c.as_slice-params.ensures.value
     ∙ sym (arguments_known f plain named ds (sym c.if-is_twice.ensures) known)
-    ∙ ap (λ l. arguments f l named ds) first ∙ ap (λ (ns : Named). arguments f (plain_part xs names) ns ds) behind) c.given.ensures
+    ∙ ap (λ l. arguments f l named ds) first ∙ ap (λ (ns : KeywordArguments). arguments f (plain_part xs names) ns ds) behind) c.given.ensures

@@ -1,6 +1,6 @@
 use Rattle.std.proofs.Common.{refl}
 use Rattle.std.specs.Prelude.{zip}
-use Rattle.calls.proofs.Given.{given_next}
+use Rattle.calls.proofs.ParameterValues.{given_next}
 use Rattle.calls.proofs.accepting.given.Goals as goal
 
 pub loop-param-preserved : goal.loop-param-preserved

@@ -1,12 +1,12 @@
 use Rattle.std.proofs.Common.{◌≡◌, ◌++◌, ℕ, List, true, cond, length, drop, map, ap, sym, ◌∙◌}
 use Rattle.std.specs.Arc.{arc_value}
-use Rattle.tree.specs.Bound.{differ, names_once, suite_names}
+use Rattle.tree.specs.Bindings.{differ, names_once, suite_names}
 use Rattle.tree.specs.Statements.{fn_of, stmts_of, param_of}
 use Rattle.language.specs.Names.{all_unbound}
 use Rattle.language.specs.Arguments.{plain_part, named_part}
 use Rattle.names.specs.View.{block_of}
 use Rattle.calls.proofs.Accepts.{rest_all}
-use Rattle.calls.proofs.Filled.{own_names, arguments_names, names_filled}
+use Rattle.calls.proofs.BlockNames.{own_names, arguments_names, names_filled}
 use Rattle.calls.proofs.blocks.call_block.Goals as goal
 
 pub of_few-requires : goal.of_few-requires

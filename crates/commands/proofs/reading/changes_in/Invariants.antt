@@ -1,6 +1,6 @@
 use Rattle.std.proofs.Common.{◌≡◌, drop, option_map, ◌++◌}
 use Rattle.serde_json.specs.View.{items_view}
-use Rattle.filetree.specs.Shown.{changes_seen}
+use Rattle.filetree.specs.ChangeView.{changes_seen}
 use Rattle.commands.specs.Commands.{changes_in}
 use Rattle.commands.proofs.reading.changes_in.Given as goal
 

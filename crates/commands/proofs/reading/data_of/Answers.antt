@@ -1,6 +1,6 @@
 use Rattle.std.proofs.Common.{rules}
 use Rattle.serde_json.specs.View.{view}
-use Rattle.commands.proofs.Read.{read_valid, read_none}
+use Rattle.commands.proofs.CommandLines.{read_valid, read_none}
 use Rattle.commands.proofs.reading.data_of.Goals as goal
 
 pub returns-in-Ok : goal.returns-in-Ok

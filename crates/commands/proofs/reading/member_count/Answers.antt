@@ -1,6 +1,6 @@
 use Rattle.std.proofs.Common.{◌∙◌}
 use Rattle.serde_json.specs.View.{view, members_view}
-use Rattle.commands.proofs.Read.{count_some, count_view}
+use Rattle.commands.proofs.CommandLines.{count_some, count_view}
 use Rattle.commands.proofs.reading.member_count.Goals as goal
 
 pub returns-in-Some : goal.returns-in-Some

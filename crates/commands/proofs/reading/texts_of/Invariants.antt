@@ -1,7 +1,7 @@
 use Rattle.std.proofs.Common.{◌≡◌, drop, option_map, ◌++◌}
 use Rattle.serde_json.specs.View.{items_view}
 use Rattle.commands.specs.Commands.{texts_of}
-use Rattle.commands.specs.Seen.{texts_seen}
+use Rattle.commands.specs.View.{texts_seen}
 use Rattle.commands.proofs.reading.texts_of.Given as goal
 
 abbrev pub invariant-loop-item : goal.invariant-loop-item

@@ -1,7 +1,7 @@
 use Rattle.std.proofs.Common.{map}
 use Rattle.meaning.specs.Comparing.{equal}
 use Rattle.heap.specs.View.{object_in}
-use Rattle.comparing.proofs.Compared.{members_fault, entries_fault, entries_same}
+use Rattle.comparing.proofs.Comparisons.{members_fault, entries_fault, entries_same}
 use Rattle.comparing.proofs.equality.+comparing.Goals as goal
 
 pub equal_members-returns-in-Err : goal.equal_members-returns-in-Err

@@ -1,7 +1,7 @@
 use Rattle.std.proofs.Common.{map}
 use Rattle.meaning.specs.Comparing.{equal}
 use Rattle.heap.specs.View.{object_in}
-use Rattle.comparing.proofs.Membered.{any_same, any_differ, any_fault}
+use Rattle.comparing.proofs.Members.{any_same, any_differ, any_fault}
 use Rattle.comparing.proofs.membership.any_equal.Goals as goal
 
 pub returns-in-Ok-true : goal.returns-in-Ok-true

@@ -1,7 +1,7 @@
 use Rattle.std.proofs.Common.{map}
 use Rattle.meaning.specs.Comparing.{equal}
 use Rattle.heap.specs.View.{object_in}
-use Rattle.comparing.proofs.Compared.{parts_fault, parts_same}
+use Rattle.comparing.proofs.Comparisons.{parts_fault, parts_same}
 use Rattle.comparing.proofs.ordering.part.Goals as goal
 
 pub returns-in-Err : goal.returns-in-Err

@@ -1,7 +1,7 @@
 use Rattle.std.proofs.Common.{◌≡◌, ◌++◌, drop, map}
 use Rattle.filetree.specs.Changes.{path_of}
-use Rattle.filetree.specs.Shown.{changes_seen}
-use Rattle.commands.specs.Seen.{texts_seen}
+use Rattle.filetree.specs.ChangeView.{changes_seen}
+use Rattle.commands.specs.View.{texts_seen}
 use Rattle.edits.proofs.making.paths_in.Given as goal
 
 abbrev pub invariant-loop-change : goal.invariant-loop-change

@@ -8,7 +8,7 @@ use Rattle.names.specs.View.{world_of, here_of}
 use Rattle.frames.specs.declared.frame.Control.{Control}
 use Rattle.frames.specs.Frames.{an_exit, Goes, on, exited, above, stack_does, machine_does, defined}
 use Rattle.language.specs.Statements.{goes_on}
-use Rattle.evaluator.proofs.Defined.{kept_stops, bound_stops, bound}
+use Rattle.evaluator.proofs.Definitions.{kept_stops, bound_stops, bound}
 use Rattle.evaluator.proofs.acting.define.Goals as goal
 
 pub returns-in-Err-clause-goes : goal.returns-in-Err-clause-goes

@@ -14,7 +14,7 @@ use Rattle.calls.specs.View.{running_of}
 use Rattle.frames.specs.declared.frame.Caller.{Caller}
 use Rattle.frames.specs.Frames.{Sig, given_by, on, valued, exited, above, stack_does}
 use Rattle.evaluator.specs.Machines.{here_in}
-use Rattle.evaluator.proofs.Entered.{body_above, body_goes, one_opened, same_body}
+use Rattle.evaluator.proofs.Calls.{body_above, body_goes, one_opened, same_body}
 use Rattle.evaluator.proofs.entering.begin_body.Goals as goal
 
 pub returns-clause-goes : goal.returns-clause-goes

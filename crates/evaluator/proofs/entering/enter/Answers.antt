@@ -15,8 +15,8 @@ use Rattle.frames.specs.Frames.{a_value, Goes, on, stack_does}
 use Rattle.evaluator.specs.declared.machine.Environment.{Environment}
 use Rattle.evaluator.specs.Machines.{env_of, here_in, means}
 use Rattle.evaluator.specs.Finding.{IsLabel, IsFound, calls_on}
-use Rattle.evaluator.specs.declared.finding.Found.{Found}
-use Rattle.evaluator.proofs.Entered.{no_file, no_call, needs_goes, found_calls}
+use Rattle.evaluator.specs.declared.finding.Callee.{Callee}
+use Rattle.evaluator.proofs.Calls.{no_file, no_call, needs_goes, found_calls}
 use Rattle.evaluator.proofs.entering.enter.Goals as goal
 
 pub returns-in-None-clause-goes : goal.returns-in-None-clause-goes
@@ -82,7 +82,7 @@ returns-clause-goes c = λ more knows.
     let calls = object ∙ ap (λ (x : List ℕ). call env left x name xs ns h w) (sym is_label) in
     let u = world_of c.need_names.new.state in
     let needs = c.in_default.ensures.says env h (sym (c.as_slice-2.ensures.value ∙ ap (λ (g : Environment). g.loads.items) c.given.ensures)) in
-    let none = subst (λ (o : Option Found). IsFound e label name o) c.in-None-2.is c.in_ok-found.ensures.ok in
+    let none = subst (λ (o : Option Callee). IsFound e label name o) c.in-None-2.is c.in_ok-found.ensures.ok in
     ap (λ (o : Ends Val). then_runs (then_runs o k) j) (calls ∙ no_call env left label name xs ns h w u needs none)
 
 pub returns-in-Some-2-clause-goes : goal.returns-in-Some-2-clause-goes
@@ -107,7 +107,7 @@ returns-in-Some-2-clause-goes c = λ more knows.
     let u = world_of c.need_names.new.state in
     let needs = c.in_default.ensures.says env h (sym (c.as_slice-2.ensures.value ∙ ap (λ (g : Environment). g.loads.items) c.given.ensures)) in
     let found = c.in-Some-2.found in
-    let is = subst (λ (o : Option Found). IsFound e label name o) c.in-Some-2.is c.in_ok-found.ensures.ok in
+    let is = subst (λ (o : Option Callee). IsFound e label name o) c.in-Some-2.is c.in_ok-found.ensures.ok in
     let f = fn_of (arc_value found.def) in
     let chain = calls ∙ found_calls env left label name xs ns h f w u needs is.0 is.1 ∙ ap (λ (d : Def). calls_on env left label (fn_of d) xs ns h u) (sym c.deref.ensures) in
     let after = λ (control : Control). means env c.call.new.m control in

@@ -7,7 +7,7 @@ use Rattle.frames.specs.declared.frame.Frame.TheVariants as f
 use Rattle.frames.specs.Frames.{Sig, sig_of, given_by, stack_does}
 use Rattle.frames.proofs.Bind.{stack_push}
 use Rattle.evaluator.specs.Machines.{here_in}
-use Rattle.evaluator.proofs.Entered.{one_closed}
+use Rattle.evaluator.proofs.Calls.{one_closed}
 use Rattle.evaluator.proofs.entering.leave.Goals as goal
 
 pub returns-clause-goes : goal.returns-clause-goes

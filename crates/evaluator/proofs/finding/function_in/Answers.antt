@@ -1,4 +1,4 @@
-use Rattle.evaluator.proofs.Looked.{found_def, no_def}
+use Rattle.evaluator.proofs.FunctionLookups.{found_def, no_def}
 use Rattle.evaluator.proofs.finding.function_in.Goals as goal
 
 pub returns-in-Some : goal.returns-in-Some

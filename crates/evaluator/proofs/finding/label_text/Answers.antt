@@ -1,6 +1,6 @@
 use Rattle.std.proofs.Common.{◌∙◌}
 use Rattle.language.specs.Modules.{all_bodies}
-use Rattle.evaluator.proofs.Entered.{label_at}
+use Rattle.evaluator.proofs.Calls.{label_at}
 use Rattle.evaluator.proofs.finding.label_text.Goals as goal
 
 pub returns-in_ok-share-in-Some-clause-ok : goal.returns-in_ok-share-in-Some-clause-ok

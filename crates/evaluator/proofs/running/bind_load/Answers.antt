@@ -5,7 +5,7 @@ use Rattle.heap.specs.View.{store_of}
 use Rattle.language.specs.World.{World, Ends, at_line}
 use Rattle.language.specs.Files.{load_items}
 use Rattle.names.specs.View.{world_of, here_of, Ran}
-use Rattle.evaluator.proofs.Opened.{tick_goes, tick_stops}
+use Rattle.evaluator.proofs.FileStarts.{tick_goes, tick_stops}
 use Rattle.evaluator.proofs.running.bind_load.Goals as goal
 
 pub returns-in-Err : goal.returns-in-Err

@@ -5,7 +5,7 @@ use Rattle.language.specs.World.{ended, at_line}
 use Rattle.language.specs.Files.{loads}
 use Rattle.names.specs.View.{world_of, here_of, Ran}
 use Rattle.evaluator.specs.Files.{load_does}
-use Rattle.evaluator.proofs.Opened.{opened_stops, load_moves, load_fails, next_of}
+use Rattle.evaluator.proofs.FileStarts.{opened_stops, load_moves, load_fails, next_of}
 use Rattle.evaluator.proofs.running.bind_loads.Goals as goal
 
 pub returns-in-Err : goal.returns-in-Err

@@ -7,7 +7,7 @@ use Rattle.language.specs.World.{World, Ends, at_line, then_runs}
 use Rattle.language.specs.Files.{leading, loads}
 use Rattle.names.specs.View.{world_of, here_of, Ran}
 use Rattle.evaluator.specs.Files.{Opened}
-use Rattle.evaluator.proofs.Opened.{tick_goes, tick_stops, opened_stops}
+use Rattle.evaluator.proofs.FileStarts.{tick_goes, tick_stops, opened_stops}
 use Rattle.evaluator.proofs.running.open_file.Goals.{in-Some+in_default-tick, in_default}
 use Rattle.evaluator.proofs.running.open_file.Goals as goal
 

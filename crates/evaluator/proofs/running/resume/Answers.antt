@@ -4,7 +4,7 @@ use Rattle.language.specs.Environment.{Answers}
 use Rattle.language.specs.Laws.{with_answers}
 use Rattle.evaluator.specs.Machines.{env_of}
 use Rattle.evaluator.specs.Files.{Stands, shared_texts}
-use Rattle.evaluator.proofs.Started.{stands_on}
+use Rattle.evaluator.proofs.FileEvaluation.{stands_on}
 use Rattle.evaluator.proofs.running.resume.Goals as goal
 
 pub go_on-requires : goal.go_on-requires

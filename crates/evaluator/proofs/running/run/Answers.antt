@@ -7,7 +7,7 @@ use Rattle.names.specs.View.{world_of, here_of}
 use Rattle.evaluator.specs.declared.machine.Machine.{Machine}
 use Rattle.evaluator.specs.Machines.{env_of}
 use Rattle.evaluator.proofs.Ending.{level_of}
-use Rattle.evaluator.proofs.Started.{opens_same, opens_faulty, stop_evaluates, stands_first}
+use Rattle.evaluator.proofs.FileEvaluation.{opens_same, opens_faulty, stop_evaluates, stands_first}
 use Rattle.evaluator.proofs.running.run.Goals as goal
 
 pub returns-in-Err : goal.returns-in-Err

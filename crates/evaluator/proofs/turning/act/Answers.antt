@@ -12,7 +12,7 @@ use Rattle.calls.specs.View.{running_of}
 use Rattle.frames.specs.declared.frame.Control.{Control}
 use Rattle.frames.specs.Frames.{Goes, on, control_line, machine_does, valued, above}
 use Rattle.evaluator.specs.Machines.{env_of, means, here_in}
-use Rattle.evaluator.proofs.Acted.{within, nothing_moves}
+use Rattle.evaluator.proofs.TurnParts.{within, nothing_moves}
 use Rattle.evaluator.proofs.turning.act.Goals as goal
 
 pub returns-in-First-clause-goes : goal.returns-in-First-clause-goes

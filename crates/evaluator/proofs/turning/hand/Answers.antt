@@ -11,7 +11,7 @@ use Rattle.frames.specs.declared.frame.Control.TheVariants as controls
 use Rattle.frames.specs.Frames.{Sig, sig_of, Goes, frame_line, machine_does, stack_does}
 use Rattle.frames.proofs.Bind.{stack_empty}
 use Rattle.evaluator.specs.Machines.{env_of, here_in, means, site_at}
-use Rattle.evaluator.proofs.Entered.{goes_stop}
+use Rattle.evaluator.proofs.Calls.{goes_stop}
 use Rattle.evaluator.proofs.turning.hand.Goals as goal
 
 pub returns-in-None-clause-leads : goal.returns-in-None-clause-leads

@@ -1,6 +1,6 @@
 use Rattle.language.specs.Environment.{Env}
 use Rattle.evaluator.specs.Machines.{means}
-use Rattle.evaluator.proofs.Turned.{leads_on, no_turn}
+use Rattle.evaluator.proofs.Turns.{leads_on, no_turn}
 use Rattle.evaluator.proofs.turning.stretch.Goals as goal
 
 pub returns-in_default : goal.returns-in_default

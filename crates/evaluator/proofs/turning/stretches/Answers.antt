@@ -1,6 +1,6 @@
 use Rattle.language.specs.Environment.{Env}
 use Rattle.evaluator.specs.Machines.{means}
-use Rattle.evaluator.proofs.Turned.{leads_on, none_left}
+use Rattle.evaluator.proofs.Turns.{leads_on, none_left}
 use Rattle.evaluator.proofs.turning.stretches.Goals as goal
 
 pub returns-in_default : goal.returns-in_default

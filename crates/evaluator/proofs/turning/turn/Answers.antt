@@ -5,7 +5,7 @@ use Rattle.names.specs.declared.state.Standing.{Standing}
 use Rattle.frames.specs.declared.frame.Control.{Control}
 use Rattle.frames.specs.Frames.{Goes, control_line}
 use Rattle.evaluator.specs.Machines.{env_of, means, site_at, Stops}
-use Rattle.evaluator.proofs.Entered.{goes_stop}
+use Rattle.evaluator.proofs.Calls.{goes_stop}
 use Rattle.evaluator.proofs.turning.turn.Goals as goal
 
 pub returns-in-Err : goal.returns-in-Err

@@ -14,7 +14,7 @@ use Rattle.language.specs.Statements as s
 use Rattle.language.specs.Statements.{goes_on, exec, first_true}
 use Rattle.language.specs.Calls.{call}
 use Rattle.names.specs.View.{world_of, here_of}
-use Rattle.quiet.specs.Done.{Done, Tested, test_does}
+use Rattle.quiet.specs.StatementResults.{Done, Tested, test_does}
 use Rattle.quiet.proofs.Trees.{stmt-If}
 use Rattle.frames.specs.Frames.{an_exit, exited, on, body}
 use Rattle.frames.specs.Ahead.{exited_as}

@@ -3,7 +3,7 @@ use Rattle.tree.specs.Statements.{stmt_of}
 use Rattle.language.specs.Statements.{exec}
 use Rattle.language.specs.Calls.{call}
 use Rattle.names.specs.View.{world_of, here_of}
-use Rattle.quiet.specs.Done.{Done, stmt_line}
+use Rattle.quiet.specs.StatementResults.{Done, stmt_line}
 use Rattle.frames.specs.Frames.{on}
 use Rattle.frames.proofs.AtOnce.{stopped_as}
 use Rattle.frames.proofs.ahead.once.Goals as goal

@@ -6,7 +6,7 @@ use Rattle.language.specs.World.{ended}
 use Rattle.language.specs.Statements.{goes_on, exec}
 use Rattle.language.specs.Calls.{call}
 use Rattle.names.specs.View.{world_of, here_of}
-use Rattle.quiet.specs.Done.{Done, Costs, stmt_line}
+use Rattle.quiet.specs.StatementResults.{Done, Costs, stmt_line}
 use Rattle.frames.specs.Frames.{on, body, shared_suite}
 use Rattle.frames.proofs.AtOnce.{first_done, first_stops, stopped_as}
 use Rattle.frames.proofs.ahead.suite_once.Goals as goal

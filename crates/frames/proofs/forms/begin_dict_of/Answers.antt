@@ -22,8 +22,8 @@ returns-clause-goes c = λ env n here.
     let w = world_of c.args.state.now in
     let frames = c.args.frames.now.items in
     let cs = clause_trees (arc_value c.args.clauses.now).items in
-    let made = λ (g : l.Gathered). on_heap h (makes_dict g.entries) in
-    let whole = λ (inner : l.Gathered → Runs l.Gathered). above env n here (valued (comprehension env (call env n) cs inner h >>= made)) frames w in
+    let made = λ (g : l.Collection). on_heap h (makes_dict g.entries) in
+    let whole = λ (inner : l.Collection → Runs l.Collection). above env n here (valued (comprehension env (call env n) cs inner h >>= made)) frames w in
     let first = comprehension env (call env n) cs (item_does env n here (i.Entry c.in_ok-key.key c.in_ok-try_clone.field-0) line) h w in
     let before = ap (λ (d : Ex). whole (λ g. ex env n here d line >>= λ x. ex env n here (tree_of (arc_value c.args.e.now)) line >>= λ y. one_entry x y g h)) (sym (ap tree_of c.in_ok-key.ensures))
     ∙ ap (λ (d : Ex). whole (λ g. ex env n here (tree_of (arc_value c.in_ok-key.key)) line >>= λ x. ex env n here d line >>= λ y. one_entry x y g h)) (sym (ap tree_of c.in_ok-try_clone.ensures)) in

@@ -22,8 +22,8 @@ returns-clause-goes c = λ env n here.
     let w = world_of c.args.state.now in
     let frames = c.args.frames.now.items in
     let cs = clause_trees (arc_value c.args.clauses.now).items in
-    let made = λ (g : l.Gathered). on_heap h (makes_list g.members) in
-    let whole = λ (inner : l.Gathered → Runs l.Gathered). above env n here (valued (comprehension env (call env n) cs inner h >>= made)) frames w in
+    let made = λ (g : l.Collection). on_heap h (makes_list g.members) in
+    let whole = λ (inner : l.Collection → Runs l.Collection). above env n here (valued (comprehension env (call env n) cs inner h >>= made)) frames w in
     let first = comprehension env (call env n) cs (item_does env n here (i.Member c.in_ok-try_clone.field-0) line) h w in
     let before = ap (λ (d : Ex). whole (λ g. ex env n here d line >>= λ x. one_more x g h)) (sym (ap tree_of c.in_ok-try_clone.ensures)) in
     let runs = through first made (λ v. pure (a_value v)) (stack_does env n here frames) a_gathered (frame_does env n here (f.MakeList line)) (λ g v. refl)

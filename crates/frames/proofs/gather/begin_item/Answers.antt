@@ -22,7 +22,7 @@ returns-in-Member-clause-goes c = λ env n running.
     let w = world_of c.args.state.now in
     let frames = c.args.frames.now.items in
     let got = gathered_of c.args.got.value in
-    let p = λ (x : l.Gathered). pure (a_gathered x) in
+    let p = λ (x : l.Collection). pure (a_gathered x) in
     let behind = λ (x : Val). one_more x got h in
     let before = ap (λ (i : Item). above env n here (gathered (item_does env n here i line got)) frames w) c.in-Member.is
     ∙ under (ex env n here (shared_tree c.in-Member.e) line w) behind p (stack_does env n here frames)
@@ -38,7 +38,7 @@ returns-in_ok-try_clone-in-Entry-clause-goes c = λ env n running.
     let w = world_of c.args.state.now in
     let frames = c.args.frames.now.items in
     let got = gathered_of c.args.got.value in
-    let p = λ (x : l.Gathered). pure (a_gathered x) in
+    let p = λ (x : l.Collection). pure (a_gathered x) in
     let behind = λ (e : Expr) (x : Val). ex env n here (tree_of e) line >>= λ y. one_entry x y got h in
     let before = ap (λ (i : Item). above env n here (gathered (item_does env n here i line got)) frames w) c.in-Entry.is
     ∙ under (ex env n here (shared_tree c.in-Entry.k) line w) (behind (arc_value c.in-Entry.e)) p (stack_does env n here frames)

@@ -17,4 +17,4 @@ returns-in-Err-clause-goes c = λ env n running.
     let w = world_of c.args.state.now in
     let frames = c.args.frames.now.items in
     let after = λ (control : Control). machine_does env n here control frames (world_of c.bind.new.state) in
-    stops4 (bind c.args.name.now c.args.x h w) (λ _. clauses_do env n here (arc_value c.args.turns.value.of) c.args.turns.value.inner line (gathered_of c.args.got.value)) (gather_from env n here c.args.turns.value) (λ (x : l.Gathered). pure (a_gathered x)) (stack_does env n here frames) h.site c.in-Err.halt (world_of c.bind.new.state) after (c.in-Err.ensures.says line running)
+    stops4 (bind c.args.name.now c.args.x h w) (λ _. clauses_do env n here (arc_value c.args.turns.value.of) c.args.turns.value.inner line (gathered_of c.args.got.value)) (gather_from env n here c.args.turns.value) (λ (x : l.Collection). pure (a_gathered x)) (stack_does env n here frames) h.site c.in-Err.halt (world_of c.bind.new.state) after (c.in-Err.ensures.says line running)

@@ -37,8 +37,8 @@ returns-in-Err-clause-goes c = λ env n running.
     let first : drop k all ≡ get_or all k Nothing ∷ drop (suc k) all = drop-cons all k Nothing lt in
     let target = shared_tree u.target in
     let turn = gather_turn env n here target comp u.inner u.line in
-    let unl = λ (x : l.Gathered). on_heap h (unlocks u.over) >>= λ _. pure x in
-    let p = λ (x : l.Gathered). pure (a_gathered x) in
+    let unl = λ (x : l.Collection). on_heap h (unlocks u.over) >>= λ _. pure x in
+    let p = λ (x : l.Collection). pure (a_gathered x) in
     let j = stack_does env n here frames in
     let behind = gather turn (drop (suc k) all) in
     let sb = λ (v : Val) (a : ta.Aim). store a v h >>= λ _. clauses_do env n here comp u.inner u.line got in
@@ -65,8 +65,8 @@ returns-clause-goes c = λ env n running.
     let first : drop k all ≡ v ∷ drop (k + 1) all = rw add-one (drop-cons all k v lt ∙ ap (λ (x : Val). x ∷ drop (suc k) all) (sym stands)) in
     let target = shared_tree u.target in
     let turn = gather_turn env n here target comp u.inner u.line in
-    let unl = λ (x : l.Gathered). on_heap h (unlocks u.over) >>= λ _. pure x in
-    let p = λ (x : l.Gathered). pure (a_gathered x) in
+    let unl = λ (x : l.Collection). on_heap h (unlocks u.over) >>= λ _. pure x in
+    let p = λ (x : l.Collection). pure (a_gathered x) in
     let j = stack_does env n here frames in
     let behind = gather turn (drop (k + 1) all) in
     let sb = λ (a : ta.Aim). store a v h >>= λ _. clauses_do env n here comp u.inner u.line got in

@@ -10,7 +10,7 @@ use Rattle.pieces.specs.View.{aim_of}
 use Rattle.frames.specs.declared.frame.Control.{Control}
 use Rattle.frames.specs.Frames.{Sig, an_exit, Goes, on, changes, above, stack_does, machine_does}
 use Rattle.frames.proofs.Suites.{stops3}
-use Rattle.frames.proofs.Changed.{changed_other}
+use Rattle.frames.proofs.AugmentedAssignments.{changed_other}
 use Rattle.frames.proofs.handing.change.Goals as goal
 
 pub returns-in-Err : goal.returns-in-Err

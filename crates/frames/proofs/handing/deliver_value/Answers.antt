@@ -121,7 +121,7 @@ returns-in-OneKey-clause-goes c = λ env n running.
     let h = on env n here line in
     let j = stack_does env n here frames in
     let behind = λ (y : Val). one_entry c.args.x y (gathered_of c.in-OneKey.got.value) h in
-    let before = under (ex env n here (shared_tree c.in-OneKey.e) line w) behind (λ (v : l.Gathered). pure (a_gathered v)) j
+    let before = under (ex env n here (shared_tree c.in-OneKey.e) line w) behind (λ (v : l.Collection). pure (a_gathered v)) j
     ∙ ap (λ (d : Expr). then_runs (ex env n here (tree_of d) line w) (λ v. above env n here (gathered (behind v)) frames)) (sym c.deref-in-OneKey.ensures) in
     let after = λ (control : Control). machine_does env n here control c.begin_above-in-OneKey.new.frames.items (world_of c.begin_above-in-OneKey.new.state) in
     subst (λ (fr : Frame). Goes (on env n here (frame_line c.args.at.now.line fr)).site (above env n here (frame_does env n here fr (a_value c.args.x)) frames w) c.begin_above-in-OneKey.result after) (sym c.in-OneKey.is)

@@ -5,7 +5,7 @@ use Rattle.language.specs.World.{Ends}
 use Rattle.names.specs.View.{world_of, here_of}
 use Rattle.frames.specs.declared.frame.Control.{Control}
 use Rattle.frames.specs.Frames.{Sig, Goes, on, ex, valued, above, machine_does}
-use Rattle.frames.proofs.Operated.{truly}
+use Rattle.frames.proofs.OperandValues.{truly}
 use Rattle.frames.proofs.operands.choose.Goals as goal
 
 pub returns-then-holds-clause-goes : goal.returns-then-holds-clause-goes

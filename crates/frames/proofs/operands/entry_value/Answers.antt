@@ -7,7 +7,7 @@ use Rattle.names.specs.View.{world_of, here_of}
 use Rattle.frames.specs.declared.frame.Control.{Control}
 use Rattle.frames.specs.declared.frame.Pairs.{Pairs}
 use Rattle.frames.specs.Frames.{Sig, Goes, on, machine_does}
-use Rattle.frames.proofs.Operated.{value_begins}
+use Rattle.frames.proofs.OperandValues.{value_begins}
 use Rattle.frames.proofs.operands.entry_value.Goals as goal
 
 pub returns-then-next-len-clause-goes : goal.returns-then-next-len-clause-goes

@@ -6,7 +6,7 @@ use Rattle.names.specs.View.{world_of, here_of}
 use Rattle.frames.specs.declared.frame.Control.{Control}
 use Rattle.frames.specs.declared.frame.Pairs.{Pairs}
 use Rattle.frames.specs.Frames.{Sig, Goes, on, machine_does}
-use Rattle.frames.proofs.Operated.{entry_begins}
+use Rattle.frames.proofs.OperandValues.{entry_begins}
 use Rattle.frames.proofs.operands.next_entry.Goals as goal
 
 pub returns-then-next-len-2-clause-goes : goal.returns-then-next-len-2-clause-goes

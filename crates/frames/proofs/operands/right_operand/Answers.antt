@@ -10,7 +10,7 @@ use Rattle.frames.specs.declared.frame.Control.{Control}
 use Rattle.frames.specs.Weight.{frames_weight, control_weight}
 use Rattle.frames.specs.Frames.{Sig, a_value, Goes, on, ex, valued, right, above, stack_does, machine_does}
 use Rattle.frames.proofs.Bind.{under}
-use Rattle.frames.proofs.Operated.{truly, right_other, spent}
+use Rattle.frames.proofs.OperandValues.{truly, right_other, spent}
 use Rattle.frames.proofs.operands.right_operand.Goals as goal
 
 pub returns-then-holds-2-clause-goes : goal.returns-then-holds-2-clause-goes

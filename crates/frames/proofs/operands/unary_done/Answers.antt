@@ -5,7 +5,7 @@ use Rattle.language.specs.World.{World, Ends, then_runs, pure}
 use Rattle.names.specs.View.{world_of}
 use Rattle.meaning.specs.declared.val.Val.{Val}
 use Rattle.frames.specs.Frames.{a_value, on, stack_does}
-use Rattle.frames.proofs.Operated.{stops}
+use Rattle.frames.proofs.OperandValues.{stops}
 use Rattle.frames.proofs.operands.unary_done.Goals as goal
 
 pub returns-in-Ok-clause-goes : goal.returns-in-Ok-clause-goes

@@ -8,7 +8,7 @@ use Rattle.names.specs.View.{world_of, here_of}
 use Rattle.pieces.specs.View.{aim_of}
 use Rattle.frames.specs.declared.frame.Frame.TheVariants as f
 use Rattle.frames.specs.Frames.{Sig, an_aim, Goes, on, aims_at, machine_does, stack_does}
-use Rattle.frames.proofs.Aimed.{aim_begins, aims_end}
+use Rattle.frames.proofs.TargetLists.{aim_begins, aims_end}
 use Rattle.frames.proofs.Bind.{drop_past, handed, lighten}
 use Rattle.frames.proofs.Trees.{aim-Each}
 use Rattle.frames.proofs.targets.next_aim.Goals as goal

@@ -1,5 +1,5 @@
 use Rattle.std.proofs.Common.{length, refl}
-use Rattle.freezing.proofs.Thawed.{tuple_keyed}
+use Rattle.freezing.proofs.TupleKeys.{tuple_keyed}
 use Rattle.freezing.proofs.thawing.+keying.Goals as goal
 
 pub add_tuple-returns : goal.add_tuple-returns

@@ -4,7 +4,7 @@ use Rattle.meaning.specs.Outcome.{and_then, gives}
 use Rattle.meaning.specs.Freezing.{Fz, freeze, freeze_members, freeze_entries}
 use Rattle.heap.specs.View.{object_in}
 use Rattle.freezing.specs.View.{frozen_of, entry_of, onto, pairs_onto}
-use Rattle.freezing.proofs.Froze.{member_frozen, member_halts, entry_frozen, entry_halts}
+use Rattle.freezing.proofs.FreezeLaws.{member_frozen, member_halts, entry_frozen, entry_halts}
 use Rattle.freezing.proofs.walk.+freezing.Goals as goal
 
 pub freeze_members-returns-in-Err : goal.freeze_members-returns-in-Err

@@ -1,7 +1,7 @@
 use Rattle.std.proofs.Common.{Ok, refl, subst}
 use Rattle.std.specs.Arc.{arc_value}
 use Rattle.tree.specs.Statements.{file_of}
-use Rattle.evaluator.specs.Evaluated.{Evaluates}
+use Rattle.evaluator.specs.Outcomes.{Evaluates}
 use Rattle.keys.specs.Turns.{values}
 use Rattle.functions.specs.Goes.{IsMade, LeadsTo}
 use Rattle.functions.specs.Sources.{env_of, after_modules}

@@ -1,7 +1,7 @@
 use Rattle.std.proofs.Common.{ap, ◌∙◌, map, subst}
 use Rattle.evaluator.specs.Files.{shared_texts}
 use Rattle.keys.specs.Turns.{values}
-use Rattle.functions.specs.Heard.{Gives}
+use Rattle.functions.specs.GlobAnswers.{Gives}
 use Rattle.functions.specs.Sources.{glob_group}
 use Rattle.functions.proofs.Waits.{asks_again, goes_on_by}
 use Rattle.functions.proofs.evaluating.wait.Goals as goal

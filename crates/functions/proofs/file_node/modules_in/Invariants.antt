@@ -1,6 +1,6 @@
 use Rattle.std.proofs.Common.{◌≡◌, drop}
 use Rattle.keys.specs.Turns.{values}
-use Rattle.functions.specs.Gathered.{behind}
+use Rattle.functions.specs.Results.{behind}
 use Rattle.functions.specs.Sources as specs
 use Rattle.functions.proofs.file_node.modules_in.Given as goal
 

@@ -1,7 +1,7 @@
 use Rattle.std.proofs.Common.{drop, sym, subst, IfOk}
 use Rattle.keys.specs.Turns.{values}
 use Rattle.functions.specs.Goes.{table_of, IsMade}
-use Rattle.functions.specs.Held.{IsHeld}
+use Rattle.functions.specs.NodeStates.{IsHeld}
 use Rattle.functions.specs.Next.{next}
 use Rattle.functions.proofs.Further.{carried_on}
 use Rattle.functions.proofs.HeldTurns.{held_on}

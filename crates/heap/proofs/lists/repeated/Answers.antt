@@ -1,7 +1,7 @@
 use Rattle.std.proofs.Common.{◌≡◌, true, length, refl, sym, ◌∙◌, subst, w64}
 use Rattle.meaning.specs.Heap.{is_sized}
 use Rattle.std.proofs.lemmas.Int.{to_z-of_z}
-use Rattle.heap.specs.Sized.{SizedAs}
+use Rattle.heap.specs.ListSizes.{SizedAs}
 use Rattle.heap.proofs.Times.{repeated_low, repeated_high}
 use Rattle.heap.proofs.lists.repeated.Goals as goal
 

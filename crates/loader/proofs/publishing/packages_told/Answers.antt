@@ -1,7 +1,7 @@
 use Rattle.std.proofs.Common.{false, ◌++◌, ◌∷◌, [], ◌∙◌, ap, sym, subst, map, fold, refl}
 use Rattle.serde_json.specs.View.{items_of}
 use Rattle.serde_json.specs.Written.{items_text}
-use Rattle.commands.specs.Seen.{texts_seen}
+use Rattle.commands.specs.View.{texts_seen}
 use Rattle.loader.specs.Publishing.{HaveTextsHeld, names_in, and_name, package_held}
 use Rattle.loader.proofs.Joining.{line_begins}
 use Rattle.loader.proofs.publishing.packages_told.Goals as goal

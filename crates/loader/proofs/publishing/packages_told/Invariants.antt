@@ -2,7 +2,7 @@ use Rattle.std.proofs.Common.{◌≡◌, ◌∷◌, [], ◌++◌, drop, map, fol
 use Rattle.serde_json.specs.View.{items_of}
 use Rattle.serde_json.specs.Written.{compact_text, items_text}
 use Rattle.answers.specs.Answers.{packages_data}
-use Rattle.commands.specs.Seen.{texts_seen}
+use Rattle.commands.specs.View.{texts_seen}
 use Rattle.loader.specs.Publishing.{HaveTextsHeld, names_in, and_name, each_of, package_held}
 use Rattle.loader.proofs.publishing.packages_told.Given as goal
 

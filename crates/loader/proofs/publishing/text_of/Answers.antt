@@ -4,7 +4,7 @@ use Rattle.std.proofs.lemmas.Result.{IfOk-weaker}
 use Rattle.node.specs.Graphs.{record_at, present}
 use Rattle.answers.specs.Tokens.{tokens_of}
 use Rattle.serde_json.specs.Written.{compact_text}
-use Rattle.loader.specs.Told.{package_told}
+use Rattle.loader.specs.KeyAnswers.{package_told}
 use Rattle.loader.proofs.publishing.text_of.Goals as goal
 
 pub returns : goal.returns

@@ -1,5 +1,5 @@
 use Rattle.std.proofs.Common.{◌+◌, ◌≤◌, length}
-use Rattle.loader.specs.Served.{Between}
+use Rattle.loader.specs.Service.{Between}
 use Rattle.loader.proofs.serving.serve_into.Given as goal
 
 abbrev pub invariant-loop-line : goal.invariant-loop-line

@@ -1,6 +1,6 @@
 use Rattle.std.proofs.Common.{◌≡◌, ◌∙◌, ap, sym, subst, ℕ, List, ◌++◌, length, false, not, ◌&&◌, take}
 use Rattle.open_nodes.specs.declared.run.Run.{Run}
-use Rattle.loader.specs.Served.{Stopped, Between, After}
+use Rattle.loader.specs.Service.{Stopped, Between, After}
 use Rattle.loader.proofs.Steps.{stopped_before, stopped_within, served_at_end, after_line, on_err}
 use Rattle.std.specs.Prelude.{◌==◌}
 use Rattle.loader.proofs.serving.serve_line.Goals as goal

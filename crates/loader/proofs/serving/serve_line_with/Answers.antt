@@ -1,10 +1,10 @@
 use Rattle.std.proofs.Common.{arith, ◌≡◌, ◌∙◌, ap, sym, subst, ℕ, List, ◌++◌, length, false, not, ◌&&◌, take}
 use Rattle.open_nodes.specs.declared.run.Run.{Run}
-use Rattle.loader.specs.Served.{Stopped, Between, After}
+use Rattle.loader.specs.Service.{Stopped, Between, After}
 use Rattle.loader.proofs.Steps.{stopped_before, stopped_within, served_at_end, after_line, on_err}
 use Rattle.std.specs.Prelude.{◌==◌}
 use Rattle.board.specs.Rule.{total}
-use Rattle.open_nodes.specs.Counted.{turns_of}
+use Rattle.open_nodes.specs.TurnCounts.{turns_of}
 use Rattle.loader.proofs.Counts.{turns_append}
 use Rattle.loader.proofs.serving.serve_line_with.Goals as goal
 

@@ -1,7 +1,7 @@
 use Rattle.std.proofs.Common.{◌≡◌, ◌+◌, ◌≤◌, length}
 use Rattle.board.specs.Rule.{total}
-use Rattle.open_nodes.specs.Counted.{turns_of}
-use Rattle.loader.specs.Served.{Between}
+use Rattle.open_nodes.specs.TurnCounts.{turns_of}
+use Rattle.loader.specs.Service.{Between}
 use Rattle.loader.proofs.serving.serve_with.Given as goal
 
 abbrev pub invariant-loop-held : goal.invariant-loop-held

@@ -2,7 +2,7 @@ use Rattle.std.proofs.Common.{◌∙◌, ap, sym, subst, List, ◌++◌, ◌∷�
 use Rattle.open_nodes.specs.declared.run.Run.{Run}
 use Rattle.std.specs.Prelude.{Option, option_map, option_and_then, string_bytes}
 use Rattle.commands.specs.Commands.{data_of, command_of}
-use Rattle.commands.specs.Seen.{request_seen}
+use Rattle.commands.specs.View.{request_seen}
 use Rattle.serde_json.specs.Data.{Data}
 use Rattle.serde_json.specs.View.{view}
 use Rattle.loader.specs.LineAnswers.{AnswersLine}

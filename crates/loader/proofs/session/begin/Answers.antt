@@ -1,7 +1,7 @@
 use Rattle.std.proofs.Common.{◌∙◌, ap, sym}
 use Rattle.std.specs.Prelude.{Option, option_map, option_and_then, string_bytes}
 use Rattle.commands.specs.Commands as commands
-use Rattle.commands.specs.Seen.{command_seen}
+use Rattle.commands.specs.View.{command_seen}
 use Rattle.commands.specs.declared.command.Command.{Command}
 use Rattle.serde_json.specs.View.{view}
 use Rattle.serde_json.specs.declared.value.Value.{Value}

@@ -1,6 +1,6 @@
 use Rattle.std.proofs.Common.{ap}
-use Rattle.methods.specs.Grown.{shown}
-use Rattle.methods.proofs.Joined.{first_written}
+use Rattle.methods.specs.Texts.{shown}
+use Rattle.methods.proofs.Joins.{first_written}
 use Rattle.methods.proofs.splitting.join_parts.Goals as goal
 
 pub loop-part-init : goal.loop-part-init

@@ -1,8 +1,8 @@
 use Rattle.std.proofs.Common.{◌≡◌, true, ◌++◌, length, drop}
 use Rattle.meaning.specs.Heap.{is_sized}
 use Rattle.meaning.specs.Methods.{with_between}
-use Rattle.methods.specs.Grown.{shown}
-use Rattle.methods.proofs.Joined.{each_after}
+use Rattle.methods.specs.Texts.{shown}
+use Rattle.methods.proofs.Joins.{each_after}
 use Rattle.methods.proofs.splitting.join_parts.Given as goal
 
 abbrev pub invariant-loop-part : goal.invariant-loop-part

@@ -1,8 +1,8 @@
 use Rattle.std.proofs.Common.{ℕ, List, Some, None, ◌∷◌, [], ap, ◌∙◌, refl, subst}
 use Rattle.std.proofs.lemmas.List.{map-append}
 use Rattle.memchr.specs.Find.{FindsNeedle}
-use Rattle.methods.specs.Grown.{shown}
-use Rattle.methods.proofs.Split.{part_taken, last_taken}
+use Rattle.methods.specs.Texts.{shown}
+use Rattle.methods.proofs.Separators.{part_taken, last_taken}
 use Rattle.methods.proofs.splitting.split_parts.Goals as goal
 
 pub loop-at-preserved : goal.loop-at-preserved

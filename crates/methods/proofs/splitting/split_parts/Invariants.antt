@@ -1,6 +1,6 @@
 use Rattle.std.proofs.Common.{◌≡◌, ◌++◌, length}
 use Rattle.meaning.specs.Methods.{split_by}
-use Rattle.methods.specs.Grown.{shown}
+use Rattle.methods.specs.Texts.{shown}
 use Rattle.methods.proofs.splitting.split_parts.Given as goal
 
 abbrev pub invariant-loop-at : goal.invariant-loop-at

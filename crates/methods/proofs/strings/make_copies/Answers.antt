@@ -4,7 +4,7 @@ use Rattle.std.proofs.Math.Numerals.{add-one}
 use Rattle.std.proofs.lemmas.List.{drop_all}
 use Rattle.heap.specs.View.{store_of}
 use Rattle.meaning.specs.Methods.{makes_texts}
-use Rattle.methods.specs.Grown.{shown}
+use Rattle.methods.specs.Texts.{shown}
 use Rattle.methods.proofs.Turns.{behind, made, ended}
 use Rattle.methods.proofs.strings.make_copies.Goals as goal
 

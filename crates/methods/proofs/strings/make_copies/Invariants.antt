@@ -2,7 +2,7 @@ use Rattle.std.proofs.Common.{◌≡◌, ◌++◌, drop}
 use Rattle.meaning.specs.Outcome.{and_then, gives}
 use Rattle.meaning.specs.Methods.{makes_texts}
 use Rattle.heap.specs.View.{store_of}
-use Rattle.methods.specs.Grown.{shown}
+use Rattle.methods.specs.Texts.{shown}
 use Rattle.methods.proofs.strings.make_copies.Given as goal
 
 abbrev pub invariant-loop-part : goal.invariant-loop-part

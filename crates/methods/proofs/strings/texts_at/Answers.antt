@@ -3,9 +3,9 @@ use Rattle.std.proofs.Math.Seq.{drop-cons}
 use Rattle.std.proofs.Math.Numerals.{add-one}
 use Rattle.std.proofs.lemmas.List.{drop_all, map-append}
 use Rattle.heap.specs.View.{store_of}
-use Rattle.meaning.specs.Outcome.{Checked, checked}
+use Rattle.meaning.specs.Outcome.{ValueOrFault, checked}
 use Rattle.meaning.specs.Methods.{all_bytes}
-use Rattle.methods.specs.Grown.{shown}
+use Rattle.methods.specs.Texts.{shown}
 use Rattle.methods.proofs.Turns.{behind, made, ended}
 use Rattle.methods.proofs.strings.texts_at.Goals as goal
 
@@ -18,7 +18,7 @@ loop-x-preserved c =
     let here = ap (λ ys. behind (shown l.all.items) (all_bytes ys s)) (sym (drop-cons xs l.x-index _ c.loop-x-test.true)) ∙ l.invariant in
     ap (λ ts. behind ts (rest (l.x-index + 1) s)) (ap shown c.in_ok-push-in-Ok.ensures.items ∙ map-append (λ t. t.now) l.all.items (c.in-Ok.text ∷ []))
     ∙ (ap (λ n. behind (shown l.all.items ++ c.in-Ok.text.now ∷ []) (rest n s)) (add-one l.x-index)
-    ∙ made (shown l.all.items) _ (rest (suc l.x-index)) c.in-Ok.text.now s _ here (ap (λ (o : Checked (List ℕ)). checked o s) c.in-Ok.ensures))
+    ∙ made (shown l.all.items) _ (rest (suc l.x-index)) c.in-Ok.text.now s _ here (ap (λ (o : ValueOrFault (List ℕ)). checked o s) c.in-Ok.ensures))
 
 pub returns : goal.returns
 returns c =

@@ -2,7 +2,7 @@ use Rattle.std.proofs.Common.{◌≡◌, ◌++◌, drop}
 use Rattle.meaning.specs.Outcome.{and_then, gives}
 use Rattle.meaning.specs.Methods.{all_bytes}
 use Rattle.heap.specs.View.{store_of}
-use Rattle.methods.specs.Grown.{shown}
+use Rattle.methods.specs.Texts.{shown}
 use Rattle.methods.proofs.strings.texts_at.Given as goal
 
 abbrev pub invariant-loop-x : goal.invariant-loop-x

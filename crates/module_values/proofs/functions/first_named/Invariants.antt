@@ -1,5 +1,5 @@
 use Rattle.std.proofs.Common.{◌≡◌, drop}
-use Rattle.module_values.specs.Named.{first_named}
+use Rattle.module_values.specs.FunctionNames.{first_named}
 use Rattle.module_values.proofs.functions.first_named.Given as goal
 
 abbrev pub invariant-loop-function : goal.invariant-loop-function

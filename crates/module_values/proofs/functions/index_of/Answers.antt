@@ -5,8 +5,8 @@ use Rattle.std.specs.Cmp.Lexicographic.{pointwise}
 use Rattle.indexmap.specs.IndexSet.{insert_key}
 use Rattle.tree.specs.Tree.{Fn}
 use Rattle.tree.specs.declared.def.Def.{Def}
-use Rattle.module_values.specs.Named.{names_of}
-use Rattle.module_values.proofs.Listed.{names_next, added, not_there}
+use Rattle.module_values.specs.FunctionNames.{names_of}
+use Rattle.module_values.proofs.FunctionPlaces.{names_next, added, not_there}
 use Rattle.module_values.proofs.functions.index_of.Goals as goal
 
 pub loop-function-preserved : goal.loop-function-preserved

@@ -1,5 +1,5 @@
 use Rattle.std.proofs.Common.{◌≡◌, take}
-use Rattle.module_values.specs.Named.{names_of}
+use Rattle.module_values.specs.FunctionNames.{names_of}
 use Rattle.module_values.proofs.functions.index_of.Given as goal
 
 abbrev pub invariant-loop-function : goal.invariant-loop-function

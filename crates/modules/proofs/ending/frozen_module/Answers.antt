@@ -1,13 +1,13 @@
 use Rattle.std.proofs.Common.{[], List, map, Ok, Err, ap, sym, ◌∙◌}
 use Rattle.heap.specs.View.{store_of}
-use Rattle.module_values.specs.Values.{Loaded}
+use Rattle.module_values.specs.Values.{ModuleValue}
 use Rattle.tree.specs.Tree.{Fi}
 use Rattle.tree.specs.Statements.{top_of, file_of}
 use Rattle.tree.specs.declared.def.Top.{Top}
 use Rattle.language.specs.World.{ended}
 use Rattle.language.specs.Names.{top_names, names_once}
 use Rattle.names.specs.View.{world_of, here_of}
-use Rattle.modules.specs.Frozen.{slot_names}
+use Rattle.modules.specs.Freeze.{slot_names}
 use Rattle.modules.proofs.Ends.{slots_named, globals_fact, functions_fact, own_fails, defaults_fail, module_ends, left_is}
 use Rattle.modules.proofs.ending.frozen_module.Goals as goal
 
@@ -48,4 +48,4 @@ returns-clause-says c = λ env line running at_label at_path file loads.
     let tops = ap (λ (l : List Top). map top_of l) c.as_slice-3.ensures.value ∙ ap (λ (f : Fi). f.tops) (sym file) in
     let own = c.in-Ok-freeze_globals.own in let defaults = c.in-Ok-freeze_defaults.defaults in
     module_ends env here w own.items defaults.items t u (globals_fact c.as_slice-files.result.now files label (slot_names c.as_slice-2.result.now) names s t (Ok own) c.as_slice-files.ensures.value named c.in-Ok-freeze_globals.ensures.says) (functions_fact c.as_slice-files.result.now files label (map top_of c.as_slice-3.result.now) env.file.tops t u (Ok defaults) c.as_slice-files.ensures.value tops c.in-Ok-freeze_defaults.ensures.says)
-    ∙ ap (λ (m : Loaded). ended m (record w { store = u })) (left_is env own.items defaults.items label c.args.at.now.path (file_of c.args.file.now) c.args.loads.now c.in_ok-body.body c.in_ok-reached.reached.items c.new.result at_label at_path file loads c.new.ensures c.in_ok-body.ensures c.in_ok-reached.ensures)
+    ∙ ap (λ (m : ModuleValue). ended m (record w { store = u })) (left_is env own.items defaults.items label c.args.at.now.path (file_of c.args.file.now) c.args.loads.now c.in_ok-body.body c.in_ok-reached.reached.items c.new.result at_label at_path file loads c.new.ensures c.in_ok-body.ensures c.in_ok-reached.ensures)

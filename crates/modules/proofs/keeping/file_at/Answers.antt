@@ -1,6 +1,6 @@
 use Rattle.std.proofs.Common.{sym}
 use Rattle.names.specs.Places.{is_file}
-use Rattle.names.proofs.Found.{none_more}
+use Rattle.names.proofs.Searches.{none_more}
 use Rattle.modules.proofs.keeping.file_at.Goals as goal
 
 pub loop-i-preserved : goal.loop-i-preserved

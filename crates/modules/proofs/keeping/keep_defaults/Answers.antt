@@ -3,7 +3,7 @@ use Rattle.language.specs.World.{Names, ended}
 use Rattle.names.specs.declared.state.FileNames.{FileNames}
 use Rattle.names.specs.View.{world_of, names_of}
 use Rattle.names.specs.Places.{NoneSo, FirstSo, is_file}
-use Rattle.names.proofs.Found.{change_there}
+use Rattle.names.proofs.Searches.{change_there}
 use Rattle.modules.proofs.Worlds.{change_none}
 use Rattle.modules.proofs.keeping.keep_defaults.Goals as goal
 

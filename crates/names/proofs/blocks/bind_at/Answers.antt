@@ -3,7 +3,7 @@ use Rattle.std.specs.Prelude.{slice_set}
 use Rattle.names.specs.declared.state.Slot.{Slot}
 use Rattle.names.specs.View.{slots_of}
 use Rattle.names.specs.Once.{differ}
-use Rattle.names.proofs.Found.{bind_there}
+use Rattle.names.proofs.Searches.{bind_there}
 use Rattle.names.proofs.Distinct.{names_stay}
 use Rattle.names.proofs.blocks.bind_at.Goals as goal
 

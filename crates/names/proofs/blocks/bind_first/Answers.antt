@@ -4,7 +4,7 @@ use Rattle.language.specs.Names.{slot_among, bind_in, bind_among}
 use Rattle.names.specs.declared.state.Block as m
 use Rattle.names.specs.View.{held}
 use Rattle.names.specs.Places.{FirstSo, NoneSo, is_slot, has_slot}
-use Rattle.names.proofs.Found.{none_more, slot_none, among_there, among_none, bind_among_there, bind_among_none, has_first, none_of_all}
+use Rattle.names.proofs.Searches.{none_more, slot_none, among_there, among_none, bind_among_there, bind_among_none, has_first, none_of_all}
 use Rattle.names.proofs.blocks.bind_first.Goals as goal
 
 pub returns-in-Some-get_mut-clause-had : goal.returns-in-Some-get_mut-clause-had

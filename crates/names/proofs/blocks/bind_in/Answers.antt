@@ -1,5 +1,5 @@
 use Rattle.std.proofs.Common.{sym}
-use Rattle.names.proofs.Found.{bind_none}
+use Rattle.names.proofs.Searches.{bind_none}
 use Rattle.names.proofs.blocks.bind_in.Goals as goal
 
 pub returns-in_default : goal.returns-in_default

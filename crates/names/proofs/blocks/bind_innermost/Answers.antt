@@ -3,7 +3,7 @@ use Rattle.language.specs.Names.{bind_in}
 use Rattle.names.specs.declared.state.Block as m
 use Rattle.names.specs.View.{held}
 use Rattle.names.specs.Places.{FirstSo, is_slot, has_slot}
-use Rattle.names.proofs.Found.{among_there, bind_among_there, has_first}
+use Rattle.names.proofs.Searches.{among_there, bind_among_there, has_first}
 use Rattle.names.proofs.blocks.bind_innermost.Goals as goal
 
 pub returns-in-Some-clause-had : goal.returns-in-Some-clause-had

@@ -1,6 +1,6 @@
 use Rattle.std.proofs.Common.{Some, ap, sym, ◌∙◌}
 use Rattle.names.specs.declared.state.Slot.{Slot}
-use Rattle.names.proofs.Found.{slot_there, slot_none}
+use Rattle.names.proofs.Searches.{slot_there, slot_none}
 use Rattle.names.proofs.blocks.slot_in.Goals as goal
 
 pub returns-in-Some : goal.returns-in-Some

@@ -2,7 +2,7 @@ use Rattle.std.proofs.Common.{◌≡◌, Some, ap, sym, ◌∙◌}
 use Rattle.language.specs.Names.{slot_in}
 use Rattle.names.specs.declared.state.Slot.{Slot}
 use Rattle.names.specs.View.{held}
-use Rattle.names.proofs.Found.{slot_there, if_bound}
+use Rattle.names.proofs.Searches.{slot_there, if_bound}
 use Rattle.names.proofs.blocks.value_there.Goals as goal
 
 pub returns-then-is_at : goal.returns-then-is_at

@@ -4,7 +4,7 @@ use Rattle.std.specs.List.{list_any}
 use Rattle.std.specs.Cmp.Lexicographic.{pointwise}
 use Rattle.indexmap.specs.IndexSet.{insert_key}
 use Rattle.language.specs.Names.{has_name}
-use Rattle.names.specs.declared.state.Kept.{Kept}
+use Rattle.names.specs.declared.state.FunctionDefaults.{FunctionDefaults}
 use Rattle.names.specs.Once.{differ}
 use Rattle.names.specs.Newest.{kept_names}
 use Rattle.names.proofs.Distinct.{differ_more, not_listed, added}
@@ -19,7 +19,7 @@ loop-k-preserved c =
     let keys = c.loop-k.names.keys in
     let names = kept_names (take i kept) in
     let absent : list_any (pointwise nat_eq k.function) keys ≡ false = sym c.contains.ensures ∙ c.if-contains.false in
-    let more : kept_names (take (i + 1) kept) ≡ names ++ k.function ∷ [] = kept_next kept i k c.loop-k-test.true ∙ ap (λ (j : Kept). names ++ j.function ∷ []) (sym c.k-item.is) in
+    let more : kept_names (take (i + 1) kept) ≡ names ++ k.function ∷ [] = kept_next kept i k c.loop-k-test.true ∙ ap (λ (j : FunctionDefaults). names ++ j.function ∷ []) (sym c.k-item.is) in
     let same = c.loop-k.invariant.0 in (
       c.in_ok-insert.ensures.keys ∙ ap (λ y. insert_key (pointwise nat_eq) keys y) c.in_ok-share.ensures ∙ added k.function keys absent ∙ ap (λ l. l ++ k.function ∷ []) same ∙ sym more,
       ap differ more ∙ differ_more names k.function c.loop-k.invariant.1 (ap (λ l. has_name k.function l) (sym same) ∙ not_listed k.function keys absent),

@@ -1,7 +1,7 @@
 use Rattle.std.proofs.Common.{refl, List, sym, ap, ◌∙◌}
 use Rattle.language.specs.World.{Block, ended}
 use Rattle.names.specs.View.{world_of, here_of}
-use Rattle.names.proofs.Found.{bind_local, bind_file}
+use Rattle.names.proofs.Searches.{bind_local, bind_file}
 use Rattle.names.proofs.reading.bind.Goals as goal
 
 pub returns-then-bind_among-clause-says : goal.returns-then-bind_among-clause-says

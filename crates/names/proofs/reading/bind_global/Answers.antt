@@ -3,7 +3,7 @@ use Rattle.language.specs.Names.{slot_in, bind_in}
 use Rattle.names.specs.declared.state.FileNames.{FileNames}
 use Rattle.names.specs.View.{here_of, held, names_of}
 use Rattle.names.specs.Places.{FirstSo, NoneSo, is_file}
-use Rattle.names.proofs.Found.{global_bound, global_refused, global_absent}
+use Rattle.names.proofs.Searches.{global_bound, global_refused, global_absent}
 use Rattle.names.proofs.reading.bind_global.Goals as goal
 
 pub returns-in_default : goal.returns-in_default

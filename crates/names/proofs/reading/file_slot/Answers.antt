@@ -1,6 +1,6 @@
 use Rattle.std.proofs.Common.{ap, sym, ◌∙◌}
 use Rattle.language.specs.Names.{file_slot}
-use Rattle.names.proofs.Found.{names_there, names_none}
+use Rattle.names.proofs.Searches.{names_there, names_none}
 use Rattle.names.proofs.reading.file_slot.Goals as goal
 
 pub returns-in-Some : goal.returns-in-Some

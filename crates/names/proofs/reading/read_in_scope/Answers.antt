@@ -2,7 +2,7 @@ use Rattle.std.proofs.Common.{Some, sym, ap, ◌∙◌}
 use Rattle.language.specs.Names.{or_else, file_slot, names_at, read_slot}
 use Rattle.names.specs.View.{here_of}
 use Rattle.names.specs.Scope.{world_in}
-use Rattle.names.proofs.Found.{read_is}
+use Rattle.names.proofs.Searches.{read_is}
 use Rattle.names.proofs.reading.read_in_scope.Goals as goal
 
 pub returns-in-Some-Some : goal.returns-in-Some-Some

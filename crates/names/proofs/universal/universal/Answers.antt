@@ -1,7 +1,7 @@
 use Rattle.std.proofs.Common.{sym, ap, ◌∙◌}
 use Rattle.meaning.specs.Builtins.{plain_functions, package_functions}
 use Rattle.language.specs.Names.{first_named, or_else}
-use Rattle.names.proofs.Found.{first_append}
+use Rattle.names.proofs.Searches.{first_append}
 use Rattle.names.proofs.universal.universal.Goals as goal
 
 pub returns-in-Some : goal.returns-in-Some

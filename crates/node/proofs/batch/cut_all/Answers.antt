@@ -4,7 +4,7 @@ use Rattle.std.specs.Option.{IsSome, is_some}
 use Rattle.numbered.specs.Tables.{AreDistinct}
 use Rattle.numbered.proofs.Numbers.{number_iff}
 use Rattle.node.specs.declared.entry.Entry.{Entry}
-use Rattle.node.specs.Kept.{Users, kept_at, items_of, numbers_of, users_in, users_of}
+use Rattle.node.specs.Records.{Users, kept_at, items_of, numbers_of, users_in, users_of}
 use Rattle.node.specs.Batches.{HasCutAll}
 use Rattle.node.specs.Graphs.{seen}
 use Rattle.node.specs.Writes.{groups_at}

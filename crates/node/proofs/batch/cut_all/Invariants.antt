@@ -1,5 +1,5 @@
 use Rattle.std.proofs.Common.{take}
-use Rattle.node.specs.Kept.{KeepsRecords, numbers_of, users_in, users_of}
+use Rattle.node.specs.Records.{KeepsRecords, numbers_of, users_in, users_of}
 use Rattle.node.specs.Graphs.{seen}
 use Rattle.node.specs.Batches.{HasCutAll, HasFewer}
 use Rattle.node.proofs.batch.cut_all.Given as goal

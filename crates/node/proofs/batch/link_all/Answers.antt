@@ -3,7 +3,7 @@ use Rattle.std.specs.Option.{IsSome, is_some}
 use Rattle.evaluation.specs.Value.{IsMember, In}
 use Rattle.numbered.specs.Tables.{AreDistinct}
 use Rattle.numbered.proofs.Numbers.{number_iff}
-use Rattle.node.specs.Kept.{Users, kept_at, items_of, numbers_of, users_in, users_of}
+use Rattle.node.specs.Records.{Users, kept_at, items_of, numbers_of, users_in, users_of}
 use Rattle.node.specs.Batches.{HasLinkedEntries, HasLinkedEach}
 use Rattle.node.specs.Writes.{groups_at}
 use Rattle.node.proofs.Batching.{all_entries, entries_linked, entries_each}

@@ -1,5 +1,5 @@
 use Rattle.std.proofs.Common.{take}
-use Rattle.node.specs.Kept.{AreNumbers, KeepsRecords, numbers_of, users_in, users_of}
+use Rattle.node.specs.Records.{AreNumbers, KeepsRecords, numbers_of, users_in, users_of}
 use Rattle.node.specs.Batches.{HasLinkedEntries, HasLinkedEach}
 use Rattle.node.proofs.batch.link_all.Given as goal
 

@@ -1,6 +1,6 @@
 use Rattle.std.proofs.Common.{take}
 use Rattle.numbered.specs.Tables.{AreDistinct}
-use Rattle.node.specs.Kept.{AsksNumbers, numbers_of}
+use Rattle.node.specs.Records.{AsksNumbers, numbers_of}
 use Rattle.node.specs.Graphs.{seen}
 use Rattle.node.specs.Edges.{SameUsers}
 use Rattle.node.specs.Batches.{HasPlacedSome, HasPlacedAll}

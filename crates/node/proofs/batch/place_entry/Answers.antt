@@ -2,7 +2,7 @@ use Rattle.std.proofs.Common.{inl, inr, ap, sym, subst}
 use Rattle.std.specs.Arc.{arc_value}
 use Rattle.std.specs.Map.{keys_of}
 use Rattle.std.specs.Option.{option_map}
-use Rattle.node.specs.Kept.{AsksNumbers, kept_at, record_of}
+use Rattle.node.specs.Records.{AsksNumbers, kept_at, record_of}
 use Rattle.node.specs.Batches.{HasPlacedSome}
 use Rattle.node.specs.Graphs.{seen}
 use Rattle.node.proofs.Rewriting.{some_there}

@@ -1,5 +1,5 @@
 use Rattle.std.proofs.Common.{◌≡◌, length}
-use Rattle.node.specs.Kept.{Records}
+use Rattle.node.specs.Records.{Records}
 use Rattle.node.specs.Batches.{HasPlacedSome}
 use Rattle.node.proofs.batch.remove_all.Given as goal
 

@@ -4,10 +4,10 @@ use Rattle.evaluation.specs.Value.{In}
 use Rattle.keys.specs.declared.key.Key.{Key}
 use Rattle.keys.specs.declared.value.Value.{Value}
 use Rattle.node.specs.declared.entry.Entry.{Entry}
-use Rattle.node.specs.Kept.{Users, numbers_of, users_of, rows}
+use Rattle.node.specs.Records.{Users, numbers_of, users_of, rows}
 use Rattle.node.specs.Graphs.{seen, IsLinkedBy}
 use Rattle.node.specs.Batches.{AreRecorded, AreUsers, HaveMembers, HasPlacedAll, HasLinkedEach, HasLinkedEntries, HasCutAll, HasWrittenAll, IsToWrite, flats_in}
-use Rattle.node.proofs.Batched.{cut_again, are_users, ready_to_write, batch_linked, sets_all, there_members, there_recorded}
+use Rattle.node.proofs.BatchResults.{cut_again, are_users, ready_to_write, batch_linked, sets_all, there_members, there_recorded}
 use Rattle.node.proofs.Relating.{distinct_kept, front_linked, numbers_fewer, numbers_put, numbers_same, users_put}
 use Rattle.node.proofs.Showing.{first_left, keeps_asks, keeps_keys, keeps_seen}
 use Rattle.node.proofs.Batching.{flats_same}

@@ -1,10 +1,10 @@
 use Rattle.std.proofs.Common.{◌∙◌, refl, sym, subst, arith}
 use Rattle.evaluation.specs.Value.{In, first}
-use Rattle.node.specs.Kept.{users_of}
+use Rattle.node.specs.Records.{users_of}
 use Rattle.node.specs.Graphs.{seen}
 use Rattle.node.proofs.Lists.{in_right, none_of}
 use Rattle.node.proofs.Batching.{flats_last, one_have, ready_flat, write_step}
-use Rattle.node.proofs.Batched.{writing_begun, writing_ended}
+use Rattle.node.proofs.BatchResults.{writing_begun, writing_ended}
 use Rattle.node.proofs.batch.write_all.Goals as goal
 
 pub loop-entry-init : goal.loop-entry-init

@@ -1,6 +1,6 @@
 use Rattle.std.proofs.Common.{◌≡◌, vec_len}
 use Rattle.std.specs.Map.{keys_of}
-use Rattle.node.specs.Kept.{AsksNumbers, numbers_of, users_of}
+use Rattle.node.specs.Records.{AsksNumbers, numbers_of, users_of}
 use Rattle.node.specs.Graphs.{seen}
 use Rattle.node.specs.Batches.{IsWriting, HasFewer, flats_in}
 use Rattle.node.proofs.batch.write_all.Given as goal

@@ -7,7 +7,7 @@ use Rattle.numbered.specs.Flats.{members_in}
 use Rattle.numbered.proofs.Numbers.{number_iff}
 use Rattle.node.specs.Edges.{HasCut, HasUsers}
 use Rattle.node.specs.Graphs.{seen}
-use Rattle.node.specs.Kept.{Users, UserLists, asked_of, kept_at, items_of, named, numbers_of, record_of, users_in, users_of}
+use Rattle.node.specs.Records.{Users, UserLists, asked_of, kept_at, items_of, named, numbers_of, record_of, users_in, users_of}
 use Rattle.node.specs.Writes.{groups_at}
 use Rattle.node.proofs.Batching.{written_users}
 use Rattle.node.proofs.Joining.{cut_fewer}

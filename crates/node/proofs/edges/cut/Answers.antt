@@ -4,7 +4,7 @@ use Rattle.std.specs.declared.alloc.Global.{Global}
 use Rattle.std.specs.declared.vec.Vec.{Vec}
 use Rattle.keys.specs.declared.key.Key.{Key}
 use Rattle.evaluation.specs.Value.{In, IsMember}
-use Rattle.node.specs.Kept.{items_of, numbers_of}
+use Rattle.node.specs.Records.{items_of, numbers_of}
 use Rattle.node.specs.Edges.{HasCut}
 use Rattle.node.specs.Graphs.{seen}
 use Rattle.node.specs.Writes.{groups_at}

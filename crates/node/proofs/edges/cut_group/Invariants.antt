@@ -2,7 +2,7 @@ use Rattle.std.proofs.Common.{◌≡◌, Some, take}
 use Rattle.evaluation.specs.Value.{In, IsMember}
 use Rattle.keys.specs.declared.key.Key.{Key}
 use Rattle.numbered.specs.Tables.{key_at}
-use Rattle.node.specs.Kept.{KeepsRecords, numbers_of}
+use Rattle.node.specs.Records.{KeepsRecords, numbers_of}
 use Rattle.node.specs.Writes.{groups_at}
 use Rattle.node.specs.Graphs.{seen}
 use Rattle.node.specs.Edges.{HasCut}

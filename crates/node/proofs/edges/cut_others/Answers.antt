@@ -3,7 +3,7 @@ use Rattle.std.proofs.Math.Seq.{take_all}
 use Rattle.evaluation.specs.Value.{In}
 use Rattle.keys.specs.declared.key.Key.{Key}
 use Rattle.numbered.specs.Flats.{members_in}
-use Rattle.node.specs.Kept.{numbers_of}
+use Rattle.node.specs.Records.{numbers_of}
 use Rattle.node.specs.Edges.{HasCut}
 use Rattle.node.proofs.Lists.{in_split, in_one, true_false}
 use Rattle.node.proofs.Joining.{cut_more, cut_kept}

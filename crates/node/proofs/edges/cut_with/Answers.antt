@@ -4,7 +4,7 @@ use Rattle.evaluation.specs.Value.{In, IsMember}
 use Rattle.keys.specs.declared.key.Key.{Key}
 use Rattle.numbered.specs.Tables.{key_at}
 use Rattle.numbered.specs.Flats.{members_in}
-use Rattle.node.specs.Kept.{numbers_of}
+use Rattle.node.specs.Records.{numbers_of}
 use Rattle.node.specs.Edges.{HasCut, among}
 use Rattle.node.specs.Graphs.{seen}
 use Rattle.node.specs.Writes.{groups_at}

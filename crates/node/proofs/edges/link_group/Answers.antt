@@ -1,6 +1,6 @@
 use Rattle.std.proofs.Common.{◌∙◌, sym, subst}
 use Rattle.std.specs.Option.{IsSome}
-use Rattle.node.specs.Kept.{numbers_of}
+use Rattle.node.specs.Records.{numbers_of}
 use Rattle.node.proofs.Joining.{linked_more, is_in, one_linked_more, one_linked_same}
 use Rattle.node.proofs.Showing.{keeps_seen}
 use Rattle.node.proofs.edges.link_group.Goals as goal

@@ -1,6 +1,6 @@
 use Rattle.std.proofs.Common.{take}
 use Rattle.evaluation.specs.Value.{In}
-use Rattle.node.specs.Kept.{KeepsRecords, numbers_of}
+use Rattle.node.specs.Records.{KeepsRecords, numbers_of}
 use Rattle.node.specs.Edges.{HasLinkedSome, HasLinkedAll}
 use Rattle.node.proofs.edges.link_group.Given as goal
 

@@ -1,7 +1,7 @@
 use Rattle.std.proofs.Common.{◌∙◌, sym, subst}
 use Rattle.evaluation.specs.Value.{In}
 use Rattle.std.specs.Option.{IsSome}
-use Rattle.node.specs.Kept.{numbers_of}
+use Rattle.node.specs.Records.{numbers_of}
 use Rattle.node.proofs.Joining.{group_all, group_some, group_member}
 use Rattle.node.proofs.Showing.{keeps_seen}
 use Rattle.node.proofs.edges.link_groups.Goals as goal

@@ -1,7 +1,7 @@
 use Rattle.std.proofs.Common.{take}
 use Rattle.evaluation.specs.Value.{In, IsMember}
 use Rattle.keys.specs.declared.key.Key.{Key}
-use Rattle.node.specs.Kept.{items_of}
+use Rattle.node.specs.Records.{items_of}
 use Rattle.node.proofs.edges.members_of.Given as goal
 
 abbrev pub invariant-loop-group : goal.invariant-loop-group

@@ -3,7 +3,7 @@ use Rattle.std.proofs.lemmas.List.Elements.{All-nil}
 use Rattle.numbered.specs.Flats.{members_in}
 use Rattle.std.specs.List.{IsDistinct}
 use Rattle.keys.specs.Keys.{key_eq}
-use Rattle.node.specs.Kept.{Users, users_of}
+use Rattle.node.specs.Records.{Users, users_of}
 use Rattle.node.specs.Marks.{HasSpread, HasPassed}
 use Rattle.node.proofs.Relating.{users_kept, numbers_kept}
 use Rattle.node.proofs.Reaching.{from_leaves}

@@ -1,8 +1,8 @@
 use Rattle.std.proofs.Common.{◌≡◌, ◌∙◌, refl, sym, ap, inl, inr, ◌++◌, ◌∷◌, [], Bool, true, arith, if◌then◌else◌}
 use Rattle.numbered.specs.Flats.{members_in}
 use Rattle.numbered.proofs.Numbers.{value_by_number}
-use Rattle.node.specs.Kept.{cost}
-use Rattle.node.specs.declared.kept.Kept.{Kept}
+use Rattle.node.specs.Records.{cost}
+use Rattle.node.specs.declared.records.NodeRecord.{NodeRecord}
 use Rattle.node.proofs.Lists.{some_is}
 use Rattle.node.proofs.Numbering.{members_same, members_pushed, key_there}
 use Rattle.node.proofs.marks.reach.Goals as goal
@@ -10,7 +10,7 @@ use Rattle.node.proofs.marks.reach.Goals as goal
 pub returns-then-value_at-clause-ok : goal.returns-then-value_at-clause-ok
 returns-then-value_at-clause-ok c = λ k at.
     let had = value_by_number c.args.records.now c.requires.distinct k c.args.number at ∙ c.value_at.ensures in
-    inl (refl, refl, λ e h. ap (λ (y : Kept). y.dirty) (some_is (sym h ∙ had)) ∙ c.if-value_at.true)
+    inl (refl, refl, λ e h. ap (λ (y : NodeRecord). y.dirty) (some_is (sym h ∙ had)) ∙ c.if-value_at.true)
 
 pub returns-clause-ok : goal.returns-clause-ok
 returns-clause-ok c = λ k at.

@@ -2,7 +2,7 @@ use Rattle.std.proofs.Common.{◌<◌, ◌∙◌, arith, take, length, slice_ind
 use Rattle.std.specs.List.{IsDistinct}
 use Rattle.keys.specs.Keys.{key_eq}
 use Rattle.numbered.specs.Flats.{members_in}
-use Rattle.node.specs.Kept.{numbers_with}
+use Rattle.node.specs.Records.{numbers_with}
 use Rattle.node.proofs.Reaching.{some_more, user_taken}
 use Rattle.node.proofs.Numbering.{in_at_is, in_members, key_there, key_same, same_length, taken_members, within_at, lists_more}
 use Rattle.node.proofs.Showing.{lists_same}

@@ -1,6 +1,6 @@
 use Rattle.std.proofs.Common.{◌+◌, ◌≤◌, take, vec_len}
 use Rattle.numbered.specs.Flats.{members_in}
-use Rattle.node.specs.Kept.{cleans, numbers_with}
+use Rattle.node.specs.Records.{cleans, numbers_with}
 use Rattle.node.specs.Marks.{HasReachedSome, HasReachedAll, Lists}
 use Rattle.node.proofs.marks.reach_users.Given as goal
 

@@ -2,7 +2,7 @@ use Rattle.std.proofs.Common.{◌≡◌, ◌<◌, ◌∙◌, All, arith, length,
 use Rattle.keys.specs.declared.key.Key.{Key}
 use Rattle.numbered.specs.Tables.{AreDistinct}
 use Rattle.numbered.specs.Flats.{members_in}
-use Rattle.node.specs.Kept.{numbers_of, numbers_with, users_of}
+use Rattle.node.specs.Records.{numbers_of, numbers_with, users_of}
 use Rattle.node.specs.Marks.{HasReachedAll, HasReachedSome}
 use Rattle.node.proofs.Reaching.{spread_more, passed_more, within_more, all_passed}
 use Rattle.node.proofs.Numbering.{all_from_in, in_at_is, key_there, in_members, lists_more, lists_within, members_same, same_length, within_at, within_same}

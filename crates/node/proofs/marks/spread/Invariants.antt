@@ -1,6 +1,6 @@
 use Rattle.std.proofs.Common.{◌≤◌, ◌+◌, ◌-◌, take, length, vec_len}
 use Rattle.numbered.specs.Flats.{members_in}
-use Rattle.node.specs.Kept.{cleans, users_of}
+use Rattle.node.specs.Records.{cleans, users_of}
 use Rattle.node.specs.Marks.{HasSpread, HasPassed, Lists}
 use Rattle.node.proofs.marks.spread.Given as goal
 

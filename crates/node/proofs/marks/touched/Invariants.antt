@@ -1,5 +1,5 @@
 use Rattle.std.proofs.Common.{◌≡◌, ◌++◌, drop}
-use Rattle.keys.specs.Touched.{touched_leaves}
+use Rattle.keys.specs.EditLeaves.{touched_leaves}
 use Rattle.node.specs.Graphs.{paths_seen}
 use Rattle.node.proofs.marks.touched.Given as goal
 

@@ -5,7 +5,7 @@ use Rattle.std.specs.Option.{IsSome, is_some}
 use Rattle.evaluation.specs.Value.{In, IsMember}
 use Rattle.numbered.specs.Flats.{HaveNumbers, members_in}
 use Rattle.numbered.proofs.Numbers.{number_iff}
-use Rattle.node.specs.Kept.{Users, UserLists, asked_of, kept_at, numbers_of, users_in, users_of, items_of}
+use Rattle.node.specs.Records.{Users, UserLists, asked_of, kept_at, numbers_of, users_in, users_of, items_of}
 use Rattle.node.specs.Edges.{HasCut, HasUsers}
 use Rattle.node.specs.Graphs.{seen}
 use Rattle.node.specs.Writes.{groups_at, SameSets}

@@ -2,7 +2,7 @@ use Rattle.std.proofs.Common.{◌∷◌, [], None, ap, is_some, refl, sym, subst
 use Rattle.std.specs.Arc.{arc_value}
 use Rattle.std.specs.Map.{keys_of}
 use Rattle.std.specs.Option.{option_map, option_to_list}
-use Rattle.node.specs.Kept.{Records, Users, kept_at, items_of, record_of, users_of}
+use Rattle.node.specs.Records.{Records, Users, kept_at, items_of, record_of, users_of}
 use Rattle.node.specs.Graphs.{seen, IsLinkedBy}
 use Rattle.node.specs.Writes.{stored, SameSets}
 use Rattle.node.proofs.Relating.{distinct_kept, front_linked, linked_again, linked_put, users_put}

@@ -1,5 +1,5 @@
 use Rattle.std.proofs.Common.{◌≡◌, ◌++◌, drop}
-use Rattle.package_calls.specs.Gathered.{kept_of}
+use Rattle.package_calls.specs.GlobResults.{kept_of}
 use Rattle.package_calls.proofs.answering.add_paths.Given as goal
 
 abbrev pub invariant-loop-path : goal.invariant-loop-path

@@ -1,5 +1,5 @@
 use Rattle.std.proofs.Common.{◌≡◌, ◌++◌, drop}
-use Rattle.package_calls.specs.Gathered.{kept_of, found_all}
+use Rattle.package_calls.specs.GlobResults.{kept_of, found_all}
 use Rattle.package_calls.specs.View.{answers_of}
 use Rattle.package_calls.proofs.answering.gathered.Given as goal
 

@@ -1,5 +1,5 @@
 use Rattle.std.proofs.Common.{refl}
-use Rattle.package_calls.proofs.Named.{all_named}
+use Rattle.package_calls.proofs.ArgumentsByName.{all_named}
 use Rattle.package_calls.proofs.arguments.named_part.Goals as goal
 
 pub returns : goal.returns

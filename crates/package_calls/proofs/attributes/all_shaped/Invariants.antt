@@ -2,7 +2,7 @@ use Rattle.std.proofs.Common.{◌≡◌, ◌++◌, drop, map}
 use Rattle.meaning.specs.Outcome.{then_checked, good}
 use Rattle.language.specs.Rules.{all_shaped}
 use Rattle.names.specs.View.{attributed_of}
-use Rattle.package_calls.specs.Given.{given_of}
+use Rattle.package_calls.specs.RuleArguments.{given_of}
 use Rattle.package_calls.proofs.attributes.all_shaped.Given as goal
 
 abbrev pub invariant-loop-g : goal.invariant-loop-g

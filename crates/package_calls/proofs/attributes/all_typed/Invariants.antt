@@ -3,7 +3,7 @@ use Rattle.meaning.specs.Outcome.{then_checked, good}
 use Rattle.language.specs.Rules.{all_typed}
 use Rattle.heap.specs.View.{store_of}
 use Rattle.package_calls.specs.Fields.{shapes}
-use Rattle.package_calls.specs.Given.{given_of}
+use Rattle.package_calls.specs.RuleArguments.{given_of}
 use Rattle.package_calls.proofs.attributes.all_typed.Given as goal
 
 abbrev pub invariant-loop-field : goal.invariant-loop-field

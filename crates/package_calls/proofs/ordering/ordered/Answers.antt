@@ -1,5 +1,5 @@
 use Rattle.std.proofs.Common.{arith}
-use Rattle.package_calls.proofs.Ordered.{one_more}
+use Rattle.package_calls.proofs.TextSets.{one_more}
 use Rattle.package_calls.proofs.ordering.ordered.Goals as goal
 
 pub loop-i-preserved : goal.loop-i-preserved

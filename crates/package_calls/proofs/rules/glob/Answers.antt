@@ -1,10 +1,10 @@
 use Rattle.std.proofs.Common.{ap, sym, ◌∙◌, ◌==◌, Ok, map}
 use Rattle.globs.specs.Globs.{question}
 use Rattle.language.specs.Sorting.{in_order}
-use Rattle.package_calls.specs.Gathered.{kept_of, found_all}
+use Rattle.package_calls.specs.GlobResults.{kept_of, found_all}
 use Rattle.heap.specs.View.{store_of}
 use Rattle.language.specs.Globs.{makes_paths}
-use Rattle.package_calls.specs.Asked.{asked_of}
+use Rattle.package_calls.specs.GlobCalls.{asked_of}
 use Rattle.package_calls.specs.View.{answers_of}
 use Rattle.package_calls.proofs.Asking.{reads_not, asks, gives_paths, gives_none, makes_paths_down, fewer}
 use Rattle.package_calls.proofs.rules.glob.Goals as goal

@@ -1,7 +1,7 @@
 use Rattle.std.proofs.Common.{map, ap, ◌∙◌, ◌∷◌, []}
 use Rattle.std.proofs.lemmas.List.{map-append}
 use Rattle.names.specs.View.{target_of, world_of}
-use Rattle.package_calls.proofs.Ruled.{no_target, used, made, used_name, is_new, is_old}
+use Rattle.package_calls.proofs.RuleCalls.{no_target, used, made, used_name, is_new, is_old}
 use Rattle.package_calls.proofs.rules.rule.Goals as goal
 
 pub returns-in-Err-clause-says : goal.returns-in-Err-clause-says

@@ -1,7 +1,7 @@
 use Rattle.std.proofs.Common.{◌∙◌, ap, sym}
 use Rattle.pattern.specs.Parts.{parts}
 use Rattle.pattern.specs.Patterns.{path_matches}
-use Rattle.pattern.proofs.Cut.{nothing_takes_nothing}
+use Rattle.pattern.proofs.FirstSegment.{nothing_takes_nothing}
 use Rattle.pattern.proofs.walk.segments_match.Goals as goal
 
 pub returns : goal.returns

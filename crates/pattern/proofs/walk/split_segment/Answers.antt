@@ -1,7 +1,7 @@
 use Rattle.std.proofs.Common.{◌∙◌, ap, lit<}
 use Rattle.std.proofs.lemmas.Str.Pattern.{split_once_first}
 use Rattle.pattern.specs.Parts.{parts}
-use Rattle.pattern.proofs.Cut.{one_segment, more_segments}
+use Rattle.pattern.proofs.FirstSegment.{one_segment, more_segments}
 use Rattle.pattern.proofs.walk.split_segment.Goals as goal
 
 pub returns-in-Some : goal.returns-in-Some

@@ -1,7 +1,7 @@
 use Rattle.std.proofs.Common.{◌≡◌, ◌∙◌, ap, sym, length, []}
 use Rattle.pattern.specs.Parts.{parts}
 use Rattle.pattern.specs.Patterns.{is_double_star, segment_matches, path_matches}
-use Rattle.pattern.proofs.Cut.{not_empty, nothing_takes_no_text}
+use Rattle.pattern.proofs.FirstSegment.{not_empty, nothing_takes_no_text}
 use Rattle.pattern.proofs.WildLemmas.{found}
 use Rattle.pattern.proofs.walk.whole_piece.Goals as goal
 

@@ -8,7 +8,7 @@ use Rattle.language.specs.World.{Ends}
 use Rattle.names.specs.View.{world_of, here_of, Ran}
 use Rattle.pieces.specs.View.{aim_of, aims_of}
 use Rattle.pieces.specs.declared.aims.Aim.{Aim}
-use Rattle.pieces.proofs.Aimed.{aim-Each, each_goes, each_stops, one_stops}
+use Rattle.pieces.proofs.Targets.{aim-Each, each_goes, each_stops, one_stops}
 use Rattle.pieces.proofs.aims.+storing.Goals as goal
 
 pub store-returns-in-Err-clause-says : goal.store-returns-in-Err-clause-says

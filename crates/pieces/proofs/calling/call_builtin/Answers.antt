@@ -2,7 +2,7 @@ use Rattle.std.proofs.Common.{Ok}
 use Rattle.heap.specs.View.{store_of}
 use Rattle.meaning.specs.Functions.{builtin}
 use Rattle.language.proofs.CallSteps.{builtin_down}
-use Rattle.pieces.proofs.Ran.{fewer}
+use Rattle.pieces.proofs.HeapPieces.{fewer}
 use Rattle.pieces.proofs.calling.call_builtin.Goals as goal
 
 pub returns-clause-steps : goal.returns-clause-steps

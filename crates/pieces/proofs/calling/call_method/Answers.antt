@@ -2,7 +2,7 @@ use Rattle.std.proofs.Common.{Ok}
 use Rattle.heap.specs.View.{store_of}
 use Rattle.meaning.specs.Methods.{method}
 use Rattle.language.proofs.MethodSteps.{method_down}
-use Rattle.pieces.proofs.Ran.{fewer}
+use Rattle.pieces.proofs.HeapPieces.{fewer}
 use Rattle.pieces.proofs.calling.call_method.Goals as goal
 
 pub returns-clause-steps : goal.returns-clause-steps

@@ -1,7 +1,7 @@
 use Rattle.std.proofs.Common.{◌≡◌, ◌≤◌, ◌-◌, ℕ, List, length, take, drop, zip, arith, ap, ◌∙◌}
 use Rattle.language.specs.Arguments.{named_part}
 use Rattle.meaning.specs.declared.val.Val.{Val}
-use Rattle.pieces.proofs.Named.{first_over, second_over, take_rest}
+use Rattle.pieces.proofs.ListEnds.{first_over, second_over, take_rest}
 use Rattle.pieces.proofs.calling.named.Goals.{then-loop-i-test+else-i-rest, else-loop-i-test}
 use Rattle.pieces.proofs.calling.named.Goals as goal
 

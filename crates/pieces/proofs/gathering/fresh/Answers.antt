@@ -1,6 +1,6 @@
 use Rattle.std.proofs.Common.{◌≡◌, false, is_some, sym, ap, ◌∙◌}
 use Rattle.meaning.specs.Comparing.{found}
-use Rattle.pieces.proofs.Ran.{behind}
+use Rattle.pieces.proofs.HeapPieces.{behind}
 use Rattle.pieces.proofs.gathering.fresh.Goals as goal
 
 pub returns-clause-says : goal.returns-clause-says

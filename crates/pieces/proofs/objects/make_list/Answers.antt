@@ -1,7 +1,7 @@
 use Rattle.heap.specs.View.{store_of}
 use Rattle.meaning.specs.Heap.{makes_list}
 use Rattle.language.proofs.HeapSteps.{d_list}
-use Rattle.pieces.proofs.Ran.{fewer}
+use Rattle.pieces.proofs.HeapPieces.{fewer}
 use Rattle.pieces.proofs.objects.make_list.Goals as goal
 
 pub returns-clause-steps : goal.returns-clause-steps

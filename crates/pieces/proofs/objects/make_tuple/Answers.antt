@@ -1,7 +1,7 @@
 use Rattle.heap.specs.View.{store_of}
 use Rattle.meaning.specs.Heap.{makes_tuple}
 use Rattle.language.proofs.HeapSteps.{d_tuple}
-use Rattle.pieces.proofs.Ran.{fewer}
+use Rattle.pieces.proofs.HeapPieces.{fewer}
 use Rattle.pieces.proofs.objects.make_tuple.Goals as goal
 
 pub returns-clause-steps : goal.returns-clause-steps

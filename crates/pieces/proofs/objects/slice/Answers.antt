@@ -1,7 +1,7 @@
 use Rattle.heap.specs.View.{store_of}
 use Rattle.meaning.specs.Indexing.{slice}
 use Rattle.language.proofs.HeapSteps.{slice_down}
-use Rattle.pieces.proofs.Ran.{fewer}
+use Rattle.pieces.proofs.HeapPieces.{fewer}
 use Rattle.pieces.proofs.objects.slice.Goals as goal
 
 pub returns-clause-steps : goal.returns-clause-steps

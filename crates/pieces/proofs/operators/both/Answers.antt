@@ -1,7 +1,7 @@
 use Rattle.heap.specs.View.{store_of}
 use Rattle.meaning.specs.Binary.{binary}
 use Rattle.language.proofs.HeapSteps.{binary_down}
-use Rattle.pieces.proofs.Ran.{fewer}
+use Rattle.pieces.proofs.HeapPieces.{fewer}
 use Rattle.pieces.proofs.operators.both.Goals as goal
 
 pub returns-clause-steps : goal.returns-clause-steps

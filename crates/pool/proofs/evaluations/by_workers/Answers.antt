@@ -1,6 +1,6 @@
 use Rattle.std.proofs.Common.{sym, ap, subst, arith}
 use Rattle.leaves.specs.Leaves as leaves
-use Rattle.node.specs.Graphs.{Recorded}
+use Rattle.node.specs.Graphs.{GraphView}
 use Rattle.open_nodes.specs.Truths.{IsNext}
 use Rattle.round.specs.Rounds.{standing}
 use Rattle.round.specs.Since.{IsTrueSinceSome}
@@ -17,7 +17,7 @@ returns-in-Err-Memory-clause-stopped g c = λ past h.
 
 pub scoped-after-requires-clause-truth : goal.scoped-after-requires-clause-truth
 scoped-after-requires-clause-truth g c κs within =
-    subst (λ (graph : Recorded). IsTrueSinceSome g.R.Rules.next (leaves.read c.args.tree.now) (standing c.args.round).roots c.args.entry.value graph c.args.round.table) (sym c.replace-lent.ensures.value) c.requires.truth
+    subst (λ (graph : GraphView). IsTrueSinceSome g.R.Rules.next (leaves.read c.args.tree.now) (standing c.args.round).roots c.args.entry.value graph c.args.round.table) (sym c.replace-lent.ensures.value) c.requires.truth
 
 pub returns-in-Err-clause-budget : goal.returns-in-Err-clause-budget
 returns-in-Err-clause-budget g c = λ e. (rw c.in-Err.is at c.scoped-after.ensures.open_root) (same_stop c.in-Err.stop stop.Budget e)

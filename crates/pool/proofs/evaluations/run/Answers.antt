@@ -1,7 +1,7 @@
 use Rattle.std.proofs.Common.{◌+◌, length, ap, refl, ◌∙◌, arith}
 use Rattle.board.specs.Rule.{total}
 use Rattle.board.specs.declared.view.View.{View}
-use Rattle.keys.specs.Jobs.{Asked, Outcome}
+use Rattle.keys.specs.Jobs.{JobView, Outcome}
 use Rattle.pool.specs.Serving.{made_in, jobs_out}
 use Rattle.open_nodes.specs.Truths.{IsNext}
 use Rattle.pool.proofs.Ends.{memory_is_not_budget, if_ok, all_rest, none_made}
@@ -38,15 +38,15 @@ returns g c = let e = c.serve-ended.ensures in let host = c.requires.host in let
       stopped = e.stopped;
       open_root = e.budget;
       spent = e.spent;
-      made_all = λ x. let m = e.made x in (ap (λ (v : View Asked Outcome). jobs_out v) shut ∙ m.0, ap (λ (v : View Asked Outcome). c.args.first + made_in v.collected) shut ∙ m.1);
+      made_all = λ x. let m = e.made x in (ap (λ (v : View JobView Outcome). jobs_out v) shut ∙ m.0, ap (λ (v : View JobView Outcome). c.args.first + made_in v.collected) shut ∙ m.1);
       host_rests = c.shut.ensures.host;
       hands_rest = joined.hands;
-      staffed = (omega (arith, many, same, sized, no_worker), ap (λ (v : View Asked Outcome). v.hands) shut ∙ (e.host.1.1 ∙ ap (λ m. m.0.hands) host.1), omega (arith, many, sized, no_worker));
+      staffed = (omega (arith, many, same, sized, no_worker), ap (λ (v : View JobView Outcome). v.hands) shut ∙ (e.host.1.1 ∙ ap (λ m. m.0.hands) host.1), omega (arith, many, sized, no_worker));
       sized = (
-        ap (λ (v : View Asked Outcome). length v.out) shut ∙ (e.host.1.0 ∙ (ap (λ m. length m.0.out) host.1 ∙ rep_long c.args.board.now.capacity _)),
-        ap (λ (v : View Asked Outcome). v.answers) shut ∙ (e.host.1.2 ∙ ap (λ m. m.0.answers) host.1),
+        ap (λ (v : View JobView Outcome). length v.out) shut ∙ (e.host.1.0 ∙ (ap (λ m. length m.0.out) host.1 ∙ rep_long c.args.board.now.capacity _)),
+        ap (λ (v : View JobView Outcome). v.answers) shut ∙ (e.host.1.2 ∙ ap (λ m. m.0.answers) host.1),
       );
-      done = if_ok c.serve-ended.result (λ runs b. (ap (λ (v : View Asked Outcome). jobs_out v) shut ∙ b.0, ap (λ (v : View Asked Outcome). c.args.first + made_in v.collected) shut ∙ b.1)) e.back;
+      done = if_ok c.serve-ended.result (λ runs b. (ap (λ (v : View JobView Outcome). jobs_out v) shut ∙ b.0, ap (λ (v : View JobView Outcome). c.args.first + made_in v.collected) shut ∙ b.1)) e.back;
       made = omega (arith, turned, counted, no_turn, none);
     }
 

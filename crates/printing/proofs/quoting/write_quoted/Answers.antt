@@ -1,7 +1,7 @@
 use Rattle.std.proofs.Common.{List, ℕ, ◌+◌, get_or, drop, sym, ap, ◌∙◌}
 use Rattle.meaning.specs.Printing.{all_escaped}
-use Rattle.printing.specs.Kept.{kept, more}
-use Rattle.printing.proofs.Told.{byte_there, escapes, quotes}
+use Rattle.printing.specs.TextBuffers.{kept, more}
+use Rattle.printing.proofs.TextBufferLaws.{byte_there, escapes, quotes}
 use Rattle.printing.proofs.quoting.write_quoted.Goals as goal
 
 pub loop-byte-preserved : goal.loop-byte-preserved

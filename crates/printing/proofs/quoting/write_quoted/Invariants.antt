@@ -1,6 +1,6 @@
 use Rattle.std.proofs.Common.{◌≡◌, [], ◌∷◌, drop}
 use Rattle.meaning.specs.Printing.{all_escaped}
-use Rattle.printing.specs.Kept.{kept, more}
+use Rattle.printing.specs.TextBuffers.{kept, more}
 use Rattle.printing.proofs.quoting.write_quoted.Given as goal
 
 -- what is kept, with what is left, is what was kept behind a quote, with all of it

@@ -1,6 +1,6 @@
 use Rattle.std.proofs.Common.{rules}
 use Rattle.heap.specs.View.{store_of}
-use Rattle.printing.specs.Kept.{kept}
+use Rattle.printing.specs.TextBuffers.{kept}
 use Rattle.printing.proofs.Reprs.{repr_long, repr_kept, long_kept, short_kept}
 use Rattle.printing.proofs.strings.print.Goals as goal
 

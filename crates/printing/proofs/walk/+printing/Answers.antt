@@ -2,9 +2,9 @@ use Rattle.std.proofs.Common.{rules, map, ap, ◌∙◌, arith, codes, to_z, of_
 use Rattle.meaning.specs.Outcome.{gives}
 use Rattle.meaning.specs.Printing.{print, int_text, separated, pair_text}
 use Rattle.heap.specs.View.{object_in}
-use Rattle.printing.specs.Kept.{kept}
-use Rattle.printing.proofs.Told.{contained, twice, more_nothing, items_end, item_halts, item_told}
-use Rattle.printing.proofs.Printed.{print_plainly}
+use Rattle.printing.specs.TextBuffers.{kept}
+use Rattle.printing.proofs.TextBufferLaws.{contained, twice, more_nothing, items_end, item_halts, item_told}
+use Rattle.printing.proofs.PrintLaws.{print_plainly}
 use Rattle.printing.proofs.walk.+printing.Goals as goal
 
 pub print_members-returns-in-Err : goal.print_members-returns-in-Err

@@ -1,8 +1,8 @@
 use Rattle.std.proofs.Common.{◌≡◌, ◌+◌, ◌*◌, drop, map}
 use Rattle.meaning.specs.Printing.{print, separated, pair_text}
 use Rattle.heap.specs.View.{object_in}
-use Rattle.printing.specs.Kept.{kept, told}
-use Rattle.printing.proofs.Told.{left_of}
+use Rattle.printing.specs.TextBuffers.{kept, told}
+use Rattle.printing.proofs.TextBufferLaws.{left_of}
 use Rattle.printing.proofs.walk.+printing.Given as goal
 
 abbrev pub decreases-print : goal.decreases-print

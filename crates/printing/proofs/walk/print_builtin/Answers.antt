@@ -1,7 +1,7 @@
 use Rattle.std.proofs.Common.{codes, ap, ◌∙◌}
 use Rattle.meaning.specs.Builtins.{builtin_name}
-use Rattle.printing.specs.Kept.{kept, more}
-use Rattle.printing.proofs.Told.{three_plainly}
+use Rattle.printing.specs.TextBuffers.{kept, more}
+use Rattle.printing.proofs.TextBufferLaws.{three_plainly}
 use Rattle.printing.proofs.walk.print_builtin.Goals as goal
 
 pub returns : goal.returns

@@ -1,6 +1,6 @@
 use Rattle.std.proofs.Common.{codes}
-use Rattle.printing.specs.Kept.{kept}
-use Rattle.printing.proofs.Told.{three_plainly}
+use Rattle.printing.specs.TextBuffers.{kept}
+use Rattle.printing.proofs.TextBufferLaws.{three_plainly}
 use Rattle.printing.proofs.walk.print_function.Goals as goal
 
 pub returns : goal.returns

@@ -7,7 +7,7 @@ use Rattle.tree.specs.declared.expr.Expr.{Expr}
 use Rattle.language.specs.World.{at_line}
 use Rattle.language.specs.Statements.{exec}
 use Rattle.names.specs.View.{world_of, here_of}
-use Rattle.quiet.specs.Done.{Done, stmt_line}
+use Rattle.quiet.specs.StatementResults.{Done, stmt_line}
 use Rattle.quiet.proofs.Trees.{stmt-Eval, stmt-Assign, stmt-Augment}
 use Rattle.quiet.proofs.statements.run.Goals as goal
 

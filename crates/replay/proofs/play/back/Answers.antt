@@ -2,7 +2,7 @@ use Rattle.std.proofs.Common.{◌≡◌, refl, ◌<◌, ◌+◌, ◌∷◌, ◌+
 use Rattle.std.specs.Prelude.{Some}
 use Rattle.leaves.specs.Leaves as leaves
 use Rattle.evaluation.specs.Choices.{Back, IsOut}
-use Rattle.keys.specs.Jobs.{Asked, Outcome}
+use Rattle.keys.specs.Jobs.{JobView, Outcome}
 use Rattle.keys.specs.declared.key.Key.{Key}
 use Rattle.node.proofs.Lists.{on_err, in_right}
 use Rattle.evaluation.specs.Value.{In, first}

@@ -1,13 +1,13 @@
 use Rattle.std.proofs.Common.{◌≡◌, List, Option, Bool, true, false, refl, sym, ◌∙◌, ap, subst, arith}
 use Rattle.evaluation.specs.Choices.{Drop}
-use Rattle.open_nodes.specs.Counted.{HasMade}
+use Rattle.open_nodes.specs.TurnCounts.{HasMade}
 use Rattle.open_nodes.specs.Truths.{IsTrueOf}
 use Rattle.node.proofs.Lists.{true_false}
 use Rattle.round.specs.Rounds.{Standing, standing}
 use Rattle.keys.specs.Jobs.{Outcome}
 use Rattle.keys.specs.declared.key.Key.{Key}
 use Rattle.keys.specs.declared.value.Value.{Value}
-use Rattle.node.specs.Graphs.{Recorded}
+use Rattle.node.specs.Graphs.{GraphView}
 use Rattle.round.proofs.Following.{follows_still}
 use Rattle.replay.specs.Playing.{AreOutTurns, IsPlaying, Plays}
 use Rattle.replay.proofs.play.drop_state.Goals as goal
@@ -21,7 +21,7 @@ returns-clause-playing g c = λ graph turns p. (
 pub returns-clause-plays : goal.returns-clause-plays
 returns-clause-plays g c = λ read graph turns p. go read graph turns p c.drop_state.result refl
   where
-    go : (read : Key → Option Value) (graph : Recorded) (turns : List Outcome) → IsPlaying graph c.args.round.now turns → (b : Bool) → c.drop_state.result ≡ b
+    go : (read : Key → Option Value) (graph : GraphView) (turns : List Outcome) → IsPlaying graph c.args.round.now turns → (b : Bool) → c.drop_state.result ≡ b
         → Plays g.R.Rules.next read (Drop c.args.key.now) graph graph c.args.round.now c.drop_state.new.self b
     go read graph turns p true e = λ laws past cs h. let d = c.drop_state.ensures.possible read graph p.0 g.R.Rules.next laws past cs h.roots h.truth h.follows in (
       d.0 e,

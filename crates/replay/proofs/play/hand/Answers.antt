@@ -1,6 +1,6 @@
 use Rattle.std.proofs.Common.{◌≡◌, ◌+◌, refl, ◌∷◌, ◌∙◌, sym, ap, subst}
 use Rattle.evaluation.specs.Choices.{Hand}
-use Rattle.keys.specs.Jobs.{Asked, turns_made}
+use Rattle.keys.specs.Jobs.{JobView, turns_made}
 use Rattle.keys.specs.declared.key.Key.{Key}
 use Rattle.node.specs.Edges.{IsAdded}
 use Rattle.open_nodes.specs.Truths.{IsTrueOf}
@@ -32,10 +32,10 @@ returns-in-None-clause-plays g c = λ read laws past cs h.
 pub returns-in_ok-put_turn-in-Some-clause-playing : goal.returns-in_ok-put_turn-in-Some-clause-playing
 returns-in_ok-put_turn-in-Some-clause-playing g c =
     let s = rw c.in-Some.is at c.in_ok-hand_out.ensures.hands in
-    let same = ap (λ (a : Asked). a.key) c.make-turned.ensures.same ∙ s.1 in (
+    let same = ap (λ (a : JobView). a.key) c.make-turned.ensures.same ∙ s.1 in (
       c.hand_out.ensures.beside,
       one_more c.args.graph.now (standing c.args.round.now) (standing c.hand_out.new.self) c.args.turns.now.items c.put_turn.new.turns.items c.make-turned.result c.requires.1 c.in_ok-put_turn-in-Some.ensures c.in_ok-hand_out.ensures.others
-          (subst (λ (a : Asked). IsOfJobOut c.args.graph.now (standing c.hand_out.new.self) a) (sym c.make-turned.ensures.same) (subst (λ (k : Key). IsOfJobOut c.args.graph.now (standing c.hand_out.new.self) (record { key = k; answers = c.in-Some.job.answers })) (sym s.1) s.2))
+          (subst (λ (a : JobView). IsOfJobOut c.args.graph.now (standing c.hand_out.new.self) a) (sym c.make-turned.ensures.same) (subst (λ (k : Key). IsOfJobOut c.args.graph.now (standing c.hand_out.new.self) (record { key = k; answers = c.in-Some.job.answers })) (sym s.1) s.2))
           (subst (IsAdded c.args.round.now.out.keys c.hand_out.new.self.out.keys) (sym same) s.3)
           (λ job o q. ready_apart c.args.graph.now c.args.round.now c.args.key.now c.requires.0 s.0 job o (q ∙ same)),
     )

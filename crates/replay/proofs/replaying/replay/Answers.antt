@@ -4,7 +4,7 @@ use Rattle.evaluation.specs.Choices.{none, one}
 use Rattle.evaluation.specs.Choices as choices
 use Rattle.keys.specs.Cycles.{cycle}
 use Rattle.keys.specs.declared.key.Key.{Key}
-use Rattle.node.specs.Graphs.{Recorded, record_at}
+use Rattle.node.specs.Graphs.{GraphView, record_at}
 use Rattle.open_nodes.specs.Nodes.{IsUnsettled}
 use Rattle.evaluation.specs.Value.{In}
 use Rattle.node.proofs.Lists.{on_err, true_false}
@@ -74,7 +74,7 @@ returns-in-Err-clause-budget g c = λ e past h.
     let u = c.in-Err.ensures.unspent (err_of c.in-Err.stop Stop.Budget e) in
     let k = one_open c.loop-n.graph c.loop-n.round c.loop-n.turns.items c.loop-n.invariant.playing (λ s. true_false (c.stalled.ensures.1 s) c.if-stalled.false) in
     let r = root_open g.R.Rules.next (leaves.read c.args.tree.now) laws past _ c.loop-n.graph c.loop-n.round.table c.loop-n.invariant.playing.0.0.whole w.0.truth k.0 k.1 in (
-      (r.0, subst (In r.0) h.of_roots r.1, subst (λ (x : Recorded). IsUnsettled (record_at x) r.0) (sym u.0) r.2),
+      (r.0, subst (In r.0) h.of_roots r.1, subst (λ (x : GraphView). IsUnsettled (record_at x) r.0) (sym u.0) r.2),
       c.loop-n.n,
       c.index-choices-n.result,
       split_at c.args.choices.now c.loop-n.n c.index-choices-n.result c.index-choices-n.is c.loop-n-test.true,
@@ -103,7 +103,7 @@ returns-in-Ok-false-clause-replays g c = λ past h.
     let k = one_open c.loop-n.graph c.loop-n.round c.loop-n.turns.items c.loop-n.invariant.playing (λ s. true_false (c.stalled.ensures.1 s) c.if-stalled.false) in
     let r = root_open g.R.Rules.next (leaves.read c.args.tree.now) laws past _ c.loop-n.graph c.loop-n.round.table c.loop-n.invariant.playing.0.0.whole w.0.truth k.0 k.1 in (
       p.1.truth.after,
-      (r.0, subst (In r.0) h.of_roots r.1, subst (λ (x : Recorded). IsUnsettled (record_at x) r.0) (sym p.2) r.2),
+      (r.0, subst (In r.0) h.of_roots r.1, subst (λ (x : GraphView). IsUnsettled (record_at x) r.0) (sym p.2) r.2),
       w.1,
       c.index-choices-n.result,
       split_at c.args.choices.now c.loop-n.n c.index-choices-n.result c.index-choices-n.is c.loop-n-test.true,

@@ -1,4 +1,4 @@
-use Rattle.round.proofs.Stalled.{closed_keeps, is_stall, its_stop, entries_ready}
+use Rattle.round.proofs.Stalls.{closed_keeps, is_stall, its_stop, entries_ready}
 use Rattle.round.proofs.Closings.{closed_end}
 use Rattle.round.proofs.close.close_cycles.Goals as goal
 

@@ -1,6 +1,6 @@
 use Rattle.std.proofs.Common.{refl}
 use Rattle.node.specs.Graphs.{record_at}
-use Rattle.round.proofs.NoneTaken.{taken_same}
+use Rattle.round.proofs.NoOpenNodes.{taken_same}
 use Rattle.round.proofs.Stalling.{none_taken, empty_has}
 use Rattle.round.proofs.closing.close_all.Goals as goal
 

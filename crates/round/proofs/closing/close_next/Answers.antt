@@ -4,9 +4,9 @@ use Rattle.keys.specs.Keys.{key_eq}
 use Rattle.keys.specs.declared.key.Key.{Key}
 use Rattle.open_nodes.specs.declared.table.Node.{Node}
 use Rattle.node.specs.Graphs.{record_at}
-use Rattle.node.specs.Kept.{items_of}
+use Rattle.node.specs.Records.{items_of}
 use Rattle.round.specs.Closing.{StopsIn}
-use Rattle.round.proofs.NoneTaken.{taken_same}
+use Rattle.round.proofs.NoOpenNodes.{taken_same}
 use Rattle.round.proofs.Stalling.{taken_step}
 use Rattle.round.proofs.closing.close_next.Goals as goal
 

@@ -1,6 +1,6 @@
 use Rattle.std.proofs.Common.{◌-◌, ◌^◌}
 use Rattle.leaves.specs.Leaves as leaves
-use Rattle.open_nodes.specs.Counted.{MakesNone}
+use Rattle.open_nodes.specs.TurnCounts.{MakesNone}
 use Rattle.round.specs.Frames.{KeepsFrame}
 use Rattle.round.specs.Moves.{IsWholeNow, KeepsOut, KeepsWanted}
 use Rattle.round.proofs.Wanting.{StaysTrue}

@@ -1,6 +1,6 @@
 use Rattle.std.proofs.Common.{refl, sym, subst, ap}
 use Rattle.node.specs.Graphs.{record_at}
-use Rattle.open_nodes.specs.Counted.{turns_of}
+use Rattle.open_nodes.specs.TurnCounts.{turns_of}
 use Rattle.open_nodes.proofs.Counting.{counts_same}
 use Rattle.round.specs.Members.{IsMissing}
 use Rattle.round.proofs.Framing.{frame_same}

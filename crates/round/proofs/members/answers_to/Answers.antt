@@ -4,7 +4,7 @@ use Rattle.std.specs.declared.vec.Vec.{Vec}
 use Rattle.keys.specs.Turns.{values}
 use Rattle.keys.specs.declared.key.Key.{Key}
 use Rattle.node.specs.Graphs.{record_at}
-use Rattle.node.specs.Kept.{items_of}
+use Rattle.node.specs.Records.{items_of}
 use Rattle.round.specs.Members.{AreAnswers}
 use Rattle.round.proofs.Grouping.{taken_next, in_list, items_next, member_of, answered_at}
 use Rattle.round.proofs.members.answers_to.Goals as goal

@@ -1,7 +1,7 @@
 use Rattle.std.proofs.Common.{take}
 use Rattle.keys.specs.Turns.{values}
 use Rattle.node.specs.Graphs.{record_at}
-use Rattle.node.specs.Kept.{items_of}
+use Rattle.node.specs.Records.{items_of}
 use Rattle.round.specs.Members.{AreAnswers}
 use Rattle.round.proofs.members.answers_to.Given as goal
 

@@ -1,5 +1,5 @@
 use Rattle.std.proofs.Common.{subst, sym}
-use Rattle.round.specs.Paused.{PutsState}
+use Rattle.round.specs.NodeStates.{PutsState}
 use Rattle.round.proofs.rounds.keep.Goals as goal
 
 pub returns-in_ok-_before : goal.returns-in_ok-_before

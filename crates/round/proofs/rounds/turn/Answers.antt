@@ -1,6 +1,6 @@
 use Rattle.std.proofs.Common.{[], ◌∷◌, ◌∙◌, ap, subst}
 use Rattle.evaluation.specs.Choices.{Back, Hand}
-use Rattle.keys.specs.Jobs.{Asked}
+use Rattle.keys.specs.Jobs.{JobView}
 use Rattle.keys.specs.declared.key.Key.{Key}
 use Rattle.leaves.specs.Leaves as leaves
 use Rattle.open_nodes.specs.Truths.{IsTrueOf}
@@ -21,7 +21,7 @@ returns-clause-turns g c = λ roots turns r.
     let t = c.in_ok-take_known-in-Some.ensures in
     record {
       beside = t.beside;
-      none_out = none_again c.args.round.now.out.keys c.hand_out.new.self.out.keys c.take_known.new.self.out.keys c.args.key.now c.make-turned.result.asked.key r.none_out h.3 t.back.1 (ap (λ (a : Asked). a.key) c.make-turned.ensures.same ∙ h.1);
+      none_out = none_again c.args.round.now.out.keys c.hand_out.new.self.out.keys c.take_known.new.self.out.keys c.args.key.now c.make-turned.result.asked.key r.none_out h.3 t.back.1 (ap (λ (a : JobView). a.key) c.make-turned.ensures.same ∙ h.1);
       same_roots = t.back.0 ∙ h.4 ∙ r.same_roots;
       made = t.back.2 turns (h.5 turns r.made);
     }
@@ -31,5 +31,5 @@ returns-clause-truth g c = λ laws past cs t.
     let h = rw c.in-Some.is at c.in_ok-hand_out.ensures.hands in
     let handed = rw c.in-Some.is at c.in_ok-hand_out.ensures.truth (leaves.read c.args.tree.now) in
     subst (λ (k : Key). IsTrueOf g.R.Rules.next (leaves.read c.args.tree.now) past (Back k ∷ Hand c.args.key.now ∷ cs) c.take_known.new.graph c.take_known.new.self.table.nodes c.take_known.new.self.table.runs.items)
-    (ap (λ (a : Asked). a.key) c.make-turned.ensures.same ∙ h.1)
+    (ap (λ (a : JobView). a.key) c.make-turned.ensures.same ∙ h.1)
     (c.in_ok-take_known-in-Some.ensures.truth laws past (Hand c.args.key.now ∷ cs) (handed g.R.Rules.next laws past cs t))

@@ -2,7 +2,7 @@ use Rattle.std.proofs.Common.{◌∙◌, sym, ap, subst, refl}
 use Rattle.std.specs.Option.{option_map}
 use Rattle.keys.specs.Turns.{values}
 use Rattle.node.specs.Graphs.{record_at}
-use Rattle.node.specs.Kept.{items_of}
+use Rattle.node.specs.Records.{items_of}
 use Rattle.node.proofs.Lists.{true_false}
 use Rattle.open_nodes.specs.Nodes.{node_at}
 use Rattle.round.specs.Members.{Answers}

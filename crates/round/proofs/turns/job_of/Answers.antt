@@ -2,7 +2,7 @@ use Rattle.std.proofs.Common.{◌∙◌, sym, subst}
 use Rattle.std.specs.Option.{option_map}
 use Rattle.keys.specs.Turns.{values}
 use Rattle.node.specs.Graphs.{record_at}
-use Rattle.node.specs.Kept.{items_of}
+use Rattle.node.specs.Records.{items_of}
 use Rattle.node.proofs.Joining.{in_has, has_in}
 use Rattle.node.proofs.Lists.{true_false}
 use Rattle.round.specs.Members.{Answers, AreAnswers}

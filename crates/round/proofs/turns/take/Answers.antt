@@ -1,5 +1,5 @@
 use Rattle.round.specs.Frames.{KeepsFrameBut}
-use Rattle.round.specs.Paused.{IsPaused}
+use Rattle.round.specs.NodeStates.{IsPaused}
 use Rattle.round.proofs.Pausing.{asked_paused}
 use Rattle.round.proofs.Wanting.{leads_err}
 use Rattle.round.proofs.Framing.{frame_asked, out_no_turn}

@@ -1,4 +1,4 @@
-use Rattle.syntax.proofs.Parsed.{is_parsed}
+use Rattle.syntax.proofs.ParseResults.{is_parsed}
 use Rattle.syntax.proofs.statement.parse.Goals as goal
 
 pub returns : goal.returns

@@ -1,5 +1,5 @@
 use Rattle.std.proofs.Common.{◌≡◌, ◌++◌, drop}
-use Rattle.filetree.specs.Shown.{changes_seen}
+use Rattle.filetree.specs.ChangeView.{changes_seen}
 use Rattle.edits.proofs.changes.Changes.add_all.Given as goal
 
 abbrev pub invariant-loop-change : goal.invariant-loop-change

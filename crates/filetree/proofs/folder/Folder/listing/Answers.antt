@@ -1,5 +1,5 @@
 use Rattle.std.proofs.Common.{◌∙◌, sym}
-use Rattle.filetree.proofs.Listed.{names_none, names_there}
+use Rattle.filetree.proofs.NameLists.{names_none, names_there}
 use Rattle.filetree.proofs.folder.Folder.listing.Goals as goal
 
 pub returns-in_ok-names-in-Some : goal.returns-in_ok-names-in-Some

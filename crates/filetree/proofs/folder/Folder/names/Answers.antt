@@ -1,7 +1,7 @@
 use Rattle.std.proofs.Common.{◌∙◌, ap, sym, arith, ℕ, List, [], Option, Some, ◌<◌, length, map as each}
 use Rattle.filetree.specs.Folders.{named, level}
 use Rattle.filetree.specs.Listings.{Names, names_in, sorted_names}
-use Rattle.filetree.proofs.Listed.{level_names}
+use Rattle.filetree.proofs.NameLists.{level_names}
 use Rattle.filetree.proofs.folder.Folder.names.Goals as goal
 
 pub returns : goal.returns

@@ -1,6 +1,6 @@
 use Rattle.std.proofs.Common.{◌≡◌, drop}
 use Rattle.filetree.specs.Changes.{first_refused, changes_refusal, all_changed}
-use Rattle.filetree.specs.Shown.{changes_seen}
+use Rattle.filetree.specs.ChangeView.{changes_seen}
 use Rattle.filetree.proofs.tree.Tree.change_each.Given as goal
 
 -- the changes that are left have the refusal and the files of all

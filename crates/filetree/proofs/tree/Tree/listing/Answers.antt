@@ -2,7 +2,7 @@ use Rattle.std.proofs.Common.{◌∙◌, ap, sym, map as each}
 use Rattle.filetree.specs.Folders.{entries_of}
 use Rattle.filetree.specs.Listings.{names_in, listing}
 use Rattle.filetree.proofs.Above.{if_ok_map}
-use Rattle.filetree.proofs.Listed.{listing_names}
+use Rattle.filetree.proofs.NameLists.{listing_names}
 use Rattle.filetree.proofs.tree.Tree.listing.Goals as goal
 
 pub returns-in-Some : goal.returns-in-Some

@@ -2,7 +2,7 @@ use Rattle.std.proofs.Common.{refl, sym, subst}
 use Rattle.keys.specs.Turns.{values}
 use Rattle.functions.specs.declared.reply.Reply.TheVariants as reply
 use Rattle.functions.specs.Goes.{IsMade}
-use Rattle.functions.specs.Held.{HoldsFrom}
+use Rattle.functions.specs.NodeStates.{HoldsFrom}
 use Rattle.functions.specs.Next.{next}
 use Rattle.functions.proofs.HeldTurns.{asks_plainly, asks_holding}
 use Rattle.functions.proofs.loading.LoadingRules.turn.Goals as goal

@@ -3,9 +3,9 @@ use Rattle.std.specs.Prelude.{Option, option_map}
 use Rattle.filetree.specs.Files.{Files}
 use Rattle.filetree.specs.Lawful.{HasPaths}
 use Rattle.keys.specs.declared.key.Key.{Key}
-use Rattle.open_nodes.specs.Counted.{turns_of}
-use Rattle.commands.specs.Seen.{request_seen}
-use Rattle.loader.specs.Held.{Held, files_of}
+use Rattle.open_nodes.specs.TurnCounts.{turns_of}
+use Rattle.commands.specs.View.{request_seen}
+use Rattle.loader.specs.Sessions.{SessionView, files_of}
 use Rattle.loader.specs.Effects.{AreHeld, Evaluates, at_version, request_roots, later_roots}
 use Rattle.loader.proofs.Counts.{turns_append}
 use Rattle.loader.proofs.Steps.{on_err}
@@ -29,7 +29,7 @@ returns-in_err-more-clause-stopped c =
     let roots_are = c.as_slice.ensures.value ∙ c.in_ok-roots.ensures in
     let held : AreHeld files c.as_slice-2.result.now c.self-2.inside.graph
     = held_in files c.as_slice.result.now c.as_slice-2.result.now c.settle.new.self.graph c.self-2.inside.graph
-    (c.as_slice.ensures.value ∙ sym c.as_slice-2.ensures.value) (sym (ap (λ (x : Held). x.graph) c.self-2.view_is)) c.in_ok-runs.ensures.held in
+    (c.as_slice.ensures.value ∙ sym c.as_slice-2.ensures.value) (sym (ap (λ (x : SessionView). x.graph) c.self-2.view_is)) c.in_ok-runs.ensures.held in
     let later_are : later_roots request files ≡ Some c.in-Some.later.items
     = sym (c.in_ok-later.ensures files good (c.as_slice-2.ensures.value ∙ c.in_ok-roots.ensures) held) ∙ ap (λ (o : Option (Vec Key Global)). option_map (λ (v : Vec Key Global). v.items) o) c.in-Some.is in
     let front = evaluates old.graph.version c.as_slice.result.now (request_roots request) old mid c.in_ok-runs.runs.items refl roots_are c.in_ok-runs.ensures.history c.in_ok-runs.ensures.law in
@@ -46,7 +46,7 @@ returns-in_err-all-clause-stopped c =
     let roots_are = c.as_slice.ensures.value ∙ c.in_ok-roots.ensures in
     let held : AreHeld files c.as_slice-2.result.now c.self-2.inside.graph
     = held_in files c.as_slice.result.now c.as_slice-2.result.now c.settle.new.self.graph c.self-2.inside.graph
-    (c.as_slice.ensures.value ∙ sym c.as_slice-2.ensures.value) (sym (ap (λ (x : Held). x.graph) c.self-2.view_is)) c.in_ok-runs.ensures.held in
+    (c.as_slice.ensures.value ∙ sym c.as_slice-2.ensures.value) (sym (ap (λ (x : SessionView). x.graph) c.self-2.view_is)) c.in_ok-runs.ensures.held in
     let later_are : later_roots request files ≡ Some c.in-Some.later.items
     = sym (c.in_ok-later.ensures files good (c.as_slice-2.ensures.value ∙ c.in_ok-roots.ensures) held) ∙ ap (λ (o : Option (Vec Key Global)). option_map (λ (v : Vec Key Global). v.items) o) c.in-Some.is in
     let front = evaluates old.graph.version c.as_slice.result.now (request_roots request) old mid c.in_ok-runs.runs.items refl roots_are c.in_ok-runs.ensures.history c.in_ok-runs.ensures.law in
@@ -70,7 +70,7 @@ returns-clause-moves c =
     let roots_are = c.as_slice.ensures.value ∙ c.in_ok-roots.ensures in
     let held : AreHeld files c.as_slice-2.result.now c.self-2.inside.graph
     = held_in files c.as_slice.result.now c.as_slice-2.result.now c.settle.new.self.graph c.self-2.inside.graph
-    (c.as_slice.ensures.value ∙ sym c.as_slice-2.ensures.value) (sym (ap (λ (x : Held). x.graph) c.self-2.view_is)) c.in_ok-runs.ensures.held in
+    (c.as_slice.ensures.value ∙ sym c.as_slice-2.ensures.value) (sym (ap (λ (x : SessionView). x.graph) c.self-2.view_is)) c.in_ok-runs.ensures.held in
     let later_are : later_roots request files ≡ Some c.in-Some.later.items
     = sym (c.in_ok-later.ensures files good (c.as_slice-2.ensures.value ∙ c.in_ok-roots.ensures) held) ∙ ap (λ (o : Option (Vec Key Global)). option_map (λ (v : Vec Key Global). v.items) o) c.in-Some.is in
     let front = evaluates old.graph.version c.as_slice.result.now (request_roots request) old mid c.in_ok-runs.runs.items refl roots_are c.in_ok-runs.ensures.history c.in_ok-runs.ensures.law in

@@ -1,14 +1,14 @@
 use Rattle.std.proofs.Common.{◌≡◌, ◌∙◌, inl, inr, ap, sym, subst, refl, None, Some}
 use Rattle.commands.specs.Commands.{load}
 use Rattle.commands.specs.Refusals.{request_refusal}
-use Rattle.commands.specs.Seen.{request_seen, texts_seen}
+use Rattle.commands.specs.View.{request_seen, texts_seen}
 use Rattle.shelf.specs.Lists.{then_published}
 use Rattle.shelf.specs.Shelves.{published_by}
 use Rattle.loader.specs.Effects.{StopsRequest}
-use Rattle.loader.specs.Held.{state_of, files_of}
+use Rattle.loader.specs.Sessions.{state_of, files_of}
 use Rattle.loader.specs.Publishing.{Publishes, Shows, names_to_publish}
 use Rattle.loader.proofs.Steps.{on_err}
-use Rattle.loader.proofs.Taken.{none_left, names_are, published_so, stopped_so}
+use Rattle.loader.proofs.Loads.{none_left, names_are, published_so, stopped_so}
 use Rattle.loader.proofs.session.Session.request_published.Goals as goal
 
 pub returns-in_err-told-clause-stopped : goal.returns-in_err-told-clause-stopped

@@ -2,8 +2,8 @@ use Rattle.std.proofs.Common.{List, ℕ, ap, ◌∙◌}
 use Rattle.std.specs.Prelude.{position}
 use Rattle.meaning.specs.Comparing.{same_text}
 use Rattle.tree.specs.Tree.{Fn}
-use Rattle.module_values.specs.Named.{first_named, function_at}
-use Rattle.module_values.proofs.Listed.{at_name}
+use Rattle.module_values.specs.FunctionNames.{first_named, function_at}
+use Rattle.module_values.proofs.FunctionPlaces.{at_name}
 use Rattle.module_values.proofs.functions.Functions.named.Goals as goal
 
 pub returns-in-Some : goal.returns-in-Some

@@ -1,7 +1,7 @@
 use Rattle.std.proofs.Common.{◌≡◌, ◌++◌, ◌∷◌, [], List, false, sym, ap, subst, ◌∙◌}
 use Rattle.std.specs.Prelude.{IfSome, IsSomeAnd}
 use Rattle.language.specs.Names.{has_name}
-use Rattle.names.specs.declared.state.Kept.{Kept}
+use Rattle.names.specs.declared.state.FunctionDefaults.{FunctionDefaults}
 use Rattle.names.specs.Newest.{Lists}
 use Rattle.names.proofs.Latest.{lists_more}
 use Rattle.names.proofs.keeping.KeptDefaults.add.Goals as goal
@@ -12,5 +12,5 @@ invariant_of-self-2 c =
     let k = c.args.kept in
     let now = c.in_ok-self-inside.field-0 in
     let noted = subst (λ o. IfSome now (λ s. IsSomeAnd o (λ t. (has_name k.function t.keys ≡ false) × (s.keys ≡ t.keys ++ k.function ∷ [])))) c.take-index.ensures.value c.in_ok-self-inside.ensures in
-    let all = c.push_reserved.ensures.items ∙ ap (λ (l : List Kept). l ++ k ∷ []) c.in_ok-reserve.ensures.items in
-    subst (λ (l : List Kept). Lists now l) (sym all) (lists_more kept k now c.self.inside.index c.self.invariant noted)
+    let all = c.push_reserved.ensures.items ∙ ap (λ (l : List FunctionDefaults). l ++ k ∷ []) c.in_ok-reserve.ensures.items in
+    subst (λ (l : List FunctionDefaults). Lists now l) (sym all) (lists_more kept k now c.self.inside.index c.self.invariant noted)

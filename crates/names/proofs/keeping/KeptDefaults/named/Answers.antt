@@ -3,7 +3,7 @@ use Rattle.std.specs.Prelude.{position}
 use Rattle.meaning.specs.declared.val.Val.{Val}
 use Rattle.meaning.specs.Comparing.{same_text}
 use Rattle.language.specs.Environment.{values_named}
-use Rattle.names.specs.declared.state.Kept.{Kept}
+use Rattle.names.specs.declared.state.FunctionDefaults.{FunctionDefaults}
 use Rattle.names.specs.Newest.{values_at}
 use Rattle.names.proofs.Latest.{at_name}
 use Rattle.names.proofs.keeping.KeptDefaults.named.Goals as goal
@@ -15,6 +15,6 @@ returns-in-Some c =
     let place = c.get_index_of.result in
     let listed = c.self.invariant c.in-Some.names c.in-Some.is in
     c.values_at.ensures
-    ∙ ap (λ (l : List Kept). values_at l place) c.as_slice.ensures.value
+    ∙ ap (λ (l : List FunctionDefaults). values_at l place) c.as_slice.ensures.value
     ∙ at_name x kept place listed.1 (c.get_index_of.ensures.index ∙ ap (λ (l : List (List ℕ)). position (same_text x) l) listed.0)
     ∙ ap (λ (l : List (List ℕ × List Val)). values_named x l) c.self.view_is

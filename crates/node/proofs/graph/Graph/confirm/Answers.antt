@@ -1,7 +1,7 @@
 use Rattle.std.proofs.Common.{ap}
-use Rattle.node.specs.Graphs.{Recorded, recorded}
+use Rattle.node.specs.Graphs.{GraphView, recorded}
 use Rattle.node.proofs.Lawfulness.{confirm_keeps}
-use Rattle.node.specs.Kept.{users_of}
+use Rattle.node.specs.Records.{users_of}
 use Rattle.node.proofs.Writing.{settled_linked, settled_sets, settled_asks, settled_keys, settled_lists}
 use Rattle.node.proofs.Relating.{linked_kept}
 use Rattle.node.proofs.graph.Graph.confirm.Goals as goal
@@ -25,6 +25,6 @@ returns-clause-confirmed c =
 
 pub returns-clause-lawful : goal.returns-clause-lawful
 returns-clause-lawful c = λ r h.
-    confirm_keeps c.args.self.now (recorded c.self.inside.version c.settle.new.records) c.args.key.now r h (ap (λ (g : Recorded). g.version) c.self.view_is)
+    confirm_keeps c.args.self.now (recorded c.self.inside.version c.settle.new.records) c.args.key.now r h (ap (λ (g : GraphView). g.version) c.self.view_is)
     (settled_sets c.self.inside.records c.settle.new.records (users_of c.self.inside.records) c.args.key.now c.self.inside.version c.self.invariant.linked c.settle.ensures.updates
     c.args.self.now c.self.view_is c.requires.members r h) c.requires.members

@@ -4,8 +4,8 @@ use Rattle.std.specs.Option.{option_map}
 use Rattle.evaluation.specs.Graph.{Record}
 use Rattle.keys.specs.declared.key.Key.{Key}
 use Rattle.keys.specs.declared.value.Value.{Value}
-use Rattle.node.specs.Graphs.{Recorded, record_at}
-use Rattle.node.specs.Kept.{record_of}
+use Rattle.node.specs.Graphs.{GraphView, record_at}
+use Rattle.node.specs.Records.{record_of}
 use Rattle.node.proofs.Linking.{is_seen, seen_is}
 use Rattle.node.proofs.graph.Graph.groups.Goals as goal
 
@@ -15,12 +15,12 @@ groups_with-requires c = c.self.invariant.asks c.args.key.now c.in-Some.kept.now
 pub returns-in-None : goal.returns-in-None
 returns-in-None c =
     let records = c.self.inside.records in
-    let at = ap (λ (g : Recorded). record_at g c.args.key.now) (sym c.self.view_is) ∙ seen_is records c.self.inside.version c.args.key.now in
+    let at = ap (λ (g : GraphView). record_at g c.args.key.now) (sym c.self.view_is) ∙ seen_is records c.self.inside.version c.args.key.now in
     sym (ap (option_map (λ (r : Record Key Value). r.groups)) (at ∙ ap (option_map (record_of (keys_of records))) (sym c.in-None.ensures.value)))
 
 pub returns-in_ok-groups_with-in-Some : goal.returns-in_ok-groups_with-in-Some
 returns-in_ok-groups_with-in-Some c =
     let records = c.self.inside.records in
-    let at = ap (λ (g : Recorded). record_at g c.args.key.now) (sym c.self.view_is) ∙ seen_is records c.self.inside.version c.args.key.now in
+    let at = ap (λ (g : GraphView). record_at g c.args.key.now) (sym c.self.view_is) ∙ seen_is records c.self.inside.version c.args.key.now in
     ap (λ (gs : List (List Key)). Some gs) c.in_ok-groups_with-in-Some.ensures
     ∙ sym (ap (option_map (λ (r : Record Key Value). r.groups)) (at ∙ is_seen records c.args.key.now c.in-Some.kept.now (sym c.in-Some.ensures.value)))

@@ -1,7 +1,7 @@
 use Rattle.std.proofs.Common.{◌∙◌, ap}
 use Rattle.std.proofs.lemmas.List.{drop_all}
 use Rattle.node.specs.Graphs.{record_at}
-use Rattle.node.specs.Kept.{items_of}
+use Rattle.node.specs.Records.{items_of}
 use Rattle.node.specs.Writes.{are_ready}
 use Rattle.node.proofs.Readying.{ready_members}
 use Rattle.node.proofs.graph.Graph.is_ready.Goals as goal

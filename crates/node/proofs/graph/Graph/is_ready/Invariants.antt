@@ -1,6 +1,6 @@
 use Rattle.std.proofs.Common.{◌≡◌, drop}
 use Rattle.node.specs.Graphs.{record_at}
-use Rattle.node.specs.Kept.{items_of}
+use Rattle.node.specs.Records.{items_of}
 use Rattle.node.specs.Writes.{are_ready}
 use Rattle.node.proofs.graph.Graph.is_ready.Given as goal
 

@@ -1,7 +1,7 @@
 use Rattle.std.proofs.Common.{true, ◌+◌, ap}
-use Rattle.node.specs.Graphs.{Recorded, recorded}
+use Rattle.node.specs.Graphs.{GraphView, recorded}
 use Rattle.node.proofs.Collecting.{marking_linked, marking_marks, marks_asks, marks_lists}
-use Rattle.node.specs.Kept.{users_of}
+use Rattle.node.specs.Records.{users_of}
 use Rattle.node.proofs.Relating.{linked_kept}
 use Rattle.node.proofs.Lawfulness.{touch_keeps}
 use Rattle.node.proofs.graph.Graph.mark.Goals as goal
@@ -20,6 +20,6 @@ returns-clause-marks c = λ paths r.
 
 pub returns-clause-lawful : goal.returns-clause-lawful
 returns-clause-lawful c = λ paths r.
-    touch_keeps c.args.self.now (recorded (c.self.inside.version + 1) c.set_all.new.records) paths (ap (λ (g : Recorded). g.version + 1) c.self.view_is)
+    touch_keeps c.args.self.now (recorded (c.self.inside.version + 1) c.set_all.new.records) paths (ap (λ (g : GraphView). g.version + 1) c.self.view_is)
     (marking_marks (users_of c.self.inside.records) c.self.inside.records c.set_all.new.records c.set_all.ensures.keys c.self.inside.version c.args.self.now c.self.view_is c.self.invariant.linked c.args.reached.now c.set_all.ensures.sets
     paths r (c.self.inside.version + 1))

@@ -1,8 +1,8 @@
 use Rattle.std.proofs.Common.{◌≡◌, ◌∙◌, List, sym, ap, subst}
-use Rattle.keys.specs.Touched.{touched_leaves}
+use Rattle.keys.specs.EditLeaves.{touched_leaves}
 use Rattle.keys.specs.declared.key.Key.{Key}
 use Rattle.numbered.specs.Flats.{members_in}
-use Rattle.node.specs.Kept.{Records, users_of}
+use Rattle.node.specs.Records.{Records, users_of}
 use Rattle.node.specs.Graphs.{recorded, record_at, AreReached, IsLinkedBy, IsTouched, paths_seen}
 use Rattle.node.proofs.Collecting.{unmarked_same, are_reached, shown_reached}
 use Rattle.node.proofs.Numbering.{members_same}

@@ -1,10 +1,10 @@
 use Rattle.std.proofs.Common.{ap, ◌∙◌}
-use Rattle.node.specs.Kept.{items_of}
+use Rattle.node.specs.Records.{items_of}
 use Rattle.node.proofs.Lists.{on_err}
 use Rattle.node.proofs.Showing.{keeps_shown}
 use Rattle.node.proofs.Storing.{ready_seen, stored_seen}
 use Rattle.std.specs.Arc.{arc_value}
-use Rattle.node.specs.Graphs.{Recorded, recorded}
+use Rattle.node.specs.Graphs.{GraphView, recorded}
 use Rattle.node.proofs.Lawfulness.{record_keeps}
 use Rattle.node.proofs.graph.Graph.record.Goals as goal
 
@@ -20,5 +20,5 @@ returns-clause-recorded c =
 
 pub returns-clause-lawful : goal.returns-clause-lawful
 returns-clause-lawful c =
-    record_keeps c.args.self.now (recorded c.self.inside.version c.store.new.records) c.args.key (arc_value c.args.value) (items_of c.args.groups.items) (ap (λ (g : Recorded). g.version) c.self.view_is)
+    record_keeps c.args.self.now (recorded c.self.inside.version c.store.new.records) c.args.key (arc_value c.args.value) (items_of c.args.groups.items) (ap (λ (g : GraphView). g.version) c.self.view_is)
     (stored_seen c.self.inside.records c.self.inside.version c.args.self.now c.self.view_is c.store.new.records c.args.key _ (items_of c.args.groups.items) c.in_ok-store.ensures.ok) c.requires

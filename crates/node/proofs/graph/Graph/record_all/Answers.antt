@@ -1,8 +1,8 @@
 use Rattle.std.proofs.Common.{ap, ◌∙◌}
 use Rattle.node.proofs.Lists.{on_err}
 use Rattle.node.proofs.Showing.{keeps_shown}
-use Rattle.node.proofs.Batched.{ready_entries, all_seen}
-use Rattle.node.specs.Graphs.{Recorded, recorded}
+use Rattle.node.proofs.BatchResults.{ready_entries, all_seen}
+use Rattle.node.specs.Graphs.{GraphView, recorded}
 use Rattle.node.proofs.Lawfulness.{batch_keeps}
 use Rattle.node.proofs.graph.Graph.record_all.Goals as goal
 
@@ -18,5 +18,5 @@ returns-clause-recorded c =
 
 pub returns-clause-lawful : goal.returns-clause-lawful
 returns-clause-lawful c =
-    batch_keeps c.args.self.now (recorded c.self.inside.version c.store_all.new.records) c.args.entries.items (ap (λ (g : Recorded). g.version) c.self.view_is)
+    batch_keeps c.args.self.now (recorded c.self.inside.version c.store_all.new.records) c.args.entries.items (ap (λ (g : GraphView). g.version) c.self.view_is)
     (all_seen c.self.inside.records c.self.inside.version c.args.self.now c.self.view_is c.args.entries.items c.store_all.new.records c.in_ok-store_all.ensures.ok) c.requires.ready

@@ -5,7 +5,7 @@ use Rattle.std.proofs.lemmas.Str.Pattern.{split_once_first}
 use Rattle.std.specs.List.{list_all, position_or_len, after_first}
 use Rattle.labels.specs.Paths.{segments}
 use Rattle.pattern.specs.Patterns.{is_pattern, is_pattern_segment}
-use Rattle.pattern.proofs.Cut.{one_segment, more_segments}
+use Rattle.pattern.proofs.FirstSegment.{one_segment, more_segments}
 use Rattle.pattern.proofs.pattern.Pattern.split_first.Goals as goal
 
 rest_is_pattern : (text first rest : List ℕ) → is_pattern text ≡ true → segments text ≡ first ∷ segments rest → length rest ≤ length text → is_pattern rest ≡ true

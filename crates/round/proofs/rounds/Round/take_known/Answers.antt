@@ -3,7 +3,7 @@ use Rattle.evaluation.specs.Choices.{Back}
 use Rattle.leaves.specs.Leaves as leaves
 use Rattle.keys.specs.declared.key.Key.{Key}
 use Rattle.node.specs.Edges.{IsRemoved}
-use Rattle.round.specs.Paused.{IsPaused, PutsState}
+use Rattle.round.specs.NodeStates.{IsPaused, PutsState}
 use Rattle.round.proofs.Framing.{frame_on_but}
 use Rattle.round.proofs.Pausing.{paused_on, are_paused_on, kept_paused, keeps_of, jobs_stay}
 use Rattle.round.proofs.Wanting.{leads_err}

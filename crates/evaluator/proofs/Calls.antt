@@ -1,0 +1,147 @@
+-- Calls that begin and end.
+use Rattle.std.proofs.Common.{◌≡◌, ◌+◌, ◌++◌, ◌∷◌, [], ℕ, zero, suc, List, Option, Some, None, Vec, Global, vec_len, drop, map, reverse, MatchOption, Bool, true, false, refl, sym, ap, ◌∙◌, Err}
+use Rattle.std.specs.Option.{option_to_list}
+use Rattle.std.specs.Prelude.{if◌then◌else◌, is_some}
+use Rattle.std.proofs.lemmas.List.{reverse-append, nil_from_length}
+use Rattle.meaning.specs.declared.val.Val.{Val}
+use Rattle.meaning.specs.Functions.{KeywordArguments}
+use Rattle.meaning.specs.Comparing.{same_text}
+use Rattle.tree.specs.Tree.{Fn, Suite}
+use lib.Pointwise.{bytes_decides}
+use Rattle.language.specs.Modules.{body_at}
+use Rattle.module_values.specs.Values.{Body}
+use Rattle.language.proofs.Below.{Asks, Below}
+use Rattle.package_calls.specs.View.{EndsAs}
+use Rattle.names.specs.View.{Ran}
+use Rattle.heap.specs.declared.halt.Halt.{Halt}
+use Rattle.heap.specs.declared.halt.Halt.TheVariants.{Code, Memory}
+use Rattle.frames.specs.declared.frame.Control.{Control}
+use Rattle.frames.specs.Frames.{Goes, Sig, a_value, an_exit, given_by}
+use Rattle.evaluator.specs.declared.machine.Environment.{Environment}
+use Rattle.evaluator.specs.declared.machine.Machine.{Machine}
+use Rattle.evaluator.specs.declared.machine.Stop.{Stop}
+use Rattle.evaluator.specs.declared.machine.Stop.TheVariants as stops
+use Rattle.evaluator.specs.Machines.{Stops, Leads, Under, site_at}
+use Rattle.language.specs.World.{World, Site, Block, Here, Ends, ended, failed, waits, Runs, then_runs, ◌>>=◌, pure, with_blocks, in_blocks}
+use Rattle.language.specs.Statements as s
+use Rattle.language.specs.Statements.{suite}
+use Rattle.language.specs.Names.{names_at}
+use Rattle.language.specs.Environment.{Env, need_names, thaw_body, functions_of, function_named, reached_module}
+use Rattle.language.specs.Calls.{call, enter, given, function_block, body_does}
+use Rattle.calls.specs.declared.functions.Open.{Open}
+use Rattle.calls.specs.View.{open_of, running_of}
+use Rattle.evaluator.specs.Finding.{body_runs, calls_on}
+
+-- the functions that are open, without the last one
+pub one_closed : (v w : Vec Open Global) (o : Option Open) → v.items ≡ w.items ++ option_to_list o → MatchOption o ((vec_len v ≡ 0) × (vec_len w ≡ 0)) (λ _. vec_len w + 1 ≡ vec_len v) → drop 1 (running_of v.items) ≡ running_of w.items
+one_closed v w (Some x) e h = ap (λ (l : List Open). drop 1 (map open_of (reverse l))) e ∙ ap (λ (l : List Open). drop 1 (map open_of l)) (reverse-append w.items (x ∷ []))
+one_closed v w None e h =
+    let nil : w.items ≡ [] = nil_from_length w.items (sym w.ok.0 ∙ h.1) in
+    ap (λ (l : List Open). drop 1 (map open_of (reverse l))) (e ∙ ap (λ (l : List Open). l ++ []) nil) ∙ ap (λ (l : List Open). map open_of (reverse l)) (sym nil)
+
+-- a call, where so many more may be open
+pub call_enters : (env : Env) (n : ℕ) → call env n ≡ enter env (body_runs env n)
+unfolding call
+call_enters env zero = refl
+call_enters env (suc n) = refl
+
+-- a call of a function that was found, behind the names of its file
+pub found_calls : (env : Env) (n : ℕ) (label name : List ℕ) (xs : List Val) (ns : KeywordArguments) (here : Here) (f : Fn) (w u : World)
+    → need_names env label here w ≡ ended tt u → function_named name (functions_of env label) ≡ Some f → f.name ≡ name
+    → call env n label name xs ns here w ≡ calls_on env n label f xs ns here u
+found_calls env n label name xs ns here f w u needs found named =
+    ap (λ c. c label name xs ns here w) (call_enters env n)
+    ∙ rw (needs, found, ← named) refl
+
+-- a call of a name that the file has not
+pub no_call : (env : Env) (n : ℕ) (label name : List ℕ) (xs : List Val) (ns : KeywordArguments) (here : Here) (w u : World)
+    → need_names env label here w ≡ ended tt u → function_named name (functions_of env label) ≡ None
+    → call env n label name xs ns here w ≡ failed 5 here.site
+no_call env n label name xs ns here w u needs found =
+    ap (λ c. c label name xs ns here w) (call_enters env n) ∙ rw (needs, found) refl
+
+pub needs_stop : (env : Env) (n : ℕ) (label name : List ℕ) (xs : List Val) (ns : KeywordArguments) (here : Here) (w : World) (code : ℕ)
+    → need_names env label here w ≡ failed code here.site → call env n label name xs ns here w ≡ failed code here.site
+needs_stop env n label name xs ns here w code needs =
+    ap (λ c. c label name xs ns here w) (call_enters env n) ∙ rw (needs) refl
+
+by_known : (b : Bool) (m : Option Body) (here : Here) (w : World) → m ≡ None → (if b then pure tt else thaw_body m here) w ≡ ended tt w
+by_known true m here w e = refl
+by_known false None here w e = refl
+by_known false (Some body) here w e = absurd cc
+
+none_needed : (env : Env) (label : List ℕ) (here : Here) (w : World) → reached_module env label ≡ None → need_names env label here w ≡ ended tt w
+unfolding need_names
+none_needed env label here w e = by_known (is_some (names_at label w.files)) (reached_module env label) here w e
+
+-- where no file has the label there is nothing to put on the heap, and no function
+pub no_file : (env : Env) (n : ℕ) (label name : List ℕ) (xs : List Val) (ns : KeywordArguments) (here : Here) (w : World)
+    → same_text label env.label ≡ false → reached_module env label ≡ None → call env n label name xs ns here w ≡ failed 5 here.site
+no_file env n label name xs ns here w own reached =
+    no_call env n label name xs ns here w w (none_needed env label here w reached) (rw (own, reached) refl)
+
+-- the body of a function, above a frame that ends the call
+pub body_above : (e : Ends s.Exit) (blocks : List Block) (j : Sig → Runs Sig)
+    → then_runs (then_runs (then_runs (then_runs e (λ a u. ended a (with_blocks blocks u))) (λ exit. pure (given exit))) (λ v. pure (a_value v))) j
+    ≡ then_runs (then_runs e (λ exit. pure (an_exit exit))) (λ sig u. then_runs (ended (given_by sig) (with_blocks blocks u)) j)
+body_above (ended exit u) blocks j = refl
+body_above (failed c site) blocks j = refl
+body_above (waits ps) blocks j = refl
+
+-- the body of a function where at least one more call may be open
+pub body_goes : (env : Env) (left k : ℕ) (f : Fn) (ps : Block) (within here : Here) → left ≡ suc k
+    → body_does (body_runs env left) f ps within here ≡ (in_blocks (function_block f ps ∷ []) (suite env (call env k) f.body within) >>= λ exit. pure (given exit))
+body_goes env left k f ps within here e = ap (λ n. body_does (body_runs env n) f ps within here) e
+
+-- one more function is open
+pub one_opened : (running : List Open) (open' : Open) → running_of (running ++ open' ∷ []) ≡ open_of open' ∷ running_of running
+one_opened running open' = ap (map open_of) (reverse-append running (open' ∷ []))
+
+-- the same body, where it stands in memory
+pub same_body : (env : Env) (n : ℕ) (ss : Suite) (within stands : Here) (w u : World) (blocks : List Block) (j k : Sig → Runs Sig)
+    → within ≡ stands → w ≡ u → k ≡ (λ (sig : Sig) (z : World). then_runs (ended (given_by sig) (with_blocks blocks z)) j)
+    → then_runs (then_runs (suite env (call env n) ss within w) (λ exit. pure (an_exit exit))) (λ sig z. then_runs (ended (given_by sig) (with_blocks blocks z)) j)
+    ≡ then_runs (then_runs (suite env (call env n) ss stands u) (λ exit. pure (an_exit exit))) k
+same_body env n ss within stands w u blocks j k place world frames =
+    ap (λ (h : Here). then_runs (then_runs (suite env (call env n) ss h w) (λ exit. pure (an_exit exit))) (λ sig z. then_runs (ended (given_by sig) (with_blocks blocks z)) j)) place
+    ∙ ap (λ (z : World). then_runs (then_runs (suite env (call env n) ss stands z) (λ exit. pure (an_exit exit))) (λ sig z. then_runs (ended (given_by sig) (with_blocks blocks z)) j)) world
+    ∙ ap (λ i. then_runs (then_runs (suite env (call env n) ss stands u) (λ exit. pure (an_exit exit))) i) (sym frames)
+
+-- why a part stops, as a turn
+pub goes_stop : (e : Environment) (before : Env → Ends Sig) (path : List ℕ) (line : ℕ) (halt : Halt) (stop : Stop) (m : Machine) (after : Env → Control → Ends Sig) → Stops path line halt stop
+    → Under e (λ env. Goes (site_at path line) (before env) (Err halt) (after env)) → Leads e before (Err stop) m
+goes_stop e before path line (Code code) (stops.Fault c p l) m after h g = λ more knows. g more knows ∙ ap (λ d. failed d (site_at path line)) (sym h.0) ∙ ap (λ q. failed c (site_at q line)) (sym h.1) ∙ ap (λ i. failed c (site_at p i)) (sym h.2)
+goes_stop e before path line Memory (stops.Fault c p l) m after h g = absurd h
+goes_stop e before path line (Code code) stops.Memory m after h g = tt
+goes_stop e before path line Memory stops.Memory m after h g = tt
+
+-- what a package call ends with, under more answers
+pub more_ended : {Q : Asks} (a b : Ends Val) (x : Val) (u : World) → Below Q a b → a ≡ ended x u → b ≡ ended x u
+more_ended {Q = Q} (ended y w) b x u p e = p.at ∙ e
+more_ended {Q = Q} (failed c site) b x u p e = absurd cc
+more_ended {Q = Q} (waits ps) b x u p e = absurd cc
+
+pub more_failed : {Q : Asks} (a b : Ends Val) (c : ℕ) (site : Site) → Below Q a b → a ≡ failed c site → b ≡ failed c site
+more_failed {Q = Q} (ended y w) b c site p e = absurd cc
+more_failed {Q = Q} (failed d s) b c site p e = p.at ∙ e
+more_failed {Q = Q} (waits ps) b c site p e = absurd cc
+
+-- a package call that stops, under more answers
+pub package_stops : {Q : Asks} (a b : Ends Val) (halt : Halt) (site : Site) (u : World) (k : Val → Runs Sig) (j : Sig → Runs Sig) (after : Control → Ends Sig) → Below Q a b → EndsAs site a (Err halt) u → Goes site (then_runs (then_runs b k) j) (Err halt) after
+package_stops a b (Code c) site u k j after below e = ap (λ o. then_runs (then_runs o k) j) (more_failed a b c site below e)
+package_stops a b Memory site u k j after below e = tt
+
+-- a module that was found by its label has it
+pub label_at : (label : List ℕ) (bs : List Body) (b : Body) → Some b ≡ body_at label bs → b.label ≡ label
+label_at label [] b e = absurd cc
+label_at label (x ∷ bs) b e = at_first (same_text label x.label) refl e (label_at label bs b)
+  where
+    at_first : (t : Bool) → same_text label x.label ≡ t → Some b ≡ (if t then Some x else body_at label bs) → (Some b ≡ body_at label bs → b.label ≡ label) → b.label ≡ label
+    at_first true h e ih = let f : b ≡ x = cc in ap (λ (y : Body). y.label) f ∙ sym ((bytes_decides label x.label).0 h)
+    at_first false h e ih = ih e
+
+-- the names of a file can't be put on the heap
+pub needs_goes : (env : Env) (n : ℕ) (label name : List ℕ) (xs : List Val) (ns : KeywordArguments) (here : Here) (w u : World) (halt : Halt) (k : Val → Runs Sig) (j : Sig → Runs Sig) (after : Control → Ends Sig)
+    → Ran {A = Unit {0}} here.site (need_names env label here w) (Err halt) u → Goes here.site (then_runs (then_runs (call env n label name xs ns here w) k) j) (Err halt) after
+needs_goes env n label name xs ns here w u (Code c) k j after e = ap (λ o. then_runs (then_runs o k) j) (needs_stop env n label name xs ns here w c e)
+needs_goes env n label name xs ns here w u Memory k j after e = tt

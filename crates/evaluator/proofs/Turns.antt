@@ -1,0 +1,32 @@
+-- Turns one after another.
+use Rattle.std.proofs.Common.{◌≡◌, Ok, refl, ◌∙◌}
+use Rattle.language.specs.World.{Ends}
+use Rattle.language.specs.Environment.{Env}
+use Rattle.language.specs.Laws.{KnowsMore}
+use Rattle.frames.specs.declared.frame.Control.{Control}
+use Rattle.frames.specs.Frames.{Sig}
+use Rattle.evaluator.specs.declared.machine.Environment.{Environment}
+use Rattle.evaluator.specs.declared.machine.Machine.{Machine}
+use Rattle.evaluator.specs.declared.machine.Progress.{Progress}
+use Rattle.evaluator.specs.declared.machine.Progress.TheVariants as t
+use Rattle.evaluator.specs.Machines.{env_of, Under, Leads, StepsFall, IsOver}
+
+-- what is known of a glob is known
+pub knows_own : (e : Environment) → KnowsMore (env_of e).globs (env_of e).globs
+knows_own e = λ p paths found. found
+
+-- what leads on from a machine that means the same
+pub leads_on : (e : Environment) (before next : Env → Ends Sig) (turned : Progress) (m : Machine) → Under e (λ env. before env ≡ next env) → Leads e next (Ok turned) m → Leads e before (Ok turned) m
+leads_on e before next (t.Goes control) m same leads = λ more knows. same more knows ∙ leads more knows
+leads_on e before next (t.Ended sig) m same leads = λ more knows. same more knows ∙ leads more knows
+leads_on e before next (t.Waits control patterns) m same leads = (same (env_of e).globs (knows_own e) ∙ leads.0, λ more knows. same more knows ∙ leads.1 more knows)
+
+pub none_left : (turned : Progress) → ((control : Control) → turned ≡ t.Goes control → ⊥) → IsOver turned
+none_left (t.Goes control) h = absurd (h control refl)
+none_left (t.Ended sig) h = tt
+none_left (t.Waits control patterns) h = tt
+
+pub no_turn : (before after : Machine) (turned : Progress) → ((control : Control) → turned ≡ t.Goes control → ⊥) → StepsFall before after turned
+no_turn before after (t.Goes control) h = absurd (h control refl)
+no_turn before after (t.Ended sig) h = tt
+no_turn before after (t.Waits control patterns) h = tt

@@ -1,0 +1,47 @@
+use Rattle.std.proofs.Common.{refl, sym, subst, ap, ◌∙◌}
+use Rattle.meaning.specs.declared.val.Val.{Val}
+use Rattle.tree.specs.declared.expr.Expr.{Expr}
+use Rattle.tree.specs.View.{tree_of, shared_tree}
+use Rattle.language.specs.World.{Ends, then_runs, ◌>>=◌, pure}
+use Rattle.language.specs.Targets.{store}
+use Rattle.language.specs.Statements as s
+use Rattle.language.specs.Statements.{goes_on, present, changed}
+use Rattle.names.specs.View.{world_of, here_of}
+use Rattle.pieces.specs.declared.aims.Aim.{Aim}
+use Rattle.pieces.specs.View.{aim_of}
+use Rattle.frames.specs.declared.frame.Control.{Control}
+use Rattle.frames.specs.Frames.{Sig, an_exit, Goes, on, ex, exited, above, stack_does, machine_does}
+use Rattle.frames.proofs.Bind.{under}
+use Rattle.frames.proofs.Suites.{stops3}
+use Rattle.frames.proofs.completions.augment.Goals as goal
+
+pub returns-in-Err-clause-goes : goal.returns-in-Err-clause-goes
+returns-in-Err-clause-goes c = λ env n running.
+    let here = here_of c.args.at.now c.args.at.now.line running in
+    let line = c.args.line in
+    let h = on env n here line in
+    let w = world_of c.args.state.now in
+    let frames = c.args.frames.now.items in
+    let a = aim_of c.args.aim in
+    let after = λ (control : Control). machine_does env n here control frames (world_of c.present.new.state) in
+    stops3 (present a h w) (λ v. ex env n here (shared_tree c.args.e) line >>= λ y. changed c.args.op v y h >>= λ z. store a z h >>= λ _. pure goes_on) (λ (x : s.Exit). pure (an_exit x)) (stack_does env n here frames) h.site c.in-Err.halt (world_of c.present.new.state) after (c.in-Err.ensures.says line running)
+
+pub returns-clause-goes : goal.returns-clause-goes
+returns-clause-goes c = λ env n running.
+    let here = here_of c.args.at.now c.args.at.now.line running in
+    let line = c.args.line in
+    let h = on env n here line in
+    let u = world_of c.present.new.state in
+    let frames = c.args.frames.now.items in
+    let j = stack_does env n here frames in
+    let p = λ (x : s.Exit). pure (an_exit x) in
+    let v = c.in-Ok.x in
+    let changes_to = λ (d : Aim) (v y : Val). changed c.args.op v y h >>= λ z. store (aim_of d) z h >>= λ _. pure goes_on in
+    let changes = changes_to c.args.aim in
+    let behind = λ (v : Val). ex env n here (shared_tree c.args.e) line >>= changes v in
+    let before = ap (λ o. then_runs (then_runs (then_runs o behind) p) j) (c.in-Ok.ensures.says line running)
+    ∙ under (ex env n here (shared_tree c.args.e) line u) (changes v) p j
+    ∙ ap (λ (d : Aim). then_runs (ex env n here (shared_tree c.args.e) line u) (λ y. above env n here (exited (changes_to d v y)) frames)) (sym c.in_ok-aim.ensures.ok)
+    ∙ ap (λ (d : Expr). then_runs (ex env n here (tree_of d) line u) (λ y. above env n here (exited (changes_to c.in_ok-aim.aim.value v y)) frames)) (sym c.deref.ensures) in
+    let after = λ (control : Control). machine_does env n here control c.begin_above.new.frames.items (world_of c.begin_above.new.state) in
+    subst (λ (q : Ends Sig). Goes h.site q c.begin_above.result after) (sym before) (c.begin_above.ensures.goes env n running refl refl)

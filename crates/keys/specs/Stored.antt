@@ -1,2 +1,0 @@
--- How the logic stores what a value holds.
-pub use Rattle.module_values.specs.Stored.{loaded_code}

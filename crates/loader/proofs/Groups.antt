@@ -1,0 +1,65 @@
+-- The recorded groups of a settled key are those that it asks.
+use Rattle.std.proofs.Common.{None, ◌≡◌, ◌<◌, length, arith, List, [], ◌∷◌, Option, refl, sym, subst}
+use Rattle.evaluation.specs.Reply.{Reply, Ask}
+use Rattle.evaluation.specs.Value.{has_run, Turns, ends, asks, Grounded, AllGrounded, none, one, IsUngrounded, First, at_head, further, Stops, here, later, Settles, leaf, run, closed, In, first, after}
+use Rattle.evaluation.specs.Choices as choices
+use Rattle.evaluation.specs.Reachability.{AsksGroup}
+use Rattle.evaluation.proofs.Unique.{same_values}
+
+module _ {K V : Type 0} (next : K → List V → Reply K V) (cycle : List K → V) (read : K → Option V) where
+  no_first : {ks ls : List K} {vs : List V} {j : K} → AllGrounded next read ks vs → First next read (IsUngrounded next read) ls j → ks ≡ ls → ⊥
+  no_first none (at_head u) e = cc
+  no_first none (further g m) e = cc
+  no_first (one {k = k} {v = v} g gs) (at_head {j = j} u) e = let q : k ≡ j = cc in u v (subst (λ x. Grounded next read x v) q g)
+  no_first (one g gs) (further h m) e = no_first gs m (cc)
+
+  from_turns : {k : K} {a a' b : List V} {p gs : List (List K)} {v : V} {g : List K} → choices.Comes next cycle read k a p b → Turns next read k a' gs v → a ≡ a' → next k b ≡ Ask g → In g gs
+  from_turns choices.stay (ends f) i e = cc
+  from_turns {g = g} choices.stay (asks {group = h} {groups = hs} f s t) i e = let q : g ≡ h = cc in subst (λ x. In x (h ∷ hs)) (sym q) first
+  from_turns (choices.asks f s c) (ends f') i e = cc
+  from_turns (choices.asks {group = x} f s c) (asks {group = y} f' s' t) i e =
+      let q : x ≡ y = cc in
+      let r = same_values next read s s' q in
+      after (from_turns c t (cc) e)
+
+  from_stops : {k : K} {a a' b : List V} {p gs : List (List K)} {j : K} {g : List K} → choices.Comes next cycle read k a p b → Stops next read (IsUngrounded next read) k a' gs j → a ≡ a' → next k b ≡ Ask g → In g gs
+  from_stops {g = g} choices.stay (here {group = h} f m) i e = let q : g ≡ h = cc in subst (λ x. In x (h ∷ [])) (sym q) first
+  from_stops {g = g} choices.stay (later {group = h} {groups = hs} f s t) i e = let q : g ≡ h = cc in subst (λ x. In x (h ∷ hs)) (sym q) first
+  from_stops (choices.asks {group = x} f s c) (here {group = y} f' m) i e = let q : x ≡ y = cc in absurd (no_first s m q)
+  from_stops (choices.asks {group = x} f s c) (later {group = y} f' s' t) i e =
+      let q : x ≡ y = cc in
+      let r = same_values next read s s' q in
+      after (from_stops c t (cc) e)
+
+  -- what it asks is recorded
+  pub asked_recorded : {k : K} {gs : List (List K)} {v : V} {g : List K} → Settles next read cycle k gs v → AsksGroup next cycle read k g → In g gs
+  asked_recorded (leaf e) a = let n = a.no_leaf in cc
+  asked_recorded (run e t) a = from_turns a.comes t refl a.asks
+  asked_recorded (closed e s c) a = from_stops a.comes s refl a.asks
+
+  turns_ask : {k : K} {a : List V} {gs : List (List K)} {v : V} {g : List K} → Turns next read k a gs v → In g gs → (p : List (List K)) × (b : List V) × choices.Comes next cycle read k a p b × (next k b ≡ Ask g)
+  turns_ask (ends f) m = elim m [ ]
+  turns_ask {a = a} (asks f s t) first = ([], a, choices.stay, f)
+  turns_ask (asks {group = h} f s t) (after m) = let r = turns_ask t m in (h ∷ r.0, r.1, choices.asks f s r.2, r.3)
+
+  stops_ask : {k : K} {a : List V} {gs : List (List K)} {j : K} {g : List K} → Stops next read (IsUngrounded next read) k a gs j → In g gs → (p : List (List K)) × (b : List V) × choices.Comes next cycle read k a p b × (next k b ≡ Ask g)
+  stops_ask {a = a} (here f m) first = ([], a, choices.stay, f)
+  stops_ask (here f m) (after i) = elim i [ ]
+  stops_ask {a = a} (later f s t) first = ([], a, choices.stay, f)
+  stops_ask (later {group = h} f s t) (after m) = let r = stops_ask t m in (h ∷ r.0, r.1, choices.asks f s r.2, r.3)
+
+  -- what is recorded it asks
+  pub recorded_asked : {k : K} {gs : List (List K)} {v : V} {g : List K} → Settles next read cycle k gs v → In g gs → AsksGroup next cycle read k g
+  recorded_asked (leaf e) m = elim m [ ]
+  recorded_asked (run e t) m = let r = turns_ask t m in record { no_leaf = e; passed = r.0; answers = r.1; comes = r.2; asks = r.3 }
+  recorded_asked (closed e s c) m = let r = stops_ask s m in record { no_leaf = e; passed = r.0; answers = r.1; comes = r.2; asks = r.3 }
+
+  stops_some : {k : K} {a : List V} {gs : List (List K)} {j : K} → Stops next read (IsUngrounded next read) k a gs j → 0 < length gs
+  stops_some (here f m) = omega arith
+  stops_some (later f s t) = omega arith
+
+  -- a key that is not grounded asks a group
+  pub asks_some : {k : K} {gs : List (List K)} {v : V} → Settles next read cycle k gs v → read k ≡ None → IsUngrounded next read k → 0 < length gs
+  asks_some (leaf e) n u = cc
+  asks_some {v = v} (run e t) n u = absurd (u v (has_run e t))
+  asks_some (closed e s c) n u = stops_some s

@@ -1,9 +1,0 @@
-use Rattle.std.proofs.Common.{◌≡◌, take}
-use Rattle.numbered.specs.Flats.{members_in}
-use Rattle.node.specs.Compared.{unsettled}
-use Rattle.node.specs.Graphs.{seen}
-use Rattle.node.proofs.compared.unsettled_with.Given as goal
-
--- the members so far that are not settled
-abbrev pub invariant-loop-number : goal.invariant-loop-number
-invariant-loop-number l = l.missing.items ≡ unsettled (seen l.records) (members_in l.records (take l.number-index l.numbers))

@@ -1,0 +1,56 @@
+-- The states of node functions that a round keeps between turns.
+use Rattle.std.specs.Prelude.{◌≡◌, ◌⊎◌, List, [], ◌∷◌, ◌++◌, Bool, true, false, Option, Some, None}
+use Rattle.indexmap.specs.IndexMap.{get, Updates}
+use Rattle.keys.specs.Jobs.{JobView, Waits}
+use Rattle.keys.specs.Keys.{key_eq}
+use Rattle.keys.specs.declared.key.Key.{Key}
+use Rattle.node.specs.Graphs.{GraphView, record_at}
+use Rattle.open_nodes.specs.Nodes.{ByKey, node_at, groups_of}
+use Rattle.open_nodes.specs.declared.table.Node.{Node}
+use Rattle.open_nodes.specs.declared.table.Phase.TheVariants as phase
+use Rattle.open_nodes.specs.declared.table.Table.{Table}
+use Rattle.round.specs.Members.{AreAnswers}
+
+-- a state of a node that makes turns, after the answers to all groups that it asked but the last
+pub record IsPaused (graph : GraphView) (table : Table) (k : Key) (w : Waits) : Type 0 where
+  pub same_key : w.key ≡ k
+  pub node : Node
+  pub there : node_at table.nodes k ≡ Some node
+  pub running : node.phase ≡ phase.Running
+  pub passed : List (List Key)
+  pub group : List Key
+  pub split : groups_of node ≡ passed ++ group ∷ []
+  pub answered : AreAnswers (record_at graph) passed w.answers
+
+abbrev pub NodeStates : Type 0
+NodeStates = ByKey Waits
+
+abbrev pub ArePaused : GraphView → Table → NodeStates → Type 0
+ArePaused graph table kept = (k : Key) (w : Waits) → get key_eq kept k ≡ Some w → IsPaused graph table k w
+
+-- no state came in
+abbrev pub FewerKept : NodeStates → NodeStates → Type 0
+FewerKept old new = (k : Key) (w : Waits) → get key_eq new k ≡ Some w → get key_eq old k ≡ Some w
+
+-- a state of the key is kept
+abbrev pub HasState : NodeStates → Key → Type 0
+HasState kept key = (w : Waits) × (get key_eq kept key ≡ Some w)
+
+-- the state of the key was given up and the others stay; or all stay
+abbrev pub DropsState : NodeStates → NodeStates → Key → Bool → Type 0
+DropsState old new key true = Updates key_eq old new key None
+DropsState old new key false = (k : Key) → get key_eq new k ≡ get key_eq old k
+
+-- the state was put in, if there is one, and nothing else
+abbrev pub PutsState : NodeStates → NodeStates → Key → Option Waits → Type 0
+PutsState old new key (Some w) = Updates key_eq old new key (Some w)
+PutsState old new key None = new ≡ old
+
+-- the state of the key was taken out with its job; without a job all states stay
+abbrev pub TakesState : NodeStates → NodeStates → Key → Option JobView → Type 0
+TakesState old new key (Some job) = Updates key_eq old new key None
+TakesState old new key None = (k : Key) → get key_eq new k ≡ get key_eq old k
+
+-- the state came in, if there is one, and the others stay
+abbrev pub Keeps : NodeStates → NodeStates → Key → Option Waits → Type 0
+Keeps old new key paused = (k : Key) (w : Waits) → get key_eq new k ≡ Some w → (get key_eq old k ≡ Some w) ⊎ ((key ≡ k) × (paused ≡ Some w))

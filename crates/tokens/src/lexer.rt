@@ -1,0 +1,94 @@
+//! The tokens of a text.
+ghost use Rattle.std.specs.Prelude.{◌≡◌, ◌+◌, IfNone};
+ghost use Rattle.std.specs.Str.{IsAscii};
+ghost use Rattle.tokens.specs.Lines.{scan, start};
+ghost use Rattle.tokens.specs.Reading.{foreign, tokens_of, Reads};
+ghost use Rattle.tokens.specs.View.{Scans};
+
+use crate::nesting::too_deep;
+use crate::piece::piece_at;
+use crate::refusal::Refused;
+use crate::scanner::{Scanner, Stop};
+use crate::token::Lexeme;
+use meaning::faults;
+use std::alloc::Global;
+
+/// Returns the line of the first byte over 127, if there is one.
+fn foreign(text: &[u8]) -> Option<usize>
+    ensures exact { result ≡ foreign 1 text.now }
+    ensures ascii { IfNone result (IsAscii text.now) }
+{
+    let mut line = 1;
+    for b in text {
+        if *b > 127 {
+            return Some(line);
+        }
+        if *b == b'\n' {
+            line += 1;
+        }
+    }
+    None
+}
+
+/// Reads the tokens of a text that is ASCII. Their nesting is not looked at.
+fn scan(alloc: Global, text: &[u8]) -> Result<Vec<Lexeme<'_>>, Stop>
+    requires { IsAscii text.now }
+    ensures { Scans (scan start 0 text.now) result }
+{
+    let mut scanner = Scanner::new(alloc);
+    let mut left = text;
+    'pieces: while !left.is_empty() {
+        match piece_at(left) {
+            Some(piece) => {
+                if let Err(stop) = scanner.step(piece) {
+                    return Err(stop);
+                }
+                let (_taken, rest) = left.split_at(piece.len);
+                left = rest;
+            }
+            None => return Err(Stop::Malformed),
+        }
+    }
+    if let Err(stop) = scanner.end() {
+        return Err(stop);
+    }
+    let Scanner {
+        place: _,
+        spaces: _,
+        levels: _,
+        brackets: _,
+        line: _,
+        out,
+    } = scanner;
+    Ok(out)
+}
+
+/// Reads the tokens of a text, with their lines. Names and strings are lent by the text. Returns the first fault that
+/// applies. It is 2 if a byte is over 127, 3 if the tokens are malformed, and 12 if one is nested deeper than 64.
+/// Returns `Memory` only if an allocation fails.
+#[tactic(auto, unfolding(crate::specs::Reading::tokens_of))]
+pub fn read_tokens(alloc: Global, text: &[u8]) -> Result<Vec<Lexeme<'_>>, Refused>
+    ensures { Reads (tokens_of text.now) result }
+{
+    if let Some(line) = foreign(text) {
+        return Err(Refused::Syntax {
+            code: faults::NOT_ASCII,
+            line,
+        });
+    }
+    match scan(alloc, text) {
+        Ok(found) => match too_deep(alloc, found.as_slice()) {
+            Ok(true) => Err(Refused::Syntax {
+                code: faults::TOO_DEEP,
+                line: 0,
+            }),
+            Ok(false) => Ok(found),
+            Err(_) => Err(Refused::Memory),
+        },
+        Err(Stop::Malformed) => Err(Refused::Syntax {
+            code: faults::SYNTAX,
+            line: 0,
+        }),
+        Err(Stop::Memory) => Err(Refused::Memory),
+    }
+}
