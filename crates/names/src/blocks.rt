@@ -34,7 +34,7 @@ fn value_there(block: &Block, x: &Text, last: &AtomicUsize) -> Option<Val>
 
 /// Returns the value of a name that the innermost block has where the name was found last, if it is bound there. That is
 /// how most names are found; nothing is said of the others.
-pub fn innermost(blocks: &[Block], x: &Text, last: &AtomicUsize) -> Option<Val>
+pub(crate) fn innermost(blocks: &[Block], x: &Text, last: &AtomicUsize) -> Option<Val>
     ensures { IfSome result (λ v. slot_among x.now (map held blocks.now) ≡ Some (Some v)) }
 {
     match blocks.first() {

@@ -45,7 +45,7 @@ fn first_place(slots: &[Slot], x: &Text) -> Option<usize>
 }
 
 /// Returns whether a name is known to stand first at a place.
-pub fn is_at(block: &Block, x: &Text, place: usize) -> bool
+pub(crate) fn is_at(block: &Block, x: &Text, place: usize) -> bool
     ensures { result ≡ true → FirstSo (is_slot x.now) block.now.slots.items place }
 {
     if !block.once || place >= block.slots.len() {
