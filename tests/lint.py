@@ -6,9 +6,9 @@
 - Sources, definitions, proofs, scripts and programs of the language: no file of over 800 lines.
 - Sources: no function of over 60 lines. Fields that the layout puts on lines of their own do not count.
 - Programs beside the gate (`.rattle`, `.proof`): no sentence of over 25 words in a comment.
-- What is still to be put in order is counted, and may only become less: long clauses, double imports, fields that have
-  no name, definitions that are imported for nothing. The numbers stand in `LEFT`. Who makes one smaller writes the new
-  number there.
+- Crates: no line of a clause of over 100 columns, no module that is imported from twice, no number or flag without a
+  name in a variant, no definition that is imported for nothing.
+- Files and types of sources: no past participle as a name, but for those of `PARTICIPLES` that the public surface fixes.
 
 It prints one line for each fault, as `path:line: what`, and fails where there is one.
 """
@@ -21,13 +21,12 @@ import sys
 ROOT = os.path.join(os.path.dirname(os.path.abspath(__file__)), "..")
 MOST_WORDS, MOST_LINES, MOST_FUNCTION = 25, 800, 60
 
-# What is still to be put in order, and how often it stands in the crates.
-LEFT = {
-    "lines of clauses of over 100 columns": 0,
-    "modules that a file imports from twice": 0,
-    "variants with a number or flag that has no name": 0,
-    "definitions that a file imports and does not name": 0,
+# Past participles that do not end in "ed", and the names that the public surface fixes.
+IRREGULAR = {
+    "told", "kept", "held", "shown", "written", "made", "found", "left", "given", "known", "seen", "heard", "sent",
+    "built", "bound", "gone", "done", "taken", "fed", "led", "met", "ran", "went", "frozen", "broken", "chosen",
 }
+PARTICIPLES = {"Refused", "Suspended", "Turned", "turned", "Held", "Made", "Left", "Told", "Replayed", "Frozen", "frozen"}
 
 # Words and phrases that say less than plain ones.
 BANNED = [
@@ -200,21 +199,25 @@ def idle_imports(path, text):
     return found
 
 
-def check_left():
-    """Counts what is still to be put in order."""
-    counts = dict.fromkeys(LEFT, 0)
-    for path in tracked():
-        if path.startswith("crates/") and path.endswith((".rt", ".antt")):
-            with open(path) as file:
-                text = file.read()
-            every = [long_clauses, double_imports, unnamed_fields, idle_imports]
-            for finder in every if path.endswith(".rt") else [double_imports]:
-                kind = list(LEFT)[every.index(finder)]
-                counts[kind] += len(finder(path, text))
-    for kind, count in counts.items():
-        if count != LEFT[kind]:
-            how = "more" if count > LEFT[kind] else "fewer: write the new number"
-            yield f"tests/lint.py:1: {count} {kind}, where LEFT has {LEFT[kind]}; {how}"
+def check_crate(path, text):
+    """What the crates' sources and definitions have to keep."""
+    finders = {"a clause of over 100 columns": long_clauses, "a module imported from twice": double_imports}
+    if path.endswith(".rt"):
+        finders |= {"a field with no name": unnamed_fields, "an idle import": idle_imports}
+    else:
+        del finders["a clause of over 100 columns"]
+    for what, finder in finders.items():
+        for found in finder(path, text):
+            yield f"{path}:1: {what}: {found.strip()[:60]}"
+
+
+def check_names(path, text):
+    """Names of files and types say what a thing is, not that something was done."""
+    types = re.findall(r"(?m)^(?:pub(?:\([a-z]+\))? )?(?:struct|enum|type|trait) (\w+)", text)
+    for name in [os.path.splitext(os.path.basename(path))[0], *types]:
+        last = re.findall(r"[A-Z]?[a-z]+", name)[-1:]
+        if name not in PARTICIPLES and any(it.lower() in IRREGULAR or it.endswith("ed") for it in last):
+            yield f"{path}:1: {name} says that something was done"
 
 
 def tracked():
@@ -224,7 +227,7 @@ def tracked():
 
 def main():
     os.chdir(ROOT)
-    faults = list(check_example()) + list(check_left())
+    faults = list(check_example())
     for path in documents():
         with open(path) as file:
             text = file.read()
@@ -236,8 +239,12 @@ def main():
             faults += list(check_length(path, text))
             if path.endswith((".rt", ".rattle")):
                 faults += list(check_functions(path, text))
+            if path.endswith((".rt", ".rattle", ".antt", ".proof")):
+                faults += list(check_names(path, text))
             if path.endswith((".rattle", ".proof")):
                 faults += list(check_comments(path, text))
+            if path.startswith("crates/") and path.endswith((".rt", ".antt")):
+                faults += list(check_crate(path, text))
     print("\n".join(faults + [f"lint: {len(faults)} faults"]))
     return 1 if faults else 0
 
