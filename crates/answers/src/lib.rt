@@ -1,4 +1,5 @@
-//! The JSON that answers with packages, modules and their faults.
+//! The JSON that answers with packages, modules and their faults. Layer: product, on base, values and evaluation of a
+//! file. Begin at `package_json.rt`.
 #![tactic(auto)]
 
 ghost use Rattle.answers.specs.Laws.{AnswersArePlain, AttributesRise, ExportsRise, TextsStay};

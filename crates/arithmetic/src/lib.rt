@@ -1,4 +1,4 @@
-//! Arithmetic, joining and repeating, and what counts as true.
+//! Arithmetic, joining and repeating, and what counts as true. Layer: values, on base. Begin at `operators.rt`.
 #![tactic(auto)]
 
 mod numbers;

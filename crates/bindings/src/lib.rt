@@ -1,5 +1,5 @@
-//! The names that pieces of a file bind, in the order in which they are bound first. Layer: syntax, on trees alone. The
-//! parser finds the names of each function, and whoever makes a block finds the others.
+//! The names that pieces of a file bind, in the order in which they are bound first. The parser finds the names of
+//! each function, and whoever makes a block finds the others. Layer: syntax, on base. Begin at `names.rt`.
 #![tactic(auto)]
 
 mod finding;

@@ -1,4 +1,4 @@
-//! The functions that every file has, the package calls aside.
+//! The functions that every file has, the package calls aside. Layer: values, on base. Begin at `calls.rt`.
 #![tactic(auto)]
 
 mod calls;

@@ -1,4 +1,5 @@
-//! The parts of a call that evaluate no expression: blocks of names, arguments, and functions by their names.
+//! The parts of a call that evaluate no expression: blocks of names, arguments, and functions by their names. Layer:
+//! evaluation of a file, on base, syntax and values. Begin at `blocks.rt`.
 #![tactic(auto)]
 
 mod accepting;

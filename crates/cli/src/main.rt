@@ -1,4 +1,4 @@
-//! The program: commands on standard input, answers on standard output.
+//! The program: commands on standard input, answers on standard output. Layer: product, on base.
 #![tactic(auto)]
 
 use lines::{ReaderInput, WriterOutput};

@@ -1,4 +1,4 @@
-//! Lines of an input, read as commands.
+//! Lines of an input, read as commands. Layer: product, on base and files. Begin at `reading.rt`.
 #![tactic(auto)]
 
 mod command;

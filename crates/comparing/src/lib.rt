@@ -1,4 +1,5 @@
-//! Comparing values by `==` and by order, hashing them as keys, and `in`, each with its steps and its limit of containers.
+//! Comparing values by `==` and by order, hashing them as keys, and `in`, each with its steps and its limit of
+//! containers. Layer: values, on base. Begin at `walks.rt`.
 #![tactic(auto)]
 
 mod equality;

@@ -2,6 +2,8 @@
 //!
 //! Both stand on `http_server::Log`. That is the kit's public, proved history without bytes: an HTTP server happens to
 //! need one, and nothing else of that crate is used here.
+//!
+//! Layer: base. Begin at `number.rt`.
 #![tactic(auto)]
 
 mod history;

@@ -1,4 +1,5 @@
-//! Edits of the files: why they are refused, what they change, and the list of those that were accepted.
+//! Edits of the files: why they are refused, what they change, and the list of those that were accepted. Layer:
+//! product, on base and files. Begin at `making.rt`.
 #![tactic(auto)]
 
 mod changes;

@@ -1,4 +1,4 @@
-//! The parser of expressions.
+//! The parser of expressions. Layer: syntax, on base. Begin at `expression.rt`.
 #![tactic(auto)]
 
 mod expression;

@@ -1,4 +1,4 @@
-//! Files by their paths.
+//! Files by their paths. Layer: files, on base. Begin at `tree.rt` and `specs/Files.antt`.
 #![tactic(auto)]
 
 ghost use Rattle.filetree.specs.Lawful.{EditsKeepPaths};

@@ -1,4 +1,5 @@
-//! The frames of a machine that evaluates a file, and one step of it.
+//! The frames of a machine that evaluates a file, and one step of it. Layer: evaluation of a file, on base, syntax and
+//! values. Begin at `stepping.rt` and `specs/Frames.antt`.
 #![tactic(auto)]
 
 mod ahead;

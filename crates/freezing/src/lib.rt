@@ -1,4 +1,4 @@
-//! Frozen values: trees apart from any heap.
+//! Frozen values: trees apart from any heap. Layer: values, on base. Begin at `values.rt`.
 #![tactic(auto)]
 
 mod frozen;

@@ -22,6 +22,9 @@
 //!   subdirectories. It ends with the names of all packages at and below the directory, in byte order.
 //!
 //! An empty group is not asked, and a key that repeats in a group is asked once, at its first place.
+//!
+//! Layer: loading, on base, files, syntax, values, evaluation of a file and engine. Begin at `loading.rt` and
+//! `specs/Next.antt`.
 #![tactic(auto)]
 
 ghost use Rattle.functions.specs.NodeValues.{NamesHold, GlobsHold, PackagesHold};

@@ -1,4 +1,5 @@
-//! The answer of a glob, and the laws of the walk that finds it pattern by pattern and directory by directory.
+//! The answer of a glob, and the laws of the walk that finds it pattern by pattern and directory by directory. Layer:
+//! files. Begin at `specs/Globs.antt`.
 #![tactic(auto)]
 
 ghost use Rattle.globs.specs.Globs.{IsFoundByWalk, IsFoundByPatterns, IsHeldWithDirectories, HasItsPattern};

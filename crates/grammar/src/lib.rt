@@ -3,6 +3,8 @@
 //! `specs/Grammar` says which tokens are which tree, one rule for each alternative of a production, and `specs/Texts`
 //! what the tree of a text is and what refuses a text. The other files of `specs/` read the same grammar by functions, as
 //! the parser does; `proofs/` shows that both are one.
+//!
+//! Layer: syntax, on base. Begin at `specs/Grammar.antt`.
 #![tactic(auto)]
 
 ghost use Rattle.grammar.specs.TargetRules.{TargetsAreByTheirRules};

@@ -1,4 +1,5 @@
 //! The heap that values stand on: objects, the steps that are left, and lists, texts and dictionaries apart from it.
+//! Layer: values, on base. Begin at `heap.rt` and `specs/View.antt`.
 #![tactic(auto)]
 
 mod dictionaries;

@@ -1,4 +1,4 @@
-//! Index, slice, change and iteration.
+//! Index, slice, change and iteration. Layer: values, on base. Begin at `reading.rt`.
 #![tactic(auto)]
 
 mod changing;

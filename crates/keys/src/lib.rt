@@ -2,6 +2,8 @@
 //!
 //! A node function gets other nodes' values only by asking for them, in groups. A turn is one call of it: it ends with
 //! the next group to be asked or with the node's value. Between two turns a state may be kept.
+//!
+//! Layer: engine, on base, files, syntax and values. Begin at `key.rt` and `rules.rt`.
 #![tactic(auto)]
 
 mod job;

@@ -1,4 +1,4 @@
-//! Paths of files, package names and labels.
+//! Paths of files, package names and labels. Layer: files, on base. Begin at `path.rt`.
 #![tactic(auto)]
 
 mod label;

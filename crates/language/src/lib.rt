@@ -4,6 +4,8 @@
 //! calls, and what an evaluation is given and works on. The definitions follow the Starlark language specification, and
 //! where this repository's profile takes less or decides more, the definition says so. `proofs/` has programs as texts
 //! with the outcomes that the definitions compute of them, and the proofs of the laws.
+//!
+//! Layer: evaluation of a file, on base, files, syntax and values. Begin at `specs/Files.antt`.
 #![tactic(auto)]
 
 ghost use Rattle.language.specs.Laws.{FinishedStays, GlobalsStay, GlobsFindFiles, MoreBehind, ModulesDoNotWait, NeedsAreAsked, StepsAreSpent, TargetsRise};

@@ -1,5 +1,6 @@
-//! The leaves of the graph: which keys are leaves, and how the value of one is read from the files. Layer: engine. It
-//! stands on keys and files alone, so that the crates which walk the graph need not stand on the node functions.
+//! The leaves of the graph: which keys are leaves, and how the value of one is read from the files. It stands on keys
+//! and files alone, so that the crates which walk the graph need not stand on the node functions. Layer: engine, on
+//! base and files. Begin at `specs/Leaves.antt`.
 #![tactic(auto)]
 
 ghost use Rattle.std.specs.Prelude.{◌≡◌, IsTrue, IfOk, Some, option_map};

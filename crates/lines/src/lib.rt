@@ -1,4 +1,5 @@
-//! Lines of an input, one at a time, and the devices that bytes come from and go to.
+//! Lines of an input, one at a time, and the devices that bytes come from and go to. Layer: base. Begin at
+//! `pending.rt`.
 #![tactic(auto)]
 
 mod device;

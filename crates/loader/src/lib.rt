@@ -1,4 +1,5 @@
-//! Lines of commands in, lines of answers out: a resident loader of packages.
+//! Lines of commands in, lines of answers out: a resident loader of packages. Layer: product, on base, files, engine
+//! and loading. Begin at `session.rt` and `specs/Effects.antt`.
 #![tactic(auto)]
 
 mod laws;

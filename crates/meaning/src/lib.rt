@@ -2,6 +2,8 @@
 //!
 //! The definitions stand in `specs/`; the types that they share with the code stand here. They follow the Starlark
 //! language specification, and where this repository's profile takes less or decides more, the definition says so.
+//!
+//! Layer: base. Begin at `val.rt` and `specs/Heap.antt`.
 #![tactic(auto)]
 
 mod builtin;

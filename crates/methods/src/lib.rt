@@ -1,4 +1,4 @@
-//! The methods of lists, dictionaries and strings, and `+=`.
+//! The methods of lists, dictionaries and strings, and `+=`. Layer: values, on base. Begin at `calls.rt`.
 #![tactic(auto)]
 
 mod calls;

@@ -1,4 +1,5 @@
 //! What the evaluation of a file leaves, with exact equality: of a BUILD file its targets, of a .bzl file a module.
+//! Layer: values, on base and syntax. Begin at `modules.rt` and `specs/Values.antt`.
 #![tactic(auto)]
 
 mod bindings;

@@ -1,4 +1,5 @@
-//! Modules: what a load gives, names of modules on the heap, and what a file's evaluation leaves.
+//! Modules: what a load gives, names of modules on the heap, and what a file's evaluation leaves. Layer: evaluation of
+//! a file, on base, syntax and values. Begin at `loading.rt`.
 #![tactic(auto)]
 
 mod ending;

@@ -1,4 +1,5 @@
-//! What the evaluation of a file works on: values on a heap, names with their values, and targets.
+//! What the evaluation of a file works on: values on a heap, names with their values, and targets. Layer: evaluation
+//! of a file, on base, syntax and values. Begin at `state.rt`.
 #![tactic(auto)]
 
 mod blocks;

@@ -1,4 +1,5 @@
-//! The graph of what was recorded of nodes.
+//! The graph of what was recorded of nodes. Layer: engine, on base and files. Begin at `graph.rt` and
+//! `specs/Graphs.antt`.
 #![tactic(auto)]
 
 mod batch;

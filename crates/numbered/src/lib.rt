@@ -1,4 +1,5 @@
-//! Tables in which a key's number is its place, and groups of such numbers.
+//! Tables in which a key's number is its place, and groups of such numbers. Layer: engine, on base. Begin at
+//! `table.rt`.
 #![tactic(auto)]
 
 mod flat;

@@ -1,4 +1,5 @@
-//! The nodes that a round has opened and not settled yet, and what there is to do with them.
+//! The nodes that a round has opened and not settled yet, and what there is to do with them. Layer: engine, on base.
+//! Begin at `steps.rt`.
 #![tactic(auto)]
 
 mod run;

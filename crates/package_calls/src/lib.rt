@@ -1,4 +1,5 @@
-//! The package calls of the language: `package_name`, `glob` and the rules.
+//! The package calls of the language: `package_name`, `glob` and the rules. Layer: evaluation of a file, on base,
+//! files, syntax and values. Begin at `rules.rt`.
 #![tactic(auto)]
 
 mod answering;

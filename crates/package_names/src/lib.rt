@@ -3,6 +3,8 @@
 //! `Under(directory)` asks the look-up and the listing of the directory, and then the names at and below each of its
 //! subdirectories. It ends with all these names in byte order, its own among them if it is a package. An empty group is
 //! not asked.
+//!
+//! Layer: loading, on base, files and engine. Begin at `node.rt`.
 #![tactic(auto)]
 
 ghost use Rattle.package_names.specs.Finds.{HoldsPackages, HavePackageNames};

@@ -4,6 +4,8 @@
 //! where loads run in a circle. `specs/Packages` says what the module of a label and the package of a directory are at one
 //! state of the files: the first fault of the file, else the first fault of its loads, else what the evaluation of the
 //! file leaves. Both look at the files, and at nothing that a node asks or keeps; the laws below tie the nodes to them.
+//!
+//! Layer: loading, on base, files, syntax, values, evaluation of a file and engine. Begin at `specs/Packages.antt`.
 #![tactic(auto)]
 
 ghost use Rattle.packages.specs.Packages.{ModulesHold, PackagesHold};

@@ -1,4 +1,4 @@
-//! Glob patterns.
+//! Glob patterns. Layer: files, on base. Begin at `pattern.rt` and `specs/Patterns.antt`.
 #![tactic(auto)]
 
 mod pattern;

@@ -1,5 +1,6 @@
-//! The pieces of an evaluation that evaluate no expression: operators, members of values, what is assigned to, calls of
-//! built-in functions and of methods.
+//! The pieces of an evaluation that evaluate no expression: operators, members of values, what is assigned to, calls
+//! of built-in functions and of methods. Layer: evaluation of a file, on base, syntax and values. Begin at
+//! `operators.rt`.
 #![tactic(auto)]
 
 mod aims;

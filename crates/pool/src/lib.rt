@@ -1,5 +1,5 @@
-//! An evaluation by one worker thread a hand, which the host hires as jobs appear. Layer: engine, above the round and the
-//! board.
+//! An evaluation by one worker thread a hand, which the host hires as jobs appear. Layer: engine, on base, files,
+//! values and evaluation of a file. Begin at `evaluations.rt`.
 #![tactic(auto)]
 
 mod bell;

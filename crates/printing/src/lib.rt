@@ -1,4 +1,4 @@
-//! The texts of values.
+//! The texts of values. Layer: values, on base. Begin at `strings.rt`.
 #![tactic(auto)]
 
 mod quoting;

@@ -1,4 +1,4 @@
-//! The evaluation of nodes.
+//! The evaluation of nodes. Layer: engine, on base and files. Begin at `rounds.rt` and `specs/Rounds.antt`.
 #![tactic(auto)]
 
 mod close;

@@ -1,4 +1,4 @@
-//! Whether two functions of files are one tree, line for line.
+//! Whether two functions of files are one tree, line for line. Layer: syntax, on base. Begin at `stmts.rt`.
 #![tactic(auto)]
 
 mod exprs;

@@ -1,5 +1,5 @@
 //! Node functions of small graphs, to try evaluations with: a chain, two diamonds, two loops and a node that chooses.
-//! Layer: engine, beside the node functions of the product. Only programs that try things out stand on it.
+//! Only programs that try things out stand on it. Layer: engine, on base. Begin at `rules.rt`.
 #![tactic(auto)]
 
 mod rules;

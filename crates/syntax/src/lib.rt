@@ -1,4 +1,4 @@
-//! The parser of source files.
+//! The parser of source files. Layer: syntax, on base. Begin at `statement.rt` and `specs/Answers.antt`.
 #![tactic(auto)]
 
 mod function;

@@ -1,4 +1,4 @@
-//! A shared text, the error of refused memory, and values kept beside what is made.
+//! A shared text, the error of refused memory, and values kept beside what is made. Layer: base. Begin at `text.rt`.
 #![tactic(auto)]
 
 mod keeping;

@@ -1,4 +1,4 @@
-//! Tokens of a source file.
+//! Tokens of a source file. Layer: syntax, on base. Begin at `lexer.rt` and `specs/Reading.antt`.
 #![tactic(auto)]
 
 mod bytes;

@@ -1,4 +1,4 @@
-//! Syntax trees.
+//! Syntax trees. Layer: syntax, on base. Begin at `expr.rt` and `specs/Tree.antt`.
 #![tactic(auto)]
 
 mod def;

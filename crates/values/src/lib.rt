@@ -1,4 +1,5 @@
-//! Values on a heap: what each operator and walk does with them, step by step as the language means it.
+//! Values on a heap: what each operator and walk does with them, step by step as the language means it. Layer: values,
+//! on base. Begin at `operators.rt`.
 #![tactic(auto)]
 
 mod operators;

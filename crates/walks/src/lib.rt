@@ -10,6 +10,8 @@
 //!   subdirectories that the pattern would find, and its globs below end with ` dirs` as well.
 //!
 //! An empty group is not asked, and a key that repeats in a group is asked once, at its first place.
+//!
+//! Layer: loading, on base, files and engine. Begin at `lookup_node.rt` and `glob_node.rt`.
 #![tactic(auto)]
 
 ghost use Rattle.walks.specs.NodeValues.{LookupsHold, GlobsHold};
