@@ -16,7 +16,7 @@ use crate::stepping::step;
 use heap::Halt;
 use names::{Standing, State};
 
-/// So many moves are made at once, at most.
+/// So many moves are made at once, at most, so that each call returns.
 const MOST_MOVES: usize = 1024;
 
 // Returns whether `step` goes on with a control.

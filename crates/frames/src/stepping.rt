@@ -72,7 +72,7 @@ pub(crate) fn step(
 
 /// Makes a step within a function or a file, and goes on at once. Calls, `+=` on two values, the binding of a function,
 /// the beginning of a comprehension's block and the end of a call are handed back. So is what comes next where objects
-/// are to be given back.
+/// are to be given back, and behind 1,024 moves.
 pub fn go_on(
     state: &mut State,
     frames: &mut Vec<Frame>,
