@@ -29,6 +29,8 @@ PROGRAMS = {
     "trials": ("tests/trials", []),
     "schedules": ("tests/schedules", []),
 }
+# A library that only such programs stand on, and where its sources are.
+BESIDE = {"small_graphs": "tests/small_graphs"}
 NAME = sys.argv[1] if len(sys.argv) > 1 else "measures"
 FOLDER, WORDS = PROGRAMS[NAME]
 SOURCES = os.path.join(TOP, FOLDER)
@@ -57,15 +59,17 @@ def files_in(folder):
     return [os.path.join(at, name) for at, _, names in os.walk(folder) for name in names]
 
 
-def program_files():
-    """Lists the files that the program is built from: its list of libraries, its sources and its proofs."""
-    found = [it for it in files_in(SOURCES) if os.path.splitext(it)[1] in ENDINGS]
+def program_files(crates):
+    """Lists the files that the program is built from: its list of libraries, its sources and its proofs, and those of the
+    libraries beside the gate."""
+    folders = [SOURCES, *(os.path.join(TOP, BESIDE[it]) for it in crates if it in BESIDE)]
+    found = [it for folder in folders for it in files_in(folder) if os.path.splitext(it)[1] in ENDINGS]
     return [os.path.join(SOURCES, "uses"), *found]
 
 
 def is_new(crates):
     """Returns whether the program is newer than what it is built from and than the libraries."""
-    files = program_files() + [os.path.join(TOP, "crates", it, "out/rlib/stamp") for it in crates]
+    files = program_files(crates) + [os.path.join(TOP, "crates", it, "out/rlib/stamp") for it in crates if it not in BESIDE]
     if not all(map(os.path.exists, [PROGRAM, *files])):
         return False
     return os.path.getmtime(PROGRAM) > max(map(os.path.getmtime, files))
@@ -82,10 +86,10 @@ def place_library(room, name):
             subprocess.run(["cp", how, os.path.join(ours, part), os.path.join(theirs, part)], check=True)
 
 
-def place_sources(crate):
-    """Copies the sources and proofs of the program, with the endings that the kit reads."""
-    for file in files_in(SOURCES):
-        stem, ending = os.path.splitext(os.path.join(crate, os.path.relpath(file, SOURCES)))
+def place_sources(crate, sources):
+    """Copies the sources and proofs of a program or a library beside the gate, with the endings that the kit reads."""
+    for file in files_in(sources):
+        stem, ending = os.path.splitext(os.path.join(crate, os.path.relpath(file, sources)))
         if ending in ENDINGS:
             os.makedirs(os.path.dirname(stem), exist_ok=True)
             shutil.copy(file, stem + ENDINGS[ending])
@@ -98,8 +102,11 @@ def make_room(room, crates, lines):
     with open(os.path.join(room, "crates.txt"), "w") as out:
         out.writelines(f"{lines[it]}\n" for it in [*crates, NAME])
     for it in crates:
-        place_library(room, it)
-    place_sources(os.path.join(room, "crates", NAME))
+        if it in BESIDE:
+            place_sources(os.path.join(room, "crates", it), os.path.join(TOP, BESIDE[it]))
+        else:
+            place_library(room, it)
+    place_sources(os.path.join(room, "crates", NAME), SOURCES)
 
 
 def run(folder, log, words, given=subprocess.DEVNULL):
@@ -112,7 +119,7 @@ def build_libraries(crates, uses, log):
     """Proves and builds the libraries on which `cli` does not stand. Returns whether all went well."""
     of_cli = []
     add_below(of_cli, "cli", uses)
-    lacking = [it for it in crates if it not in of_cli]
+    lacking = [it for it in crates if it not in of_cli and it not in BESIDE]
     return all(run(os.path.join(TOP, "crates", it), log, ["rt", "lib"]) for it in lacking)
 
 

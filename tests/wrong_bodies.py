@@ -95,7 +95,14 @@ def contracts_in(file):
         is_shown = lines[first].lstrip().startswith("pub ") or re.match(r"(pub )?trait |impl.* for ", around)
         lines[body if is_shown else it.first - 1 : it.last] = []
     shown = "\n".join(line for line in lines if line.strip() and not re.match(r" *(//|use |ghost use )", line))
-    return without_private_items(without_representations(shown))
+    return without_private_items(without_drops(without_representations(shown)))
+
+
+def without_drops(shown):
+    """A source's items without what lets a type go. A drop that is written out has no contract, and says no more than a
+    derived one."""
+    shown = re.sub(r"(?m)^impl(?:<.*>)? Drop for .*\{\n(?:    #\[.*\]\n)*\}\n?", "", shown)
+    return re.sub(r"(?m)^#\[derive\(Drop\)\]\n|(?<=[(, ])Drop, (?=.*\)\]$)|, Drop(?=\)\]$)", "", shown)
 
 
 def without_representations(shown):

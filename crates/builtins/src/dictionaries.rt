@@ -7,11 +7,10 @@ ghost use Rattle.heap.specs.View.{store_of, Says, Checks};
 ghost use Rattle.builtins.specs.Results.{SaysEntries, pairs_of};
 
 use crate::names::is_twice;
-use comparing::hash;
 use heap::{Bytes, Entry, Halt, Heap, Key, Object, Val, has_room, set_entry};
-use indexing::items;
 use indexmap::IndexMap;
 use meaning::faults;
+use operations::{hash, items};
 use std::alloc::Global;
 use texts::{Memory, Text};
 

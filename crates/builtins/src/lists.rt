@@ -5,7 +5,7 @@ ghost use Rattle.builtins.specs.Parts.{list_from, tuple_from, reversed_from};
 ghost use Rattle.heap.specs.View.{store_of, Says};
 
 use heap::{Halt, Heap, Val};
-use indexing::items;
+use operations::items;
 
 /// Evaluates `list()`.
 pub fn no_list(heap: &mut Heap) -> Result<Val, Halt>

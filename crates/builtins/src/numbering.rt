@@ -6,7 +6,7 @@ ghost use Rattle.heap.specs.View.{store_of, Says, SaysItems};
 ghost use Rattle.builtins.specs.Parts.{enumerate_from};
 
 use heap::{Halt, Heap, Val};
-use indexing::items;
+use operations::items;
 
 /// Evaluates `enumerate(x)`, or returns fault 5.
 pub fn enumerate(heap: &mut Heap, x: Val) -> Result<Val, Halt>

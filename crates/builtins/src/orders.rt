@@ -6,8 +6,8 @@ ghost use Rattle.heap.specs.View.{store_of, Says};
 ghost use Rattle.builtins.specs.Ranks.{is_better};
 
 use heap::{Halt, Heap, Object, Val};
-use indexing::items;
 use meaning::faults;
+use operations::items;
 use std::cmp::Ordering;
 use texts::Memory;
 

@@ -8,9 +8,9 @@ ghost use Rattle.heap.specs.View.{store_of, Says, Checks};
 ghost use Rattle.builtins.specs.Results.{ChecksBytes};
 ghost use Rattle.builtins.specs.Parts.{type_text};
 
-use arithmetic::is_true;
 use heap::{Halt, Heap, Object, Val};
 use meaning::faults;
+use operations::is_true;
 use texts::Memory;
 
 /// Evaluates `len(x)`, or returns fault 5.

@@ -7,8 +7,8 @@ ghost use Rattle.builtins.specs.Ranks.{int_of, bytes_of, with_bytes};
 
 use crate::orders::{are_alike, are_ints};
 use heap::{Bytes, Halt, Heap, Object, Val};
-use indexing::items;
 use meaning::faults;
+use operations::items;
 use std::alloc::Global;
 use texts::{Memory, Text};
 

@@ -4,9 +4,8 @@ ghost use Rattle.meaning.specs.Functions.{any_true, all_true};
 ghost use Rattle.builtins.specs.Parts.{any_from, all_from};
 ghost use Rattle.heap.specs.View.{store_of, Says};
 
-use arithmetic::is_true;
 use heap::{Halt, Heap, Val};
-use indexing::items;
+use operations::{is_true, items};
 use texts::Memory;
 
 /// Evaluates `any(x)`, or returns fault 5.

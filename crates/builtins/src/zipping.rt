@@ -6,7 +6,7 @@ ghost use Rattle.builtins.specs.Parts.{zip_from};
 ghost use Rattle.builtins.specs.Results.{SaysLists, lists_of, items_seen};
 
 use heap::{Halt, Heap, Val, val_at};
-use indexing::items;
+use operations::items;
 use std::alloc::Global;
 use texts::Memory;
 

@@ -1,4 +1,10 @@
-pub mod BlockNames
 pub mod Accepts
-pub mod Runs
+pub mod BlockNames
+pub mod Bodies
+pub mod Each
+pub mod Ends
+pub mod Freezes
 pub mod ParameterValues
+pub mod Runs
+pub mod Still
+pub mod Worlds

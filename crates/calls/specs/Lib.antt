@@ -1,2 +1,5 @@
-pub mod View
+pub mod Freeze
+pub mod Once
 pub mod ParameterValue
+pub mod Thaw
+pub mod View

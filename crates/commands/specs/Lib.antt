@@ -1,3 +1,4 @@
 pub mod Commands
+pub mod Edits
 pub mod Refusals
 pub mod View

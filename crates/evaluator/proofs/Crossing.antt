@@ -24,14 +24,16 @@ use Rattle.tree.proofs.expr.UnaryOp.TheSendSync as UnarySends
 use Rattle.freezing.proofs.frozen.Frozen.TheLaws.TheKnot as frozen
 use Rattle.freezing.specs.contracts.value.FrozenValue
 use Rattle.module_values.specs.contracts.bindings.Function
+use Rattle.module_values.proofs.functions.Index.TheSendSync as IndexSends
+use Rattle.module_values.specs.contracts.functions.Functions
 use Rattle.module_values.specs.contracts.modules.ModuleValue
 use Rattle.module_values.specs.contracts.modules.Module
 use Rattle.names.proofs.state.Block.TheSendSync as BlockSends
 use Rattle.names.proofs.state.Standing.TheSendSync as StandingSends
 use Rattle.names.proofs.state.State.TheSendSync as StateSends
-use Rattle.pieces.proofs.aims.Aim.TheLaws.TheKnot as aims
-use Rattle.pieces.proofs.gathering.Collection.TheSendSync as CollectionSends
-use Rattle.pieces.specs.contracts.aims.Aim
+use Rattle.names.proofs.aims.Aim.TheLaws.TheKnot as aims
+use Rattle.names.proofs.gathering.Collection.TheSendSync as CollectionSends
+use Rattle.names.specs.contracts.aims.Aim
 use Rattle.calls.proofs.functions.Open.TheSendSync as OpenSends
 use Rattle.package_calls.proofs.kinds.Package.TheSendSync as PackageSends
 use Rattle.frames.proofs.frame.Exit.TheSendSync as ExitSends
@@ -60,8 +62,14 @@ function_send = search trees_cross depth 60 fits 20000
 function_sync : IsSync Function.the_row
 function_sync = search trees_cross depth 60 fits 20000
 
+functions_send : IsSend Functions.the_row
+functions_send = search (IndexSends.the_send, function_send, trees_cross) depth 60 fits 20000
+
+functions_sync : IsSync Functions.the_row
+functions_sync = search (IndexSends.the_sync, function_sync, trees_cross) depth 60 fits 20000
+
 module_send : IsSend Module.the_row
-module_send = search (frozen_send, frozen_sync, function_send, function_sync, TextSends.the_send, TextSends.the_sync, trees_cross) depth 60 fits 20000
+module_send = search (functions_send, functions_sync, frozen_send, frozen_sync, TextSends.the_send, TextSends.the_sync, trees_cross) depth 60 fits 20000
 
 pub loaded_send : IsSend ModuleValue.the_row
 loaded_send = search (module_send, crosses, sendable) depth 60 fits 20000

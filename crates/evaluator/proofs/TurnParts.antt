@@ -8,7 +8,7 @@ use Rattle.meaning.specs.declared.val.Val.{Val}
 use Rattle.meaning.specs.declared.builtin.Builtin.{Builtin}
 use Rattle.tree.specs.declared.expr.Expr.{Expr}
 use Rattle.tree.specs.declared.def.Def.{Def}
-use Rattle.pieces.specs.declared.aims.Aim.{Aim}
+use Rattle.names.specs.declared.aims.Aim.{Aim}
 use Rattle.frames.specs.declared.frame.Comprehension.{Comprehension}
 use Rattle.frames.specs.declared.frame.Control.{Control}
 use Rattle.frames.specs.declared.frame.Control.TheVariants as c

@@ -8,12 +8,13 @@ ghost use Rattle.frames.specs.Frames.{Goes, on, machine_does};
 ghost use Rattle.frames.specs.Weight.{Lighter, frames_weight, control_weight};
 ghost use Rattle.frames.specs.declared.frame.Control.TheVariants as c;
 
-use calls::comprehension_block;
+use calls::{comprehension_block, keep_defaults};
 use frames::{Comprehension, Control, Exit, Frame, Gathering, Signal, push};
 use heap::{Builtin, Bytes, Halt, Object, Val};
-use modules::keep_defaults;
-use names::{Block, Standing, State, bind};
-use pieces::{Aim, add, call_builtin, call_method, items, lock, nothing_yet, store};
+use names::{
+    Aim, Block, Standing, State, add, bind, call_builtin, call_method, items, lock, nothing_yet,
+    store,
+};
 use std::alloc::Global;
 use std::sync::Arc;
 use std::sync::atomic::AtomicUsize;

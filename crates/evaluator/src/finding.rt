@@ -9,9 +9,9 @@ ghost use Rattle.evaluator.specs.Machines.{env_of};
 ghost use Rattle.evaluator.specs.Finding.{IsDef, IsFound, IsLabel};
 
 use crate::setting::Setting;
+use calls::reached;
 use heap::{Bytes, Halt};
 use module_values::{Module, ModuleValue};
-use modules::reached;
 use std::alloc::Global;
 use std::sync::Arc;
 use texts::Text;

@@ -6,9 +6,9 @@ ghost use Rattle.language.specs.Environment.{defs};
 ghost use Rattle.module_values.specs.FunctionNames.{first_named};
 
 use crate::machine::Environment;
+use calls::functions_of;
 use heap::Bytes;
 use module_values::{Function, Functions};
-use modules::functions_of;
 use std::alloc::Global;
 use std::marker::Model;
 use texts::Memory;

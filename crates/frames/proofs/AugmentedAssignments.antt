@@ -9,7 +9,7 @@ use Rattle.tree.specs.declared.expr.BinaryOp.TheVariants as o
 use Rattle.language.specs.World.{World, Site, Here, Ends, Runs, then_runs, on_heap}
 use Rattle.language.specs.Expressions.{operator_of}
 use Rattle.language.specs.Statements.{changed}
-use Rattle.pieces.specs.View.{RanInto}
+use Rattle.names.specs.AimView.{RanInto}
 use Rattle.frames.specs.declared.frame.Control.{Control}
 use Rattle.frames.specs.Frames.{Sig, Goes}
 

@@ -9,7 +9,7 @@ use Rattle.language.specs.Environment.{Env}
 use Rattle.language.specs.Targets.{Aim, Aims, aim_at, no_aims, to_each}
 use Rattle.language.specs.Expressions.{aims}
 use Rattle.language.specs.Calls.{call}
-use Rattle.pieces.specs.View.{before}
+use Rattle.names.specs.AimView.{before}
 use Rattle.frames.specs.declared.frame.Frame.{Frame}
 use Rattle.frames.specs.Frames.{Sig, an_aim, on, aimed, aims_at, aims_from, above, stack_does}
 

@@ -12,10 +12,10 @@ use Rattle.tree.specs.declared.expr.Clause.TheOpen.{Clause-F}
 use Rattle.tree.specs.declared.expr.Clause.TheVariants as y
 use Rattle.language.specs.Targets as ta
 use Rattle.language.specs.Targets.{to_each}
-use Rattle.pieces.specs.View.{aim_of, aims_of, aim_step}
-use Rattle.pieces.specs.declared.aims.Aim.{Aim, fold-roll-Aim}
-use Rattle.pieces.specs.declared.aims.Aim.TheOpen.{Aim-F}
-use Rattle.pieces.specs.declared.aims.Aim.TheVariants.{Each, rolls-Each}
+use Rattle.names.specs.AimView.{aim_of, aims_of, aim_step}
+use Rattle.names.specs.declared.aims.Aim.{Aim, fold-roll-Aim}
+use Rattle.names.specs.declared.aims.Aim.TheOpen.{Aim-F}
+use Rattle.names.specs.declared.aims.Aim.TheVariants.{Each, rolls-Each}
 use Rattle.tree.specs.View.{shared_tree, clause_of, expr_step, clause_step}
 
 pub clause-For : (e s : Arc Expr Global) → clause_of (y.For e s) ≡ t.for_in (shared_tree e) (shared_tree s)

@@ -49,7 +49,7 @@ use Rattle.language.specs.Statements.{goes_on, breaks, continues, returns, unles
 use Rattle.language.specs.Calls.{call, given}
 use Rattle.language.specs.Files.{keep_defaults}
 use Rattle.names.specs.View.{held, here_of}
-use Rattle.pieces.specs.View.{before, aim_of, gathered_of}
+use Rattle.names.specs.AimView.{before, aim_of, gathered_of}
 pub use Rattle.quiet.specs.StatementResults.{first_line, stmt_line}
 use Rattle.frames.specs.declared.frame.Exit.{Exit}
 use Rattle.frames.specs.declared.frame.Exit.TheVariants as x

@@ -13,8 +13,7 @@ use crate::forms::{
 use crate::frame::{Control, Frame, Purpose, Signal};
 use crate::once::at_once;
 use heap::{Halt, Val};
-use names::{Standing, State, read};
-use pieces::tick;
+use names::{Standing, State, read, tick};
 use tree::{Expr, Literal};
 
 // Returns the value of a literal word.

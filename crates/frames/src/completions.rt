@@ -4,7 +4,7 @@ ghost use Rattle.heap.specs.declared.halt.Halt.TheVariants.{Memory};
 ghost use Rattle.language.specs.World.{World, Here};
 ghost use Rattle.language.specs.Environment.{Env};
 ghost use Rattle.names.specs.View.{world_of, here_of};
-ghost use Rattle.pieces.specs.View.{aim_of};
+ghost use Rattle.names.specs.AimView.{aim_of};
 ghost use Rattle.frames.specs.Going.{GetsLighter, LeadsOn, LeadsOnAnywhere, SpendsFor};
 ghost use Rattle.frames.specs.declared.frame.Frame.{Frame};
 ghost use Rattle.frames.specs.declared.frame.Frame.TheVariants as f;
@@ -15,8 +15,10 @@ use crate::frame::{Comprehension, Control, Exit, Frame, Gathering, Pairs, Signal
 use crate::items::begin_above;
 use crate::stack::push;
 use heap::{Halt, Val};
-use names::{Standing, State};
-use pieces::{Aim, Collection, fresh, index, is_true, one_entry, one_more, present, slice, store};
+use names::{
+    Aim, Collection, Standing, State, fresh, index, is_true, one_entry, one_more, present, slice,
+    store,
+};
 use std::alloc::Global;
 use std::sync::Arc;
 use tree::{BinaryOp, Branch, Def, Expr, Stmt};

@@ -1,7 +1,7 @@
 //! What each frame does with the end of a statement, with what is gathered, and with what a target aims at.
 ghost use Rattle.std.specs.Prelude.{◌≡◌, ◌<◌, ◌+◌, false};
 ghost use Rattle.names.specs.View.{world_of};
-ghost use Rattle.pieces.specs.View.{aim_of, gathered_of};
+ghost use Rattle.names.specs.AimView.{aim_of, gathered_of};
 ghost use Rattle.frames.specs.Going.{GetsLighter, LeadsOn};
 ghost use Rattle.frames.specs.Frames.{an_aim, an_exit, a_gathered, exit_of, sig_of, given_by, frame_does, frame_line, is_leave, above};
 ghost use Rattle.frames.specs.Weight.{frames_weight, frame_weight};
@@ -9,8 +9,7 @@ ghost use Rattle.frames.specs.Weight.{frames_weight, frame_weight};
 use crate::completions::{aim_done, augment, begin_body, begin_clause, store_value};
 use crate::frame::{Control, Exit, Frame, Signal};
 use heap::{Halt, Val};
-use names::{Standing, State};
-use pieces::{Aim, Collection, make_dict, make_list, unlock};
+use names::{Aim, Collection, Standing, State, make_dict, make_list, unlock};
 
 /// Hands a frame how a statement has ended.
 pub fn deliver_exit(

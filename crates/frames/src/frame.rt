@@ -2,8 +2,7 @@
 
 use heap::{Builtin, Entry, Key, Val};
 use indexmap::IndexMap;
-use names::{Block, Standing};
-use pieces::{Aim, Collection};
+use names::{Aim, Block, Collection, Standing};
 use std::alloc::Global;
 use std::sync::Arc;
 use texts::Text;

@@ -7,7 +7,7 @@ ghost use Rattle.names.specs.View.{world_of};
 ghost use Rattle.frames.specs.Going.{GetsLighter, LeadsOn};
 ghost use Rattle.frames.specs.Frames.{Goes, on, gathered, item_does, an_aim, aims_at, frame_does, above, machine_does};
 ghost use Rattle.frames.specs.Weight.{frames_weight};
-ghost use Rattle.pieces.specs.View.{gathered_of};
+ghost use Rattle.names.specs.AimView.{gathered_of};
 ghost use Rattle.frames.specs.declared.frame.Control.TheVariants as c;
 ghost use Rattle.frames.specs.declared.frame.Frame.TheVariants as f;
 
@@ -17,8 +17,7 @@ use crate::making::next_gathering;
 use crate::stack::push;
 use crate::targets::begin_aim;
 use heap::{Halt, Val};
-use names::{Standing, State, bind};
-use pieces::{Collection, tick, unlock};
+use names::{Collection, Standing, State, bind, tick, unlock};
 use std::alloc::Global;
 use std::sync::Arc;
 use std::sync::atomic::AtomicUsize;

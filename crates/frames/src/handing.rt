@@ -4,7 +4,7 @@ ghost use Rattle.language.specs.Environment.{Env};
 ghost use Rattle.tree.specs.Tree as t;
 ghost use Rattle.tree.specs.View.{shared_tree};
 ghost use Rattle.names.specs.View.{world_of, here_of};
-ghost use Rattle.pieces.specs.View.{aim_of};
+ghost use Rattle.names.specs.AimView.{aim_of};
 ghost use Rattle.frames.specs.Going.{GetsLighter, LeadsOn};
 ghost use Rattle.frames.specs.Frames.{Goes, on, a_value, sig_of, assigned, changes, frame_does, frame_line, is_leave, above, machine_does};
 ghost use Rattle.frames.specs.declared.frame.Frame.{Frame};
@@ -23,8 +23,7 @@ use crate::operands::{choose, entry_value, right_operand, slice_from, slice_to, 
 use crate::stack::push;
 use crate::targets::begin_aim;
 use heap::{Halt, Val};
-use names::{Standing, State, bind};
-use pieces::{Aim, both, store};
+use names::{Aim, Standing, State, bind, both, store};
 use std::alloc::Global;
 use std::sync::Arc;
 use std::sync::atomic::AtomicUsize;

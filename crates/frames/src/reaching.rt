@@ -2,8 +2,7 @@
 
 use crate::frame::{Control, Exit, Frame, Gathering, Purpose, Receiver, Series, Signal, Turns};
 use heap::{LiveObjects, Val};
-use names::reach_blocks;
-use pieces::{Aim, Collection, reach_aim, reach_aims, reach_gathered};
+use names::{Aim, Collection, reach_aim, reach_aims, reach_blocks, reach_gathered};
 use texts::Memory;
 
 // Marks the value that a purpose holds as reached.

@@ -6,7 +6,6 @@ use std::sync::Arc;
 
 /// A value that a file's evaluation leaves. What it holds is shared.
 #[cycle(frozen)]
-#[derive(Drop)]
 pub enum Frozen {
     /// `None`
     Nothing,
@@ -22,10 +21,33 @@ pub enum Frozen {
     Function(Bytes, Bytes),
 }
 
+impl Drop for Frozen {
+    #[cycle(drops)]
+    fn drop(self) {
+        match self {
+            Frozen::Nothing => {}
+            Frozen::Bool(_) => {}
+            Frozen::Int(_) => {}
+            Frozen::Builtin(_) => {}
+            Frozen::Text(_) => {}
+            Frozen::List(_) => {}
+            Frozen::Tuple(_) => {}
+            Frozen::Dict(_) => {}
+            Frozen::Function(_, _) => {}
+        }
+    }
+}
+
 /// A key of a frozen dictionary with its value.
 #[cycle(frozen)]
-#[derive(Drop)]
 pub struct FrozenEntry {
     pub key: Frozen,
     pub value: Frozen,
+}
+
+impl Drop for FrozenEntry {
+    #[cycle(drops)]
+    fn drop(self) {
+        let FrozenEntry { key: _, value: _ } = self;
+    }
 }

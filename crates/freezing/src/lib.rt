@@ -12,5 +12,5 @@ mod walk;
 pub use frozen::{Frozen, FrozenEntry};
 pub use same::same_frozen;
 pub use thawing::thaw;
-pub use value::FrozenValue;
+pub use value::{FrozenValue, freeze_value};
 pub use values::freeze;

@@ -34,7 +34,7 @@ pub fn thaw(heap: &mut Heap, f: &Frozen) -> Result<Val, Halt>
             heap.make(Object::Tuple(xs))
         }
         Frozen::Dict(entries) => {
-            let mut all = IndexMap::new(heap.alloc);
+            let mut all = IndexMap::with_capacity(heap.alloc, entries.len())?;
             thaw_entries(heap, entries.as_slice(), &mut all)?;
             let all = Box::new(heap.alloc, all)?;
             heap.make(Object::Dict {
@@ -52,7 +52,7 @@ fn thaw_members(heap: &mut Heap, members: &[Frozen]) -> Result<Vec<Val>, Halt>
     ensures { SaysItems (thaw_members (members_of (map frozen_of members.now)) (store_of heap.old))
         result (store_of heap.new) }
 {
-    let mut all = Vec::new(heap.alloc);
+    let mut all = Vec::with_capacity(heap.alloc, members.len())?;
     for f in members.iter() {
         match thaw(heap, f) {
             Ok(x) => all.push(x)?,

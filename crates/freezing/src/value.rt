@@ -16,9 +16,14 @@ use texts::Memory;
 
 /// A frozen value as freezing gives it: at most 64 containers deep. A contract sees its tree, and two are equal exactly
 /// where it sees one tree.
-#[derive(Drop)]
 pub struct FrozenValue {
     inner: Frozen,
+}
+
+impl Drop for FrozenValue {
+    fn drop(self) {
+        let FrozenValue { inner: _ } = self;
+    }
 }
 
 impl Model for FrozenValue {
@@ -38,14 +43,6 @@ impl Model for FrozenValue {
 }
 
 impl FrozenValue {
-    /// Returns the tree of a value on a heap, or fault 11 or 12.
-    pub fn freeze(heap: &mut Heap, x: Val) -> Result<FrozenValue, Halt>
-        ensures { Says (freezes x (store_of heap.old)) result (store_of heap.new) }
-    {
-        let inner = values::freeze(heap, x)?;
-        Ok(FrozenValue { inner })
-    }
-
     /// Returns the tree.
     pub fn as_frozen(&self) -> &Frozen
         ensures { frozen_of result.now ≡ self.now }
@@ -60,6 +57,15 @@ impl FrozenValue {
         let inner = self.inner.share()?;
         Ok(FrozenValue { inner })
     }
+}
+
+/// Returns the tree of a value on a heap, or fault 11 or 12. It stands beside `FrozenValue`, so that who names that type
+/// need not know the heap.
+pub fn freeze_value(heap: &mut Heap, x: Val) -> Result<FrozenValue, Halt>
+    ensures { Says (freezes x (store_of heap.old)) result (store_of heap.new) }
+{
+    let inner = values::freeze(heap, x)?;
+    Ok(FrozenValue { inner })
 }
 
 impl PartialEq for FrozenValue {

@@ -7,7 +7,7 @@ use Rattle.keys.specs.declared.value.Value.{Value}
 use Rattle.keys.specs.declared.value.Value.TheVariants as value
 use Rattle.walks.specs.Globs as glob
 use Rattle.walks.specs.Lookups as lookup
-use Rattle.package_names.specs.Turns as names
+use Rattle.walks.specs.Turns as names
 use Rattle.functions.specs.Modules as modules
 use Rattle.functions.specs.Packages as packages
 

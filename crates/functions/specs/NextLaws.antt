@@ -10,7 +10,7 @@ use Rattle.keys.specs.declared.value.Value.TheVariants as value
 use Rattle.keys.specs.Turns.{NoCycle}
 use Rattle.walks.specs.LookupLaws.{lookup_differs, lookup_plain}
 use Rattle.walks.specs.GlobLaws.{glob_differs, glob_plain}
-use Rattle.package_names.specs.TurnLaws.{under_differs, under_plain}
+use Rattle.walks.specs.TurnLaws.{under_differs, under_plain}
 use Rattle.functions.specs.SourceLaws.{good_module, good_package}
 use Rattle.functions.specs.Next.{next}
 

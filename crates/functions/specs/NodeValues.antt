@@ -14,7 +14,7 @@ use Rattle.keys.specs.declared.key.Key.TheVariants as key
 use Rattle.keys.specs.declared.value.Value.{Value}
 use Rattle.keys.specs.declared.value.Value.TheVariants as value
 use Rattle.walks.specs.Lookups.{build_of}
-use Rattle.package_names.specs.Below.{packages_below}
+use Rattle.walks.specs.Below.{packages_below}
 use Rattle.functions.specs.Next.{next}
 use Rattle.leaves.specs.Leaves.{read, listed_of}
 

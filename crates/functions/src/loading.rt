@@ -13,11 +13,10 @@ use crate::file_node::{after_loads, of_module, of_package};
 use crate::reply::{Continuation, Reply};
 use count::Count;
 use keys::{Key, Rules, Turn, Value};
-use package_names::package_names;
 use std::alloc::Global;
 use std::sync::Arc;
 use texts::Memory;
-use walks::{glob, lookup};
+use walks::{glob, lookup, package_names};
 
 /// Rules whose turns are the table of this crate, `specs/Next`.
 pub trait LoadRules: Rules {

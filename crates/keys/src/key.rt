@@ -14,7 +14,6 @@ use std::hash::{Hash, Hasher};
 use texts::{Memory, Text};
 
 /// What names a node. Keys are ordered by kind, as they stand here, and then by the bytes of the text.
-#[derive(Drop)]
 pub enum Key {
     /// A file, by its path. It is a leaf: its value is read from the files.
     File(Text),
@@ -31,6 +30,20 @@ pub enum Key {
     Package(Text),
     /// The names of all packages at and below a directory, by its name, which is empty for the root.
     Under(Text),
+}
+
+impl Drop for Key {
+    fn drop(self) {
+        match self {
+            Key::File(_) => {}
+            Key::Listing(_) => {}
+            Key::Lookup(_) => {}
+            Key::Glob(_) => {}
+            Key::Module(_) => {}
+            Key::Package(_) => {}
+            Key::Under(_) => {}
+        }
+    }
 }
 
 impl Key {

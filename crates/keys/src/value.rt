@@ -40,9 +40,14 @@ impl Eq for BuildName {
 }
 
 /// Texts in order, as the labels of a loop's members. A contract sees a list of texts.
-#[derive(Drop)]
 pub struct Names {
     items: Vec<Text>,
+}
+
+impl Drop for Names {
+    fn drop(self) {
+        let Names { items: _ } = self;
+    }
 }
 
 impl Model for Names {
@@ -84,10 +89,18 @@ impl Eq for Names {
 }
 
 /// The names in a directory: of its files, and of its subdirectories, each in byte order.
-#[derive(Drop)]
 pub struct DirectoryNames {
     files: Names,
     directories: Names,
+}
+
+impl Drop for DirectoryNames {
+    fn drop(self) {
+        let DirectoryNames {
+            files: _,
+            directories: _,
+        } = self;
+    }
 }
 
 impl Model for DirectoryNames {
@@ -140,9 +153,14 @@ impl Eq for DirectoryNames {
 }
 
 /// Paths in byte order, shared. A contract sees a list of texts.
-#[derive(Drop)]
 pub struct Paths {
     items: Arc<Vec<Text>, Global>,
+}
+
+impl Drop for Paths {
+    fn drop(self) {
+        let Paths { items: _ } = self;
+    }
 }
 
 impl Model for Paths {
@@ -195,7 +213,6 @@ impl Eq for Paths {
 
 /// A fault of a .bzl file or of a BUILD file: its code, the file (of a package that is none, the package) and the line
 /// where it is shown.
-#[derive(Drop)]
 pub struct Fault {
     /// Which fault.
     pub code: u8,
@@ -203,6 +220,16 @@ pub struct Fault {
     pub path: Text,
     /// Counted from 1; 0 where no line is shown.
     pub line: usize,
+}
+
+impl Drop for Fault {
+    fn drop(self) {
+        let Fault {
+            code: _,
+            path: _,
+            line: _,
+        } = self;
+    }
 }
 
 impl Fault {
@@ -234,7 +261,6 @@ impl Eq for Fault {
 
 /// What a node holds. Two values are equal exactly where a contract sees one value: a node whose new value is equal
 /// to the recorded one did not change.
-#[derive(Drop)]
 pub enum Value {
     /// Of a file: none, or its text.
     File(Option<Text>),
@@ -253,6 +279,21 @@ pub enum Value {
     /// Of a node that can't be evaluated since it leads into a loop: the labels of the loop's members, of those that
     /// have one, turned so that the least by bytes stands first.
     Cycle(Names),
+}
+
+impl Drop for Value {
+    fn drop(self) {
+        match self {
+            Value::File(_) => {}
+            Value::Listing(_) => {}
+            Value::Lookup(_) => {}
+            Value::Paths(_) => {}
+            Value::Module(_) => {}
+            Value::Package(_) => {}
+            Value::Fault(_) => {}
+            Value::Cycle(_) => {}
+        }
+    }
 }
 
 impl PartialEq for Value {

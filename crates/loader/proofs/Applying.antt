@@ -4,8 +4,8 @@ use Rattle.filetree.specs.Files.{Files}
 use Rattle.keys.specs.declared.key.Key.{Key}
 use Rattle.node.specs.Graphs.{GraphView, record_at, IsTouched, AreReached}
 use Rattle.loader.specs.State.{Edit, Refusal, files_refusal, or_version_refusal, refusal_of, version_limit, TellsRefusal}
-use Rattle.edits.specs.declared.error.EditError.{EditError}
-use Rattle.edits.specs.declared.error.EditError.TheVariants.{Refused, RefusedAt, Memory}
+use Rattle.commands.specs.declared.error.EditError.{EditError}
+use Rattle.commands.specs.declared.error.EditError.TheVariants.{Refused, RefusedAt, Memory}
 use Rattle.loader.specs.Sessions.{SessionView, files_of, state_of}
 
 -- no refusal by the files, and none by the version

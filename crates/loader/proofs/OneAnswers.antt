@@ -6,7 +6,7 @@ use Rattle.lines.specs.Lines.{lines_of, IsWhole, is_too_long}
 use Rattle.lines.proofs.Cuts.{whole_append}
 use Rattle.filetree.specs.Files.{Files}
 use Rattle.labels.specs.Labels.{Target}
-use Rattle.package_names.specs.Below.{packages_below}
+use Rattle.walks.specs.Below.{packages_below}
 use Rattle.packages.proofs.Uniqueness.{one_module_held, one_package_held}
 use Rattle.answers.specs.Answers.{packages_data}
 use Rattle.serde_json.specs.Data.{Data}

@@ -4,13 +4,13 @@ use Rattle.std.specs.Prelude.{Result, Ok, Err, IfOk, Option, option_map, codes, 
 use Rattle.evaluation.specs.Value.{In, first, after as further, Grounded, is_leaf, has_run, HasValue, leaf, run}
 use Rattle.filetree.specs.Files.{Files}
 use Rattle.walks.specs.Lookups.{build_of}
-use Rattle.package_names.specs.Below.{packages_below}
+use Rattle.walks.specs.Below.{packages_below}
 use Rattle.functions.specs.Next.{next}
 use Rattle.leaves.specs.Leaves.{read}
 use Rattle.leaves.proofs.LeafReads.{leaf_stays}
 use Rattle.walks.proofs.LookupValue.{lookup_grounded}
-use Rattle.package_names.proofs.Grounds.{packages_held as names_held}
-use Rattle.package_names.proofs.Names.{package_names}
+use Rattle.walks.proofs.Grounds.{packages_held as names_held}
+use Rattle.walks.proofs.Names.{package_names}
 use Rattle.evaluation.proofs.Plain.{one_value}
 use Rattle.keys.specs.Cycles.{cycle}
 use Rattle.keys.proofs.CycleLaws.{turned}
@@ -28,7 +28,7 @@ use Rattle.loader.specs.Answers.{one_member, build_text, ArePackagesShown, IsMod
 use Rattle.loader.specs.Effects.{AreHeld, StopsAfter, module_roots, package_roots, request_roots, later_roots}
 use Rattle.loader.specs.KeyAnswers.{package_told, module_told}
 use Rattle.loader.specs.State.{Edit, one, batch, Refusal, plain, files_refusal, changed_files}
-use Rattle.edits.specs.Edits.{refusal_at}
+use Rattle.commands.specs.Edits.{refusal_at}
 use Rattle.filetree.specs.Changes.{change_refusal, changes_refusal, refused_or}
 use Rattle.filetree.specs.Lawful.{HasPaths}
 use Rattle.filetree.proofs.Lawful.{edits_keep_paths}

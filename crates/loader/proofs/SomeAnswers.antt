@@ -4,7 +4,7 @@ use Rattle.std.specs.Prelude.{Option, Some, None, option_and_then, codes}
 use Rattle.lines.specs.Lines.{is_too_long}
 use Rattle.filetree.specs.Files.{Files}
 use Rattle.walks.specs.Lookups.{build_of}
-use Rattle.package_names.specs.Below.{packages_below}
+use Rattle.walks.specs.Below.{packages_below}
 use Rattle.labels.specs.Labels.{Target}
 use Rattle.packages.proofs.Existence.{some_module_held, some_package_held}
 use Rattle.answers.specs.Answers.{packages_data}

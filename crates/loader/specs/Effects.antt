@@ -4,7 +4,7 @@ use Rattle.evaluation.specs.Graph.{Marks}
 use Rattle.evaluation.specs.Value.{HasValue, In}
 use Rattle.labels.specs.Labels.{Target, label_text}
 use Rattle.filetree.specs.Files.{Files}
-use Rattle.package_names.specs.Below.{packages_below}
+use Rattle.walks.specs.Below.{packages_below}
 use Rattle.functions.specs.Next.{next}
 use Rattle.leaves.specs.Leaves.{read}
 use Rattle.keys.specs.Cycles.{cycle}

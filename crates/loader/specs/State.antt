@@ -3,8 +3,8 @@ use Rattle.std.specs.Prelude.{◌≡◌, refl, ℕ, ◌+◌, Option, None, Resul
 use Rattle.std.specs.FinMap as map
 use Rattle.std.specs.Coded.{Coded, code_by, coded×, coded_ℕ, coded_list}
 use Rattle.filetree.specs.Files.{Files}
-pub use Rattle.edits.specs.Edits.{Edit, one, batch, changes_of, Refusal, plain, at_change, files_refusal, version_limit, or_version_refusal, changed_files, TellsRefusal}
-use Rattle.edits.specs.declared.error.EditError.{EditError}
+pub use Rattle.commands.specs.Edits.{Edit, one, batch, changes_of, Refusal, plain, at_change, files_refusal, version_limit, or_version_refusal, changed_files, TellsRefusal}
+use Rattle.commands.specs.declared.error.EditError.{EditError}
 
 -- the present files, and how many edits were accepted
 pub record State : Type 0 where

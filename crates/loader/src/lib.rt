@@ -11,8 +11,7 @@ mod session;
 mod turns;
 mod workers;
 
-pub use commands::Request;
-pub use edits::{Edit, EditError};
+pub use commands::{Edit, EditError, Request};
 pub use filetree::Change;
 pub use laws::{input_determines_output, lines_determine_answers, lines_have_answers};
 pub use lines::{DeviceError, Input, Output};

@@ -21,8 +21,10 @@ ghost use Rattle.commands.specs.Commands as commands;
 use crate::request_answers::{later_roots, roots_of, told};
 use crate::turns::{joined, turns_left};
 use crate::workers::evaluate_with;
-use commands::{Command, Request, command_of, data_of, refusal};
-use edits::{Edit, EditError, EditLog, edit_files, edited_paths, refusal_at_limit};
+use commands::{
+    Command, Edit, EditError, EditLog, Request, command_of, data_of, edit_files, edited_paths,
+    refusal, refusal_at_limit,
+};
 use filetree::Tree;
 use filetree::refusals::{LINE_TOO_LONG, NO_COMMAND};
 use functions::{LoadRules, Loading};

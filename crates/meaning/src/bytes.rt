@@ -20,9 +20,14 @@ enum Inner {
 }
 
 /// A string, shared, which a contract sees as its bytes.
-#[derive(Drop)]
 pub struct Bytes {
     inner: Inner,
+}
+
+impl Drop for Bytes {
+    fn drop(self) {
+        let Bytes { inner: _ } = self;
+    }
 }
 
 impl Model for Bytes {

@@ -12,7 +12,6 @@ use std::marker::Model;
 use std::slice::from_ref;
 
 /// A part of a key.
-#[derive(Drop)]
 pub enum Part {
     /// `None`
     Nothing,
@@ -21,6 +20,18 @@ pub enum Part {
     Text(Bytes),
     /// A tuple of so many members, whose parts follow.
     Tuple(usize),
+}
+
+impl Drop for Part {
+    fn drop(self) {
+        match self {
+            Part::Nothing => {}
+            Part::Bool(_) => {}
+            Part::Int(_) => {}
+            Part::Text(_) => {}
+            Part::Tuple(_) => {}
+        }
+    }
 }
 
 impl PartialEq for Part {
@@ -68,9 +79,14 @@ enum Parts {
 }
 
 /// A key: the parts of a value without pointers, a tuple's members after their number. A contract sees the parts.
-#[derive(Drop)]
 pub struct Key {
     parts: Parts,
+}
+
+impl Drop for Key {
+    fn drop(self) {
+        let Key { parts: _ } = self;
+    }
 }
 
 impl Model for Key {

@@ -5,10 +5,10 @@ ghost use Rattle.methods.specs.Cases.{entry_list, entry_tuple, entry_tuples, get
 ghost use Rattle.heap.specs.View.{store_of, Says, SaysItems};
 
 use crate::names::{is_name, no_arguments};
-use comparing::hash;
 use heap::{Entry, Halt, Heap, Key, Object, Val, found, keys};
 use indexmap::IndexMap;
 use meaning::faults;
+use operations::hash;
 use std::alloc::Global;
 use texts::Memory;
 

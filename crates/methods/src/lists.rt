@@ -6,10 +6,9 @@ ghost use Rattle.methods.specs.Cases.{added, objects_added, extended, append_to,
 ghost use Rattle.heap.specs.View.{store_of, Says};
 
 use crate::names::is_name;
-use arithmetic::add;
 use heap::{Halt, Heap, LONGEST, Object, Val};
-use indexing::items;
 use meaning::faults;
+use operations::{add, items};
 
 /// Calls a method of a list, or returns fault 5, 6, 7, 13 or 25.
 pub fn list_method(heap: &mut Heap, a: usize, name: &str, xs: &[Val]) -> Result<Val, Halt>

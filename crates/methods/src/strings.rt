@@ -9,8 +9,8 @@ use crate::names::{is_name, no_arguments};
 use crate::spaces::{begins, ends, stripped};
 use crate::splitting::{join_parts, split_parts};
 use heap::{Halt, Heap, LONGEST, Object, Val};
-use indexing::items;
 use meaning::faults;
+use operations::items;
 
 /// Calls a method of a string, or returns fault 5, 13 or 25.
 pub fn text_method(heap: &mut Heap, whole: &[u8], name: &str, xs: &[Val]) -> Result<Val, Halt>

@@ -1,59 +1,67 @@
--- The place of a name among those of functions, and one name more.
-use Rattle.std.proofs.Common.{◌≡◌, ◌<◌, ◌≤◌, ◌+◌, ◌++◌, ℕ, zero, suc, Bool, true, false, cond, List, [], ◌∷◌, length, take, get_or, refl, ap, sym, ◌∙◌, arith}
-use Rattle.std.proofs.lemmas.Bool.Decides.{nat_tests}
-use Rattle.std.proofs.lemmas.Option.{slice_get_past}
-use Rattle.std.specs.Prelude.{not, nat_lt, nat_eq, position, slice_get, Option, Some, None}
-use Rattle.std.specs.List.{list_any, position_or_len}
-use Rattle.std.specs.Cmp.Lexicographic.{pointwise}
-use Rattle.indexmap.specs.IndexSet.{insert_key}
+-- The places of functions by their names, and one function more.
+use Rattle.std.proofs.Common.{◌≡◌, ◌<◌, ◌+◌, ℕ, zero, suc, Bool, true, false, cond, List, [], ◌∷◌, length, take, get_or, refl, ap, sym, ◌∙◌, arith}
+use Rattle.std.proofs.lemmas.Option.{slice_get-get_or}
+use Rattle.std.specs.Prelude.{is_some, Option, Some, None}
+use lib.Pointwise.{bytes_decides}
 use Rattle.meaning.specs.Comparing.{same_text}
 use Rattle.tree.specs.Tree.{Fn}
-use Rattle.module_values.specs.FunctionNames.{names_of, first_named, function_at}
+use Rattle.module_values.specs.FunctionNames.{first_named, function_at}
 
 one_more : (i : ℕ) → i + 1 ≡ suc i
 one_more i = omega arith
 
-one_before : (i : ℕ) → suc i ≡ 1 + i
-one_before i = omega arith
+-- the first of two that is there
+abbrev or_else : Option Fn → Option Fn → Option Fn
+or_else (Some f) o = Some f
+or_else None o = o
 
-names_more : (fs : List Fn) (i : ℕ) (d : Fn) → i < length fs → names_of (take (suc i) fs) ≡ names_of (take i fs) ++ (get_or fs i d).name ∷ []
-names_more [] i d lt = absurd (omega arith)
-names_more (f ∷ fs) zero d lt = refl
-names_more (f ∷ fs) (suc i) d lt = ap (λ l. f.name ∷ l) (names_more fs i d (omega arith))
+or_none : (o : Option Fn) → or_else o None ≡ o
+or_none (Some f) = refl
+or_none None = refl
 
--- the names of one function more
-pub names_next : (fs : List Fn) (i : ℕ) (d : Fn) → i < length fs → names_of (take (i + 1) fs) ≡ names_of (take i fs) ++ (get_or fs i d).name ∷ []
-names_next fs i d lt = ap (λ n. names_of (take n fs)) (one_more i) ∙ names_more fs i d lt
+behind : (b : Bool) (f : Fn) (o p q : Option Fn) → o ≡ or_else p q → cond b (Some f) o ≡ or_else (cond b (Some f) p) q
+behind true f o p q e = refl
+behind false f o p q e = e
 
--- a name that is added to those without it
-pub added : (x : List ℕ) (xs : List (List ℕ)) → list_any (pointwise nat_eq x) xs ≡ false → insert_key (pointwise nat_eq) xs x ≡ xs ++ x ∷ []
-added x xs e = ap (λ b. cond b xs (xs ++ x ∷ [])) e
+more : (x : List ℕ) (fs : List Fn) (i : ℕ) (d : Fn) → i < length fs → first_named x (take (suc i) fs) ≡ or_else (first_named x (take i fs)) (first_named x (get_or fs i d ∷ []))
+more x [] i d lt = absurd (omega arith)
+more x (f ∷ fs) zero d lt = refl
+more x (f ∷ fs) (suc i) d lt = behind (same_text x f.name) f (first_named x (take (suc i) fs)) (first_named x (take i fs)) (first_named x (get_or fs i d ∷ [])) (more x fs i d (omega arith))
 
-pub not_there : (a b : Bool) → not a ≡ b → b ≡ true → a ≡ false
-not_there true b e f = sym (e ∙ f)
-not_there false b e f = refl
+next : (x : List ℕ) (fs : List Fn) (i : ℕ) (d : Fn) → i < length fs → first_named x (take (i + 1) fs) ≡ or_else (first_named x (take i fs)) (first_named x (get_or fs i d ∷ []))
+next x fs i d lt = ap (λ n. first_named x (take n fs)) (one_more i) ∙ more x fs i d lt
 
-names_count : (fs : List Fn) → length (names_of fs) ≡ length fs
-names_count [] = refl
-names_count (f ∷ fs) = ap suc (names_count fs)
+-- what is not there is none
+pub none_there : (o : Option ℕ) → is_some o ≡ false → o ≡ None
+none_there (Some i) e = cc
+none_there None e = refl
 
-step : (x : List ℕ) (f : Fn) (fs : List Fn) (b : Bool) (a : ℕ) → first_named x fs ≡ slice_get fs a → cond b (Some f) (first_named x fs) ≡ slice_get (f ∷ fs) (cond (not b) (1 + a) 0)
-step x f fs true a h = refl
-step x f fs false a h = h ∙ ap (slice_get (f ∷ fs)) (one_before a)
+other : (x y : List ℕ) (b : Bool) → same_text y x ≡ false → same_text x y ≡ b → b ≡ false
+other x y true e is = let clash : false ≡ true = sym e ∙ (bytes_decides y x).1 (sym ((bytes_decides x y).0 is)) in sym clash
+other x y false e is = refl
 
-leads : (x : List ℕ) (fs : List Fn) → first_named x fs ≡ slice_get fs (position_or_len (same_text x) (names_of fs))
-leads x [] = refl
-leads x (f ∷ fs) = step x f fs (same_text x f.name) (position_or_len (same_text x) (names_of fs)) (leads x fs)
+-- the places of the names so far, with that of one name more
+pub one_place_more : (fs : List Fn) (i : ℕ) (d : Fn) (n : List ℕ) (before after : List ℕ → Option ℕ) → i < length fs → n ≡ (get_or fs i d).name → before n ≡ None → ((q : List ℕ) → after q ≡ cond (same_text n q) (Some i) (before q))
+    → ((q : List ℕ) → function_at fs (before q) ≡ first_named q (take i fs)) → (q : List ℕ) → function_at fs (after q) ≡ first_named q (take (i + 1) fs)
+one_place_more fs i d n before after lt named new updates so q = by (same_text n q) refl
+  where
+    f : Fn
+    f = get_or fs i d
 
-past : (fs : List Fn) (a : ℕ) → nat_lt a (length (names_of fs)) ≡ false → length fs ≤ a
-past fs a e = let count = names_count fs in grind (arith, nat_tests, count, e)
-
-placed : (fs : List Fn) (a : ℕ) (b : Bool) → nat_lt a (length (names_of fs)) ≡ b → function_at fs (cond b (Some a) None) ≡ slice_get fs a
-placed fs a true e = refl
-placed fs a false e = sym (slice_get_past fs a (past fs a e))
-
--- the function at the place of a name
-pub at_name : (x : List ℕ) (fs : List Fn) (o : Option ℕ) → o ≡ position (same_text x) (names_of fs) → function_at fs o ≡ first_named x fs
-at_name x fs o e =
-    let a = position_or_len (same_text x) (names_of fs) in
-    ap (function_at fs) e ∙ placed fs a (nat_lt a (length (names_of fs))) refl ∙ sym (leads x fs)
+    by : (b : Bool) → same_text n q ≡ b → function_at fs (after q) ≡ first_named q (take (i + 1) fs)
+    by true is =
+        let same : n ≡ q = (bytes_decides n q).0 is in
+        let none : None ≡ first_named q (take i fs) = ap (function_at fs) (sym new) ∙ ap (λ x. function_at fs (before x)) same ∙ so q in
+        let hit : same_text q f.name ≡ true = (bytes_decides q f.name).1 (sym same ∙ named) in
+        ap (function_at fs) (updates q ∙ ap (λ b. cond b (Some i) (before q)) is)
+        ∙ slice_get-get_or fs i d lt
+        ∙ ap (λ b. cond b (Some f) None) (sym hit)
+        ∙ ap (λ o. or_else o (first_named q (f ∷ []))) none
+        ∙ sym (next q fs i d lt)
+    by false is =
+        let miss : same_text q f.name ≡ false = other q f.name (same_text q f.name) (ap (λ x. same_text x q) (sym named) ∙ is) refl in
+        ap (function_at fs) (updates q ∙ ap (λ b. cond b (Some i) (before q)) is)
+        ∙ so q
+        ∙ sym (or_none (first_named q (take i fs)))
+        ∙ ap (λ b. or_else (first_named q (take i fs)) (cond b (Some f) None)) (sym miss)
+        ∙ sym (next q fs i d lt)

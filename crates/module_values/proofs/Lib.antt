@@ -1,1 +1,3 @@
+pub mod Beside
 pub mod FunctionPlaces
+pub mod Lists

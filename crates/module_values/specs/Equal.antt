@@ -4,7 +4,7 @@ use Rattle.std.specs.Prelude.{ℕ, List, [], ◌∷◌, Bool, false, ◌&&◌, n
 use Rattle.std.specs.Cmp.Lexicographic.{pointwise}
 use Rattle.meaning.specs.Freezing.{Fz, Fzs, no_members, member}
 use Rattle.freezing.specs.Same.{same}
-use Rattle.same_trees.specs.Same.{same_fn}
+use Rattle.module_values.specs.Same.{same_fn}
 use Rattle.module_values.specs.Values.{Attribute, single, several, Target, Frozen, Defaults, Body, ModuleValue}
 
 abbrev pub text_eq : List ℕ → List ℕ → Bool

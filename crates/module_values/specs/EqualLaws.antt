@@ -8,8 +8,8 @@ use Rattle.meaning.specs.Freezing.{Fz, Fzs, no_members, member}
 use Rattle.freezing.specs.Same.{same}
 use Rattle.freezing.specs.SameLaws.{same_exact}
 use Rattle.freezing.specs.View.{members_of}
-use Rattle.same_trees.specs.Same.{same_fn}
-use Rattle.same_trees.specs.SameLaws.{fns_decide}
+use Rattle.module_values.specs.Same.{same_fn}
+use Rattle.module_values.specs.SameLaws.{fns_decide}
 use Rattle.module_values.specs.Values.{Attribute, single, several, Target, Frozen, Defaults, Body, ModuleValue}
 use Rattle.module_values.specs.Equal.{text_eq, attribute_eq, named_eq, target_eq, frozen_eq, values_of, defaults_eq, body_eq, loaded_eq}
 

@@ -1,6 +1,9 @@
-pub mod Values
 pub mod Equal
 pub mod EqualLaws
-pub mod Storage
-pub mod View
 pub mod FunctionNames
+pub mod Same
+pub mod SameLaws
+pub mod Storage
+pub mod TreeStorage
+pub mod Values
+pub mod View

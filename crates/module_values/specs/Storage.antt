@@ -4,7 +4,7 @@ use Rattle.std.specs.Coded.{Coded, code_by, coded×, coded_ℕ, coded_list}
 use Rattle.meaning.specs.Freezing.{Fz, Fzs}
 use Rattle.tree.specs.Tree.{Fn}
 use Rattle.freezing.specs.Storage.{frozen_code, members_code}
-use Rattle.same_trees.specs.Storage.{fn_code}
+use Rattle.module_values.specs.TreeStorage.{fn_code}
 use Rattle.module_values.specs.Values.{Frozen, Defaults, Body, ModuleValue}
 
 abbrev pub binding_code : Coded Frozen

@@ -4,13 +4,13 @@ ghost use Rattle.std.specs.Cmp.{partial_equiv_from_equiv};
 ghost use Rattle.std.specs.Arc.{arc_value};
 ghost use Rattle.tree.specs.Statements.{fn_of};
 ghost use Rattle.freezing.specs.View.{members_of};
-ghost use Rattle.same_trees.specs.Same.{same_fn};
-ghost use Rattle.same_trees.specs.SameLaws.{fns_equiv};
+ghost use Rattle.module_values.specs.Same.{same_fn};
+ghost use Rattle.module_values.specs.SameLaws.{fns_equiv};
 ghost use Rattle.module_values.specs.Equal.{frozen_eq, defaults_eq};
 ghost use Rattle.module_values.specs.EqualLaws.{frozen_equiv, defaults_equiv};
 
+use crate::same_def;
 use freezing::FrozenValue;
-use same_trees::same_def;
 use std::alloc::Global;
 use std::marker::Model;
 use std::sync::Arc;
@@ -18,10 +18,15 @@ use texts::{Memory, Text};
 use tree::Def;
 
 /// A name with its value.
-#[derive(Drop)]
 pub struct Binding {
     name: Text,
     value: FrozenValue,
+}
+
+impl Drop for Binding {
+    fn drop(self) {
+        let Binding { name: _, value: _ } = self;
+    }
 }
 
 impl Model for Binding {
@@ -73,10 +78,15 @@ impl Eq for Binding {
 }
 
 /// The values of a function's defaults, in the order of its parameters.
-#[derive(Drop)]
 pub struct Defaults {
     name: Text,
     values: Vec<FrozenValue>,
+}
+
+impl Drop for Defaults {
+    fn drop(self) {
+        let Defaults { name: _, values: _ } = self;
+    }
 }
 
 impl Model for Defaults {
@@ -130,16 +140,21 @@ impl Eq for Defaults {
 }
 
 /// A function of a file, shared. A contract sees its tree, line for line.
-#[derive(Drop)]
 pub struct Function {
     def: Arc<Def, Global>,
+}
+
+impl Drop for Function {
+    fn drop(self) {
+        let Function { def: _ } = self;
+    }
 }
 
 impl Model for Function {
     ghost use Rattle.std.specs.Arc.{arc_value};
     ghost use Rattle.tree.specs.Tree.{Fn};
     ghost use Rattle.tree.specs.Statements.{fn_of};
-    ghost use Rattle.same_trees.specs.Storage.{fn_code};
+    ghost use Rattle.module_values.specs.TreeStorage.{fn_code};
 
     ghost Value = { Fn };
 

@@ -1,37 +1,46 @@
 //! Functions of a file, found by their names.
-ghost use Rattle.std.specs.Prelude.{◌≡◌, IfOk, IfSome, option_map};
-ghost use Rattle.module_values.specs.FunctionNames.{names_of, first_named, function_at};
+ghost use Rattle.std.specs.Prelude.{◌≡◌, ℕ, List, IfOk, IfSome, option_map};
+ghost use Rattle.std.specs.HashMap.{get};
+ghost use Rattle.meaning.specs.Comparing.{same_text};
+ghost use Rattle.module_values.specs.FunctionNames.{first_named, function_at};
 
 use crate::bindings::Function;
-use indexmap::IndexSet;
 use meaning::Bytes;
 use std::alloc::Global;
+use std::collections::HashMap;
 use std::marker::Model;
 use texts::Memory;
 
-/// So many functions are looked through; for more a set of their names is made.
+/// So many functions are looked through; for more a table of their names is made.
 const FEW: usize = 16;
 
-// The names of many functions, each at the place of its function.
+// The place of each of many functions, by its name.
 #[derive(Drop)]
 struct Index {
-    names: IndexSet<Bytes>,
+    places: HashMap<Bytes, usize>,
 }
 
 /// The functions of a file, in its order, which are found by their names. A contract sees the functions.
-#[derive(Drop)]
 pub struct Functions {
     items: Vec<Function>,
     index: Option<Index>,
 }
 
+impl Drop for Functions {
+    fn drop(self) {
+        let Functions { items: _, index: _ } = self;
+    }
+}
+
 impl Model for Functions {
-    ghost use Rattle.std.specs.Prelude.{◌≡◌, List};
+    ghost use Rattle.std.specs.Prelude.{◌≡◌, ℕ, List};
     ghost use Rattle.std.specs.Option.{ForSome};
     ghost use Rattle.std.specs.Coded.{coded_list};
+    ghost use Rattle.std.specs.HashMap.{get};
+    ghost use Rattle.meaning.specs.Comparing.{same_text};
     ghost use Rattle.tree.specs.Tree.{Fn};
-    ghost use Rattle.same_trees.specs.Storage.{fn_code};
-    ghost use Rattle.module_values.specs.FunctionNames.{names_of};
+    ghost use Rattle.module_values.specs.TreeStorage.{fn_code};
+    ghost use Rattle.module_values.specs.FunctionNames.{first_named, function_at};
 
     ghost Value = { List Fn };
 
@@ -39,7 +48,7 @@ impl Model for Functions {
 
     ghost view = { λ f. f.items.items };
 
-    ghost invariant = { λ f. ForSome f.index (λ i. i.names.keys ≡ names_of f.items.items) };
+    ghost invariant = { λ f. ForSome f.index (λ i. (x : List ℕ) → function_at f.items.items (get same_text i.places x) ≡ first_named x f.items.items) };
 }
 
 // Returns the first function with a name.
@@ -64,21 +73,24 @@ fn function_at<'a>(functions: &'a [Function], place: Option<usize>) -> Option<&'
     }
 }
 
-// Makes the set of the names of many functions, if each stands once.
+// Makes the table of the names of many functions, if each stands once.
 fn index_of(alloc: Global, functions: &[Function]) -> Result<Option<Index>, Memory>
-    ensures { IfOk result (λ o. IfSome o (λ i. i.names.keys ≡ names_of functions.now)) }
+    ensures { IfOk result
+        (λ o. IfSome o (λ i. (x : List ℕ) → function_at functions.now (get same_text i.places x)
+        ≡ first_named x functions.now)) }
 {
     if functions.len() <= FEW {
         return Ok(None);
     }
-    let mut names = IndexSet::new(alloc);
-    for function in functions.iter() {
-        let name = Bytes::of_text(function.def().name.share()?);
-        if !names.insert(name)? {
+    let mut places = HashMap::new(alloc);
+    for i in 0..functions.len() {
+        let name = Bytes::of_text(functions[i].def().name.share()?);
+        if places.contains_key(&name) {
             return Ok(None);
         }
+        places.insert(name, i)?;
     }
-    Ok(Some(Index { names }))
+    Ok(Some(Index { places }))
 }
 
 impl Functions {
@@ -109,7 +121,7 @@ impl Functions {
         ensures { option_map (λ f. f.now) result ≡ first_named name.now self.now }
     {
         match &self.index {
-            Some(index) => function_at(self.items.as_slice(), index.names.get_index_of(name)),
+            Some(index) => function_at(self.items.as_slice(), index.places.get(name).copied()),
             None => first_named(self.items.as_slice(), name),
         }
     }

@@ -3,11 +3,15 @@
 #![tactic(auto)]
 
 mod bindings;
+mod exprs;
 mod functions;
 mod modules;
+mod numbers;
+mod stmts;
 mod targets;
 
 pub use bindings::{Binding, Defaults, Function};
 pub use functions::Functions;
 pub use modules::{Module, ModuleValue};
+pub use stmts::same_def;
 pub use targets::{Attribute, AttributeValue, Target, Targets, Texts};

@@ -27,9 +27,14 @@ struct Parts {
 
 /// One .bzl file, shared: its label and path, its own globals in the order in which they were bound, the names that its
 /// loads bound, its functions and their defaults.
-#[derive(Drop)]
 pub struct Module {
     parts: Arc<Parts, Global>,
+}
+
+impl Drop for Module {
+    fn drop(self) {
+        let Module { parts: _ } = self;
+    }
 }
 
 impl Model for Module {
@@ -156,10 +161,18 @@ impl Eq for Module {
 }
 
 /// The value of a .bzl file: itself, and all modules that its loads reach, each once.
-#[derive(Drop)]
 pub struct ModuleValue {
     body: Module,
     reached: Vec<Module>,
+}
+
+impl Drop for ModuleValue {
+    fn drop(self) {
+        let ModuleValue {
+            body: _,
+            reached: _,
+        } = self;
+    }
 }
 
 impl Model for ModuleValue {

@@ -12,9 +12,14 @@ use std::marker::Model;
 use texts::Text;
 
 /// Strings in order. A contract sees a list of texts.
-#[derive(Drop)]
 pub struct Texts {
     items: Vec<Bytes>,
+}
+
+impl Drop for Texts {
+    fn drop(self) {
+        let Texts { items: _ } = self;
+    }
 }
 
 impl Model for Texts {
@@ -56,7 +61,6 @@ impl Eq for Texts {
 }
 
 /// What an attribute holds.
-#[derive(Drop)]
 pub enum AttributeValue {
     /// A string, or the text of a label.
     Single(Bytes),
@@ -64,10 +68,24 @@ pub enum AttributeValue {
     Several(Texts),
 }
 
+impl Drop for AttributeValue {
+    fn drop(self) {
+        match self {
+            AttributeValue::Single(_) => {}
+            AttributeValue::Several(_) => {}
+        }
+    }
+}
+
 /// An attribute of a target. A contract sees a text, or a list of texts.
-#[derive(Drop)]
 pub struct Attribute {
     held: AttributeValue,
+}
+
+impl Drop for Attribute {
+    fn drop(self) {
+        let Attribute { held: _ } = self;
+    }
 }
 
 impl Model for Attribute {
@@ -124,11 +142,20 @@ impl Eq for Attribute {
 }
 
 /// A target: the rule that made it, its name, and the attributes that were given, in byte order of their names.
-#[derive(Drop)]
 pub struct Target {
     kind: Text,
     name: Bytes,
     attributes: Vec<(Bytes, Attribute)>,
+}
+
+impl Drop for Target {
+    fn drop(self) {
+        let Target {
+            kind: _,
+            name: _,
+            attributes: _,
+        } = self;
+    }
 }
 
 impl Model for Target {
@@ -188,9 +215,14 @@ impl Eq for Target {
 }
 
 /// The targets of a package, in byte order of their names. A contract sees a list.
-#[derive(Drop)]
 pub struct Targets {
     items: Vec<Target>,
+}
+
+impl Drop for Targets {
+    fn drop(self) {
+        let Targets { items: _ } = self;
+    }
 }
 
 impl Model for Targets {

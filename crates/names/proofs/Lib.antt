@@ -1,4 +1,7 @@
-pub mod Searches
-pub mod Distinct
 pub mod Adding
+pub mod Distinct
+pub mod HeapPieces
 pub mod Latest
+pub mod ListEnds
+pub mod Searches
+pub mod Targets

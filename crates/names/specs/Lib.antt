@@ -1,6 +1,7 @@
-pub mod View
-pub mod Places
-pub mod Once
-pub mod TargetNames
+pub mod AimView
 pub mod Newest
+pub mod Once
+pub mod Places
 pub mod Scope
+pub mod TargetNames
+pub mod View

@@ -16,12 +16,17 @@ use texts::{Memory, Text};
 const FEW: usize = 16;
 
 /// The defaults of a file's functions, which are found by the functions' names. A contract sees them with the newest first.
-#[derive(Drop)]
 pub struct KeptDefaults {
     // The newest is the last.
     kept: Vec<FunctionDefaults>,
     // The names of many functions, where each stands once.
     index: Option<IndexSet<Text>>,
+}
+
+impl Drop for KeptDefaults {
+    fn drop(self) {
+        let KeptDefaults { kept: _, index: _ } = self;
+    }
 }
 
 impl Model for KeptDefaults {

@@ -69,10 +69,15 @@ impl Ord for TargetName {
 
 /// The targets of a package in the order in which they were made, no two of one name. Whether a name is used takes as many
 /// comparisons as the number of targets has binary digits. A contract sees the targets.
-#[derive(Drop)]
 pub struct PackageTargets {
     items: Vec<Target>,
     names: BTreeSet<TargetName>,
+}
+
+impl Drop for PackageTargets {
+    fn drop(self) {
+        let PackageTargets { items: _, names: _ } = self;
+    }
 }
 
 impl Model for PackageTargets {

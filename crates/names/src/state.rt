@@ -11,14 +11,18 @@ use indexmap::IndexSet;
 use texts::Text;
 
 /// A name of a block, with its value once it is bound.
-#[derive(Drop)]
 pub struct Slot {
     pub name: Text,
     pub value: Option<Val>,
 }
 
+impl Drop for Slot {
+    fn drop(self) {
+        let Slot { name: _, value: _ } = self;
+    }
+}
+
 /// The names of a function, a comprehension or a file.
-#[derive(Drop)]
 pub struct Block {
     pub slots: Vec<Slot>,
     /// Whether each name is known to stand there once, so that it need not be looked for where it is found.
@@ -29,37 +33,76 @@ pub struct Block {
     pub ghost listed: { ForSome index (λ s. s.keys ≡ names_in slots.items) },
 }
 
+impl Drop for Block {
+    fn drop(self) {
+        let Block {
+            slots: _,
+            once: _,
+            index: _,
+        } = self;
+    }
+}
+
 /// The values of a function's defaults, in the order of its parameters.
-#[derive(Drop)]
 pub struct FunctionDefaults {
     pub function: Text,
     pub values: Vec<Val>,
 }
 
+impl Drop for FunctionDefaults {
+    fn drop(self) {
+        let FunctionDefaults {
+            function: _,
+            values: _,
+        } = self;
+    }
+}
+
 /// A file whose names are on the heap.
-#[derive(Drop)]
 pub struct FileNames {
     pub label: Text,
     pub block: Block,
     pub defaults: KeptDefaults,
 }
 
+impl Drop for FileNames {
+    fn drop(self) {
+        let FileNames {
+            label: _,
+            block: _,
+            defaults: _,
+        } = self;
+    }
+}
+
 /// What an attribute of a target holds.
-#[derive(Drop)]
 pub enum Attribute {
     Single(Bytes),
     Several(Vec<Bytes>),
 }
 
+impl Drop for Attribute {
+    fn drop(self) {
+        match self {
+            Attribute::Single(_) => {}
+            Attribute::Several(_) => {}
+        }
+    }
+}
+
 /// An attribute of a target.
-#[derive(Drop)]
 pub struct TargetAttribute {
     pub name: Bytes,
     pub value: Attribute,
 }
 
+impl Drop for TargetAttribute {
+    fn drop(self) {
+        let TargetAttribute { name: _, value: _ } = self;
+    }
+}
+
 /// A target of the package.
-#[derive(Drop)]
 pub struct Target {
     /// The rule that made it.
     pub rule: Builtin,
@@ -67,9 +110,18 @@ pub struct Target {
     pub attributes: Vec<TargetAttribute>,
 }
 
+impl Drop for Target {
+    fn drop(self) {
+        let Target {
+            rule: _,
+            name: _,
+            attributes: _,
+        } = self;
+    }
+}
+
 /// The state of an evaluation: the heap, the blocks of names from the innermost to that of the function, the names of
 /// the files that are on the heap, and the targets that were made.
-#[derive(Drop)]
 pub struct State {
     pub heap: Heap,
     pub blocks: Vec<Block>,
@@ -77,14 +129,35 @@ pub struct State {
     pub targets: PackageTargets,
 }
 
+impl Drop for State {
+    fn drop(self) {
+        let State {
+            heap: _,
+            blocks: _,
+            files: _,
+            targets: _,
+        } = self;
+    }
+}
+
 /// The file that a piece of code stands in.
-#[derive(Drop)]
 pub struct Standing {
     pub label: Text,
     pub path: Text,
     pub kind: FileKind,
     /// The first line of the function, or 0 at file level.
     pub line: usize,
+}
+
+impl Drop for Standing {
+    fn drop(self) {
+        let Standing {
+            label: _,
+            path: _,
+            kind: _,
+            line: _,
+        } = self;
+    }
 }
 
 /// Where a name is looked for: the blocks, the names of the files that are on the heap, and where the code stands.

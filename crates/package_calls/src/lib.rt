@@ -5,6 +5,7 @@
 mod answering;
 mod arguments;
 mod attributes;
+mod by_name;
 mod fields;
 mod globbing;
 mod kinds;
@@ -12,6 +13,8 @@ mod ordering;
 mod rules;
 mod spelling;
 mod strings;
+mod targets;
 
 pub use kinds::{Answer, CallOutcome, Package};
 pub use rules::package_call;
+pub use targets::targets_made;

@@ -31,8 +31,10 @@ use Rattle.keys.specs.contracts.turned.Answer
 use Rattle.keys.specs.contracts.turned.Turned
 use Rattle.keys.specs.contracts.value.Value
 use Rattle.keys.specs.declared.rules.Rules.{Ghosts}
+use Rattle.module_values.proofs.functions.Index.TheSendSync as IndexSends
 use Rattle.module_values.proofs.targets.Targets.TheSendSync as TargetsSends
 use Rattle.module_values.specs.contracts.bindings.Function
+use Rattle.module_values.specs.contracts.functions.Functions
 use Rattle.module_values.specs.contracts.modules.ModuleValue
 use Rattle.module_values.specs.contracts.modules.Module
 use Rattle.texts.proofs.text.Text.TheSendSync as TextSends
@@ -53,7 +55,13 @@ function_send = search trees_cross depth 60 fits 20000
 function_sync : IsSync Function.the_row
 function_sync = search trees_cross depth 60 fits 20000
 
-ruleset parts_cross = (frozen_send, frozen_sync, function_send, function_sync, TextSends.the_send, TextSends.the_sync, trees_cross)
+functions_send : IsSend Functions.the_row
+functions_send = search (IndexSends.the_send, function_send, trees_cross) depth 60 fits 20000
+
+functions_sync : IsSync Functions.the_row
+functions_sync = search (IndexSends.the_sync, function_sync, trees_cross) depth 60 fits 20000
+
+ruleset parts_cross = (functions_send, functions_sync, frozen_send, frozen_sync, TextSends.the_send, TextSends.the_sync, trees_cross)
 
 module_send : IsSend Module.the_row
 module_send = search parts_cross depth 60 fits 20000

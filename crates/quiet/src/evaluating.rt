@@ -9,10 +9,9 @@ ghost use Rattle.quiet.specs.Parts as p;
 ghost use Rattle.quiet.specs.View.{Does, DoesItems};
 
 use heap::{Builtin, Halt, Heap, Val};
-use names::{Scope, plain_function, read_in_scope};
-use pieces::{
-    both, call_builtin, call_method, index, is_true, make_list, make_text, make_tuple, slice, tick,
-    unary,
+use names::{
+    Scope, both, call_builtin, call_method, index, is_true, make_list, make_text, make_tuple,
+    plain_function, read_in_scope, slice, tick, unary,
 };
 use std::alloc::Global;
 use std::sync::Arc;

@@ -15,8 +15,7 @@ ghost use Rattle.quiet.specs.StatementResults.{Done, Costs, Tested, TestCosts, t
 
 use crate::standing::{is_quiet_at, value_at};
 use heap::{Halt, Heap, Val};
-use names::{Standing, State, bind, read};
-use pieces::{add, both, is_true, set_index, tick};
+use names::{Standing, State, add, bind, both, is_true, read, set_index, tick};
 use std::sync::atomic::AtomicUsize;
 use texts::Text;
 use tree::{BinaryOp, Expr, Stmt};

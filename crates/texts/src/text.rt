@@ -27,9 +27,14 @@ enum Storage {
 }
 
 /// A shared text, which a contract sees as its bytes. A short one takes one allocation, a longer one two.
-#[derive(Drop)]
 pub struct Text {
     inner: Arc<Storage>,
+}
+
+impl Drop for Text {
+    fn drop(self) {
+        let Text { inner: _ } = self;
+    }
 }
 
 impl Model for Text {

@@ -11,14 +11,21 @@ use std::sync::Arc;
 use texts::Text;
 
 /// A parameter, and its default.
-#[derive(Drop)]
 pub struct Param {
     pub name: Text,
     pub default: Option<Arc<Expr, Global>>,
 }
 
+impl Drop for Param {
+    fn drop(self) {
+        let Param {
+            name: _,
+            default: _,
+        } = self;
+    }
+}
+
 /// A function with its line, and the names that a call of it has.
-#[derive(Drop)]
 pub struct Def {
     pub line: usize,
     pub name: Text,
@@ -33,6 +40,19 @@ pub struct Def {
     pub ghost distinct: { cond once (differ names.items) true ≡ true },
 }
 
+impl Drop for Def {
+    fn drop(self) {
+        let Def {
+            line: _,
+            name: _,
+            params: _,
+            body: _,
+            names: _,
+            once: _,
+        } = self;
+    }
+}
+
 /// A statement of a file.
 #[derive(Drop)]
 pub enum Top {
@@ -41,25 +61,51 @@ pub enum Top {
 }
 
 /// A name that a load binds, and the name that the other file exports.
-#[derive(Drop)]
 pub struct LoadItem {
     pub local: Text,
     pub exported: Text,
 }
 
+impl Drop for LoadItem {
+    fn drop(self) {
+        let LoadItem {
+            local: _,
+            exported: _,
+        } = self;
+    }
+}
+
 /// A load statement with its line: the text of the label, and what it binds, in order.
-#[derive(Drop)]
 pub struct LoadStmt {
     pub line: usize,
     pub label: Text,
     pub items: Vec<LoadItem>,
 }
 
+impl Drop for LoadStmt {
+    fn drop(self) {
+        let LoadStmt {
+            line: _,
+            label: _,
+            items: _,
+        } = self;
+    }
+}
+
 /// The tree of a file.
-#[derive(Drop)]
 pub struct File {
     /// The line of a first statement that is one string alone.
     pub leading: Option<usize>,
     pub loads: Vec<LoadStmt>,
     pub tops: Vec<Top>,
+}
+
+impl Drop for File {
+    fn drop(self) {
+        let File {
+            leading: _,
+            loads: _,
+            tops: _,
+        } = self;
+    }
 }

@@ -48,7 +48,6 @@ pub enum BinaryOp {
 
 /// An expression. What is below a node is shared, so that a suspended evaluation can own what is left.
 #[cycle(ast)]
-#[derive(Drop)]
 pub enum Expr {
     /// A name, and the place at which it was found last. What a tree is does not depend on that place, and whoever looks
     /// there confirms what is there.
@@ -77,12 +76,45 @@ pub enum Expr {
     Method(Arc<Expr, Global>, Text, Arc<Vec<Expr>, Global>, Arc<Vec<Text>, Global>),
 }
 
+impl Drop for Expr {
+    #[cycle(expression_drops)]
+    fn drop(self) {
+        match self {
+            Expr::Name(_, _) => {}
+            Expr::Int(_) => {}
+            Expr::Str(_) => {}
+            Expr::Literal(_) => {}
+            Expr::Tuple(_) => {}
+            Expr::List(_) => {}
+            Expr::Dict(_, _) => {}
+            Expr::ListOf(_, _) => {}
+            Expr::DictOf(_, _, _) => {}
+            Expr::Unary(_, _) => {}
+            Expr::Binary(_, _, _) => {}
+            Expr::Choice(_, _, _) => {}
+            Expr::Index(_, _) => {}
+            Expr::Slice(_, _, _) => {}
+            Expr::Call(_, _, _) => {}
+            Expr::Method(_, _, _, _) => {}
+        }
+    }
+}
+
 /// A clause of a comprehension.
 #[cycle(ast)]
-#[derive(Drop)]
 pub enum Clause {
     /// `for target in sequence`: the target is a name, an index, or a tuple or list of targets.
     For(Arc<Expr, Global>, Arc<Expr, Global>),
     /// `if condition`
     If(Arc<Expr, Global>),
+}
+
+impl Drop for Clause {
+    #[cycle(expression_drops)]
+    fn drop(self) {
+        match self {
+            Clause::For(_, _) => {}
+            Clause::If(_) => {}
+        }
+    }
 }

@@ -7,7 +7,6 @@ use texts::Text;
 
 /// A statement with its line, counted from 1: that of its first token.
 #[cycle(statements)]
-#[derive(Drop)]
 pub enum Stmt {
     Pass(usize),
     Break(usize),
@@ -47,6 +46,43 @@ pub enum Stmt {
         sequence: Arc<Expr, Global>,
         body: Arc<Vec<Stmt>, Global>,
     },
+}
+
+impl Drop for Stmt {
+    #[cycle(statement_drops)]
+    fn drop(self) {
+        match self {
+            Stmt::Pass(_) => {}
+            Stmt::Break(_) => {}
+            Stmt::Continue(_) => {}
+            Stmt::Return { line: _, value: _ } => {}
+            Stmt::Eval { line: _, value: _ } => {}
+            Stmt::Assign {
+                line: _,
+                target: _,
+                value: _,
+            } => {}
+            Stmt::Augment {
+                line: _,
+                target: _,
+                op: _,
+                value: _,
+            } => {}
+            Stmt::If {
+                line: _,
+                condition: _,
+                body: _,
+                branches: _,
+                other: _,
+            } => {}
+            Stmt::For {
+                line: _,
+                target: _,
+                sequence: _,
+                body: _,
+            } => {}
+        }
+    }
 }
 
 /// A branch `elif` with its line: the condition and the statements.

@@ -2,9 +2,8 @@
 ghost use Rattle.meaning.specs.Binary.{binary, less};
 ghost use Rattle.heap.specs.View.{store_of, Says};
 
-use arithmetic::{add, divide, multiply, remainder, subtract};
-use comparing::{compare, equal, has};
 use heap::{Halt, Heap, Operator, Val};
+use operations::{add, compare, divide, equal, has, multiply, remainder, subtract};
 
 /// Evaluates `a < b`, or returns fault 5, 11 or 12.
 pub fn less(heap: &mut Heap, a: Val, b: Val) -> Result<bool, Halt>

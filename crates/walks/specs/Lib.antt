@@ -1,6 +1,10 @@
-pub mod Lookups
-pub mod LookupLaws
-pub mod Globs
+pub mod Below
+pub mod Finds
 pub mod GlobLaws
-pub mod Replies
+pub mod Globs
+pub mod LookupLaws
+pub mod Lookups
 pub mod NodeValues
+pub mod Replies
+pub mod TurnLaws
+pub mod Turns

@@ -15,11 +15,13 @@
 #![tactic(auto)]
 
 ghost use Rattle.walks.specs.NodeValues.{LookupsHold, GlobsHold};
+ghost use Rattle.walks.specs.Finds.{HoldsPackages, HavePackageNames};
 
 mod build_files;
 mod glob_node;
 mod glob_pattern;
 mod lookup_node;
+mod names_node;
 mod ordering;
 mod reply;
 mod search;
@@ -28,6 +30,7 @@ pub use build_files::{build_path, candidates};
 pub use glob_node::{directories_in, glob, has_build};
 pub use glob_pattern::path_in;
 pub use lookup_node::lookup;
+pub use names_node::package_names;
 pub use ordering::in_order;
 pub use reply::Reply;
 
@@ -43,4 +46,16 @@ pub fn look_ups_hold()
 /// whose look-ups and globs are those of this crate.
 pub fn globs_hold_what_they_find()
     ensures { GlobsHold }
+{}
+
+/// States the law of the node, for any table of turns that has these, and by which look-ups hold what they are to hold.
+/// At files whose names are paths the node holds the names of all packages at and below its directory, whatever the
+/// directory.
+pub fn packages_are_held()
+    ensures { HoldsPackages }
+{}
+
+/// States the law of the names: at files whose names are paths, a package at or below any directory has a package name.
+pub fn packages_have_package_names()
+    ensures { HavePackageNames }
 {}

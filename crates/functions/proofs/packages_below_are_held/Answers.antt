@@ -3,7 +3,7 @@ use Rattle.evaluation.proofs.Unique.{same_value}
 use Rattle.leaves.specs.Leaves.{read}
 use Rattle.functions.specs.Next.{next}
 use Rattle.walks.proofs.LookupValue.{lookup_grounded}
-use Rattle.package_names.proofs.Grounds.{packages_held}
+use Rattle.walks.proofs.Grounds.{packages_held}
 use Rattle.functions.proofs.packages_below_are_held.Goals as goal
 
 pub returns : goal.returns

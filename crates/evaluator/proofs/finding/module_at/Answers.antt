@@ -2,7 +2,7 @@ use Rattle.std.proofs.Common.{◌≡◌, ◌∷◌, suc, List, Option, drop, dro
 use Rattle.module_values.specs.Values.{Body, ModuleValue}
 use Rattle.language.specs.Names.{or_else}
 use Rattle.language.specs.Modules.{body_at, all_bodies}
-use Rattle.modules.proofs.Bodies.{bodies_of}
+use Rattle.calls.proofs.Bodies.{bodies_of}
 use Rattle.evaluator.proofs.finding.module_at.Goals as goal
 
 pub returns-in-Some : goal.returns-in-Some

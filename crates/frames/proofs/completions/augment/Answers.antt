@@ -7,8 +7,8 @@ use Rattle.language.specs.Targets.{store}
 use Rattle.language.specs.Statements as s
 use Rattle.language.specs.Statements.{goes_on, present, changed}
 use Rattle.names.specs.View.{world_of, here_of}
-use Rattle.pieces.specs.declared.aims.Aim.{Aim}
-use Rattle.pieces.specs.View.{aim_of}
+use Rattle.names.specs.declared.aims.Aim.{Aim}
+use Rattle.names.specs.AimView.{aim_of}
 use Rattle.frames.specs.declared.frame.Control.{Control}
 use Rattle.frames.specs.Frames.{Sig, an_exit, Goes, on, ex, exited, above, stack_does, machine_does}
 use Rattle.frames.proofs.Bind.{under}

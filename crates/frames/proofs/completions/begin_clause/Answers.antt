@@ -3,7 +3,7 @@ use Rattle.language.specs.World.{pure}
 use Rattle.language.specs.Targets.{store}
 use Rattle.language.specs.Loops as l
 use Rattle.names.specs.View.{world_of, here_of}
-use Rattle.pieces.specs.View.{aim_of, gathered_of}
+use Rattle.names.specs.AimView.{aim_of, gathered_of}
 use Rattle.frames.specs.declared.frame.Control.{Control}
 use Rattle.frames.specs.Frames.{a_gathered, on, clauses_do, gather_from, stack_does, machine_does}
 use Rattle.frames.proofs.Suites.{stops4}

@@ -2,8 +2,8 @@ use Rattle.std.proofs.Common.{Err, subst}
 use Rattle.language.specs.World.{pure}
 use Rattle.language.specs.Loops as l
 use Rattle.language.specs.Loops.{one_more}
-use Rattle.pieces.specs.declared.gathering.Collection.{Collection}
-use Rattle.pieces.specs.View.{gathered_of}
+use Rattle.names.specs.declared.gathering.Collection.{Collection}
+use Rattle.names.specs.AimView.{gathered_of}
 use Rattle.frames.specs.declared.frame.Control.{Control}
 use Rattle.frames.specs.Frames.{a_gathered, Goes, on, gathered, above, stack_does, machine_does}
 use Rattle.frames.proofs.AugmentedAssignments.{stops_into}

@@ -3,7 +3,7 @@ use Rattle.language.specs.Targets.{store}
 use Rattle.language.specs.Statements as s
 use Rattle.language.specs.Statements.{goes_on}
 use Rattle.names.specs.View.{world_of, here_of}
-use Rattle.pieces.specs.View.{aim_of}
+use Rattle.names.specs.AimView.{aim_of}
 use Rattle.frames.specs.declared.frame.Control.{Control}
 use Rattle.frames.specs.Frames.{an_exit, on, stack_does, machine_does}
 use Rattle.frames.proofs.Suites.{stops3}

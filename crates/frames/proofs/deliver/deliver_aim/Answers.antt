@@ -1,6 +1,6 @@
 use Rattle.std.proofs.Common.{sym, subst}
 use Rattle.names.specs.View.{world_of, here_of}
-use Rattle.pieces.specs.View.{aim_of}
+use Rattle.names.specs.AimView.{aim_of}
 use Rattle.frames.specs.declared.frame.Control.{Control}
 use Rattle.frames.specs.declared.frame.Frame.{Frame}
 use Rattle.frames.specs.Frames.{an_aim, Goes, on, frame_does, frame_line, above, machine_does}

@@ -7,7 +7,7 @@ use Rattle.language.specs.World.{Ends, then_runs, ◌>>=◌, pure}
 use Rattle.language.specs.Loops as l
 use Rattle.language.specs.Loops.{one_more, one_entry, unlocks, gather, over}
 use Rattle.names.specs.View.{world_of, here_of}
-use Rattle.pieces.specs.View.{gathered_of}
+use Rattle.names.specs.AimView.{gathered_of}
 use Rattle.frames.specs.declared.frame.Control.{Control}
 use Rattle.frames.specs.declared.frame.Item.{Item}
 use Rattle.frames.specs.Frames.{Sig, a_gathered, Goes, on, ex, gathered, item_does, above, stack_does, machine_does}

@@ -12,7 +12,7 @@ use Rattle.language.specs.Loops.{one_more, one_entry, unlocks, gather, over}
 use Rattle.language.specs.Expressions.{clauses}
 use Rattle.language.specs.Calls.{call}
 use Rattle.names.specs.View.{world_of, here_of}
-use Rattle.pieces.specs.View.{gathered_of}
+use Rattle.names.specs.AimView.{gathered_of}
 use Rattle.frames.specs.declared.frame.Control.{Control}
 use Rattle.frames.specs.declared.frame.Comprehension.{Comprehension}
 use Rattle.frames.specs.Frames.{Sig, a_gathered, Goes, on, ex, gathered, item_does, clauses_do, each_does, above, stack_does, machine_does}

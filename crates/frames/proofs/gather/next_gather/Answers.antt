@@ -13,7 +13,7 @@ use Rattle.language.specs.Targets.{store}
 use Rattle.language.specs.Loops as l
 use Rattle.language.specs.Loops.{one_more, one_entry, unlocks, gather, over}
 use Rattle.names.specs.View.{world_of, here_of}
-use Rattle.pieces.specs.View.{gathered_of}
+use Rattle.names.specs.AimView.{gathered_of}
 use Rattle.frames.specs.declared.frame.Control.{Control}
 use Rattle.frames.specs.declared.frame.Gathering.{Gathering}
 use Rattle.frames.specs.declared.frame.Frame.TheVariants as f

@@ -9,7 +9,7 @@ use Rattle.language.specs.Targets.{to_member}
 use Rattle.language.specs.Loops as l
 use Rattle.language.specs.Loops.{one_entry}
 use Rattle.names.specs.View.{world_of, here_of}
-use Rattle.pieces.specs.View.{gathered_of}
+use Rattle.names.specs.AimView.{gathered_of}
 use Rattle.frames.specs.declared.frame.Control.{Control}
 use Rattle.frames.specs.declared.frame.Frame.{Frame}
 use Rattle.frames.specs.declared.frame.Frame.TheVariants as f

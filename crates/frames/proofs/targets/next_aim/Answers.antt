@@ -5,7 +5,7 @@ use Rattle.tree.specs.View.{tree_of, trees_of}
 use Rattle.frames.specs.Weight.{aim_size, aim_sizes, frames_weight, control_weight}
 use Rattle.language.specs.World.{Ends}
 use Rattle.names.specs.View.{world_of, here_of}
-use Rattle.pieces.specs.View.{aim_of}
+use Rattle.names.specs.AimView.{aim_of}
 use Rattle.frames.specs.declared.frame.Frame.TheVariants as f
 use Rattle.frames.specs.Frames.{Sig, an_aim, Goes, on, aims_at, machine_does, stack_does}
 use Rattle.frames.proofs.TargetLists.{aim_begins, aims_end}

@@ -30,4 +30,4 @@ returns-clause-names c =
     let lacks : lookup (λ n. same_text n name) entries ≡ None
     = ap (λ es. lookup (λ n. same_text n name) es) (sym c.as_slice.ensures.value) ∙ (sym c.text_in.ensures ∙ ap (option_map (λ t. t.now)) c.in_default.is) in
     ap names_in c.in_ok-push.ensures.items ∙ (names_of_more entries (c.in_ok-share.field-0, c.in_ok-share-2.field-0)
-    ∙ (ap (λ n. names_in entries ++ n ∷ []) (c.in_ok-share.ensures ∙ c.name-2.ensures) ∙ sym (names_grow name (names_in entries) (name_lacks name entries lacks))))
+    ∙ (ap (λ n. names_in entries ++ n ∷ []) (c.in_ok-share.ensures ∙ c.name.ensures) ∙ sym (names_grow name (names_in entries) (name_lacks name entries lacks))))

@@ -1,0 +1,100 @@
+//! What is left of a file's loads and functions, and the modules that it reaches.
+ghost use Rattle.std.specs.Prelude.{◌≡◌, ◌∷◌, [], ◌++◌, IfOk, OnOk, map};
+ghost use Rattle.language.specs.Files.{frozen_items, frozen_loads};
+ghost use Rattle.language.specs.Environment.{defs};
+ghost use Rattle.language.specs.Modules.{all_bodies, each_once};
+ghost use Rattle.tree.specs.Statements.{top_of, item_of, load_of};
+ghost use Rattle.calls.specs.Once.{labels_of};
+
+use crate::reaching::exported;
+use indexmap::IndexSet;
+use module_values::{Binding, Function, Module, ModuleValue};
+use std::alloc::Global;
+use texts::{Memory, Text};
+use tree::{LoadItem, LoadStmt, Top};
+
+// Puts the values of a load's items, under their names, behind others.
+fn add_items(all: &mut Vec<Binding>, body: &Module, items: &[LoadItem]) -> Result<(), Memory>
+    ensures { OnOk result (all.new.items ≡ all.old.items ++ frozen_items body.now
+        (map item_of items.now)) }
+{
+    for item in items.iter() {
+        if let Some(f) = exported(body, &item.exported) {
+            let value = f.share()?;
+            let name = item.local.share()?;
+            all.push(Binding::new(name, value))?;
+        }
+    }
+    Ok(())
+}
+
+/// Returns the names that loads bind, with the values of the modules.
+pub fn frozen_loads(
+    alloc: Global,
+    loads: &[LoadStmt],
+    modules: &[ModuleValue],
+) -> Result<Vec<Binding>, Memory>
+    ensures { IfOk result (λ v. v.items ≡ frozen_loads (map load_of loads.now) modules.now) }
+{
+    let mut all = Vec::new(alloc);
+    for i in 0..loads.len().min(modules.len()) {
+        add_items(&mut all, modules[i].body(), loads[i].items.as_slice())?;
+    }
+    Ok(all)
+}
+
+/// Returns the functions of a file, in its order.
+pub fn functions_of(alloc: Global, tops: &[Top]) -> Result<Vec<Function>, Memory>
+    ensures { IfOk result (λ v. v.items ≡ defs (map top_of tops.now)) }
+{
+    let mut all = Vec::new(alloc);
+    for top in tops.iter() {
+        if let Top::Def(f) = top {
+            all.push(Function::new(f)?)?;
+        }
+    }
+    Ok(all)
+}
+
+// Puts a module behind others if none of them has its label.
+fn add_once(all: &mut Vec<Module>, labels: &mut IndexSet<Text>, m: &Module) -> Result<(), Memory>
+    requires { labels.old.keys ≡ labels_of all.old.items }
+    ensures labelled { OnOk result (labels.new.keys ≡ labels_of all.new.items) }
+    ensures once { OnOk result (all.new.items ≡ each_once all.old.items (m.now ∷ [])) }
+{
+    if labels.contains(m.label()) {
+        return Ok(());
+    }
+    labels.insert(m.label().share()?)?;
+    all.push(m.share()?)?;
+    Ok(())
+}
+
+// Modules behind others, each once.
+fn add_each(
+    all: &mut Vec<Module>,
+    labels: &mut IndexSet<Text>,
+    modules: &[Module],
+) -> Result<(), Memory>
+    requires { labels.old.keys ≡ labels_of all.old.items }
+    ensures labelled { OnOk result (labels.new.keys ≡ labels_of all.new.items) }
+    ensures once { OnOk result (all.new.items ≡ each_once all.old.items modules.now) }
+{
+    for m in modules.iter() {
+        add_once(all, labels, m)?;
+    }
+    Ok(())
+}
+
+/// Returns the modules that loads reach, each once.
+pub fn reached_once(alloc: Global, loads: &[ModuleValue]) -> Result<Vec<Module>, Memory>
+    ensures { IfOk result (λ v. v.items ≡ each_once [] (all_bodies loads.now)) }
+{
+    let mut all = Vec::new(alloc);
+    let mut labels = IndexSet::new(alloc);
+    for loaded in loads.iter() {
+        add_once(&mut all, &mut labels, loaded.body())?;
+        add_each(&mut all, &mut labels, loaded.reached())?;
+    }
+    Ok(all)
+}

@@ -1,0 +1,30 @@
+//! Why an edit is not made.
+use thiserror::Error;
+
+/// Why an edit was not made. Neither the files nor the version have changed.
+#[derive(Debug, Drop, Error)]
+pub enum EditError {
+    /// The first refusal: 2 for a bad path, 3 where a file is above the path or the path is a
+    /// directory, 4 for no such file, 7 for a text of over 262,144 bytes, 8 where the version would
+    /// pass 4,294,967,295, 10 for a batch that has not 1 to 256 changes.
+    #[error("refused: {0}")]
+    Refused(u64),
+    /// The first change of a batch that is refused on the files after those before it, counted from 0, and
+    /// the number of its refusal: 2, 3, 4 or 7.
+    #[error("change {at} refused: {number}")]
+    RefusedAt { at: usize, number: u64 },
+    /// A growth was refused.
+    #[error("out of memory")]
+    Memory,
+}
+
+impl From<texts::Memory> for EditError {
+    ghost use Rattle.std.specs.Prelude.{◌≡◌};
+    ghost use Rattle.commands.specs.declared.error.EditError.TheVariants.{Memory};
+
+    ghost from_gives = { λ _ e. e ≡ Memory };
+
+    fn from(_error: texts::Memory) -> EditError {
+        EditError::Memory
+    }
+}

@@ -1,4 +1,0 @@
-pub mod Hashes
-pub mod Comparisons
-pub mod Members
-pub mod Parts

@@ -1,6 +1,0 @@
-pub mod Bodies
-pub mod Still
-pub mod Worlds
-pub mod Freezes
-pub mod Each
-pub mod Ends

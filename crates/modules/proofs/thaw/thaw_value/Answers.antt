@@ -1,6 +1,0 @@
-use Rattle.heap.specs.View.{store_of}
-use Rattle.modules.proofs.Still.{steps_stay}
-use Rattle.modules.proofs.thaw.thaw_value.Goals as goal
-
-pub returns-clause-steps : goal.returns-clause-steps
-returns-clause-steps c = steps_stay c.args.f.now (store_of c.args.heap.now) (store_of c.thaw.new.heap) c.thaw.result (rw c.as_frozen.ensures at c.thaw.ensures)

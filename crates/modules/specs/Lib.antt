@@ -1,3 +1,0 @@
-pub mod Thaw
-pub mod Freeze
-pub mod Once

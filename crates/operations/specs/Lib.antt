@@ -1,0 +1,3 @@
+pub mod ListEnd
+pub mod View
+pub mod Wide

@@ -1,0 +1,222 @@
+//! Comparing by `==`.
+ghost use Rattle.std.specs.Prelude.{◌≡◌, map, slice_get, IfOk};
+ghost use Rattle.meaning.specs.Comparing.{equal, inner_equal, pair, pair_objects, equal_members, equal_entries, equal_entry, equal_found, visit_pair, members, entries};
+ghost use Rattle.heap.specs.View.{object_in, Says};
+ghost use Rattle.operations.specs.View.{pair_seen};
+
+use heap::{
+    Builtin, Entry, Halt, HeapObject, Key, Object, Val, found, object_at, spend, tick, val_at,
+};
+use indexmap::IndexMap;
+use meaning::faults;
+use texts::Memory;
+
+/// What is left to compare of two values.
+#[derive(Drop)]
+pub enum Pair<'a> {
+    Settled(bool),
+    Members(&'a [Val], &'a [Val]),
+    Entries(&'a IndexMap<Key, Entry>, &'a IndexMap<Key, Entry>),
+}
+
+// Returns how two values are compared: settled at once, by their members, or by their entries.
+fn make_pair<'a>(objects: &'a [HeapObject], a: Val, b: Val) -> Result<Pair<'a>, Memory>
+    ensures { IfOk result (λ p. pair_seen p ≡ pair (map object_in objects.now) a b) }
+{
+    match (a, b) {
+        (Val::Nothing, Val::Nothing) => Ok(Pair::Settled(true)),
+        (Val::Bool(x), Val::Bool(y)) => Ok(Pair::Settled(x == y)),
+        (Val::Int(x), Val::Int(y)) => Ok(Pair::Settled(x == y)),
+        (Val::Builtin(x), Val::Builtin(y)) => Ok(Pair::Settled(x.number() == y.number())),
+        (Val::At(x), Val::At(y)) => pair_objects(objects, x, y),
+        _ => Ok(Pair::Settled(false)),
+    }
+}
+
+// Returns how two objects are compared: settled at once, by their members, or by their entries.
+fn pair_objects<'a>(objects: &'a [HeapObject], a: usize, b: usize) -> Result<Pair<'a>, Memory>
+    ensures { IfOk result (λ p. pair_seen p ≡ pair_objects (slice_get (map object_in objects.now) a)
+        (slice_get (map object_in objects.now) b)) }
+{
+    match (object_at(objects, a)?, object_at(objects, b)?) {
+        (Some(Object::Text(x)), Some(Object::Text(y))) => Ok(Pair::Settled(x == y)),
+        (Some(Object::List { members: x, .. }), Some(Object::List { members: y, .. })) => {
+            if x.len() == y.len() {
+                Ok(Pair::Members(x.as_slice(), y.as_slice()))
+            } else {
+                Ok(Pair::Settled(false))
+            }
+        }
+        (Some(Object::Tuple(x)), Some(Object::Tuple(y))) => {
+            if x.len() == y.len() {
+                Ok(Pair::Members(x.as_slice(), y.as_slice()))
+            } else {
+                Ok(Pair::Settled(false))
+            }
+        }
+        (Some(Object::Dict { entries: x, .. }), Some(Object::Dict { entries: y, .. })) => {
+            if x.len() == y.len() {
+                Ok(Pair::Entries(x, y))
+            } else {
+                Ok(Pair::Settled(false))
+            }
+        }
+        (Some(Object::Function(l, f)), Some(Object::Function(m, g))) => {
+            Ok(Pair::Settled(l == m && f == g))
+        }
+        _ => Ok(Pair::Settled(false)),
+    }
+}
+
+/// Returns whether two values are equal, or fault 11 or 12. Each pair compared is a step, and so many containers more
+/// may be entered.
+#[cycle(comparing)]
+#[tactic(auto, using(crate::proofs::Comparisons::equal_is))]
+pub fn equal(
+    objects: &[HeapObject],
+    steps: &mut u64,
+    a: Val,
+    b: Val,
+    left: u32,
+) -> Result<bool, Halt>
+    ensures { Says (equal left (map object_in objects.now) a b steps.old) result steps.new }
+{
+    match make_pair(objects, a, b)? {
+        Pair::Settled(same) => {
+            tick(steps)?;
+            Ok(same)
+        }
+        Pair::Members(xs, ys) => equal_lists(objects, steps, xs, ys, left),
+        Pair::Entries(xs, ys) => equal_dicts(objects, steps, xs, ys, left),
+    }
+}
+
+// Returns whether the members of two lists of one length are equal.
+#[cycle(comparing)]
+#[tactic(auto, using(crate::proofs::Comparisons::lists_deep, crate::proofs::Comparisons::lists_more))]
+fn equal_lists(
+    objects: &[HeapObject],
+    steps: &mut u64,
+    xs: &[Val],
+    ys: &[Val],
+    left: u32,
+) -> Result<bool, Halt>
+    ensures { Says (visit_pair (inner_equal left (map object_in objects.now))
+        (members xs.now ys.now) steps.old) result steps.new }
+{
+    if left == 0 {
+        return Err(Halt::Code(faults::TOO_DEEP));
+    }
+    tick(steps)?;
+    equal_members(objects, steps, xs, ys, left - 1)
+}
+
+// Returns whether members are equal. Compares up to the first that are not.
+#[cycle(comparing)]
+#[tactic(auto, using(crate::proofs::Comparisons::members_same, crate::proofs::Comparisons::members_differ, crate::proofs::Comparisons::members_first_over, crate::proofs::Comparisons::members_second_over))]
+fn equal_members(
+    objects: &[HeapObject],
+    steps: &mut u64,
+    xs: &[Val],
+    ys: &[Val],
+    left: u32,
+) -> Result<bool, Halt>
+    ensures { Says (equal_members (equal left (map object_in objects.now)) xs.now ys.now steps.old)
+        result steps.new }
+{
+    for i in 0..xs.len() {
+        let Some(x) = val_at(xs, i) else {
+            return Ok(true);
+        };
+        let Some(y) = val_at(ys, i) else {
+            return Ok(true);
+        };
+        match equal(objects, steps, x, y, left) {
+            Ok(true) => {}
+            Ok(false) => return Ok(false),
+            Err(halt) => return Err(halt),
+        }
+    }
+    Ok(true)
+}
+
+// Returns whether the entries of two dictionaries of one length are equal.
+#[cycle(comparing)]
+#[tactic(auto, using(crate::proofs::Comparisons::dicts_deep, crate::proofs::Comparisons::dicts_more))]
+fn equal_dicts(
+    objects: &[HeapObject],
+    steps: &mut u64,
+    xs: &IndexMap<Key, Entry>,
+    ys: &IndexMap<Key, Entry>,
+    left: u32,
+) -> Result<bool, Halt>
+    ensures { Says (visit_pair (inner_equal left (map object_in objects.now))
+        (entries xs.now.entries ys.now.entries) steps.old) result steps.new }
+{
+    if left == 0 {
+        return Err(Halt::Code(faults::TOO_DEEP));
+    }
+    tick(steps)?;
+    equal_entries(objects, steps, xs, ys, left - 1)
+}
+
+// Returns whether the right has the keys of the left with equal values. Looks up to the first that it has not.
+#[cycle(comparing)]
+#[tactic(auto, using(crate::proofs::Comparisons::entries_same, crate::proofs::Comparisons::entries_differ))]
+fn equal_entries(
+    objects: &[HeapObject],
+    steps: &mut u64,
+    xs: &IndexMap<Key, Entry>,
+    ys: &IndexMap<Key, Entry>,
+    left: u32,
+) -> Result<bool, Halt>
+    ensures { Says (equal_entries (equal left (map object_in objects.now)) xs.now.entries
+        ys.now.entries steps.old) result steps.new }
+{
+    for i in 0..xs.len() {
+        let Some((key, entry)) = xs.get_index(i) else {
+            return Ok(true);
+        };
+        match equal_entry(objects, steps, key, entry.value, ys, left) {
+            Ok(true) => {}
+            Ok(false) => return Ok(false),
+            Err(halt) => return Err(halt),
+        }
+    }
+    Ok(true)
+}
+
+// Returns whether the right has a key with an equal value.
+#[cycle(comparing)]
+fn equal_entry(
+    objects: &[HeapObject],
+    steps: &mut u64,
+    key: &Key,
+    x: Val,
+    ys: &IndexMap<Key, Entry>,
+    left: u32,
+) -> Result<bool, Halt>
+    ensures { Says (equal_entry (equal left (map object_in objects.now)) key.now x ys.now.entries
+        steps.old) result steps.new }
+{
+    spend(steps, key.parts().len())?;
+    equal_found(objects, steps, x, found(ys, key), left)
+}
+
+// Returns whether a value is equal to the one of an entry, if there is an entry.
+#[cycle(comparing)]
+fn equal_found(
+    objects: &[HeapObject],
+    steps: &mut u64,
+    x: Val,
+    found: Option<Entry>,
+    left: u32,
+) -> Result<bool, Halt>
+    ensures { Says (equal_found (equal left (map object_in objects.now)) x found steps.old) result
+        steps.new }
+{
+    match found {
+        Some(entry) => equal(objects, steps, x, entry.value, left),
+        None => Ok(false),
+    }
+}

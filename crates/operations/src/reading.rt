@@ -1,0 +1,147 @@
+//! Index, slice and iteration.
+ghost use Rattle.std.specs.Prelude.{[], ◌∷◌};
+ghost use Rattle.meaning.specs.Heap.{at, makes_text};
+ghost use Rattle.meaning.specs.Indexing.{items, items_of, int_of, found_at, found_key, index, index_object, at_key, slice, slice_object};
+ghost use Rattle.heap.specs.View.{store_of, Says, Checks, ChecksItems};
+
+use crate::hash;
+use heap::{Halt, Heap, Key, Object, Val, cut, found, keys, member};
+use meaning::faults;
+
+/// Returns the number of an int, and not of a bool, or fault 5.
+pub fn as_int(x: Val) -> Result<i64, Halt>
+    ensures { Checks (int_of x) result }
+{
+    match x {
+        Val::Int(n) => Ok(n),
+        _ => Err(Halt::Code(faults::WRONG_TYPE)),
+    }
+}
+
+// Returns the member at an index of a list, or fault 5, or 8 if nothing is there.
+fn found_at<T: Copy>(xs: &[T], i: Val) -> Result<T, Halt>
+    ensures { Checks (found_at xs.now i) result }
+{
+    let n = as_int(i)?;
+    match member(xs, n) {
+        Some(x) => Ok(x),
+        None => Err(Halt::Code(faults::ABSENT)),
+    }
+}
+
+/// Evaluates `a[i]`, or returns fault 5, or 8 if nothing is there.
+pub fn index(heap: &mut Heap, a: Val, i: Val) -> Result<Val, Halt>
+    ensures { Says (index a i (store_of heap.old)) result (store_of heap.new) }
+{
+    match a {
+        Val::At(place) => index_object(heap, place, i),
+        _ => Err(Halt::Code(faults::WRONG_TYPE)),
+    }
+}
+
+// Returns the value that an object has at an index.
+fn index_object(heap: &mut Heap, a: usize, i: Val) -> Result<Val, Halt>
+    ensures { Says (index_object (at a (store_of heap.old)) i (store_of heap.old)) result
+        (store_of heap.new) }
+{
+    match heap.object(a)? {
+        Some(Object::Text(bytes)) => {
+            let byte = found_at(bytes.as_slice(), i)?;
+            make_letter(heap, byte)
+        }
+        Some(Object::List { members, .. }) => found_at(members.as_slice(), i),
+        Some(Object::Tuple(members)) => found_at(members.as_slice(), i),
+        Some(Object::Dict { .. }) => found_key(heap, a, i),
+        Some(Object::Function(_, _)) => Err(Halt::Code(faults::WRONG_TYPE)),
+        None => Err(Halt::Code(faults::WRONG_TYPE)),
+    }
+}
+
+// Returns the value that a dictionary has at a key, which is hashed first.
+#[tactic(auto, unfolding(meaning::specs::Indexing::found_key))]
+fn found_key(heap: &mut Heap, a: usize, i: Val) -> Result<Val, Halt>
+    ensures { Says (found_key (at a (store_of heap.old)) i (store_of heap.old)) result
+        (store_of heap.new) }
+{
+    let key = hash(heap, i)?;
+    at_key(heap, a, &key)
+}
+
+// Returns the value at a key.
+fn at_key(heap: &Heap, a: usize, key: &Key) -> Result<Val, Halt>
+    ensures { Says (at_key (at a (store_of heap.now)) key.now (store_of heap.now)) result
+        (store_of heap.now) }
+{
+    match heap.object(a)? {
+        Some(Object::Dict { entries, .. }) => match found(entries, key) {
+            Some(entry) => Ok(entry.value),
+            None => Err(Halt::Code(faults::ABSENT)),
+        },
+        _ => Err(Halt::Code(faults::WRONG_TYPE)),
+    }
+}
+
+// Makes a string of one byte.
+fn make_letter(heap: &mut Heap, byte: u8) -> Result<Val, Halt>
+    ensures { Says (makes_text (byte ∷ []) (store_of heap.old)) result (store_of heap.new) }
+{
+    let mut bytes = Vec::new(heap.alloc);
+    bytes.push(byte)?;
+    heap.make_text(bytes)
+}
+
+/// Evaluates `a[i:j]`, where a bound that is not given is `None`, or returns fault 5.
+pub fn slice(heap: &mut Heap, a: Val, i: Val, j: Val) -> Result<Val, Halt>
+    ensures { Says (slice a i j (store_of heap.old)) result (store_of heap.new) }
+{
+    match a {
+        Val::At(place) => slice_object(heap, place, i, j),
+        _ => Err(Halt::Code(faults::WRONG_TYPE)),
+    }
+}
+
+// Makes the part of an object between two bounds.
+fn slice_object(heap: &mut Heap, a: usize, i: Val, j: Val) -> Result<Val, Halt>
+    ensures { Says (slice_object (at a (store_of heap.old)) i j (store_of heap.old)) result
+        (store_of heap.new) }
+{
+    match heap.object(a)? {
+        Some(Object::Text(bytes)) => {
+            let part = cut(heap.alloc, bytes.as_slice(), i, j)?;
+            heap.make_text(part)
+        }
+        Some(Object::List { members, .. }) => {
+            let part = cut(heap.alloc, members.as_slice(), i, j)?;
+            heap.make_list(part)
+        }
+        Some(Object::Tuple(members)) => {
+            let part = cut(heap.alloc, members.as_slice(), i, j)?;
+            heap.make_tuple(part)
+        }
+        _ => Err(Halt::Code(faults::WRONG_TYPE)),
+    }
+}
+
+/// Returns the values that an iteration goes over: the members, or a dictionary's keys; else fault 5.
+pub fn items(heap: &Heap, a: Val) -> Result<Vec<Val>, Halt>
+    ensures { ChecksItems (items a (store_of heap.now)) result }
+{
+    match a {
+        Val::At(place) => object_items(heap, place),
+        _ => Err(Halt::Code(faults::WRONG_TYPE)),
+    }
+}
+
+// Returns the values that an iteration over an object goes over.
+fn object_items(heap: &Heap, a: usize) -> Result<Vec<Val>, Halt>
+    ensures { ChecksItems (items_of (at a (store_of heap.now))) result }
+{
+    match heap.object(a)? {
+        Some(Object::List { members, .. }) => Ok(Vec::from_slice(heap.alloc, members.as_slice())?),
+        Some(Object::Tuple(members)) => Ok(Vec::from_slice(heap.alloc, members.as_slice())?),
+        Some(Object::Dict { entries, .. }) => Ok(keys(heap.alloc, entries)?),
+        Some(Object::Text(_)) => Err(Halt::Code(faults::WRONG_TYPE)),
+        Some(Object::Function(_, _)) => Err(Halt::Code(faults::WRONG_TYPE)),
+        None => Err(Halt::Code(faults::WRONG_TYPE)),
+    }
+}

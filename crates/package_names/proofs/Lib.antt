@@ -1,4 +1,0 @@
-pub mod Names
-pub mod Directories
-pub mod Steps
-pub mod Grounds

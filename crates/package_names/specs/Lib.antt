@@ -1,4 +1,0 @@
-pub mod Below
-pub mod Turns
-pub mod TurnLaws
-pub mod Finds

@@ -1,3 +1,0 @@
-pub mod HeapPieces
-pub mod Targets
-pub mod ListEnds
