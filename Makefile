@@ -114,3 +114,4 @@ bench: build measures
 	python3 bench/values.py
 	python3 bench/programs.py
 	python3 bench/lines.py 1000
+	python3 bench/tables.py 10000 1000

@@ -5,7 +5,8 @@
 
 All lines are given at once, 200 packages to a load. Printed are the least wall time of R runs, in milliseconds, and the
 most memory, in megabytes, of the built program and of the other one. Both have to give the same answers. Times are
-noisy, so what counts is the ratio of the two in one run.
+noisy, so what counts is the ratio of the two in one run. A program counts for at least the memory of this script, some
+15 megabytes: less is seen by `/usr/bin/time -v` alone.
 """
 import argparse
 import json
