@@ -2,3 +2,4 @@ pub mod Results
 pub mod Parts
 pub mod Spans
 pub mod Ranks
+pub mod TextBuffers

@@ -10,11 +10,11 @@ use crate::orders::{max, min};
 use crate::plain::{len, truth, type_of};
 use crate::ranges::range;
 use crate::sorting::sorted;
+use crate::strings::{print, text};
 use crate::truths::{all, any};
 use crate::zipping::zip;
 use heap::{Builtin, Halt, Heap, Val};
 use meaning::faults;
-use printing::{print, text};
 use texts::Text;
 
 /// Calls a built-in function that is no package call, with arguments without a name and arguments by name. Returns its

@@ -19,7 +19,7 @@ use texts::Text;
 use tree::{Def, Top};
 
 // Freezes a value.
-fn freeze_value(heap: &mut Heap, x: Val) -> Result<FrozenValue, Halt>
+fn freeze_one(heap: &mut Heap, x: Val) -> Result<FrozenValue, Halt>
     ensures says { Says (freezes x (store_of heap.old)) result (store_of heap.new) }
     ensures steps { IfOk result (λ _. heap.new.steps ≤ heap.old.steps) }
 {
@@ -34,7 +34,7 @@ fn freeze_values(heap: &mut Heap, xs: &[Val]) -> Result<Vec<FrozenValue>, Halt>
 {
     let mut all = Vec::new(heap.alloc);
     for x in xs.iter() {
-        match freeze_value(heap, *x) {
+        match freeze_one(heap, *x) {
             Ok(f) => all.push(f)?,
             Err(halt) => return Err(halt),
         }
@@ -63,7 +63,7 @@ fn freeze_names(heap: &mut Heap, block: &Block, names: &[Slot]) -> Result<Vec<Bi
         let Some(x) = bound_value(block, &slot.name, all.len()) else {
             return Err(Halt::Code(faults::NOT_BOUND));
         };
-        let value = match freeze_value(heap, x) {
+        let value = match freeze_one(heap, x) {
             Ok(f) => f,
             Err(halt) => return Err(halt),
         };

@@ -11,3 +11,6 @@ pub mod NodeStates
 pub mod NodeValues
 pub mod NextLaws
 pub mod Replies
+pub mod Loads
+pub mod FilePackages
+pub mod PackageLaws

@@ -7,7 +7,7 @@ use Rattle.labels.specs.Paths.{is_package_name}
 use Rattle.filetree.specs.Files.{Files}
 use Rattle.filetree.specs.Lawful.{HasPaths}
 use Rattle.filetree.specs.Listings.{listing}
-use Rattle.globs.specs.Globs.{is_package, answer_below}
+use Rattle.pattern.specs.Globs.{is_package, answer_below}
 use Rattle.keys.specs.Keys.{glob_key}
 use Rattle.keys.specs.declared.key.Key.{Key}
 use Rattle.keys.specs.declared.key.Key.TheVariants as key
@@ -16,7 +16,7 @@ use Rattle.keys.specs.declared.value.Value.TheVariants as value
 use Rattle.walks.specs.Lookups.{build_of}
 use Rattle.walks.specs.Below.{packages_below}
 use Rattle.functions.specs.Next.{next}
-use Rattle.leaves.specs.Leaves.{read, listed_of}
+use Rattle.keys.specs.Leaves.{read, listed_of}
 
 -- the key has this value at the files, and no other
 abbrev pub Holds : Files → Key → Value → Type 0

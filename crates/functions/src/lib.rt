@@ -24,17 +24,19 @@
 //! An empty group is not asked, and a key that repeats in a group is asked once, at its first place.
 //!
 //! Layer: loading, on base, files, syntax, values, evaluation of a file and engine. Begin at `loading.rt` and
-//! `specs/Next.antt`.
+//! `specs/Next.antt`; what the nodes of modules and packages hold is told in `file_laws.rt`.
 #![tactic(auto)]
 
 ghost use Rattle.functions.specs.NodeValues.{NamesHold, GlobsHold, PackagesHold};
 
 mod evaluating;
+mod file_laws;
 mod file_node;
 mod loading;
 mod once;
 mod reply;
 
+pub use file_laws::{cycles_have_no_value, each_has_a_value, each_has_one_value, files_determine_what_nodes_hold, modules_are_those_of_the_files, one_cycle_is_shown, packages_are_those_of_the_files};
 pub use loading::{LoadRules, Loading};
 
 /// States the law of the leaves and the look-ups, at each state of the files. A file's node holds its text or none, and

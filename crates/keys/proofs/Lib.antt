@@ -1,2 +1,3 @@
 pub mod KeyLaws
 pub mod CycleLaws
+pub mod LeafReads

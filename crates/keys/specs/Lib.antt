@@ -9,3 +9,4 @@ pub mod Steps
 pub mod Cycles
 pub mod EditLeaves
 pub mod Storage
+pub mod Leaves

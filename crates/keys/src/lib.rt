@@ -1,13 +1,15 @@
 //! Keys of nodes, the values of nodes, the trait of node functions, and the turns that they make.
 //!
 //! A node function gets other nodes' values only by asking for them, in groups. A turn is one call of it: it ends with
-//! the next group to be asked or with the node's value. Between two turns a state may be kept.
+//! the next group to be asked or with the node's value. Between two turns a state may be kept. A leaf has no function:
+//! its value is read from the files.
 //!
 //! Layer: engine, on base, files, syntax and values. Begin at `key.rt` and `rules.rt`.
 #![tactic(auto)]
 
 mod job;
 mod key;
+mod leaf;
 mod rules;
 mod turned;
 mod value;
@@ -15,6 +17,7 @@ mod waiting;
 
 pub use job::Job;
 pub use key::Key;
+pub use leaf::{is_leaf, read_leaf};
 pub use rules::{Rules, Turn};
 pub use turned::{Step, Turned};
 pub use value::{BuildName, DirectoryNames, Fault, Names, Paths, Value};

@@ -11,9 +11,9 @@ use Rattle.std.specs.declared.cmp.Ordering.{Ordering}
 use Rattle.std.specs.declared.cmp.Ordering.TheVariants.{Less, Equal, Greater}
 use Rattle.labels.specs.Paths.{segments}
 use Rattle.filetree.specs.Listings.{alone, sorted_names}
-use Rattle.globs.specs.Globs.{sought, question, found_below, answer_below, some_matches}
-use Rattle.globs.proofs.Answer.{found_by_patterns}
-use Rattle.globs.proofs.Questions.{has_its_pattern}
+use Rattle.pattern.specs.Globs.{sought, question, found_below, answer_below, some_matches}
+use Rattle.pattern.proofs.Answer.{found_by_patterns}
+use Rattle.pattern.proofs.Questions.{has_its_pattern}
 use Rattle.pattern.specs.Patterns.{is_pattern}
 use Rattle.language.specs.Sorting.{put_by, put, in_order}
 use Rattle.language.specs.Environment.{Answers}

@@ -5,7 +5,7 @@
 use Rattle.std.specs.Prelude.{ℕ, ℤ, pos, ◌&&◌, ◌||◌, Bool, true, false, not, nat_le, List, [], ◌∷◌, length, map, filter, flat_map, Option, Some, None, is_some, if◌then◌else◌, slice_get, codes}
 use Rattle.std.specs.List.{list_all}
 use Rattle.std.specs.Ordering.{int_eq}
-use Rattle.globs.specs.Globs.{some_matches, question}
+use Rattle.pattern.specs.Globs.{some_matches, question}
 use Rattle.labels.specs.Paths.{segments}
 use Rattle.pattern.specs.Patterns.{is_pattern}
 use Rattle.meaning.specs.declared.val.Val.{Val}

@@ -7,7 +7,7 @@ use Rattle.language.specs.World.{World, Names, ended}
 use Rattle.language.specs.Names.{file_slot, names_at}
 use Rattle.meaning.specs.declared.val.Val.{Val}
 use Rattle.labels.specs.Paths.{segments}
-use Rattle.globs.specs.Globs.{sought, answer_below, glob_below}
+use Rattle.pattern.specs.Globs.{sought, answer_below, glob_below}
 use Rattle.pattern.specs.Patterns.{is_pattern}
 use Rattle.language.specs.Globs.{answer_to, Glob, questions, unanswered, found}
 use Rattle.grammar.specs.declared.kind.FileKind.TheVariants as k

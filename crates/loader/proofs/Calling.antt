@@ -7,7 +7,7 @@ use Rattle.evaluation.specs.Reachability.{Reached, root, member}
 use Rattle.evaluation.proofs.Touch.{not_true}
 use Rattle.filetree.specs.Files.{Files}
 use Rattle.functions.specs.Next.{next}
-use Rattle.leaves.proofs.LeafReads.{leaf_stays}
+use Rattle.keys.proofs.LeafReads.{leaf_stays}
 use Rattle.keys.specs.Cycles.{cycle}
 use Rattle.keys.specs.declared.key.Key.{Key}
 use Rattle.keys.specs.declared.value.Value.{Value}

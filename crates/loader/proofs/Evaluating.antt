@@ -2,7 +2,7 @@
 use Rattle.std.proofs.Common.{◌≡◌, ◌∙◌, ap, sym, subst, refl, inl, inr, ℕ, List, ◌++◌, Some, None}
 use Rattle.std.specs.Prelude.{Ok, Option, option_map}
 use Rattle.functions.specs.Next.{next}
-use Rattle.leaves.specs.Leaves.{read}
+use Rattle.keys.specs.Leaves.{read}
 use Rattle.filetree.specs.Files.{Files}
 use Rattle.node.specs.Graphs.{GraphView}
 use Rattle.round.specs.Call.{Calls}

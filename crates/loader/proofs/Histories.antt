@@ -3,8 +3,8 @@ use Rattle.std.proofs.Common.{◌≡◌, ℕ, suc, ◌+◌, ◌-◌, List, [], �
 use Rattle.std.specs.FinMap as map_of
 use Rattle.filetree.specs.Files.{Files}
 use Rattle.functions.specs.Next.{next}
-use Rattle.leaves.specs.Leaves.{read}
-use Rattle.leaves.proofs.LeafReads.{leaf_stays, changes_read}
+use Rattle.keys.specs.Leaves.{read}
+use Rattle.keys.proofs.LeafReads.{leaf_stays, changes_read}
 use Rattle.keys.specs.declared.key.Key.{Key}
 use Rattle.node.specs.Graphs.{GraphView, IsTouched}
 use Rattle.node.specs.Laws.{TouchKeepsLawful, IsAlwaysLawful}

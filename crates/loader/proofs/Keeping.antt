@@ -4,7 +4,7 @@ use Rattle.std.specs.Prelude.{Ok, Option, None}
 use Rattle.std.proofs.lemmas.List.{append-nil}
 use Rattle.filetree.specs.Files.{Files}
 use Rattle.functions.specs.Next.{next}
-use Rattle.leaves.specs.Leaves.{read}
+use Rattle.keys.specs.Leaves.{read}
 use Rattle.std.specs.Map.{lookup}
 use Rattle.std.specs.BTreeMap.{is_at}
 use Rattle.evaluation.specs.Graph.{Record}

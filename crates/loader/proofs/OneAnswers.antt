@@ -7,7 +7,7 @@ use Rattle.lines.proofs.Cuts.{whole_append}
 use Rattle.filetree.specs.Files.{Files}
 use Rattle.labels.specs.Labels.{Target}
 use Rattle.walks.specs.Below.{packages_below}
-use Rattle.packages.proofs.Uniqueness.{one_module_held, one_package_held}
+use Rattle.functions.proofs.Uniqueness.{one_module_held, one_package_held}
 use Rattle.answers.specs.Answers.{packages_data}
 use Rattle.serde_json.specs.Data.{Data}
 use Rattle.commands.specs.Commands.{Command, change, ask, Request, find, load, module_of, under, data_of, command_of}

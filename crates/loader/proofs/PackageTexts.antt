@@ -10,7 +10,7 @@ use Rattle.keys.specs.declared.key.Key.TheVariants as key
 use Rattle.keys.specs.declared.value.Value.{Value}
 use Rattle.labels.specs.Paths.{is_package_name}
 use Rattle.node.specs.Graphs.{GraphView, record_at, present}
-use Rattle.packages.proofs.NodeValues.{packages_hold}
+use Rattle.functions.proofs.NodeValues.{packages_hold}
 use Rattle.commands.specs.Commands.{load}
 use Rattle.commands.specs.Refusals.{request_refusal}
 use Rattle.serde_json.specs.Written.{compact_text}

@@ -6,8 +6,8 @@ use Rattle.filetree.specs.Files.{Files}
 use Rattle.walks.specs.Lookups.{build_of}
 use Rattle.walks.specs.Below.{packages_below}
 use Rattle.functions.specs.Next.{next}
-use Rattle.leaves.specs.Leaves.{read}
-use Rattle.leaves.proofs.LeafReads.{leaf_stays}
+use Rattle.keys.specs.Leaves.{read}
+use Rattle.keys.proofs.LeafReads.{leaf_stays}
 use Rattle.walks.proofs.LookupValue.{lookup_grounded}
 use Rattle.walks.proofs.Grounds.{packages_held as names_held}
 use Rattle.walks.proofs.Names.{package_names}
@@ -35,7 +35,7 @@ use Rattle.filetree.proofs.Lawful.{edits_keep_paths}
 use Rattle.labels.specs.Paths.{is_package_name}
 use Rattle.labels.specs.Labels.{Target, label_of, would_name, label_text, is_target, is_module}
 use Rattle.answers.specs.Answers.{packages_data}
-use Rattle.packages.proofs.NodeValues.{packages_hold, modules_hold}
+use Rattle.functions.proofs.NodeValues.{packages_hold, modules_hold}
 use Rattle.std.proofs.lemmas.Bool.{and_parts}
 use Rattle.std.specs.List.{list_all, starts_with}
 use Rattle.commands.specs.Commands.{Request, find, load, module_of, under}

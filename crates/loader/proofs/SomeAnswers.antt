@@ -6,7 +6,7 @@ use Rattle.filetree.specs.Files.{Files}
 use Rattle.walks.specs.Lookups.{build_of}
 use Rattle.walks.specs.Below.{packages_below}
 use Rattle.labels.specs.Labels.{Target}
-use Rattle.packages.proofs.Existence.{some_module_held, some_package_held}
+use Rattle.functions.proofs.Existence.{some_module_held, some_package_held}
 use Rattle.answers.specs.Answers.{packages_data}
 use Rattle.serde_json.specs.Data.{Data}
 use Rattle.commands.specs.Commands.{Command, change, ask, Request, find, load, module_of, under, data_of, command_of}

@@ -10,7 +10,7 @@ use Rattle.keys.specs.declared.value.Value.{Value}
 use Rattle.keys.specs.declared.value.Value.TheVariants as value
 use Rattle.walks.specs.Lookups.{build_of}
 use Rattle.walks.specs.Below.{packages_below}
-use Rattle.packages.specs.Packages.{HoldsPackage, HoldsModule}
+use Rattle.functions.specs.FilePackages.{HoldsPackage, HoldsModule}
 use Rattle.answers.specs.Answers.{package_data, faulty_package, packages_data, fault_data, cycle_data, module_data, faulty_module}
 use Rattle.serde_json.specs.Data.{Data, null, string, number, unsigned, object, no_members, member}
 use Rattle.serde_json.specs.Written.{compact_text}

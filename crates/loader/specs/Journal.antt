@@ -7,7 +7,7 @@ use Rattle.evaluation.specs.Reachability.{AsksGroup, Reached}
 use Rattle.evaluation.specs.Value.{AllDiffer, Grounded, IsUngrounded, HasValue, In}
 use Rattle.filetree.specs.Files.{Files}
 use Rattle.functions.specs.Next.{next}
-use Rattle.leaves.specs.Leaves.{read}
+use Rattle.keys.specs.Leaves.{read}
 use Rattle.keys.specs.Cycles.{cycle}
 use Rattle.keys.specs.Keys.{key_cmp}
 use Rattle.keys.specs.declared.key.Key.{Key}

@@ -3,7 +3,7 @@ use Rattle.std.specs.Prelude.{◌≡◌, ℕ, zero, suc, ◌+◌, List, [], ◌�
 use Rattle.std.specs.FinMap as map
 use Rattle.filetree.specs.Files.{Files}
 use Rattle.functions.specs.Next.{next}
-use Rattle.leaves.specs.Leaves.{read}
+use Rattle.keys.specs.Leaves.{read}
 use Rattle.node.specs.Graphs.{GraphView}
 use Rattle.node.specs.Laws.{IsLawfulFor}
 pub use Rattle.commands.specs.Commands.{paths_of}

@@ -11,7 +11,7 @@ use clap::error::ErrorKind;
 use clap::{Arg, ArgAction, ArgMatches, Command, value_parser};
 use functions::{LoadRules, Loading};
 use http_server::Log;
-use leaves::is_leaf;
+use keys::is_leaf;
 use lines::{DeviceError, Input, Line, Output, Pending, ReadStop, next_line};
 use round::{Run, Stop};
 use std::alloc::{AllocError, Global};

@@ -6,7 +6,7 @@ ghost use Rattle.board.specs.Rule.{total};
 ghost use Rattle.evaluation.specs.Graph.{Marks};
 ghost use Rattle.node.specs.Graphs.{record_at, IsTouched};
 ghost use Rattle.functions.specs.Next.{next};
-ghost use Rattle.leaves.specs.Leaves.{read};
+ghost use Rattle.keys.specs.Leaves.{read};
 ghost use Rattle.open_nodes.specs.TurnCounts.{turns_of};
 ghost use Rattle.round.specs.Call.{Calls};
 ghost use Rattle.lines.specs.Lines.{Keeps};

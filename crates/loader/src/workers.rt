@@ -2,7 +2,7 @@
 ghost use Rattle.std.specs.Prelude.{◌≡◌, ◌+◌, ◌≤◌, length, IfOk, IfErr, Ok, Err};
 ghost use Rattle.board.specs.Rule.{total};
 ghost use Rattle.functions.specs.Next.{next};
-ghost use Rattle.leaves.specs.Leaves.{read};
+ghost use Rattle.keys.specs.Leaves.{read};
 ghost use Rattle.open_nodes.specs.TurnCounts.{turns_of};
 ghost use Rattle.round.specs.Call.{Calls};
 

@@ -3,10 +3,6 @@ use Rattle.std.specs.Prelude.{ℕ, List, [], ◌∷◌, Option, Some, None, if�
 use Rattle.meaning.specs.Comparing.{same_text}
 use Rattle.tree.specs.Tree.{Fn}
 
-abbrev pub names_of : List Fn → List (List ℕ)
-names_of [] = []
-names_of (f ∷ fs) = f.name ∷ names_of fs
-
 -- the first function with a name
 abbrev pub first_named : List ℕ → List Fn → Option Fn
 first_named x [] = None

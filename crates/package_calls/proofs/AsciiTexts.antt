@@ -8,7 +8,7 @@ use Rattle.std.proofs.lemmas.Bool.Decides.{nat_tests}
 use lib.Pointwise.{bytes_decides}
 use Rattle.std.proofs.lemmas.List.{take-append-drop}
 use Rattle.std.proofs.lemmas.List.Folds.{list_all-append}
-use Rattle.globs.proofs.Members.{same_bytes}
+use Rattle.pattern.proofs.Members.{same_bytes}
 use Rattle.std.specs.List.{list_all, onto_first, position_or_len, before_first, after_first, after_last, starts_with}
 use Rattle.labels.specs.Paths.{is_name_byte, is_segment, segments, is_path, is_package_name}
 use Rattle.labels.specs.Labels.{Target, is_colon, is_slash, is_target, label_file, absolute, would_name, label_of}

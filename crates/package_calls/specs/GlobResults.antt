@@ -1,7 +1,7 @@
 -- What a call of `glob` gathers: paths, and patterns without an answer.
 use Rattle.std.specs.Prelude.{ℕ, List, [], ◌∷◌, ◌++◌, map, filter, flat_map, not, is_some, ◌||◌, if◌then◌else◌}
 use Rattle.labels.specs.Paths.{segments}
-use Rattle.globs.specs.Globs.{some_matches}
+use Rattle.pattern.specs.Globs.{some_matches}
 use Rattle.language.specs.Names.{has_name}
 use Rattle.language.specs.Environment.{Answers}
 use Rattle.language.specs.Globs.{answer_to, found_or_none}

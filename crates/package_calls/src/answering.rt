@@ -1,7 +1,7 @@
 //! The answer of a call of `glob`.
 ghost use Rattle.std.specs.Prelude.{◌≡◌, ◌++◌, [], map, IfOk, OnOk, option_map};
 ghost use Rattle.labels.specs.Paths.{segments};
-ghost use Rattle.globs.specs.Globs.{some_matches};
+ghost use Rattle.pattern.specs.Globs.{some_matches};
 ghost use Rattle.meaning.specs.Methods.{makes_texts};
 ghost use Rattle.meaning.specs.Heap.{makes_text};
 ghost use Rattle.language.specs.Names.{has_name};

@@ -6,7 +6,7 @@ ghost use Rattle.pattern.specs.Patterns.{is_pattern};
 ghost use Rattle.meaning.specs.Outcome.{good, bad};
 ghost use Rattle.language.specs.Names.{has_name};
 ghost use Rattle.language.specs.Globs as globs;
-ghost use Rattle.globs.specs.Globs.{question};
+ghost use Rattle.pattern.specs.Globs.{question};
 ghost use Rattle.language.specs.Globs.{parameters, plain_parameters, texts_or_none, truth_or, int_or};
 ghost use Rattle.heap.specs.View.{store_of, Checks, ChecksItems};
 ghost use Rattle.package_calls.specs.GlobCalls.{asked_of, written_of};

@@ -1,2 +1,9 @@
 pub mod FirstSegment
 pub mod WildLemmas
+pub mod Members
+pub mod NameOrder
+pub mod Paths
+pub mod Walk
+pub mod Answer
+pub mod Directories
+pub mod Questions

@@ -3,3 +3,4 @@ pub mod Patterns
 pub mod Pieces
 pub mod Parts
 pub mod Rest
+pub mod Globs

@@ -2,7 +2,7 @@
 ghost use Rattle.std.specs.Prelude.{◌≡◌, ◌+◌, ◌<◌, ◌≤◌, [], All, length, vec_capacity, IfOk, IfErr, IsErrOf, Ok, Err};
 ghost use Rattle.board.specs.Places.{IsNewHost, IsNewHand};
 ghost use Rattle.board.specs.Rule.{total};
-ghost use Rattle.leaves.specs.Leaves as leaves;
+ghost use Rattle.keys.specs.Leaves as leaves;
 ghost use Rattle.open_nodes.specs.TurnCounts.{turns_of};
 ghost use Rattle.pool.specs.Running.{HasRun};
 ghost use Rattle.round.specs.Call.{Calls, HasOpenRoot, HasTurnToMake};

@@ -1,6 +1,6 @@
 //! The first turns of an evaluation, which the host makes itself: where one alone can be made, a thread gains nothing.
 ghost use Rattle.std.specs.Prelude.{◌≡◌, ◌+◌, ◌≤◌, IfOk, OnOk, OnErr};
-ghost use Rattle.leaves.specs.Leaves as leaves;
+ghost use Rattle.keys.specs.Leaves as leaves;
 ghost use Rattle.pool.specs.Serving.{StaysTrueSince, IsAfterStop};
 ghost use Rattle.round.specs.Here.{IsResting};
 ghost use Rattle.round.specs.Rounds.{standing};

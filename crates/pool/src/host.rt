@@ -1,7 +1,7 @@
 //! The host: it hands out what is ready, hires hands for it, and takes back what was made.
 ghost use Rattle.std.specs.Prelude.{◌≡◌, ◌⊎◌, ◌+◌, ◌<◌, ◌≤◌, All, length, IfOk, IfErr, IsErrOf, OnOk, Ok, Err};
 ghost use Rattle.board.specs.Places.{IsHostAtRest, IsNewHost, IsNewHand};
-ghost use Rattle.leaves.specs.Leaves as leaves;
+ghost use Rattle.keys.specs.Leaves as leaves;
 ghost use Rattle.open_nodes.specs.TurnCounts.{turns_of};
 ghost use Rattle.pool.specs.Crews.{IsCrew, SameCrew};
 ghost use Rattle.pool.specs.Serving.{IsSameHost, IsShutOnly, jobs_out, made_in};

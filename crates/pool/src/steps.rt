@@ -5,7 +5,7 @@ ghost use Rattle.evaluation.specs.Reply.{Reply};
 ghost use Rattle.evaluation.specs.Value.{In};
 ghost use Rattle.keys.specs.declared.key.Key.{Key};
 ghost use Rattle.keys.specs.declared.value.Value.{Value};
-ghost use Rattle.leaves.specs.Leaves as leaves;
+ghost use Rattle.keys.specs.Leaves as leaves;
 ghost use Rattle.pool.specs.Serving.{IsServing, AreKnown, IsSameHost, StaysTrueSince, IsAfterStop, jobs_out, left_out};
 ghost use Rattle.round.specs.Rounds.{standing, StandsBeside};
 

@@ -5,7 +5,7 @@ ghost use Rattle.keys.specs.Jobs.{Outcome};
 ghost use Rattle.keys.specs.declared.key.Key.{Key};
 ghost use Rattle.node.specs.Graphs.{GraphView};
 ghost use Rattle.keys.specs.declared.value.Value.{Value};
-ghost use Rattle.leaves.specs.Leaves as leaves;
+ghost use Rattle.keys.specs.Leaves as leaves;
 ghost use Rattle.replay.specs.Playing.{IsPlaying, Plays, IsPossibleNow, StopsAfter, HasPlace, HandsMore, CountsIf};
 ghost use Rattle.round.specs.declared.stop.Stop.{Stop};
 

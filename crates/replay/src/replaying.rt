@@ -1,6 +1,6 @@
 //! An evaluation by a list of choices.
 ghost use Rattle.std.specs.Prelude.{◌≡◌, ◌≤◌, ◌+◌, IfOk, IfErr, OnOk, IsErrOf, IsTrue, Err};
-ghost use Rattle.leaves.specs.Leaves as leaves;
+ghost use Rattle.keys.specs.Leaves as leaves;
 ghost use Rattle.replay.specs.Playing.{IsPlaying, Plays, IsPossibleNow, StopsAfter, HandsMore, CountsIf};
 ghost use Rattle.replay.specs.Replays.{Replays, SpendsBudget, chosen, hand_of, turns_told};
 ghost use Rattle.replay.specs.declared.choice.Choice.{Choice};

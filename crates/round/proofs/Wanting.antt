@@ -5,7 +5,7 @@ use Rattle.std.specs.Option.{is_some}
 use Rattle.std.specs.declared.alloc.Global.{Global}
 use Rattle.std.specs.declared.vec.Vec.{Vec}
 use Rattle.filetree.specs.Files.{Files}
-use Rattle.leaves.specs.Leaves as leaves
+use Rattle.keys.specs.Leaves as leaves
 use Rattle.keys.specs.declared.key.Key.TheVariants as key
 use Rattle.node.specs.Records.{items_of}
 use Rattle.evaluation.specs.Reply.{Reply}

@@ -6,7 +6,7 @@ ghost use Rattle.evaluation.specs.Reply.{Reply, Done};
 ghost use Rattle.evaluation.specs.Choices.{Back};
 ghost use Rattle.filetree.specs.Files.{Files};
 ghost use Rattle.open_nodes.specs.Nodes.{IsClean, node_at, groups_of, pending, IsUnsettled};
-ghost use Rattle.leaves.specs.Leaves as leaves;
+ghost use Rattle.keys.specs.Leaves as leaves;
 ghost use Rattle.keys.specs.declared.key.Key.{Key};
 ghost use Rattle.keys.specs.declared.value.Value.{Value};
 ghost use Rattle.node.specs.Graphs.{record_at};
@@ -21,8 +21,7 @@ ghost use Rattle.round.specs.Turning.{IsOutWith, ComesBack};
 
 use crate::members::{first_stop, is_settled, last_unsettled, unsettled};
 use filetree::Tree;
-use keys::{Key, Value};
-use leaves::{is_leaf, read_leaf};
+use keys::{Key, Value, is_leaf, read_leaf};
 use node::{Comparison, Graph};
 use open_nodes::{
     Nodes, Phase, Table, begin_check, begin_run, leave, look_again, note, pass, put_ready,

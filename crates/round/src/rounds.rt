@@ -9,7 +9,7 @@ ghost use Rattle.round.specs.NodeStates.{PutsState, HasState, DropsState};
 ghost use Rattle.evaluation.specs.Reply.{Reply};
 ghost use Rattle.evaluation.specs.Choices.{Choice, Hand, Back, Drop};
 ghost use Rattle.evaluation.specs.Value.{In};
-ghost use Rattle.leaves.specs.Leaves as leaves;
+ghost use Rattle.keys.specs.Leaves as leaves;
 ghost use Rattle.keys.specs.Jobs.{Made};
 ghost use Rattle.keys.specs.Keys.{key_cmp};
 ghost use Rattle.keys.specs.declared.key.Key.{Key};

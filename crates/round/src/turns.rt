@@ -10,7 +10,7 @@ ghost use Rattle.std.specs.Bool.{Decides};
 ghost use Rattle.keys.specs.Turns.{values};
 ghost use Rattle.std.specs.BTreeSet.{contains};
 ghost use Rattle.keys.specs.Keys.{key_cmp, key_eq};
-ghost use Rattle.leaves.specs.Leaves as leaves;
+ghost use Rattle.keys.specs.Leaves as leaves;
 ghost use Rattle.keys.specs.declared.key.Key.{Key};
 ghost use Rattle.keys.specs.declared.value.Value.{Value};
 ghost use Rattle.keys.specs.Jobs.{Made};

@@ -4,10 +4,9 @@
 
 mod operators;
 
-pub use builtins::builtin;
+pub use builtins::{builtin, print, text};
 pub use freezing::{Frozen, FrozenEntry, freeze, thaw};
 pub use heap::{Builtin, Bytes, Entry, Halt, Heap, Key, Object, Operator, Part, Val};
 pub use methods::{add_in_place, method};
 pub use operations::{equal, index, is_true, items, negate, plus, set_index, slice};
 pub use operators::{binary, less};
-pub use printing::{print, text};

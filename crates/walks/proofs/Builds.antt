@@ -12,7 +12,7 @@ use Rattle.std.proofs.lemmas.Map.Views.{tells_apart}
 use Rattle.labels.specs.Paths.{is_segment, segments, is_path}
 use Rattle.filetree.specs.Files.{Files, is_file}
 use Rattle.filetree.specs.Lawful.{HasPaths}
-use Rattle.globs.specs.Globs.{path_in, is_package}
+use Rattle.pattern.specs.Globs.{path_in, is_package}
 use Rattle.keys.specs.declared.value.BuildName.{BuildName}
 use Rattle.keys.specs.declared.value.BuildName.TheVariants.{BuildBazel, Build}
 use Rattle.keys.specs.declared.value.Value.TheVariants as value

@@ -7,12 +7,12 @@ use Rattle.std.proofs.lemmas.Bool.{and_parts, false≢true, leb-true}
 use Rattle.std.proofs.lemmas.List.{append_assoc, length-append}
 use Rattle.labels.specs.Paths.{segments, is_segment, is_path}
 use Rattle.filetree.specs.Listings.{Names, rest_below, names_in}
-use Rattle.globs.specs.Globs.{path_in}
-use Rattle.globs.proofs.Members.{In, any_in, in_all}
-use Rattle.globs.proofs.Paths.{rest_in, HasName, has_name}
-use Rattle.globs.proofs.Walk.{Sub, directories_to, directories_from}
+use Rattle.pattern.specs.Globs.{path_in}
+use Rattle.pattern.proofs.Members.{In, any_in, in_all}
+use Rattle.pattern.proofs.Paths.{rest_in, HasName, has_name}
+use Rattle.pattern.proofs.Walk.{Sub, directories_to, directories_from}
 use Rattle.keys.specs.declared.value.Value.TheVariants as value
-use Rattle.leaves.specs.Leaves.{listed_of}
+use Rattle.keys.specs.Leaves.{listed_of}
 use Rattle.walks.specs.Globs.{directories_in}
 
 -- the subdirectories that are held for a directory, whether it is there or not

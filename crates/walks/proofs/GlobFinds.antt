@@ -15,13 +15,13 @@ use Rattle.filetree.specs.Lawful.{HasPaths}
 use Rattle.filetree.specs.Listings.{Names, sorted_names, rest_below, names_in, listing}
 use Rattle.pattern.specs.Patterns.{is_double_star, segment_matches, path_matches}
 use Rattle.pattern.specs.Rest.{rest_segments}
-use Rattle.globs.specs.Globs.{path_in, is_package, sought, found_below, is_last, step_files, goes_into, walk_step, question, pattern_in, asks_directories, answer_below}
-use Rattle.globs.proofs.Members.{In, own_bytes, in_all, in_filter, filter_in, in_append, append_left, append_right, in_flat_map, flat_map_in, or_left, or_right}
-use Rattle.globs.proofs.NameOrder.{sorted_same, in_sorted, sorted_in}
-use Rattle.globs.proofs.Paths.{HasName, has_name, some_segment}
-use Rattle.globs.proofs.Walk.{directories_to, found_by_walk}
-use Rattle.globs.proofs.Directories.{held_with_directories}
-use Rattle.globs.proofs.Questions.{NoSpace, question_back, before_has_none}
+use Rattle.pattern.specs.Globs.{path_in, is_package, sought, found_below, is_last, step_files, goes_into, walk_step, question, pattern_in, asks_directories, answer_below}
+use Rattle.pattern.proofs.Members.{In, own_bytes, in_all, in_filter, filter_in, in_append, append_left, append_right, in_flat_map, flat_map_in, or_left, or_right}
+use Rattle.pattern.proofs.NameOrder.{sorted_same, in_sorted, sorted_in}
+use Rattle.pattern.proofs.Paths.{HasName, has_name, some_segment}
+use Rattle.pattern.proofs.Walk.{directories_to, found_by_walk}
+use Rattle.pattern.proofs.Directories.{held_with_directories}
+use Rattle.pattern.proofs.Questions.{NoSpace, question_back, before_has_none}
 use Rattle.keys.specs.Keys.{glob_key}
 use Rattle.keys.specs.declared.key.Key.{Key}
 use Rattle.keys.specs.declared.key.Key.TheVariants as key
@@ -31,7 +31,7 @@ use Rattle.walks.specs.Lookups as lookup
 use Rattle.walks.specs.Lookups.{file_name, build_path, is_short, has_file, build_of}
 use Rattle.walks.specs.Globs as glob
 use Rattle.walks.specs.NodeValues.{GlobsHold}
-use Rattle.leaves.specs.Leaves.{read, listed_of}
+use Rattle.keys.specs.Leaves.{read, listed_of}
 use Rattle.walks.proofs.Builds.{built_there}
 use Rattle.walks.proofs.LookupValue.{lookup_grounded}
 use Rattle.walks.proofs.NamesInOrder.{none_sorted}

@@ -9,8 +9,8 @@ use Rattle.labels.specs.Paths.{is_name_byte, is_segment, segments, is_path, is_p
 use Rattle.pattern.specs.Rest.{rest_segments}
 use Rattle.pattern.specs.Patterns.{is_double_star, path_matches}
 use Rattle.pattern.proofs.FirstSegment.{one_segment, more_segments}
-use Rattle.globs.specs.Globs.{is_space}
-use Rattle.globs.proofs.Questions.{NoSpace, no_space_between, space_at}
+use Rattle.pattern.specs.Globs.{is_space}
+use Rattle.pattern.proofs.Questions.{NoSpace, no_space_between, space_at}
 use Rattle.walks.specs.Globs.{directory_of, question_of, first_segment, other_segments, text_or_none, is_deep, pattern_below, ends_here}
 
 -- ---- no space stands in a path

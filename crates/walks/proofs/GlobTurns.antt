@@ -6,7 +6,7 @@ use Rattle.std.proofs.lemmas.List.{append-nil, drop_at, length-map, length-appen
 use Rattle.evaluation.specs.Reply.{Reply, Ask, Done}
 use Rattle.evaluation.specs.Value.{Grounded, Turns, ends, asks, AllGrounded, none, one}
 use Rattle.filetree.specs.Listings.{sorted_names}
-use Rattle.globs.specs.Globs.{path_in}
+use Rattle.pattern.specs.Globs.{path_in}
 use Rattle.keys.specs.declared.key.Key.{Key}
 use Rattle.keys.specs.declared.key.Key.TheVariants as key
 use Rattle.keys.specs.declared.value.Value.{Value}

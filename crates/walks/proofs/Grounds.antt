@@ -11,14 +11,14 @@ use Rattle.evaluation.specs.Value.{Grounded, is_leaf, has_run, Turns, ends, asks
 use Rattle.filetree.specs.Files.{Files}
 use Rattle.filetree.specs.Lawful.{HasPaths}
 use Rattle.filetree.specs.Listings.{sorted_names, listing}
-use Rattle.globs.specs.Globs.{path_in}
-use Rattle.globs.proofs.Members.{In, own_bytes, or_left, or_right}
-use Rattle.globs.proofs.NameOrder.{in_sorted}
+use Rattle.pattern.specs.Globs.{path_in}
+use Rattle.pattern.proofs.Members.{In, own_bytes, or_left, or_right}
+use Rattle.pattern.proofs.NameOrder.{in_sorted}
 use Rattle.keys.specs.declared.key.Key.{Key}
 use Rattle.keys.specs.declared.key.Key.TheVariants as key
 use Rattle.keys.specs.declared.value.Value.{Value}
 use Rattle.keys.specs.declared.value.Value.TheVariants as value
-use Rattle.leaves.specs.Leaves.{read, listed_of}
+use Rattle.keys.specs.Leaves.{read, listed_of}
 use Rattle.walks.specs.Lookups.{build_of}
 use Rattle.walks.proofs.Builds.{built_there}
 use Rattle.walks.specs.Below.{packages_below}

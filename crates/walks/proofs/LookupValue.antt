@@ -14,7 +14,7 @@ use Rattle.keys.specs.declared.value.Value.{Value}
 use Rattle.keys.specs.declared.value.Value.TheVariants as value
 use Rattle.walks.specs.Lookups as lookup
 use Rattle.walks.specs.Lookups.{build_path, is_short, candidates, asks_first, is_there, first_there, build_of}
-use Rattle.leaves.specs.Leaves.{read}
+use Rattle.keys.specs.Leaves.{read}
 
 module _ (next : Key → List Value → Reply Key Value) (looks : (d : List ℕ) (answers : List Value) → next (key.Lookup d) answers ≡ lookup.next d answers) (files : Files) (directory : List ℕ) where
   file_of : BuildName → Key

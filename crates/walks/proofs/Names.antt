@@ -14,9 +14,9 @@ use Rattle.labels.specs.Paths.{segments, is_segment, is_path, is_package_name}
 use Rattle.labels.proofs.Segments.{segments_joined}
 use Rattle.filetree.specs.Files.{Files, is_file}
 use Rattle.filetree.specs.Lawful.{HasPaths}
-use Rattle.globs.specs.Globs.{path_in, is_package}
-use Rattle.globs.proofs.Members.{In, own_bytes, or_left, or_right, in_any, in_all, in_filter}
-use Rattle.globs.proofs.NameOrder.{in_sorted}
+use Rattle.pattern.specs.Globs.{path_in, is_package}
+use Rattle.pattern.proofs.Members.{In, own_bytes, or_left, or_right, in_any, in_all, in_filter}
+use Rattle.pattern.proofs.NameOrder.{in_sorted}
 use Rattle.walks.specs.Below.{directories_below, packages_below}
 use Rattle.walks.specs.Finds.{HavePackageNames}
 

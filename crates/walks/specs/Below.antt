@@ -5,7 +5,7 @@ use Rattle.std.specs.FinMap as map
 use Rattle.labels.specs.Labels.{ancestors}
 use Rattle.filetree.specs.Files.{Files}
 use Rattle.filetree.specs.Listings.{sorted_names, rest_below}
-use Rattle.globs.specs.Globs.{path_in, is_package}
+use Rattle.pattern.specs.Globs.{path_in, is_package}
 
 -- the directories below a directory that lead to files
 abbrev pub directories_below : Files → List ℕ → List (List ℕ)

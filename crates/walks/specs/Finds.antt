@@ -10,7 +10,7 @@ use Rattle.keys.specs.declared.key.Key.{Key}
 use Rattle.keys.specs.declared.key.Key.TheVariants as key
 use Rattle.keys.specs.declared.value.Value.{Value}
 use Rattle.keys.specs.declared.value.Value.TheVariants as value
-use Rattle.leaves.specs.Leaves.{read}
+use Rattle.keys.specs.Leaves.{read}
 use Rattle.walks.specs.Lookups.{build_of}
 use Rattle.walks.specs.Below.{packages_below}
 use Rattle.walks.specs.Turns as turns

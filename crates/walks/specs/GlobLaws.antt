@@ -13,7 +13,7 @@ use Rattle.evaluation.specs.Reply.{Reply, Ask, Done}
 use Rattle.evaluation.specs.Value.{AllDiffer}
 use Rattle.labels.specs.Labels.{is_slash}
 use Rattle.filetree.specs.Listings.{alone, sorted_names}
-use Rattle.globs.specs.Globs.{path_in, question, pattern_in, asks_directories}
+use Rattle.pattern.specs.Globs.{path_in, question, pattern_in, asks_directories}
 use Rattle.keys.specs.Keys.{glob_key}
 use Rattle.keys.specs.declared.key.Key.{Key}
 use Rattle.keys.specs.declared.key.Key.TheVariants as key

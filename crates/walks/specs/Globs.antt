@@ -6,7 +6,7 @@ use Rattle.labels.specs.Labels.{is_slash}
 use Rattle.labels.specs.Paths.{segments}
 use Rattle.filetree.specs.Listings.{sorted_names}
 use Rattle.pattern.specs.Patterns.{is_double_star, segment_matches}
-use Rattle.globs.specs.Globs.{path_in, is_space, question, pattern_in, asks_directories}
+use Rattle.pattern.specs.Globs.{path_in, is_space, question, pattern_in, asks_directories}
 use Rattle.keys.specs.Keys.{glob_key}
 use Rattle.keys.specs.declared.key.Key.{Key}
 use Rattle.keys.specs.declared.key.Key.TheVariants as key

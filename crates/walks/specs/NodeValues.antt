@@ -6,13 +6,13 @@ use Rattle.evaluation.specs.Value.{Grounded}
 use Rattle.labels.specs.Paths.{is_package_name}
 use Rattle.filetree.specs.Files.{Files}
 use Rattle.filetree.specs.Lawful.{HasPaths}
-use Rattle.globs.specs.Globs.{is_package, answer_below}
+use Rattle.pattern.specs.Globs.{is_package, answer_below}
 use Rattle.keys.specs.Keys.{glob_key}
 use Rattle.keys.specs.declared.key.Key.{Key}
 use Rattle.keys.specs.declared.key.Key.TheVariants as key
 use Rattle.keys.specs.declared.value.Value.{Value}
 use Rattle.keys.specs.declared.value.Value.TheVariants as value
-use Rattle.leaves.specs.Leaves.{read}
+use Rattle.keys.specs.Leaves.{read}
 use Rattle.walks.specs.Globs as glob
 use Rattle.walks.specs.Lookups as lookup
 

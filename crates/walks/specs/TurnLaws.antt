@@ -6,7 +6,7 @@ use Rattle.std.proofs.lemmas.List.{append_cancel_left}
 use Rattle.evaluation.specs.Reply.{Reply, Ask, Done}
 use Rattle.evaluation.specs.Value.{AllDiffer}
 use Rattle.filetree.specs.Listings.{sorted_names}
-use Rattle.globs.specs.Globs.{path_in}
+use Rattle.pattern.specs.Globs.{path_in}
 use Rattle.keys.specs.declared.key.Key.{Key}
 use Rattle.keys.specs.declared.key.Key.TheVariants as key
 use Rattle.keys.specs.declared.value.Value.{Value}

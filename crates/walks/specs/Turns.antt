@@ -2,7 +2,7 @@
 use Rattle.std.specs.Prelude.{ℕ, List, [], ◌∷◌, ◌++◌, length, map, flat_map, nat_lt, if◌then◌else◌}
 use Rattle.evaluation.specs.Reply.{Reply, Ask, Done}
 use Rattle.filetree.specs.Listings.{sorted_names}
-use Rattle.globs.specs.Globs.{path_in}
+use Rattle.pattern.specs.Globs.{path_in}
 use Rattle.keys.specs.declared.key.Key.{Key}
 use Rattle.keys.specs.declared.key.Key.TheVariants as key
 use Rattle.keys.specs.declared.value.Value.{Value}

@@ -4,7 +4,7 @@ ghost use Rattle.std.specs.Option.{option_copied};
 ghost use Rattle.std.specs.String.{string_bytes};
 ghost use Rattle.std.specs.List.{list_all};
 ghost use Rattle.labels.specs.Paths.{segments};
-ghost use Rattle.globs.specs.Globs.{path_in};
+ghost use Rattle.pattern.specs.Globs.{path_in};
 ghost use Rattle.pattern.specs.Patterns as patterns;
 ghost use Rattle.walks.specs.Globs as specs;
 

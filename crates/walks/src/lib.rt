@@ -1,4 +1,4 @@
-//! The node functions that go by directories: look-ups of BUILD files, and globs.
+//! The node functions that go by directories: look-ups of BUILD files, globs, and the names of packages.
 //!
 //! * `Lookup(package)` asks one group, the files `BUILD.bazel` and `BUILD` of the package, but none whose path has more
 //!   than 255 bytes, and ends with the first that is there. With no path short enough it ends at once.
@@ -8,6 +8,8 @@
 //!   directory on, in byte order.
 //! * `Glob(directory pattern dirs)` finds directories too, those that are no packages. It also asks the look-ups of the
 //!   subdirectories that the pattern would find, and its globs below end with ` dirs` as well.
+//! * `Under(directory)` asks the look-up and the listing of the directory, and then the names at and below each of its
+//!   subdirectories. It ends with all these names in byte order, its own among them if it is a package.
 //!
 //! An empty group is not asked, and a key that repeats in a group is asked once, at its first place.
 //!

@@ -1,7 +1,7 @@
 //! What the text of a glob's key asks for.
 ghost use Rattle.std.specs.Prelude.{◌≡◌, IfOk};
 ghost use Rattle.std.specs.Cow.{cow_str_bytes};
-ghost use Rattle.globs.specs.Globs.{question, pattern_in, asks_directories};
+ghost use Rattle.pattern.specs.Globs.{question, pattern_in, asks_directories};
 ghost use Rattle.walks.specs.Globs as specs;
 
 use std::alloc::Global;

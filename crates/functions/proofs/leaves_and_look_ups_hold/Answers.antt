@@ -7,7 +7,7 @@ use Rattle.filetree.specs.Listings.{listing}
 use Rattle.keys.specs.declared.key.Key.TheVariants as key
 use Rattle.keys.specs.declared.value.Value.TheVariants as value
 use Rattle.functions.specs.Next.{next}
-use Rattle.leaves.specs.Leaves.{read, listed_of}
+use Rattle.keys.specs.Leaves.{read, listed_of}
 use Rattle.walks.proofs.LookupValue.{lookup_grounded, lookup_value}
 use Rattle.functions.proofs.leaves_and_look_ups_hold.Goals as goal
 

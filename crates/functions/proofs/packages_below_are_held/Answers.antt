@@ -1,6 +1,6 @@
 use Rattle.std.proofs.Common.{refl}
 use Rattle.evaluation.proofs.Unique.{same_value}
-use Rattle.leaves.specs.Leaves.{read}
+use Rattle.keys.specs.Leaves.{read}
 use Rattle.functions.specs.Next.{next}
 use Rattle.walks.proofs.LookupValue.{lookup_grounded}
 use Rattle.walks.proofs.Grounds.{packages_held}

@@ -10,7 +10,7 @@ use Rattle.calls.proofs.freeze.freeze_values.Goals as goal
 
 pub loop-x-preserved : goal.loop-x-preserved
 loop-x-preserved c =
-    let xs = c.args.xs.now in let i = c.loop-x.x-index in let s = store_of c.loop-x.heap in let t = store_of c.freeze_value.new.heap in
+    let xs = c.args.xs.now in let i = c.loop-x.x-index in let s = store_of c.loop-x.heap in let t = store_of c.freeze_one.new.heap in
     let x = get_or xs i v.Nothing in
     let first : drop i xs ≡ x ∷ drop (suc i) xs = drop-cons xs i v.Nothing c.loop-x-test.true in
     let pushed = c.in_ok-push-in-Ok.ensures.items in

@@ -4,7 +4,7 @@ use Rattle.evaluation.specs.Reply.{Reply}
 use Rattle.functions.specs.Next.{next}
 use Rattle.keys.specs.declared.key.Key.{Key}
 use Rattle.keys.specs.declared.value.Value.{Value}
-use Rattle.leaves.specs.Leaves.{read}
+use Rattle.keys.specs.Leaves.{read}
 use Rattle.round.specs.Call.{Calls}
 use Rattle.loader.proofs.Same.{same_turns}
 use Rattle.loader.proofs.workers.evaluate_with.Goals as goal

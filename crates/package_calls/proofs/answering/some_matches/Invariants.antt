@@ -1,6 +1,6 @@
 use Rattle.std.proofs.Common.{◌≡◌, drop, map}
 use Rattle.labels.specs.Paths.{segments}
-use Rattle.globs.specs.Globs.{some_matches}
+use Rattle.pattern.specs.Globs.{some_matches}
 use Rattle.package_calls.proofs.answering.some_matches.Given as goal
 
 abbrev pub invariant-loop-pattern : goal.invariant-loop-pattern

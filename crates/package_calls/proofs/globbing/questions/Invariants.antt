@@ -1,5 +1,5 @@
 use Rattle.std.proofs.Common.{◌≡◌, ◌++◌, drop, map}
-use Rattle.globs.specs.Globs.{question}
+use Rattle.pattern.specs.Globs.{question}
 use Rattle.package_calls.proofs.globbing.questions.Given as goal
 
 abbrev pub invariant-loop-pattern : goal.invariant-loop-pattern

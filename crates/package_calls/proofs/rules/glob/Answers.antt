@@ -1,5 +1,5 @@
 use Rattle.std.proofs.Common.{ap, sym, ◌∙◌, ◌==◌, Ok, map}
-use Rattle.globs.specs.Globs.{question}
+use Rattle.pattern.specs.Globs.{question}
 use Rattle.language.specs.Sorting.{in_order}
 use Rattle.package_calls.specs.GlobResults.{kept_of, found_all}
 use Rattle.heap.specs.View.{store_of}

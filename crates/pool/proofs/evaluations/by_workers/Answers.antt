@@ -1,5 +1,5 @@
 use Rattle.std.proofs.Common.{sym, ap, subst, arith}
-use Rattle.leaves.specs.Leaves as leaves
+use Rattle.keys.specs.Leaves as leaves
 use Rattle.node.specs.Graphs.{GraphView}
 use Rattle.open_nodes.specs.Truths.{IsNext}
 use Rattle.round.specs.Rounds.{standing}

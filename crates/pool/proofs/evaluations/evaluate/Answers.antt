@@ -2,7 +2,7 @@ use Rattle.std.proofs.Common.{List, ◌∷◌, [], Ok, Err, length, length-appen
 use Rattle.board.specs.Rule.{total}
 use Rattle.board.proofs.Moves.{total_snoc}
 use Rattle.keys.specs.declared.key.Key.{Key}
-use Rattle.leaves.specs.Leaves as leaves
+use Rattle.keys.specs.Leaves as leaves
 use Rattle.node.proofs.Lists.{on_err}
 use Rattle.open_nodes.specs.Truths.{IsNext}
 use Rattle.round.specs.Call.{Calls, HasOpenRoot, HasTurnToMake}

@@ -1,5 +1,5 @@
 use Rattle.std.proofs.Common.{◌≡◌, ◌+◌}
-use Rattle.leaves.specs.Leaves as leaves
+use Rattle.keys.specs.Leaves as leaves
 use Rattle.pool.specs.Serving.{StaysTrueSince}
 use Rattle.round.specs.Here.{IsResting}
 use Rattle.round.specs.Rounds.{standing}

@@ -1,6 +1,6 @@
 use Rattle.std.proofs.Common.{◌≡◌, ◌≤◌, Bool, true, false, ⊎_elim, ◌+◌, ◌∙◌, ap, sym, refl, subst, arith}
 use Rattle.evaluation.specs.Value.{In}
-use Rattle.leaves.specs.Leaves as leaves
+use Rattle.keys.specs.Leaves as leaves
 use Rattle.node.proofs.Lists.{on_err}
 use Rattle.open_nodes.specs.Truths.{IsNext}
 use Rattle.round.specs.Rounds.{standing}

@@ -1,6 +1,6 @@
 use Rattle.std.proofs.Common.{◌≤◌, ◌+◌, All, length}
 use Rattle.board.specs.Places.{IsHostAtRest, IsNewHand}
-use Rattle.leaves.specs.Leaves as leaves
+use Rattle.keys.specs.Leaves as leaves
 use Rattle.pool.specs.Crews.{IsCrew, SameCrew}
 use Rattle.pool.specs.Serving.{IsServing, IsSameHost}
 use Rattle.round.specs.Rounds.{standing}

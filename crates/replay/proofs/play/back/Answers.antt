@@ -1,6 +1,6 @@
 use Rattle.std.proofs.Common.{◌≡◌, refl, ◌<◌, ◌+◌, ◌∷◌, ◌++◌, List, length, take, drop, ◌∙◌, sym, ap, subst}
 use Rattle.std.specs.Prelude.{Some}
-use Rattle.leaves.specs.Leaves as leaves
+use Rattle.keys.specs.Leaves as leaves
 use Rattle.evaluation.specs.Choices.{Back, IsOut}
 use Rattle.keys.specs.Jobs.{JobView, Outcome}
 use Rattle.keys.specs.declared.key.Key.{Key}

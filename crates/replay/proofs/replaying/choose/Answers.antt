@@ -1,5 +1,5 @@
 use Rattle.std.proofs.Common.{◌≡◌, sym, ap, subst, refl, IfOk, IsTrue, Bool, Result}
-use Rattle.leaves.specs.Leaves as leaves
+use Rattle.keys.specs.Leaves as leaves
 use Rattle.replay.specs.declared.choice.Choice.{Choice}
 use Rattle.replay.specs.Playing.{Plays, IsPossibleNow, HandsMore}
 use Rattle.replay.specs.Replays.{chosen, hand_of}

@@ -1,5 +1,5 @@
 use Rattle.std.proofs.Common.{◌≡◌, ◌+◌, ◌-◌, ◌≤◌, ℕ, inl, inr, List, [], ◌∷◌, ◌++◌, take, sym, ◌∙◌, ap, subst, refl, arith}
-use Rattle.leaves.specs.Leaves as leaves
+use Rattle.keys.specs.Leaves as leaves
 use Rattle.evaluation.specs.Choices.{none, one}
 use Rattle.evaluation.specs.Choices as choices
 use Rattle.keys.specs.Cycles.{cycle}

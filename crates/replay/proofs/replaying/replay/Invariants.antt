@@ -1,5 +1,5 @@
 use Rattle.std.proofs.Common.{◌≡◌, ◌+◌, take}
-use Rattle.leaves.specs.Leaves as leaves
+use Rattle.keys.specs.Leaves as leaves
 use Rattle.open_nodes.specs.Truths.{IsNext, Past}
 use Rattle.round.specs.Call.{IsHistory}
 use Rattle.replay.specs.Playing.{IsPlaying, HasCome, HasHanded}

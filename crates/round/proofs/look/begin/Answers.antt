@@ -1,5 +1,5 @@
 use Rattle.std.proofs.Common.{sym, inl}
-use Rattle.leaves.specs.Leaves as leaves
+use Rattle.keys.specs.Leaves as leaves
 use Rattle.node.specs.Graphs.{record_at}
 use Rattle.round.proofs.Wanting.{check_begins, check_true, run_begins, run_true, some_there, none_there}
 use Rattle.round.proofs.look.begin.Goals as goal

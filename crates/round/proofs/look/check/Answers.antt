@@ -1,6 +1,6 @@
 use Rattle.round.proofs.Framing.{frame_phase, checks_no_turn, checks_not_out}
 use Rattle.std.proofs.Common.{subst, ℕ, []}
-use Rattle.leaves.specs.Leaves as leaves
+use Rattle.keys.specs.Leaves as leaves
 use Rattle.round.proofs.Wanting.{leads_err}
 use Rattle.open_nodes.specs.Steps.{HasPhase}
 use Rattle.open_nodes.specs.declared.table.Phase.TheVariants as phase

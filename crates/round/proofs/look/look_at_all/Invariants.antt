@@ -1,5 +1,5 @@
 use Rattle.std.proofs.Common.{◌-◌, ◌^◌}
-use Rattle.leaves.specs.Leaves as leaves
+use Rattle.keys.specs.Leaves as leaves
 use Rattle.open_nodes.specs.TurnCounts.{MakesNone}
 use Rattle.round.specs.Frames.{KeepsFrame}
 use Rattle.round.specs.Moves.{IsWholeNow, KeepsOut, KeepsWanted}

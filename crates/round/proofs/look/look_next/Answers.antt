@@ -1,6 +1,6 @@
 use Rattle.round.proofs.Framing.{frame_same, frame_on}
 use Rattle.std.proofs.Common.{ap, subst}
-use Rattle.leaves.specs.Leaves as leaves
+use Rattle.keys.specs.Leaves as leaves
 use Rattle.open_nodes.specs.TurnCounts.{turns_of}
 use Rattle.open_nodes.proofs.Counting.{counts_same, makes_on}
 use Rattle.round.specs.Looks.{IsNextKey}

@@ -1,6 +1,6 @@
 use Rattle.std.proofs.Common.{◌∙◌, sym, ap, refl, inr, Some}
 use Rattle.std.specs.Arc.{arc_value}
-use Rattle.leaves.specs.Leaves as leaves
+use Rattle.keys.specs.Leaves as leaves
 use Rattle.round.proofs.Wanting.{read_wants, read_true, read_sets, read_keeps}
 use Rattle.round.proofs.look.read.Goals as goal
 

@@ -1,6 +1,6 @@
 use Rattle.round.proofs.Framing.{frame_on, frame_wants, frame_watch, frame_same}
 use Rattle.std.proofs.Common.{◌∷◌, []}
-use Rattle.leaves.specs.Leaves as leaves
+use Rattle.keys.specs.Leaves as leaves
 use Rattle.round.proofs.Looking.{still_there, still_current, all_wanted, watched_whole, watched_out, watched_keeps, watched_turns, watched_true, again_whole, again_turns, again_true, wanted_open}
 use Rattle.round.proofs.Wanting.{leads_err, wanted_on, wanted_same}
 use Rattle.round.proofs.Reaching.{missing_reached}

@@ -1,5 +1,5 @@
 use Rattle.std.proofs.Common.{[], ◌∷◌, sym, inl}
-use Rattle.leaves.specs.Leaves as leaves
+use Rattle.keys.specs.Leaves as leaves
 use Rattle.open_nodes.specs.Nodes.{node_at}
 use Rattle.round.proofs.Wanting.{some_there, no_leaf, leads_of_err}
 use Rattle.round.proofs.look.want.Goals as goal

@@ -1,6 +1,6 @@
 use Rattle.std.proofs.Common.{◌∙◌, sym, subst, List}
 use Rattle.evaluation.specs.Value.{In}
-use Rattle.leaves.specs.Leaves as leaves
+use Rattle.keys.specs.Leaves as leaves
 use Rattle.keys.specs.declared.key.Key.{Key}
 use Rattle.round.specs.Moves.{IsWanted}
 use Rattle.round.proofs.Grouping.{one_in, taken_next, snoc_all, in_whole}

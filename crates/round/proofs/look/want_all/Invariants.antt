@@ -1,6 +1,6 @@
 use Rattle.std.proofs.Common.{◌≡◌, take}
 use Rattle.evaluation.specs.Value.{In}
-use Rattle.leaves.specs.Leaves as leaves
+use Rattle.keys.specs.Leaves as leaves
 use Rattle.keys.specs.declared.key.Key.{Key}
 use Rattle.round.specs.Moves.{Wants, IsWanted}
 use Rattle.round.proofs.Wanting.{StaysTrueOf}

@@ -1,5 +1,5 @@
 use Rattle.std.proofs.Common.{◌≡◌, ◌+◌}
-use Rattle.leaves.specs.Leaves as leaves
+use Rattle.keys.specs.Leaves as leaves
 use Rattle.round.specs.Here.{IsResting}
 use Rattle.round.specs.Since.{IsTrueSinceSome}
 use Rattle.round.proofs.rounds.evaluate_here.Given as goal

@@ -2,7 +2,7 @@ use Rattle.std.proofs.Common.{[], ◌∷◌, ◌∙◌, ap, subst}
 use Rattle.evaluation.specs.Choices.{Back, Hand}
 use Rattle.keys.specs.Jobs.{JobView}
 use Rattle.keys.specs.declared.key.Key.{Key}
-use Rattle.leaves.specs.Leaves as leaves
+use Rattle.keys.specs.Leaves as leaves
 use Rattle.open_nodes.specs.Truths.{IsTrueOf}
 use Rattle.round.proofs.Wanting.{leads_err}
 use Rattle.round.proofs.Rounding.{none_again}

@@ -1,5 +1,5 @@
 use Rattle.std.proofs.Common.{◌∙◌, ap, subst, IfOk}
-use Rattle.globs.specs.Globs.{pattern_in, asks_directories}
+use Rattle.pattern.specs.Globs.{pattern_in, asks_directories}
 use Rattle.walks.specs.Replies.{IsReply}
 use Rattle.walks.specs.Globs.{directory_of, question_of, files_in, directories_in, asked_names}
 use Rattle.walks.proofs.GlobSteps.{after_listing_is}

@@ -1,7 +1,7 @@
 use Rattle.round.proofs.Pausing.{none_paused}
 use Rattle.round.proofs.Following.{follows_none}
 use Rattle.std.proofs.Common.{[], sym, subst}
-use Rattle.leaves.specs.Leaves as leaves
+use Rattle.keys.specs.Leaves as leaves
 use Rattle.evaluation.specs.Value.{In}
 use Rattle.node.proofs.Lists.{on_err}
 use Rattle.round.specs.Since.{IsFresh}

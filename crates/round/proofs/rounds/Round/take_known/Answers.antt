@@ -1,6 +1,6 @@
 use Rattle.std.proofs.Common.{[], ◌∷◌, ◌∙◌, subst, sym, IfSome}
 use Rattle.evaluation.specs.Choices.{Back}
-use Rattle.leaves.specs.Leaves as leaves
+use Rattle.keys.specs.Leaves as leaves
 use Rattle.keys.specs.declared.key.Key.{Key}
 use Rattle.node.specs.Edges.{IsRemoved}
 use Rattle.round.specs.NodeStates.{IsPaused, PutsState}

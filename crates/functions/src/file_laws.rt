@@ -1,0 +1,56 @@
+//! What the nodes of modules and packages hold, told by the files alone.
+//!
+//! `specs/Loads` says which file is evaluated for a module or a package, which modules its load statements name, and
+//! where loads run in a circle. `specs/FilePackages` says what the module of a label and the package of a directory are
+//! at one state of the files: the first fault of the file, else the first fault of its loads, else what the evaluation
+//! of the file leaves. Both look at the files, and at nothing that a node asks or keeps; the laws below tie the nodes to them.
+//! Begin at `specs/FilePackages.antt`.
+ghost use Rattle.functions.specs.FilePackages.{ModulesHold, PackagesHold};
+ghost use Rattle.functions.specs.PackageLaws.{CyclesHaveNoModule, CyclesHaveNoPackage, SomeModuleHeld, SomePackageHeld, OneCycle, OneModule, OneModuleHeld, OnePackage, OnePackageHeld};
+
+/// States the law of the modules, at files whose names are paths. The node of a module's label holds the module that
+/// the files mean, or its fault. Where a walk along its loads meets a module twice, it holds the cycle to which they
+/// lead.
+pub fn modules_are_those_of_the_files()
+    ensures { ModulesHold }
+{}
+
+/// States the law of the packages, at files whose names are paths. The node of a package's name holds the targets that
+/// the files mean, or its fault, or likewise the cycle to which its loads lead. What a glob of its BUILD file gives is
+/// told by all paths of the files.
+pub fn packages_are_those_of_the_files()
+    ensures { PackagesHold }
+{}
+
+/// States the law of one value: the files mean one module at most for a label, and one package at most for a name. It
+/// does not matter by which right answers to its globs a BUILD file is evaluated.
+pub fn each_has_one_value()
+    ensures module { OneModule }
+    ensures package { OnePackage }
+{}
+
+/// States the law of cycles: a module or a package that is shown a cycle has no value at the files, and no fault
+/// either.
+pub fn cycles_have_no_value()
+    ensures module { CyclesHaveNoModule }
+    ensures package { CyclesHaveNoPackage }
+{}
+
+/// States the law of one cycle: a module or a package is shown one cycle at most, wherever its loop is entered.
+pub fn one_cycle_is_shown()
+    ensures { OneCycle }
+{}
+
+/// States the law of one answer: the files determine what the node of a module holds, and what the node of a package
+/// holds.
+pub fn files_determine_what_nodes_hold()
+    ensures module { OneModuleHeld }
+    ensures package { OnePackageHeld }
+{}
+
+/// States the law of existence, at any files. Each label has a module, a fault or a cycle, and each name has a package,
+/// a fault or a cycle. Right answers to its globs that let the evaluation of a BUILD file end are part of it.
+pub fn each_has_a_value()
+    ensures module { SomeModuleHeld }
+    ensures package { SomePackageHeld }
+{}

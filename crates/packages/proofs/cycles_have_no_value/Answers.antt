@@ -1,8 +1,0 @@
-use Rattle.packages.proofs.NoValue.{no_module_shown, no_package_shown}
-use Rattle.packages.proofs.cycles_have_no_value.Goals as goal
-
-pub returns-clause-module : goal.returns-clause-module
-returns-clause-module c = no_module_shown
-
-pub returns-clause-package : goal.returns-clause-package
-returns-clause-package c = no_package_shown

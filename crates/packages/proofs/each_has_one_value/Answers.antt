@@ -1,8 +1,0 @@
-use Rattle.packages.proofs.OneValue.{each_module_once, each_package_once}
-use Rattle.packages.proofs.each_has_one_value.Goals as goal
-
-pub returns-clause-module : goal.returns-clause-module
-returns-clause-module c = each_module_once
-
-pub returns-clause-package : goal.returns-clause-package
-returns-clause-package c = each_package_once

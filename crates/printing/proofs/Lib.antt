@@ -1,3 +1,0 @@
-pub mod TextBufferLaws
-pub mod PrintLaws
-pub mod Reprs
