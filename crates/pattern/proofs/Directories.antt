@@ -14,7 +14,7 @@ use Rattle.pattern.specs.Globs.{path_in, IsHeldWithDirectories}
 use Rattle.pattern.proofs.Members.{In, own_bytes, same_bytes, in_any, any_in, in_all, bool_same, in_filter, filter_in, in_append, append_left, append_right, in_each, each_in, in_flat_map, flat_map_in, or_left, or_right}
 use Rattle.pattern.proofs.NameOrder.{sorted_same, in_sorted, sorted_in}
 use Rattle.pattern.proofs.Paths.{rest_in, rest_path}
-use Rattle.pattern.proofs.Walk.{files_of, directories_of, files_to, files_from, directories_to, directories_from}
+use Rattle.pattern.proofs.WalkFinds.{files_of, directories_of, files_to, files_from, directories_to, directories_from}
 
 -- ---- the ancestors of a path are what stands before its slashes
 

@@ -3,7 +3,7 @@ pub mod WildLemmas
 pub mod Members
 pub mod NameOrder
 pub mod Paths
-pub mod Walk
+pub mod WalkFinds
 pub mod Answer
 pub mod Directories
 pub mod Questions

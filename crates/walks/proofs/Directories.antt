@@ -10,7 +10,7 @@ use Rattle.filetree.specs.Listings.{Names, rest_below, names_in}
 use Rattle.pattern.specs.Globs.{path_in}
 use Rattle.pattern.proofs.Members.{In, any_in, in_all}
 use Rattle.pattern.proofs.Paths.{rest_in, HasName, has_name}
-use Rattle.pattern.proofs.Walk.{Sub, directories_to, directories_from}
+use Rattle.pattern.proofs.WalkFinds.{Sub, directories_to, directories_from}
 use Rattle.keys.specs.declared.value.Value.TheVariants as value
 use Rattle.keys.specs.Leaves.{listed_of}
 use Rattle.walks.specs.Globs.{directories_in}

@@ -19,7 +19,7 @@ use Rattle.pattern.specs.Globs.{path_in, is_package, sought, found_below, is_las
 use Rattle.pattern.proofs.Members.{In, own_bytes, in_all, in_filter, filter_in, in_append, append_left, append_right, in_flat_map, flat_map_in, or_left, or_right}
 use Rattle.pattern.proofs.NameOrder.{sorted_same, in_sorted, sorted_in}
 use Rattle.pattern.proofs.Paths.{HasName, has_name, some_segment}
-use Rattle.pattern.proofs.Walk.{directories_to, found_by_walk}
+use Rattle.pattern.proofs.WalkFinds.{directories_to, found_by_walk}
 use Rattle.pattern.proofs.Directories.{held_with_directories}
 use Rattle.pattern.proofs.Questions.{NoSpace, question_back, before_has_none}
 use Rattle.keys.specs.Keys.{glob_key}

@@ -12,7 +12,7 @@ use Rattle.filetree.specs.Listings.{sorted_names, rest_below}
 use Rattle.pattern.specs.Globs.{path_in, is_package, is_open}
 use Rattle.pattern.proofs.Members.{In, same_bytes, own_bytes, or_left, or_right, any_in, in_any, in_filter, filter_in, in_append, append_left, append_right, in_each, each_in, in_flat_map, flat_map_in}
 use Rattle.pattern.proofs.NameOrder.{sorted_same, in_sorted, sorted_in}
-use Rattle.pattern.proofs.Walk.{Sub}
+use Rattle.pattern.proofs.WalkFinds.{Sub}
 use Rattle.pattern.proofs.Paths.{cut, Cut, rests_to, rests_from, HasName, path_deep, has_name, open_name, open_deep}
 use Rattle.walks.specs.Below.{directories_below, packages_below}
 use Rattle.walks.proofs.Directories.{held_in, sub_to, sub_from}
