@@ -37,7 +37,7 @@ HEAD = """# The crates whose wrong bodies were all refused: how many, and the di
 # Written by `make wrong-bodies`; `make test` compares the digests.
 """
 FUNCTION = re.compile(r"( *)(?:pub(?:\([a-z ]+\))? )?(?:const )?(?:unsafe )?fn (\w+)")
-OWNER = re.compile(r"impl(?:<[^>]*>)? (?:(.+?) for )?(.+?) (?:where .*)?\{$")
+OWNER = re.compile(r"impl (?:(.+?) for )?(.+?) (?:where .*)?\{$")
 # What the prover says where a proof names something that the edit took away. That says nothing of the contract.
 GONE = re.compile(r"has no field|is not in scope|has no `|was not admitted")
 
@@ -289,9 +289,19 @@ def item_around(lines, at):
     return next((line for line in reversed(lines[:at]) if line.strip() and depth(line) < depth(lines[at])), "").strip()
 
 
+def without_parameters(head):
+    """The head of an impl without its own parameters."""
+    depth = 0
+    for at, letter in enumerate(head):
+        depth += (letter == "<") - (letter == ">" and head[at - 1] != "-")
+        if letter == ">" and depth == 0 and head.startswith("impl<"):
+            return f"impl{head[at + 1 :]}"
+    return head
+
+
 def owner_of(lines, at):
     """The type whose impl stands around a line, as the prover begins the names of its functions, or nothing."""
-    found = OWNER.match(item_around(lines, at))
+    found = OWNER.match(without_parameters(item_around(lines, at)))
     names = re.findall(r"\w+", found[2]) if found else []
     return names[0] if names else ""
 
@@ -361,6 +371,14 @@ def module_of(path):
     return [it for it in path[len("src/") : -len(".rt")].split("/") if it not in ("lib", "main")]
 
 
+def module_of_type(name, path, owner):
+    """Where the functions of a type stand: below the module of the type, wherever they are written. The module of the
+    source, where there is no type or it is of another crate."""
+    declared = re.compile(rf"(?m)^(?:pub(?:\([a-z ]+\))? )?(?:struct|enum) {owner}\b")
+    found = [it for it in files_of(name, ["src"], ".rt") if owner and declared.search(read(it))]
+    return module_of(os.path.relpath(found[0], f"{ROOT}/crates/{name}") if len(found) == 1 else path)
+
+
 def own_folders(name, path, owner, function):
     """The folders of proofs that are the function's own. Those of a type's functions stand below the module of the type,
     wherever the functions are written. A `+` marks those of functions that call themselves."""
@@ -385,8 +403,9 @@ def at_name(line, name, edit):
     found = re.match(r"fn (\S+?): .*`search` did not prove", re.sub(r"<[^>]*>", "", line))
     parts = found[1].split("::") if found else [""]
     return any(
-        parts[-1] == function and parts[:-1][: len(module_of(path)) + 1] == [name, *module_of(path)] and (not owner or parts[-2].startswith(owner))
+        parts[-1] == function and parts[: len(home) + 1] == [name, *home] and (not owner or parts[-2].startswith(owner))
         for path, owner, function in edit.functions
+        for home in [module_of_type(name, path, owner)]
     )
 
 
@@ -457,10 +476,11 @@ def full_names(name, batch):
         text = batch[0].texts.get(path, "")
         own = [it for it in functions(path, text) if (it.owner, it.name) == (owner, function)]
         above = item_around(text.split("\n"), own[0].last - 1) if len(own) == 1 else ""
-        trait = re.match(r"impl(?:<[^{]*?>)? (\w+)(?:<.*>)? for ", above)
+        trait = re.match(r"impl (\w+(?:<.*>)?) for ", without_parameters(above))
         if not function or len(own) != 1 or bool(owner) != above.startswith("impl") or " as " in above:
             return []
-        found.add("::".join([name, *module_of(path), *([owner + (trait[1] if trait else "")] if owner else []), function]))
+        home, below = module_of_type(name, path, owner), [owner + "".join(re.findall(r"\w+", trait[1]) if trait else "")] if owner else []
+        found.add("::".join([name, *home, *below, function]))
     return sorted(found)
 
 
