@@ -36,7 +36,10 @@ mod loading;
 mod once;
 mod reply;
 
-pub use file_laws::{cycles_have_no_value, each_has_a_value, each_has_one_value, files_determine_what_nodes_hold, modules_are_those_of_the_files, one_cycle_is_shown, packages_are_those_of_the_files};
+pub use file_laws::{
+    cycles_have_no_value, each_has_a_value, each_has_one_value, files_determine_what_nodes_hold,
+    modules_are_those_of_the_files, one_cycle_is_shown, packages_are_those_of_the_files,
+};
 pub use loading::{LoadRules, Loading};
 
 /// States the law of the leaves and the look-ups, at each state of the files. A file's node holds its text or none, and
