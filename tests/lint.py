@@ -9,14 +9,17 @@
 - Crates: no line of a clause of over 100 columns, no module that is imported from twice, no number or flag without a
   name in a variant, no definition that is imported for nothing.
 - Files and types of sources: no past participle as a name, but for those of `PARTICIPLES` that the public surface fixes.
+- Crates: the layout of `rt fmt`, which the prover asks for too, but only when it comes to the crate.
 
 It prints one line for each fault, as `path:line: what`, and fails where there is one.
 """
 import glob
 import os
 import re
+import shutil
 import subprocess
 import sys
+import tempfile
 
 ROOT = os.path.join(os.path.dirname(os.path.abspath(__file__)), "..")
 MOST_WORDS, MOST_LINES, MOST_FUNCTION = 25, 800, 60
@@ -220,6 +223,22 @@ def check_names(path, text):
             yield f"{path}:1: {name} says that something was done"
 
 
+def check_layout():
+    """Formats a copy of the crates, and compares."""
+    with tempfile.TemporaryDirectory() as room:
+        os.mkdir(f"{room}/.git")
+        files = [it for it in tracked() if it.startswith("crates/") or it in ("crates.txt", "HANDLES")]
+        for path in files:
+            os.makedirs(os.path.dirname(f"{room}/{path}"), exist_ok=True)
+            shutil.copyfile(path, f"{room}/{path}")
+        for name in sorted({it.split("/")[1] for it in files if it.startswith("crates/")}):
+            subprocess.run(["rt", "fmt"], cwd=f"{room}/crates/{name}", capture_output=True, check=True)
+        for path in files:
+            with open(path, "rb") as one, open(f"{room}/{path}", "rb") as other:
+                if one.read() != other.read():
+                    yield f"{path}:1: not in the layout of `rt fmt`"
+
+
 def tracked():
     listed = subprocess.run(["git", "ls-files"], capture_output=True, text=True, check=True).stdout.split("\n")
     return [path for path in listed if os.path.exists(path)]
@@ -227,7 +246,7 @@ def tracked():
 
 def main():
     os.chdir(ROOT)
-    faults = list(check_example())
+    faults = [*check_example(), *check_layout()]
     for path in documents():
         with open(path) as file:
             text = file.read()
