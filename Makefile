@@ -42,7 +42,7 @@ test: lint digests language
 	RT_JOBS=$$(nproc) rt ci
 	python3 tests/answers.py
 
-# Sentences, words and links of the documents, sizes of files and functions.
+# Sentences, words and links of the documents, sizes of files and functions, the layout of the crates.
 lint:
 	@python3 tests/lint.py
 

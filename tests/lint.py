@@ -232,7 +232,8 @@ def check_layout():
             os.makedirs(os.path.dirname(f"{room}/{path}"), exist_ok=True)
             shutil.copyfile(path, f"{room}/{path}")
         for name in sorted({it.split("/")[1] for it in files if it.startswith("crates/")}):
-            subprocess.run(["rt", "fmt"], cwd=f"{room}/crates/{name}", capture_output=True, check=True)
+            if subprocess.run(["rt", "fmt"], cwd=f"{room}/crates/{name}", capture_output=True).returncode:
+                yield f"crates/{name}:1: `rt fmt` can't read it"
         for path in files:
             with open(path, "rb") as one, open(f"{room}/{path}", "rb") as other:
                 if one.read() != other.read():
