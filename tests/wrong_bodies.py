@@ -40,9 +40,15 @@ FUNCTION = re.compile(r"( *)(?:pub(?:\([a-z ]+\))? )?(?:const )?(?:unsafe )?fn (
 OWNER = re.compile(r"impl (?:(.+?) for )?(.+?) (?:where .*)?\{$")
 # What the prover says where a proof names something that the edit took away. That says nothing of the contract.
 GONE = re.compile(r"has no field|is not in scope|has no `|was not admitted")
+# An answer that names what is not there.
+NO_ANSWER = "\npub no-answer : nothing-here\nno-answer = nothing-here\n"
+
+# Crates whose edits are tried in a check of the whole crate. For some functions of these alone the prover's front end takes
+# longer than for all: 70 seconds in the evaluator.
+WHOLE = ("evaluator",)
 
 Function = collections.namedtuple("Function", "path owner name first last")
-Edit = collections.namedtuple("Edit", "file texts functions")
+Edit = collections.namedtuple("Edit", "file texts functions places")
 
 
 def read(file):
@@ -336,9 +342,9 @@ def has_contracts(name):
 
 
 def read_edit(file, folder, texts):
-    """The texts with an edit, and the functions that it changes; or why it can't be made. An edit of what is no function
-    names none."""
-    texts, path, old, hit = dict(texts), "", "", set()
+    """The texts with an edit, the functions that it changes and its lines; or why it can't be made. An edit of what is no
+    function names none."""
+    texts, path, old, hit, places = dict(texts), "", "", set(), set()
     for line in read(file).split("\n"):
         if line.startswith("file: "):
             path = line[len("file: "):].strip()
@@ -353,9 +359,10 @@ def read_edit(file, folder, texts):
             number = text[: text.index(old)].count("\n") + 1
             around = [it for it in functions(path, text) if it.first <= number <= it.last]
             hit |= {(path, it.owner, it.name) for it in around[-1:]} or {(path, "", "")}
+            places.add((path, number))
             texts[path] = text.replace(old, line[len("new:"):].removeprefix(" "))
             old = ""
-    return Edit(file, texts, hit) if hit else "it has no old and new text"
+    return Edit(file, texts, hit, places) if hit else "it has no old and new text"
 
 
 def is_of_no_function(edit):
@@ -390,7 +397,7 @@ def own_folders(name, path, owner, function):
 
 def at_source(line, edit):
     """Whether a line is of a goal that stands in a function of the edit and is refused."""
-    at = re.match(r"(?:note: )?(?:\./)?(src/\S+?):(\d+):\d+: (?:error|it is not proved)", line)
+    at = re.match(r"(?:note: )?(?:what antt said .*?: )?(?:\./)?(src/\S+?):(\d+):\d+: (?:error|it is not proved|`search` found no proof)", line)
     return bool(at) and any(
         it.first <= int(at[2]) <= it.last
         for it in functions(at[1], edit.texts.get(at[1], ""))
@@ -411,13 +418,17 @@ def at_name(line, name, edit):
 
 def at_proof(line, name, edit):
     """Whether a line is an error in the proof of a function of the edit. A function without a folder of its own may be
-    proved in one with a `+`, together with those that it calls and that call it."""
-    found = re.match(r"\./(proofs/\S+)/\w+\.antt:\d+:\d+: error", line)
+    proved in one with a `+`, together with those that it calls and that call it. There the name of what is refused begins
+    with that of its function."""
+    found = re.match(r"\./(proofs/\S+)/\w+\.antt:\d+:\d+: error(?:: `(\w+)-)?", line)
     if not found or GONE.search(line):
         return False
+    is_common = os.path.basename(found[1])[0] == "+"
     for path, owner, function in edit.functions:
         own, shared = own_folders(name, path, owner, function), "/".join(["proofs", *module_of(path), ""])
-        if found[1] in own or not own and found[1].startswith(shared) and os.path.basename(found[1])[0] == "+":
+        if is_common and found[2] in {it.name for it in functions(path, edit.texts.get(path, ""))} - {function}:
+            continue
+        if found[1] in own or not own and found[1].startswith(shared) and is_common:
             return True
     return False
 
@@ -448,7 +459,7 @@ def is_unread(line):
 
 
 def lay_out(room, name, uses):
-    """Makes a repository of the crate and those below it, with the libraries and the work that were kept."""
+    """Makes a repository of the crate and those below it, with the libraries that were kept."""
     os.makedirs(f"{room}/.git")
     shutil.copy(f"{ROOT}/HANDLES", room)
     lines = {line.partition(":")[0].split(" ")[0]: line for line in read(f"{ROOT}/crates.txt").split("\n")}
@@ -456,8 +467,7 @@ def lay_out(room, name, uses):
     with open(f"{room}/crates.txt", "w", encoding="utf-8") as out:
         out.write("\n".join(lines[it] for it in listed) + "\n")
     for it in listed:
-        kept = "out/incremental" if it == name else "out/rlib"
-        for part in [*PARTS, kept]:
+        for part in [*PARTS, *(["out/rlib"] if it != name else [])]:
             if os.path.isdir(f"{ROOT}/crates/{it}/{part}"):
                 os.makedirs(os.path.dirname(f"{room}/crates/{it}/{part}"), exist_ok=True)
                 paths = [f"{ROOT}/crates/{it}/{part}", f"{room}/crates/{it}/{part}"]
@@ -469,30 +479,67 @@ def lay_out(room, name, uses):
                     subprocess.run(["cp", "-a", *paths], check=True)
 
 
+def full_name(name, batch, path, owner, function):
+    """The prover's name of a function of these edits; nothing where it can't be told. Of a type's functions of one name, as
+    of several traits, it is that of the edit's line."""
+    text, places = batch[0].texts.get(path, ""), set().union(*(it.places for it in batch))
+    own = [it for it in functions(path, text) if (it.owner, it.name) == (owner, function)]
+    own = [it for it in own if any(at == path and it.first <= line <= it.last for at, line in places)]
+    above = item_around(text.split("\n"), own[0].last - 1) if len(own) == 1 else ""
+    trait = re.match(r"impl (\w+(?:<.*>)?) for ", without_parameters(above))
+    if not function or len(own) != 1 or bool(owner) != above.startswith("impl") or " as " in above:
+        return ""
+    home, below = module_of_type(name, path, owner), [owner + "".join(re.findall(r"\w+", trait[1]) if trait else "")] if owner else []
+    return "::".join([name, *home, *below, function])
+
+
 def full_names(name, batch):
     """The prover's names of the functions of these edits; nothing where one is of no function, or can't be told."""
+    found = {full_name(name, batch, *it) for it in set().union(*(it.functions for it in batch))}
+    return [] if "" in found else sorted(found)
+
+
+def answer_files(name, batch):
+    """The files of answers of the functions of these edits, which are there or could be: one for each function, and one for
+    those that call one another."""
     found = set()
     for path, owner, function in set().union(*(it.functions for it in batch)):
-        text = batch[0].texts.get(path, "")
+        whole, text = full_name(name, batch, path, owner, function), batch[0].texts[path]
         own = [it for it in functions(path, text) if (it.owner, it.name) == (owner, function)]
-        above = item_around(text.split("\n"), own[0].last - 1) if len(own) == 1 else ""
-        trait = re.match(r"impl (\w+(?:<.*>)?) for ", without_parameters(above))
-        if not function or len(own) != 1 or bool(owner) != above.startswith("impl") or " as " in above:
-            return []
-        home, below = module_of_type(name, path, owner), [owner + "".join(re.findall(r"\w+", trait[1]) if trait else "")] if owner else []
-        found.add("::".join([name, *home, *below, function]))
-    return sorted(found)
+        if whole and len(own) == 1:
+            text = "\n".join(text.split("\n")[own[0].first - 1 : own[0].last])
+            cycle = re.search(r"#\[cycle\((\w+)\)\]", text)
+            home = "/".join(["proofs", *whole.split("::")[1:-1]])
+            common = f"{home}/+{cycle[1] if cycle else function}"
+            body = without_comments(text, "//").replace(f"fn {function}", "", 1)
+            is_alone = not cycle and not re.search(rf"(?:(?<![.:\w])|self\.|Self::){function}(?:::<[^(]*>)?\(", body)
+            found |= {common} if os.path.isdir(f"{ROOT}/crates/{name}/{common}") else {f"{home}/{function}"} if is_alone else set()
+    return sorted(f"{it}/Answers.antt" for it in found if not os.path.exists(f"{ROOT}/crates/{name}/{it}/Proof.antt"))
 
 
-def check(room, name, texts, only=()):
+def check(room, name, texts, only=(), answers=()):
     """Checks the crate with these texts in place of its own, or only some functions of it and what they call: the status,
-    what the prover said, and its user seconds."""
-    folder = f"{room}/crates/{name}"
-    shutil.rmtree(f"{folder}/src")
-    shutil.copytree(f"{ROOT}/crates/{name}/src", f"{folder}/src")
+    what the prover said, and its user seconds. It begins with the work that was kept: a check before it has put that of
+    the texts that it was given in its place.
+
+    Each of these files of answers gets an answer that is none. Of a goal that is not proved the prover says the same then.
+    But it offers no file to begin such a proof from, and to make those takes it up to a third of a check."""
+    folder, kept = f"{room}/crates/{name}", f"{ROOT}/crates/{name}/out/incremental"
+    if os.path.isdir(kept):
+        shutil.rmtree(f"{folder}/out", ignore_errors=True)
+        os.makedirs(f"{folder}/out")
+        subprocess.run(["cp", "-a", kept, f"{folder}/out/incremental"], check=True)
+    for part in ("src", "proofs"):
+        shutil.rmtree(f"{folder}/{part}", ignore_errors=True)
+        if os.path.isdir(f"{ROOT}/crates/{name}/{part}"):
+            shutil.copytree(f"{ROOT}/crates/{name}/{part}", f"{folder}/{part}")
     for path, text in texts.items():
         with open(f"{folder}/{path}", "w", encoding="utf-8") as out:
             out.write(text)
+    for path in answers:
+        os.makedirs(os.path.dirname(f"{folder}/{path}"), exist_ok=True)
+        with open(f"{folder}/{path}", "a", encoding="utf-8") as out:
+            out.write(NO_ANSWER)
     with tempfile.TemporaryFile("w+", errors="replace") as out:
         words = ["rt", "check", "--jobs", "1", *(it for name in only for it in ("--only", name))]
         ran = subprocess.Popen(words, cwd=folder, stdin=subprocess.DEVNULL, stdout=out, stderr=out)
@@ -536,17 +583,18 @@ def keep_log(name, batch, said):
             out.write("\n".join([f"=== {[os.path.basename(it.file) for it in batch]}", *said, ""]))
 
 
-def try_batch(name, room, batch, say):
+def try_batch(name, room, batch, say, is_alone=False):
     """Tries edits in one check: those to be tried again together, those to be tried alone, and those that are not
     refused, each with why."""
-    only = full_names(name, batch)
-    status, said, used = check(room, name, batch[0].texts, only)
+    only = [] if name in WHOLE else full_names(name, batch)
+    answers = [] if is_alone else answer_files(name, batch)
+    status, said, used = check(room, name, batch[0].texts, only, answers)
     if only and not any(it.startswith("only=") for it in said):
         only = []
-        status, said, used = check(room, name, batch[0].texts)
+        status, said, used = check(room, name, batch[0].texts, only, answers)
     say(f"{name}: {len(batch)} in one check{' of their functions' if only else ''}, {used:.0f} s")
     keep_log(name, batch, said)
-    if len(batch) == 1:
+    if is_alone:
         why = judge_alone(status, said, name, batch[0])
         return [], [], [(batch[0].file, why)] if why else []
     unread = [it for it in said if is_unread(it)]
@@ -558,10 +606,12 @@ def try_batch(name, room, batch, say):
 
 
 def try_edits(name, uses, room, say):
-    """Tries all edits of a crate: those that are not refused, each with why."""
+    """Tries all edits of a crate: those that are not refused, each with why. One whose function has no name that can be
+    told is tried alone, so that the others are tried in a check of their functions."""
     folder, wrong = f"{ROOT}/crates/{name}", []
-    alone = [it for it in edits_of(name) if is_of_no_function(read_edit(it, folder, {}))]
-    rest = [it for it in edits_of(name) if it not in alone]
+    edits = {it: read_edit(it, folder, {}) for it in edits_of(name)}
+    alone = [it for it, edit in edits.items() if not isinstance(edit, str) and not full_names(name, [edit])]
+    rest = [it for it in edits if it not in alone]
     lay_out(room, name, uses)
     while rest:
         batch, rest, bad = next_batch(rest, folder)
@@ -570,7 +620,7 @@ def try_edits(name, uses, room, say):
             again, apart, why = try_batch(name, room, batch, say)
             rest, alone, wrong = again + rest, alone + apart, wrong + why
     for file in alone:
-        wrong += try_batch(name, room, [read_edit(file, folder, {})], say)[2]
+        wrong += try_batch(name, room, [read_edit(file, folder, {})], say, is_alone=True)[2]
     return wrong
 
 

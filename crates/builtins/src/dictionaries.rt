@@ -7,7 +7,9 @@ ghost use Rattle.heap.specs.View.{store_of, Says, Checks};
 ghost use Rattle.builtins.specs.Results.{SaysEntries, pairs_of};
 
 use crate::names::is_twice;
-use heap::{Bytes, Entry, Halt, Heap, Key, Object, Val, has_room, set_entry};
+use heap::{
+    Bytes, Entries, Entry, Halt, Heap, Key, Look, Members, Object, Val, has_room, set_entry,
+};
 use indexmap::IndexMap;
 use meaning::faults;
 use operations::{hash, items};
@@ -47,13 +49,13 @@ fn add_object(heap: &mut Heap, entries: &mut IndexMap<Key, Entry>, place: usize)
         result entries.new.entries (store_of heap.new) }
 {
     if let Some(
-        Object::Dict {
+        Look::Dict {
             entries: others,
             ..
         },
     ) = heap.object(place)?
     {
-        let pairs = pairs(heap.alloc, others)?;
+        let pairs = pairs(heap.alloc, &others)?;
         return add_all(heap, entries, pairs.as_slice());
     }
     let members = items(heap, Val::At(place))?;
@@ -62,8 +64,8 @@ fn add_object(heap: &mut Heap, entries: &mut IndexMap<Key, Entry>, place: usize)
 
 // Returns the keys of a dictionary with their values.
 #[tactic(auto, using(crate::proofs::Pairs::pairs_more, crate::proofs::Pairs::pairs_end, crate::proofs::Pairs::pairs_last))]
-fn pairs(alloc: Global, entries: &IndexMap<Key, Entry>) -> Result<Vec<(Val, Val)>, Memory>
-    ensures { IfOk result (λ v. v.items ≡ pairs_of entries.now.entries) }
+fn pairs(alloc: Global, entries: &Entries<'_>) -> Result<Vec<(Val, Val)>, Memory>
+    ensures { IfOk result (λ v. v.items ≡ pairs_of entries.now) }
 {
     let mut all = Vec::new(alloc);
     for i in 0..entries.len() {
@@ -151,21 +153,21 @@ fn object_pair(heap: &Heap, place: usize) -> Result<(Val, Val), Halt>
     ensures { Checks (object_pair (at place (store_of heap.now))) result }
 {
     match heap.object(place)? {
-        Some(Object::List { members, .. }) => two_of(members.as_slice()),
-        Some(Object::Tuple(members)) => two_of(members.as_slice()),
-        Some(Object::Text(_)) => Err(Halt::Code(faults::WRONG_TYPE)),
-        Some(Object::Dict { .. }) => Err(Halt::Code(faults::WRONG_TYPE)),
-        Some(Object::Function(_, _)) => Err(Halt::Code(faults::WRONG_TYPE)),
+        Some(Look::List { members, .. }) => two_of(&members),
+        Some(Look::Tuple(members)) => two_of(&members),
+        Some(Look::Text(_)) => Err(Halt::Code(faults::WRONG_TYPE)),
+        Some(Look::Dict { .. }) => Err(Halt::Code(faults::WRONG_TYPE)),
+        Some(Look::Function(_, _)) => Err(Halt::Code(faults::WRONG_TYPE)),
         None => Err(Halt::Code(faults::WRONG_TYPE)),
     }
 }
 
 // Returns the two members, or fault 5.
-fn two_of(members: &[Val]) -> Result<(Val, Val), Halt>
+fn two_of(members: &Members<'_>) -> Result<(Val, Val), Halt>
     ensures { Checks (two_of members.now) result }
 {
-    match members {
-        [k, x] => Ok((*k, *x)),
-        _ => Err(Halt::Code(faults::WRONG_TYPE)),
+    if members.len() != 2 {
+        return Err(Halt::Code(faults::WRONG_TYPE));
     }
+    Ok((members.at(0), members.at(1)))
 }

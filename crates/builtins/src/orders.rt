@@ -5,7 +5,7 @@ ghost use Rattle.meaning.specs.Functions.{plain_order, as_text, is_int, all_so, 
 ghost use Rattle.heap.specs.View.{store_of, Says};
 ghost use Rattle.builtins.specs.Ranks.{is_better};
 
-use heap::{Halt, Heap, Object, Val};
+use heap::{Halt, Heap, Look, Val};
 use meaning::faults;
 use operations::items;
 use std::cmp::Ordering;
@@ -131,7 +131,7 @@ pub fn text_of<'a>(heap: &'a Heap, x: Val) -> Result<Option<&'a [u8]>, Memory>
 {
     match x {
         Val::At(place) => match heap.object(place)? {
-            Some(Object::Text(bytes)) => Ok(Some(bytes.as_slice())),
+            Some(Look::Text(bytes)) => Ok(Some(bytes.as_slice())),
             _ => Ok(None),
         },
         _ => Ok(None),

@@ -8,7 +8,7 @@ ghost use Rattle.heap.specs.View.{store_of, Says, Checks};
 ghost use Rattle.builtins.specs.Results.{ChecksBytes};
 ghost use Rattle.builtins.specs.Parts.{type_text};
 
-use heap::{Halt, Heap, Object, Val};
+use heap::{Halt, Heap, Look, Val};
 use meaning::faults;
 use operations::is_true;
 use texts::Memory;
@@ -32,11 +32,11 @@ fn object_length(heap: &Heap, place: usize) -> Result<usize, Halt>
     ensures within { IfOk result (λ n. n < 2 ^ 63) }
 {
     match heap.object(place)? {
-        Some(Object::Text(bytes)) => Ok(bytes.as_slice().len()),
-        Some(Object::List { members, .. }) => Ok(members.len()),
-        Some(Object::Tuple(members)) => Ok(members.len()),
-        Some(Object::Dict { entries, .. }) => Ok(entries.len()),
-        Some(Object::Function(_, _)) => Err(Halt::Code(faults::WRONG_TYPE)),
+        Some(Look::Text(bytes)) => Ok(bytes.as_slice().len()),
+        Some(Look::List { members, .. }) => Ok(members.len()),
+        Some(Look::Tuple(members)) => Ok(members.len()),
+        Some(Look::Dict { entries, .. }) => Ok(entries.len()),
+        Some(Look::Function(_, _)) => Err(Halt::Code(faults::WRONG_TYPE)),
         None => Err(Halt::Code(faults::WRONG_TYPE)),
     }
 }
@@ -68,11 +68,11 @@ fn object_type(heap: &Heap, place: usize) -> Result<&'static [u8], Halt>
     ensures { ChecksBytes (object_type (at place (store_of heap.now))) result }
 {
     match heap.object(place)? {
-        Some(Object::Text(_)) => Ok(b"string"),
-        Some(Object::List { .. }) => Ok(b"list"),
-        Some(Object::Tuple(_)) => Ok(b"tuple"),
-        Some(Object::Dict { .. }) => Ok(b"dict"),
-        Some(Object::Function(_, _)) => Ok(b"function"),
+        Some(Look::Text(_)) => Ok(b"string"),
+        Some(Look::List { .. }) => Ok(b"list"),
+        Some(Look::Tuple(_)) => Ok(b"tuple"),
+        Some(Look::Dict { .. }) => Ok(b"dict"),
+        Some(Look::Function(_, _)) => Ok(b"function"),
         None => Err(Halt::Code(faults::WRONG_TYPE)),
     }
 }

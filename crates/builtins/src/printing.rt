@@ -7,8 +7,7 @@ ghost use Rattle.builtins.specs.TextBuffers.{kept, more, before, Tells};
 
 use crate::quoting::write_quoted;
 use crate::text_buffer::TextBuffer;
-use heap::{Builtin, Entry, Halt, HeapObject, Key, Object, Val, object_at, tick, val_at};
-use indexmap::IndexMap;
+use heap::{Builtin, Entries, Entry, Halt, Look, Members, Objects, Val, object_at, tick, val_at};
 use itoa::Buffer;
 use meaning::faults;
 use texts::Memory;
@@ -18,7 +17,7 @@ use texts::Memory;
 #[cycle(printing)]
 #[tactic(auto, using(crate::proofs::PrintLaws::print_is, crate::proofs::PrintLaws::print_plainly))]
 pub fn print(
-    objects: &[HeapObject],
+    objects: &Objects,
     steps: &mut u64,
     x: Val,
     left: u32,
@@ -94,7 +93,7 @@ fn print_text(steps: &mut u64, bytes: &[u8], out: &mut TextBuffer) -> Result<(),
 // Writes an object.
 #[cycle(printing)]
 fn print_object(
-    objects: &[HeapObject],
+    objects: &Objects,
     steps: &mut u64,
     place: usize,
     left: u32,
@@ -105,17 +104,11 @@ fn print_object(
         result steps.new (kept out.new) }
 {
     match object_at(objects, place)? {
-        Some(Object::Text(bytes)) => print_text(steps, bytes.as_slice(), out)?,
-        Some(Object::List { members, .. }) => print_list(
-            objects,
-            steps,
-            members.as_slice(),
-            left,
-            out,
-        )?,
-        Some(Object::Tuple(members)) => print_tuple(objects, steps, members.as_slice(), left, out)?,
-        Some(Object::Dict { entries, .. }) => print_dict(objects, steps, entries, left, out)?,
-        Some(Object::Function(_, name)) => print_function(steps, name.as_slice(), out)?,
+        Some(Look::Text(bytes)) => print_text(steps, bytes.as_slice(), out)?,
+        Some(Look::List { members, .. }) => print_list(objects, steps, &members, left, out)?,
+        Some(Look::Tuple(members)) => print_tuple(objects, steps, &members, left, out)?,
+        Some(Look::Dict { entries, .. }) => print_dict(objects, steps, &entries, left, out)?,
+        Some(Look::Function(_, name)) => print_function(steps, name.as_slice(), out)?,
         None => {
             tick(steps)?;
             return Err(Halt::Code(faults::WRONG_TYPE));
@@ -128,9 +121,9 @@ fn print_object(
 #[cycle(printing)]
 #[tactic(auto, using(crate::proofs::PrintLaws::list_deep, crate::proofs::PrintLaws::list_more))]
 fn print_list(
-    objects: &[HeapObject],
+    objects: &Objects,
     steps: &mut u64,
-    members: &[Val],
+    members: &Members<'_>,
     left: u32,
     out: &mut TextBuffer,
 ) -> Result<(), Halt>
@@ -148,9 +141,9 @@ fn print_list(
 #[cycle(printing)]
 #[tactic(auto, using(crate::proofs::PrintLaws::tuple_deep, crate::proofs::PrintLaws::tuple_more))]
 fn print_tuple(
-    objects: &[HeapObject],
+    objects: &Objects,
     steps: &mut u64,
-    members: &[Val],
+    members: &Members<'_>,
     left: u32,
     out: &mut TextBuffer,
 ) -> Result<(), Halt>
@@ -173,7 +166,7 @@ fn print_tuple(
 }
 
 // Returns the end of a tuple: of one member, with a comma before it.
-fn tuple_end(members: &[Val]) -> &'static [u8]
+fn tuple_end(members: &Members<'_>) -> &'static [u8]
     ensures { result.now ≡ tuple_end members.now }
 {
     if members.len() == 1 { b",)" } else { b")" }
@@ -183,10 +176,10 @@ fn tuple_end(members: &[Val]) -> &'static [u8]
 #[cycle(printing)]
 #[tactic(auto, using(crate::proofs::TextBufferLaws::contained))]
 fn print_enclosed(
-    objects: &[HeapObject],
+    objects: &Objects,
     steps: &mut u64,
     before: &[u8],
-    members: &[Val],
+    members: &Members<'_>,
     after: &[u8],
     left: u32,
     out: &mut TextBuffer,
@@ -205,9 +198,9 @@ fn print_enclosed(
 // Writes members with a comma and a space between them.
 #[cycle(printing)]
 fn print_members(
-    objects: &[HeapObject],
+    objects: &Objects,
     steps: &mut u64,
-    members: &[Val],
+    members: &Members<'_>,
     left: u32,
     out: &mut TextBuffer,
 ) -> Result<(), Halt>
@@ -243,14 +236,14 @@ fn write_before(out: &mut TextBuffer, i: usize) -> Result<(), Memory>
 #[cycle(printing)]
 #[tactic(auto, using(crate::proofs::PrintLaws::dict_deep, crate::proofs::PrintLaws::dict_more))]
 fn print_dict(
-    objects: &[HeapObject],
+    objects: &Objects,
     steps: &mut u64,
-    entries: &IndexMap<Key, Entry>,
+    entries: &Entries<'_>,
     left: u32,
     out: &mut TextBuffer,
 ) -> Result<(), Halt>
     ensures { Tells (visit_shown (inner_print left (map object_in objects.now))
-        (mapped entries.now.entries)) steps.old (kept out.old) result steps.new (kept out.new) }
+        (mapped entries.now)) steps.old (kept out.old) result steps.new (kept out.new) }
 {
     if left == 0 {
         return Err(Halt::Code(faults::TOO_DEEP));
@@ -263,16 +256,16 @@ fn print_dict(
 #[cycle(printing)]
 #[tactic(auto, using(crate::proofs::TextBufferLaws::contained))]
 fn print_braced(
-    objects: &[HeapObject],
+    objects: &Objects,
     steps: &mut u64,
-    entries: &IndexMap<Key, Entry>,
+    entries: &Entries<'_>,
     left: u32,
     out: &mut TextBuffer,
 ) -> Result<(), Halt>
     ensures { Tells
         (container
         (codes "{") (separated (pair_text (print left (map object_in objects.now)))
-        entries.now.entries) (codes "}")) steps.old (kept out.old) result steps.new (kept out.new) }
+        entries.now) (codes "}")) steps.old (kept out.old) result steps.new (kept out.new) }
 {
     tick(steps)?;
     out.write(b"{")?;
@@ -284,21 +277,21 @@ fn print_braced(
 // Writes entries with a comma and a space between them.
 #[cycle(printing)]
 fn print_entries(
-    objects: &[HeapObject],
+    objects: &Objects,
     steps: &mut u64,
-    entries: &IndexMap<Key, Entry>,
+    entries: &Entries<'_>,
     left: u32,
     out: &mut TextBuffer,
 ) -> Result<(), Halt>
     ensures { Tells (separated (pair_text (print left (map object_in objects.now)))
-        entries.now.entries) steps.old (kept out.old) result steps.new (kept out.new) }
+        entries.now) steps.old (kept out.old) result steps.new (kept out.new) }
 {
     for i in 0..entries.len() {
         let Some((_key, entry)) = entries.get_index(i) else {
             return Ok(());
         };
         write_before(out, i)?;
-        match print_entry(objects, steps, *entry, left, out) {
+        match print_entry(objects, steps, entry, left, out) {
             Ok(()) => {}
             Err(halt) => return Err(halt),
         }
@@ -309,7 +302,7 @@ fn print_entries(
 // Writes a key and its value.
 #[cycle(printing)]
 fn print_entry(
-    objects: &[HeapObject],
+    objects: &Objects,
     steps: &mut u64,
     entry: Entry,
     left: u32,

@@ -6,7 +6,7 @@ ghost use Rattle.heap.specs.View.{store_of, Says};
 ghost use Rattle.builtins.specs.Ranks.{int_of, bytes_of, with_bytes};
 
 use crate::orders::{are_alike, are_ints};
-use heap::{Bytes, Halt, Heap, Object, Val};
+use heap::{Bytes, Halt, Heap, Look, Val};
 use meaning::faults;
 use operations::items;
 use std::alloc::Global;
@@ -129,7 +129,7 @@ fn bytes_of(heap: &Heap, x: Val) -> Result<Bytes, Memory>
 {
     match x {
         Val::At(place) => match heap.object(place)? {
-            Some(Object::Text(bytes)) => bytes.share(),
+            Some(Look::Text(bytes)) => bytes.share(),
             _ => Bytes::new(heap.alloc, Vec::new(heap.alloc)),
         },
         _ => Bytes::new(heap.alloc, Vec::new(heap.alloc)),

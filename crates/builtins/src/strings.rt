@@ -6,7 +6,7 @@ ghost use Rattle.heap.specs.View.{store_of, Says};
 
 use crate::printing;
 use crate::text_buffer::TextBuffer;
-use heap::{DEEPEST, Halt, Heap, Object, Val};
+use heap::{DEEPEST, Halt, Heap, Look, Val};
 use meaning::faults;
 
 /// Evaluates `repr(x)`, a new string, or returns fault 11 or 12 as it goes, and 13 at its end.
@@ -14,13 +14,7 @@ pub fn print(heap: &mut Heap, x: Val) -> Result<Val, Halt>
     ensures { Says (repr x (store_of heap.old)) result (store_of heap.new) }
 {
     let mut out = TextBuffer::new(heap.alloc);
-    printing::print(
-        heap.objects.as_slice(),
-        &mut heap.steps,
-        x,
-        DEEPEST,
-        &mut out,
-    )?;
+    printing::print(&heap.objects, &mut heap.steps, x, DEEPEST, &mut out)?;
     let TextBuffer { bytes, long } = out;
     if long {
         return Err(Halt::Code(faults::TOO_LARGE));
@@ -51,11 +45,11 @@ fn object_text(heap: &mut Heap, place: usize) -> Result<Val, Halt>
         (store_of heap.new) }
 {
     match heap.object(place)? {
-        Some(Object::Text(_)) => return Ok(Val::At(place)),
-        Some(Object::List { .. }) => {}
-        Some(Object::Tuple(_)) => {}
-        Some(Object::Dict { .. }) => {}
-        Some(Object::Function(_, _)) => {}
+        Some(Look::Text(_)) => return Ok(Val::At(place)),
+        Some(Look::List { .. }) => {}
+        Some(Look::Tuple(_)) => {}
+        Some(Look::Dict { .. }) => {}
+        Some(Look::Function(_, _)) => {}
         None => {}
     }
     let made = print(heap, Val::At(place))?;

@@ -1,11 +1,11 @@
 //! `zip`.
-ghost use Rattle.std.specs.Prelude.{◌≡◌, map, drop, IfOk};
+ghost use Rattle.std.specs.Prelude.{◌≡◌, map, drop, slice_get, IfOk};
 ghost use Rattle.meaning.specs.Functions.{each_items, zipped, makes_tuples, heads};
 ghost use Rattle.heap.specs.View.{store_of, Says, SaysItems};
 ghost use Rattle.builtins.specs.Parts.{zip_from};
 ghost use Rattle.builtins.specs.Results.{SaysLists, lists_of, items_seen};
 
-use heap::{Halt, Heap, Val, val_at};
+use heap::{Halt, Heap, Val};
 use operations::items;
 use std::alloc::Global;
 use texts::Memory;
@@ -52,13 +52,20 @@ fn make_rows(heap: &mut Heap, lists: &[Vec<Val>]) -> Result<Vec<Val>, Halt>
     Ok(tuples)
 }
 
+// Returns the value at a place.
+fn value_at(xs: &[Val], i: usize) -> Option<Val>
+    ensures { result ≡ slice_get xs.now i }
+{
+    xs.get(i).copied()
+}
+
 // Returns the member of each list at a place, if each has one.
 fn row_at(alloc: Global, lists: &[Vec<Val>], i: usize) -> Result<Option<Vec<Val>>, Memory>
     ensures { IfOk result (λ row. items_seen row ≡ heads (map (drop i) (lists_of lists.now))) }
 {
     let mut row = Vec::new(alloc);
     for list in lists.iter() {
-        match val_at(list.as_slice(), i) {
+        match value_at(list.as_slice(), i) {
             Some(x) => row.push(x)?,
             None => return Ok(None),
         }

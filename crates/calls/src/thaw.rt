@@ -6,7 +6,7 @@ ghost use Rattle.freezing.specs.View.{members_of};
 ghost use Rattle.names.specs.View.{block_of};
 ghost use Rattle.calls.specs.Thaw.{behind, thaw_names, thaw_defaults, SaysBlock, SaysKept};
 
-use freezing::{FrozenValue, thaw};
+use freezing::FrozenValue;
 use heap::{Halt, Heap, Val};
 use module_values::{Binding, Defaults};
 use names::{FunctionDefaults, Slot};
@@ -16,7 +16,7 @@ pub fn thaw_value(heap: &mut Heap, f: &FrozenValue) -> Result<Val, Halt>
     ensures says { Says (thaw f.now (store_of heap.old)) result (store_of heap.new) }
     ensures steps { IfOk result (λ _. heap.new.steps ≡ heap.old.steps) }
 {
-    thaw(heap, f.as_frozen())
+    freezing::thaw_value(heap, f)
 }
 
 // Puts frozen values on a heap, in order.

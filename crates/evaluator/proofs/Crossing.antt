@@ -22,6 +22,7 @@ use Rattle.meaning.specs.contracts.val.Entry
 use Rattle.tree.proofs.expr.BinaryOp.TheSendSync as BinarySends
 use Rattle.tree.proofs.expr.UnaryOp.TheSendSync as UnarySends
 use Rattle.freezing.proofs.frozen.Frozen.TheLaws.TheKnot as frozen
+use Rattle.freezing.proofs.laid.Laid.TheSendSync as LaidSends
 use Rattle.freezing.specs.contracts.value.FrozenValue
 use Rattle.module_values.specs.contracts.bindings.Function
 use Rattle.module_values.proofs.functions.Index.TheSendSync as IndexSends
@@ -51,10 +52,10 @@ use Rattle.evaluator.specs.contracts.outcome.Suspended
 
 -- modules
 frozen_send : IsSend FrozenValue.the_row
-frozen_send = search (crosses, frozen.crosses_both, sendable) depth 60 fits 20000
+frozen_send = search (LaidSends.the_send, LaidSends.the_sync, crosses, frozen.crosses_both, sendable) depth 60 fits 20000
 
 frozen_sync : IsSync FrozenValue.the_row
-frozen_sync = search (crosses, frozen.crosses_both, sendable) depth 60 fits 20000
+frozen_sync = search (LaidSends.the_send, LaidSends.the_sync, crosses, frozen.crosses_both, sendable) depth 60 fits 20000
 
 function_send : IsSend Function.the_row
 function_send = search trees_cross depth 60 fits 20000

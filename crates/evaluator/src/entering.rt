@@ -23,7 +23,7 @@ use crate::setting::Setting;
 use calls::{Open, call_block, defaults_of, is_running, need_names};
 use frames::{Caller, Control, Frame, Signal, given_by, push};
 use grammar::FileKind;
-use heap::{Bytes, Halt, Heap, Object, Val};
+use heap::{Bytes, Halt, Heap, Look, Val};
 use meaning::faults;
 use names::{Block, Standing};
 use std::alloc::Global;
@@ -44,7 +44,7 @@ fn function_at(heap: &Heap, place: usize) -> Result<FunctionName, Halt>
     ensures { IsFunction (at place (store_of heap.now)) result }
 {
     match heap.object(place)? {
-        Some(Object::Function(label, name)) => Ok(FunctionName {
+        Some(Look::Function(label, name)) => Ok(FunctionName {
             label: label.share()?,
             name: name.share()?,
         }),

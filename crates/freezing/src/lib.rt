@@ -1,7 +1,10 @@
-//! Frozen values: trees apart from any heap. Layer: values, on base. Begin at `values.rt`.
+//! Frozen values: trees apart from any heap. One of many parts is laid out as objects too, which heaps are lent.
+//! Layer: values, on base. Begin at `values.rt` and, for what is lent, `laid.rt`.
 #![tactic(auto)]
 
 mod frozen;
+mod laid;
+mod laying;
 mod make;
 mod same;
 mod thawing;
@@ -12,5 +15,5 @@ mod walk;
 pub use frozen::{Frozen, FrozenEntry};
 pub use same::same_frozen;
 pub use thawing::thaw;
-pub use value::{FrozenValue, freeze_value};
+pub use value::{FrozenValue, freeze_value, thaw_value};
 pub use values::freeze;

@@ -94,8 +94,8 @@ fn thaw_entry(heap: &mut Heap, e: &FrozenEntry, all: &mut IndexMap<Key, Entry>) 
     Ok(())
 }
 
-// Returns the key that a frozen value is. A key of a single part takes no list.
-fn frozen_key_of(alloc: Global, f: &Frozen) -> Result<Key, Memory>
+/// Returns the key that a frozen value is. A key of a single part takes no list.
+pub(crate) fn frozen_key_of(alloc: Global, f: &Frozen) -> Result<Key, Memory>
     ensures { IfOk result (λ k. k ≡ frozen_key (frozen_of f.now)) }
 {
     match f {

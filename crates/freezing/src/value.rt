@@ -1,34 +1,45 @@
 //! Frozen values with exact equality.
-ghost use Rattle.std.specs.Prelude.{◌≡◌, ◌≤◌, IfOk};
+ghost use Rattle.std.specs.Prelude.{◌≡◌, ◌≤◌, IfOk, IfSome};
+ghost use Rattle.std.specs.Arc.{arc_value};
 ghost use Rattle.std.specs.Cmp.{partial_equiv_from_equiv};
-ghost use Rattle.meaning.specs.Freezing.{Fz, freezes};
+ghost use Rattle.meaning.specs.Freezing.{Fz, freezes, thaw};
 ghost use Rattle.heap.specs.View.{store_of, Says};
+ghost use Rattle.freezing.specs.Laid.{IsLaid};
 ghost use Rattle.freezing.specs.View.{frozen_of};
 ghost use Rattle.freezing.specs.Same.{same, depth};
 ghost use Rattle.freezing.specs.SameLaws.{same_equiv};
 
 use crate::frozen::Frozen;
+use crate::laid::{Laid, laid_out, lend};
 use crate::same::same_frozen;
+use crate::thawing::thaw;
 use crate::values;
 use heap::{Halt, Heap, Val};
+use std::alloc::Global;
 use std::marker::Model;
+use std::sync::Arc;
 use texts::Memory;
 
 /// A frozen value as freezing gives it: at most 64 containers deep. A contract sees its tree, and two are equal exactly
 /// where it sees one tree.
+///
+/// A value of many parts is also laid out as objects, so that putting it on a heap takes no longer than a small one.
 pub struct FrozenValue {
     inner: Frozen,
+    laid: Option<Arc<Laid, Global>>,
 }
 
 impl Drop for FrozenValue {
     fn drop(self) {
-        let FrozenValue { inner: _ } = self;
+        let FrozenValue { inner: _, laid: _ } = self;
     }
 }
 
 impl Model for FrozenValue {
-    ghost use Rattle.std.specs.Prelude.{◌≤◌};
+    ghost use Rattle.std.specs.Prelude.{◌≤◌, IfSome};
+    ghost use Rattle.std.specs.Arc.{arc_value};
     ghost use Rattle.meaning.specs.Freezing.{Fz};
+    ghost use Rattle.freezing.specs.Laid.{IsLaid};
     ghost use Rattle.freezing.specs.View.{frozen_of};
     ghost use Rattle.freezing.specs.Same.{depth};
     ghost use Rattle.freezing.specs.Storage.{frozen_code};
@@ -39,7 +50,7 @@ impl Model for FrozenValue {
 
     ghost view = { λ f. frozen_of f.inner };
 
-    ghost invariant = { λ f. depth (frozen_of f.inner) ≤ 64 };
+    ghost invariant = { λ f. (depth (frozen_of f.inner) ≤ 64) × IfSome f.laid (λ l. IsLaid (frozen_of f.inner) (arc_value l)) };
 }
 
 impl FrozenValue {
@@ -55,7 +66,8 @@ impl FrozenValue {
         ensures { IfOk result (λ f. f ≡ self.now) }
     {
         let inner = self.inner.share()?;
-        Ok(FrozenValue { inner })
+        let laid = shared(&self.laid)?;
+        Ok(FrozenValue { inner, laid })
     }
 }
 
@@ -65,7 +77,30 @@ pub fn freeze_value(heap: &mut Heap, x: Val) -> Result<FrozenValue, Halt>
     ensures { Says (freezes x (store_of heap.old)) result (store_of heap.new) }
 {
     let inner = values::freeze(heap, x)?;
-    Ok(FrozenValue { inner })
+    let laid = laid_out(heap.alloc, &inner)?;
+    Ok(FrozenValue { inner, laid })
+}
+
+/// Puts a frozen value on a heap, where its lists and dictionaries are frozen. It takes no steps. A value of many parts is
+/// lent, which takes as long as for one of few.
+pub fn thaw_value(heap: &mut Heap, f: &FrozenValue) -> Result<Val, Halt>
+    ensures { Says (thaw f.now (store_of heap.old)) result (store_of heap.new) }
+{
+    match &f.laid {
+        Some(laid) => lend(heap, laid),
+        None => thaw(heap, &f.inner),
+    }
+}
+
+// Returns what is laid out, shared.
+fn shared(laid: &Option<Arc<Laid, Global>>) -> Result<Option<Arc<Laid, Global>>, Memory>
+    ensures { (f : Fz) → IfSome laid.now (λ l. IsLaid f (arc_value l)) → IfOk result
+        (λ o. IfSome o (λ l. IsLaid f (arc_value l))) }
+{
+    match laid {
+        Some(laid) => Ok(Some(Arc::try_clone(laid)?)),
+        None => Ok(None),
+    }
 }
 
 impl PartialEq for FrozenValue {

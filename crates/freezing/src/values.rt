@@ -11,12 +11,6 @@ use heap::{DEEPEST, Halt, Heap, Val};
 pub fn freeze(heap: &mut Heap, x: Val) -> Result<Frozen, Halt>
     ensures { SaysFrozen (freezes x (store_of heap.old)) result (store_of heap.new) }
 {
-    let f = walk::freeze(
-        heap.alloc,
-        heap.objects.as_slice(),
-        &mut heap.steps,
-        x,
-        DEEPEST,
-    )?;
+    let f = walk::freeze(heap.alloc, &heap.objects, &mut heap.steps, x, DEEPEST)?;
     Ok(f)
 }

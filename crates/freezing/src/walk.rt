@@ -5,8 +5,7 @@ ghost use Rattle.heap.specs.View.{object_in};
 ghost use Rattle.freezing.specs.View.{frozen_of, SaysFrozen, SaysMembers, SaysEntry, SaysEntries};
 
 use crate::frozen::{Frozen, FrozenEntry};
-use heap::{Entry, Halt, HeapObject, Key, Object, Val, object_at, tick, val_at};
-use indexmap::IndexMap;
+use heap::{Entries, Entry, Halt, Look, Members, Objects, Val, object_at, tick, val_at};
 use meaning::faults;
 use std::alloc::Global;
 
@@ -16,7 +15,7 @@ use std::alloc::Global;
 #[tactic(auto, using(crate::proofs::FreezeLaws::freeze_is))]
 pub fn freeze(
     alloc: Global,
-    objects: &[HeapObject],
+    objects: &Objects,
     steps: &mut u64,
     x: Val,
     left: u32,
@@ -44,7 +43,7 @@ fn settled(steps: &mut u64, f: Frozen) -> Result<Frozen, Halt>
 #[cycle(freezing)]
 fn freeze_object(
     alloc: Global,
-    objects: &[HeapObject],
+    objects: &Objects,
     steps: &mut u64,
     place: usize,
     left: u32,
@@ -53,23 +52,11 @@ fn freeze_object(
         (held_object (slice_get (map object_in objects.now) place)) steps.old) result steps.new }
 {
     match object_at(objects, place)? {
-        Some(Object::Text(bytes)) => settled(steps, Frozen::text(bytes.share()?)),
-        Some(Object::List { members, .. }) => freeze_list(
-            alloc,
-            objects,
-            steps,
-            members.as_slice(),
-            left,
-        ),
-        Some(Object::Tuple(members)) => freeze_tuple(
-            alloc,
-            objects,
-            steps,
-            members.as_slice(),
-            left,
-        ),
-        Some(Object::Dict { entries, .. }) => freeze_dict(alloc, objects, steps, entries, left),
-        Some(Object::Function(label, name)) => settled(
+        Some(Look::Text(bytes)) => settled(steps, Frozen::text(bytes.share()?)),
+        Some(Look::List { members, .. }) => freeze_list(alloc, objects, steps, &members, left),
+        Some(Look::Tuple(members)) => freeze_tuple(alloc, objects, steps, &members, left),
+        Some(Look::Dict { entries, .. }) => freeze_dict(alloc, objects, steps, &entries, left),
+        Some(Look::Function(label, name)) => settled(
             steps,
             Frozen::function(label.share()?, name.share()?),
         ),
@@ -85,9 +72,9 @@ fn freeze_object(
 #[tactic(auto, using(crate::proofs::FreezeLaws::list_deep, crate::proofs::FreezeLaws::list_more))]
 fn freeze_list(
     alloc: Global,
-    objects: &[HeapObject],
+    objects: &Objects,
     steps: &mut u64,
-    members: &[Val],
+    members: &Members<'_>,
     left: u32,
 ) -> Result<Frozen, Halt>
     ensures { SaysFrozen (visit_held (inner_freeze left (map object_in objects.now))
@@ -106,9 +93,9 @@ fn freeze_list(
 #[tactic(auto, using(crate::proofs::FreezeLaws::tuple_deep, crate::proofs::FreezeLaws::tuple_more))]
 fn freeze_tuple(
     alloc: Global,
-    objects: &[HeapObject],
+    objects: &Objects,
     steps: &mut u64,
-    members: &[Val],
+    members: &Members<'_>,
     left: u32,
 ) -> Result<Frozen, Halt>
     ensures { SaysFrozen (visit_held (inner_freeze left (map object_in objects.now))
@@ -126,9 +113,9 @@ fn freeze_tuple(
 #[cycle(freezing)]
 fn freeze_members(
     alloc: Global,
-    objects: &[HeapObject],
+    objects: &Objects,
     steps: &mut u64,
-    members: &[Val],
+    members: &Members<'_>,
     left: u32,
 ) -> Result<Vec<Frozen>, Halt>
     ensures { SaysMembers (freeze_members (freeze left (map object_in objects.now)) members.now
@@ -152,13 +139,13 @@ fn freeze_members(
 #[tactic(auto, using(crate::proofs::FreezeLaws::dict_deep, crate::proofs::FreezeLaws::dict_more))]
 fn freeze_dict(
     alloc: Global,
-    objects: &[HeapObject],
+    objects: &Objects,
     steps: &mut u64,
-    entries: &IndexMap<Key, Entry>,
+    entries: &Entries<'_>,
     left: u32,
 ) -> Result<Frozen, Halt>
     ensures { SaysFrozen (visit_held (inner_freeze left (map object_in objects.now))
-        (mapped entries.now.entries) steps.old) result steps.new }
+        (mapped entries.now) steps.old) result steps.new }
 {
     if left == 0 {
         return Err(Halt::Code(faults::TOO_DEEP));
@@ -172,13 +159,13 @@ fn freeze_dict(
 #[cycle(freezing)]
 fn freeze_entries(
     alloc: Global,
-    objects: &[HeapObject],
+    objects: &Objects,
     steps: &mut u64,
-    entries: &IndexMap<Key, Entry>,
+    entries: &Entries<'_>,
     left: u32,
 ) -> Result<Vec<FrozenEntry>, Halt>
     ensures { SaysEntries
-        (freeze_entries (freeze left (map object_in objects.now)) entries.now.entries steps.old)
+        (freeze_entries (freeze left (map object_in objects.now)) entries.now steps.old)
         result steps.new }
 {
     let mut all = Vec::new(alloc);
@@ -186,7 +173,7 @@ fn freeze_entries(
         let Some((_key, entry)) = entries.get_index(i) else {
             return Ok(all);
         };
-        match freeze_entry(alloc, objects, steps, *entry, left) {
+        match freeze_entry(alloc, objects, steps, entry, left) {
             Ok(e) => all.push(e)?,
             Err(halt) => return Err(halt),
         }
@@ -198,7 +185,7 @@ fn freeze_entries(
 #[cycle(freezing)]
 fn freeze_entry(
     alloc: Global,
-    objects: &[HeapObject],
+    objects: &Objects,
     steps: &mut u64,
     entry: Entry,
     left: u32,

@@ -3,8 +3,8 @@
 //! `specs/Loads` says which file is evaluated for a module or a package, which modules its load statements name, and
 //! where loads run in a circle. `specs/FilePackages` says what the module of a label and the package of a directory are
 //! at one state of the files: the first fault of the file, else the first fault of its loads, else what the evaluation
-//! of the file leaves. Both look at the files, and at nothing that a node asks or keeps; the laws below tie the nodes to them.
-//! Begin at `specs/FilePackages.antt`.
+//! of the file leaves. Both look at the files, and at nothing that a node asks or keeps; the laws below tie the nodes
+//! to them. Begin at `specs/FilePackages.antt`.
 ghost use Rattle.functions.specs.FilePackages.{ModulesHold, PackagesHold};
 ghost use Rattle.functions.specs.PackageLaws.{CyclesHaveNoModule, CyclesHaveNoPackage, SomeModuleHeld, SomePackageHeld, OneCycle, OneModule, OneModuleHeld, OnePackage, OnePackageHeld};
 

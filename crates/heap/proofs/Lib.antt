@@ -1,3 +1,6 @@
 pub mod Times
 pub mod DictionaryKeys
 pub mod Standing
+pub mod Laid
+pub mod Lent
+pub mod Places

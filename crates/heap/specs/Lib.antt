@@ -4,3 +4,8 @@ pub mod MemoryUse
 pub mod Objects
 pub mod LastWrite
 pub mod Reclamation
+pub mod Looks
+pub mod Standings
+pub mod Own
+pub mod Held
+pub mod Sought

@@ -1,13 +1,18 @@
 -- Objects whose memory has been given back.
-use Rattle.std.specs.Prelude.{◌≡◌, ℕ, List, Option, Some, None, option_map, slice_get}
+use Rattle.std.specs.Prelude.{◌≡◌, ℕ, Bool, true, List, Option, Some, None, option_map, slice_get, if◌then◌else◌}
 use Rattle.heap.specs.declared.heap_object.HeapObject.{HeapObject}
 use Rattle.heap.specs.declared.object.Object.{Object}
-use Rattle.heap.specs.View.{object_in}
 use Rattle.heap.specs.MemoryUse.{object_bytes}
+use Rattle.heap.specs.Standings.{Standing, own, lent, is_gone, stays}
+use Rattle.heap.specs.Own.{written_object}
 
 -- an object has a place here, and its memory has been given back
-abbrev pub IsGone : List HeapObject → ℕ → Type 0
-IsGone objects place = option_map (λ h. h.object) (slice_get objects place) ≡ Some None
+abbrev pub IsGone : List Standing → ℕ → Type 0
+IsGone objects place = option_map is_gone (slice_get objects place) ≡ Some true
+
+-- an object has a place here, and its memory has been given back, or it is one that no program changes
+abbrev pub IsKept : List Standing → ℕ → Type 0
+IsKept objects place = option_map stays (slice_get objects place) ≡ Some true
 
 -- the bytes that an object counts for while its memory is there
 abbrev pub bytes_while : Option Object → ℕ → ℕ
@@ -15,12 +20,13 @@ bytes_while (Some _) bytes = bytes
 bytes_while None bytes = 0
 
 abbrev pub counted_bytes : HeapObject → ℕ
-counted_bytes h = bytes_while h.object (object_bytes (object_in h))
+counted_bytes h = bytes_while h.object (object_bytes (written_object h))
 
--- the same, of a place
-abbrev pub found_bytes : Option HeapObject → ℕ
-found_bytes (Some h) = counted_bytes h
-found_bytes None = 0
+-- the same, of what stands at a place: what is lent counts for nothing
+abbrev pub standing_bytes : Option Standing → ℕ
+standing_bytes (Some (own object gone)) = if gone then 0 else object_bytes object
+standing_bytes (Some (lent object)) = 0
+standing_bytes None = 0
 
-abbrev pub bytes_at : List HeapObject → ℕ → ℕ
-bytes_at objects place = found_bytes (slice_get objects place)
+abbrev pub bytes_at : List Standing → ℕ → ℕ
+bytes_at objects place = standing_bytes (slice_get objects place)

@@ -1,21 +1,25 @@
 -- What the heap in memory is to the definitions, and what a call that takes a step of them ensures.
-use Rattle.std.specs.Prelude.{◌≡◌, List, map, Result, Ok, Err}
+use Rattle.std.specs.Prelude.{◌≡◌, List, ◌++◌, map, length, Result, Ok, Err}
 use Rattle.std.specs.declared.vec.Vec.{Vec}
 use Rattle.std.specs.declared.alloc.Global.{Global}
 use Rattle.meaning.specs.Outcome.{Out, gives, faults, ValueOrFault, good, bad}
 use Rattle.meaning.specs.Heap.{Obj, Store}
-use Rattle.heap.specs.declared.heap_object.HeapObject.{HeapObject}
+use Rattle.frozen_objects.specs.Shift.{moved}
 use Rattle.heap.specs.declared.heap.Heap.{Heap}
 use Rattle.heap.specs.declared.halt.Halt.{Halt}
 use Rattle.heap.specs.declared.halt.Halt.TheVariants.{Code, Memory}
-use Rattle.heap.specs.LastWrite.{last_written}
+use Rattle.heap.specs.Standings.{Standing, standing_object}
 
 -- the object that stands there, also where its memory has been given back
-unfoldable pub object_in : HeapObject → Obj
-object_in h = last_written h.written.items
+unfoldable pub object_in : Standing → Obj
+object_in s = standing_object s
 
 abbrev pub store_of : Heap → Store
-store_of h = record { heap = map object_in h.objects.items; iterated = h.iterated.items; steps = h.steps }
+store_of h = record { heap = map object_in h.objects; iterated = h.iterated.items; steps = h.steps }
+
+-- objects that are lent stand behind all others, and the values in them name places among themselves
+abbrev pub lends : List Obj → Store → Store
+lends objects s = record s { heap = s.heap ++ map (moved (length s.heap)) objects }
 
 -- the call gives what the definition gives, with the same state after it, or its fault; where memory is refused
 -- nothing is said

@@ -6,6 +6,7 @@ ghost use Rattle.meaning.specs.Indexing.{with_key, keys_of};
 ghost use Rattle.meaning.specs.declared.val.Entry.{Entry};
 
 use crate::heap::LONGEST;
+use crate::look::Entries;
 use indexmap::IndexMap;
 use meaning::{Entry, Key, Val};
 use std::alloc::Global;
@@ -41,8 +42,8 @@ pub fn has_room(entries: &IndexMap<Key, Entry>, key: &Key) -> bool
 
 /// Returns the keys of a dictionary, in order.
 #[tactic(auto, using(crate::proofs::DictionaryKeys::take_some, crate::proofs::DictionaryKeys::take_none, crate::proofs::DictionaryKeys::take_keys))]
-pub fn keys(alloc: Global, entries: &IndexMap<Key, Entry>) -> Result<Vec<Val>, Memory>
-    ensures { IfOk result (λ v. v.items ≡ keys_of entries.now.entries) }
+pub fn keys(alloc: Global, entries: &Entries<'_>) -> Result<Vec<Val>, Memory>
+    ensures { IfOk result (λ v. v.items ≡ keys_of entries.now) }
 {
     let mut all = Vec::new(alloc);
     for i in 0..entries.len() {
@@ -55,8 +56,8 @@ pub fn keys(alloc: Global, entries: &IndexMap<Key, Entry>) -> Result<Vec<Val>, M
 
 // Returns the key at a place of the order.
 #[tactic(auto, using(crate::proofs::DictionaryKeys::key_there))]
-fn key_at(entries: &IndexMap<Key, Entry>, i: usize) -> Option<Val>
-    ensures { result ≡ slice_get (keys_of entries.now.entries) i }
+fn key_at(entries: &Entries<'_>, i: usize) -> Option<Val>
+    ensures { result ≡ slice_get (keys_of entries.now) i }
 {
     match entries.get_index(i) {
         Some((_key, entry)) => Some(entry.key),

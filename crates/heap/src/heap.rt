@@ -1,18 +1,23 @@
 //! The heap.
-ghost use Rattle.std.specs.Prelude.{◌≡◌, [], map, option_map, slice_get, IfOk, OnOk, OnErr, ◌+◌, ◌*◌, ◌-◌, ◌≤◌, nat_le};
+ghost use Rattle.std.specs.Prelude.{◌≡◌, [], length, map, option_map, slice_get, IfOk, OnOk, OnErr, ◌+◌, ◌*◌, ◌-◌, ◌≤◌, nat_le};
 ghost use Rattle.meaning.specs.Outcome.{gives};
 ghost use Rattle.meaning.specs.Heap.{at, puts, makes, makes_text, makes_list, makes_tuple, makes_dict};
 ghost use Rattle.heap.specs.Objects.{object_of};
-ghost use Rattle.heap.specs.View.{object_in, store_of, Says};
-ghost use Rattle.heap.specs.Reclamation.{IsGone};
+ghost use Rattle.heap.specs.Looks.{seen_object};
+ghost use Rattle.std.specs.Arc.{arc_value};
+ghost use Rattle.heap.specs.View.{object_in, store_of, lends, Says};
+ghost use Rattle.heap.specs.Reclamation.{IsGone, IsKept};
 ghost use Rattle.heap.specs.MemoryUse.{most_held, object_bytes, place_bytes, Counted};
 
 use crate::halt::Halt;
-use crate::heap_object::HeapObject;
+use crate::look::Look;
 use crate::object::{ENTRY, MEMBER, Object, shape_of, size_of};
+use crate::objects::Objects;
+use frozen_objects::FrozenObjects;
 use indexmap::IndexMap;
 use meaning::{Bytes, Entry, Key, Val, faults};
 use std::alloc::Global;
+use std::sync::Arc;
 use texts::Memory;
 
 /// The most bytes of a string, and members of a list, tuple or dictionary.
@@ -33,7 +38,7 @@ const FIRST_FULL: u64 = 8_388_608;
 #[derive(Drop)]
 pub struct Heap {
     pub alloc: Global,
-    pub objects: Vec<HeapObject>,
+    pub objects: Objects,
     pub iterated: Vec<usize>,
     pub steps: u64,
     held: u64,
@@ -49,7 +54,7 @@ impl Heap {
     {
         Heap {
             alloc,
-            objects: Vec::new(alloc),
+            objects: Objects::new(alloc),
             iterated: Vec::new(alloc),
             steps,
             held: 0,
@@ -58,42 +63,35 @@ impl Heap {
     }
 
     /// Returns the object at a place, if one stands there, or `Memory` if it has been given back.
-    pub fn object(&self, place: usize) -> Result<Option<&Object>, Memory>
-        ensures found { IfOk result (λ found. at place (store_of self.now) ≡ option_map
-            (λ o. object_of o.now) found) }
-        ensures gone { OnErr result (IsGone self.now.objects.items place) }
+    pub fn object(&self, place: usize) -> Result<Option<Look<'_>>, Memory>
+        ensures found { IfOk result (λ found. at place (store_of self.now) ≡ option_map seen_object
+            found) }
+        ensures gone { OnErr result (IsGone self.now.objects place) }
     {
-        object_at(self.objects.as_slice(), place)
+        self.objects.look(place)
     }
 
     /// Takes the object at a place, to be changed and then put there again. Until then it counts as given back. Returns
-    /// `Memory` if it has been given back before.
+    /// `Memory` if it has been given back before, or if it is one that no program changes and it is lent.
     pub fn take(&mut self, place: usize) -> Result<Option<Object>, Memory>
         ensures same { store_of self.new ≡ store_of self.old }
         ensures taken { IfOk result (λ found. at place (store_of self.old) ≡ option_map object_of
             found) }
-        ensures gone { OnErr result (IsGone self.old.objects.items place) }
+        ensures kept { OnErr result (IsKept self.old.objects place) }
         ensures held { self.new.held ≡ self.old.held }
     {
-        match self.objects.get_mut(place) {
-            Some(found) => match found.take() {
-                Ok(object) => Ok(Some(object)),
-                Err(memory) => Err(memory),
-            },
-            None => Ok(None),
-        }
+        self.objects.take(place)
     }
 
     /// Puts another object at a place, if one stands there. The bytes that it takes more are counted by `hold_members`
-    /// and `hold_entry`.
-    pub fn put(&mut self, place: usize, object: Object)
-        ensures put { puts place (object_of object) (store_of self.old) ≡ gives tt
-            (store_of self.new) }
+    /// and `hold_entry`. Returns `Memory`, and puts nothing, if there stands one that no program changes and it is lent.
+    pub fn put(&mut self, place: usize, object: Object) -> Result<(), Memory>
+        ensures put { OnOk result (puts place (object_of object) (store_of self.old) ≡ gives tt
+            (store_of self.new)) }
+        ensures kept { OnErr result (IsKept self.old.objects place) }
         ensures held { self.new.held ≡ self.old.held }
     {
-        if let Some(found) = self.objects.get_mut(place) {
-            found.write(object);
-        }
+        self.objects.put(place, object)
     }
 
     /// Returns the bytes that the objects and the copies that loops go over count for. An object that has been given
@@ -182,10 +180,7 @@ impl Heap {
     fn size_at(&self, place: usize) -> u128
         ensures { result ≡ place_bytes place (store_of self.now) }
     {
-        match self.objects.get(place) {
-            Some(object) => object.size(),
-            None => 0,
-        }
+        self.objects.size_at(place)
     }
 
     /// Makes an object. Returns `Memory` also if the objects would take more than `MOST_HELD` bytes.
@@ -198,8 +193,27 @@ impl Heap {
     {
         self.hold(size_of(shape_of(&object)))?;
         let place = self.objects.len();
-        self.objects.push(HeapObject::new(object))?;
+        self.objects.push(object)?;
         Ok(Val::At(place))
+    }
+
+    /// Lends objects to the heap: they stand behind all others, each value in them moved by as many. It takes as long for
+    /// many as for few. They count for nothing, since they are shared. Returns the place of the first.
+    ///
+    /// # Errors
+    ///
+    /// Returns `Memory` if an allocation fails, or for a place of more than 32 bits.
+    pub fn lend(&mut self, objects: &Arc<FrozenObjects, Global>) -> Result<u32, Memory>
+        ensures first { IfOk result (λ first. first ≡ length (store_of self.old).heap) }
+        ensures lent { OnOk result
+            (store_of self.new ≡ lends (arc_value objects.now) (store_of self.old)) }
+        ensures held { self.new.held ≡ self.old.held }
+    {
+        let Ok(first) = u32::try_from(self.objects.len()) else {
+            return Err(Memory);
+        };
+        self.objects.lend(objects)?;
+        Ok(first)
     }
 
     /// Makes a string, or returns fault 13.
@@ -254,16 +268,10 @@ impl Heap {
 }
 
 /// Returns the object at a place, if one stands there, or `Memory` if it has been given back.
-pub fn object_at(objects: &[HeapObject], place: usize) -> Result<Option<&Object>, Memory>
+pub fn object_at(objects: &Objects, place: usize) -> Result<Option<Look<'_>>, Memory>
     ensures found { IfOk result (λ found. slice_get (map object_in objects.now) place ≡ option_map
-        (λ o. object_of o.now) found) }
+        seen_object found) }
     ensures gone { OnErr result (IsGone objects.now place) }
 {
-    match objects.get(place) {
-        Some(found) => {
-            let object = found.object()?;
-            Ok(Some(object))
-        }
-        None => Ok(None),
-    }
+    objects.look(place)
 }

@@ -1,5 +1,5 @@
 //! Objects as they stand on the heap.
-ghost use Rattle.std.specs.Prelude.{◌≡◌, IfOk, OnErr, None};
+ghost use Rattle.std.specs.Prelude.{◌≡◌, IfOk, OnErr, None, is_none, false};
 ghost use Rattle.heap.specs.Objects.{object_of};
 ghost use Rattle.std.specs.Option.{ForSome};
 ghost use Rattle.heap.specs.LastWrite.{last_written};
@@ -24,13 +24,14 @@ pub struct HeapObject {
 }
 
 impl HeapObject {
-    ghost use Rattle.heap.specs.View.{object_in};
+    ghost use Rattle.heap.specs.Own.{written_object};
     ghost use Rattle.heap.specs.Reclamation.{counted_bytes};
 
     /// Makes an object that comes to stand on the heap.
-    #[tactic(auto, unfolding(crate::specs::View::object_in))]
+    #[tactic(auto, unfolding(crate::specs::Own::written_object))]
     pub fn new(object: Object) -> HeapObject
-        ensures { object_in result ≡ object_of object }
+        ensures object { written_object result ≡ object_of object }
+        ensures there { is_none result.object ≡ false }
     {
         let written = Log::new().and(&object, &());
         let shape = shape_of(&object);
@@ -42,9 +43,9 @@ impl HeapObject {
     }
 
     /// Returns the object, or `Memory` if it has been given back.
-    #[tactic(auto, unfolding(crate::specs::View::object_in))]
+    #[tactic(auto, unfolding(crate::specs::Own::written_object))]
     pub fn object(&self) -> Result<&Object, Memory>
-        ensures object { IfOk result (λ object. object_of object.now ≡ object_in self.now) }
+        ensures object { IfOk result (λ object. object_of object.now ≡ written_object self.now) }
         ensures gone { OnErr result (self.now.object ≡ None) }
     {
         match &self.object {
@@ -55,19 +56,19 @@ impl HeapObject {
 
     /// Takes the object, to be changed and then written again. Until then it counts as given back. Returns `Memory` if
     /// it has been given back before.
-    #[tactic(auto, unfolding(crate::specs::View::object_in))]
+    #[tactic(auto, unfolding(crate::specs::Own::written_object))]
     pub fn take(&mut self) -> Result<Object, Memory>
-        ensures taken { IfOk result (λ object. object_of object ≡ object_in self.old) }
-        ensures same { object_in self.new ≡ object_in self.old }
+        ensures taken { IfOk result (λ object. object_of object ≡ written_object self.old) }
+        ensures same { written_object self.new ≡ written_object self.old }
         ensures gone { OnErr result (self.old.object ≡ None) }
     {
         self.object.take().ok_or(Memory)
     }
 
     /// Writes another object in the place of this one.
-    #[tactic(auto, unfolding(crate::specs::View::object_in))]
+    #[tactic(auto, unfolding(crate::specs::Own::written_object))]
     pub fn write(&mut self, object: Object)
-        ensures { object_in self.new ≡ object_of object }
+        ensures { written_object self.new ≡ object_of object }
     {
         self.written = Log::new().and(&object, &());
         self.shape = shape_of(&object);
@@ -75,9 +76,9 @@ impl HeapObject {
     }
 
     /// Gives back the object's memory, and returns the bytes that it counted for, or 0 if that was done before.
-    #[tactic(auto, unfolding(crate::specs::View::object_in))]
+    #[tactic(auto, unfolding(crate::specs::Own::written_object))]
     pub fn give_back(&mut self) -> u128
-        ensures same { object_in self.new ≡ object_in self.old }
+        ensures same { written_object self.new ≡ written_object self.old }
         ensures bytes { result ≡ counted_bytes self.old }
         ensures gone { self.new.object ≡ None }
     {
@@ -88,9 +89,9 @@ impl HeapObject {
     }
 
     /// Returns the bytes that the object counts for.
-    #[tactic(auto, unfolding(crate::specs::View::object_in))]
+    #[tactic(auto, unfolding(crate::specs::Own::written_object))]
     pub fn size(&self) -> u128
-        ensures { result ≡ object_bytes (object_in self.now) }
+        ensures { result ≡ object_bytes (written_object self.now) }
     {
         size_of(self.shape)
     }

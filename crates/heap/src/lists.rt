@@ -7,6 +7,7 @@ ghost use Rattle.heap.specs.ListSizes.{SizedAs, CutAs};
 
 use crate::halt::Halt;
 use crate::heap::LONGEST;
+use crate::look::Members;
 use meaning::{Val, faults};
 use std::alloc::Global;
 use texts::Memory;
@@ -107,10 +108,10 @@ pub fn place(i: i64, len: usize) -> Option<usize>
 }
 
 /// Returns the member at a place.
-pub fn val_at(xs: &[Val], i: usize) -> Option<Val>
+pub fn val_at(xs: &Members<'_>, i: usize) -> Option<Val>
     ensures { result ≡ slice_get xs.now i }
 {
-    xs.get(i).copied()
+    xs.get(i)
 }
 
 /// Returns the member at an index.
@@ -162,8 +163,8 @@ pub fn cut<T: Copy>(alloc: Global, a: &[T], from: Val, to: Val) -> Result<Vec<T>
     Ok(Vec::from_slice(alloc, part)?)
 }
 
-// Returns the part between two places.
-fn between<T>(a: &[T], from: usize, to: usize) -> &[T]
+/// Returns the part between two places.
+pub(crate) fn between<T>(a: &[T], from: usize, to: usize) -> &[T]
     requires { to ≤ length a.now }
     ensures { result.now ≡ between a.now from to }
 {

@@ -4,7 +4,7 @@ ghost use Rattle.heap.specs.View.{store_of};
 ghost use Rattle.heap.specs.Reclamation.{bytes_at};
 
 use crate::heap::Heap;
-use crate::object::Object;
+use crate::look::{Entries, Look, Members};
 use indexmap::IndexMap;
 use meaning::{Entry, Key, Val};
 use std::alloc::Global;
@@ -52,6 +52,27 @@ impl LiveObjects {
         Ok(())
     }
 
+    // Marks the members of an object as reached.
+    fn add_held(&mut self, xs: &Members<'_>) -> Result<(), Memory> {
+        for i in 0..xs.len() {
+            if let Some(x) = xs.get(i) {
+                self.add(x)?;
+            }
+        }
+        Ok(())
+    }
+
+    // Marks the keys and values of a dictionary as reached.
+    fn add_pairs(&mut self, entries: &Entries<'_>) -> Result<(), Memory> {
+        for i in 0..entries.len() {
+            if let Some((_key, entry)) = entries.get_index(i) {
+                self.add(entry.key)?;
+                self.add(entry.value)?;
+            }
+        }
+        Ok(())
+    }
+
     /// Marks the keys and values of entries as reached.
     pub fn add_entries(&mut self, entries: &IndexMap<Key, Entry>) -> Result<(), Memory> {
         for entry in entries.values() {
@@ -67,50 +88,64 @@ impl LiveObjects {
     }
 
     // Marks the values that an object holds as reached.
-    fn add_members(&mut self, object: Option<&Object>) -> Result<(), Memory> {
+    fn add_members(&mut self, object: Option<Look<'_>>) -> Result<(), Memory> {
         match object {
-            Some(Object::List { members, .. }) => self.add_all(members.as_slice()),
-            Some(Object::Tuple(members)) => self.add_all(members.as_slice()),
-            Some(Object::Dict { entries, .. }) => self.add_entries(entries),
-            Some(Object::Text(_) | Object::Function(_, _)) | None => Ok(()),
+            Some(Look::List { members, .. }) => self.add_held(&members),
+            Some(Look::Tuple(members)) => self.add_held(&members),
+            Some(Look::Dict { entries, .. }) => self.add_pairs(&entries),
+            Some(Look::Text(_) | Look::Function(_, _)) | None => Ok(()),
         }
     }
 }
 
 impl Heap {
-    /// Marks the values that reached objects hold as reached too.
+    /// Marks the values that reached objects hold as reached too. Of a lent object nothing is followed, since what it holds
+    /// is lent with it.
     pub fn follow(&self, reached: &mut LiveObjects) -> Result<(), Memory> {
         // Each object is opened once at most.
         for _i in 0..self.objects.len() {
             match reached.open.pop() {
-                Some(place) => reached.add_members(self.object(place)?)?,
+                Some(place) => {
+                    if !self.objects.is_lent(place) {
+                        reached.add_members(self.object(place)?)?;
+                    }
+                }
                 None => return Ok(()),
             }
         }
         Ok(())
     }
 
-    /// Gives back the memory of all objects that are not reached. For a contract they still stand there.
+    /// Gives back the memory of all own objects that are not reached. For a contract they still stand there.
     pub fn give_back(&mut self, reached: &LiveObjects)
         ensures same { store_of self.new ≡ store_of self.old }
         ensures held { self.new.held ≤ self.old.held }
     {
-        for place in 0..self.objects.len() {
+        for i in 0..self.objects.parts() {
+            self.give_back_part(i, reached);
+        }
+        self.wait_until_full();
+    }
+
+    // Gives back the own objects between two ranges that are not reached, by the number of the range behind them.
+    fn give_back_part(&mut self, part: usize, reached: &LiveObjects)
+        ensures same { store_of self.new ≡ store_of self.old }
+        ensures held { self.new.held ≤ self.old.held }
+    {
+        let (first, behind) = self.objects.part(part);
+        for place in first..behind {
             if !reached.has(place) {
                 self.give_back_at(place);
             }
         }
-        self.wait_until_full();
     }
 
     // Gives back the memory of the object at a place.
     fn give_back_at(&mut self, place: usize)
         ensures same { store_of self.new ≡ store_of self.old }
-        ensures held { self.new.held ≡ self.old.held - bytes_at self.old.objects.items place }
+        ensures held { self.new.held ≡ self.old.held - bytes_at self.old.objects place }
     {
-        if let Some(found) = self.objects.get_mut(place) {
-            let bytes = found.give_back();
-            self.release(bytes);
-        }
+        let bytes = self.objects.give_back(place);
+        self.release(bytes);
     }
 }

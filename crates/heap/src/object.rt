@@ -1,8 +1,10 @@
 //! Objects, and the bytes that they count for.
 ghost use Rattle.std.specs.Prelude.{◌≡◌};
+ghost use Rattle.frozen_objects.specs.Objects.{frozen_obj};
 ghost use Rattle.heap.specs.Objects.{object_of};
 ghost use Rattle.heap.specs.MemoryUse.{object_bytes, shape_bytes};
 
+use frozen_objects::FrozenObject;
 use indexmap::IndexMap;
 use meaning::{Bytes, Entry, Key, Val};
 
@@ -50,6 +52,19 @@ pub fn shape_of(object: &Object) -> Shape
         Object::Tuple(members) => Shape::Members(members.len()),
         Object::Dict { entries, .. } => Shape::Entries(entries.len()),
         Object::Function(_, _) => Shape::Plain,
+    }
+}
+
+/// Returns the shape of a frozen object.
+pub fn frozen_shape(object: &FrozenObject) -> Shape
+    ensures { shape_bytes result ≡ object_bytes (frozen_obj object.now) }
+{
+    match object {
+        FrozenObject::Text(bytes) => Shape::Bytes(bytes.as_slice().len()),
+        FrozenObject::List(members) => Shape::Members(members.len()),
+        FrozenObject::Tuple(members) => Shape::Members(members.len()),
+        FrozenObject::Dict(entries) => Shape::Entries(entries.len()),
+        FrozenObject::Function(_, _) => Shape::Plain,
     }
 }
 

@@ -8,7 +8,7 @@ use crate::dictionaries::dict_method;
 use crate::lists::list_method;
 use crate::names::is_name;
 use crate::strings::text_method;
-use heap::{Halt, Heap, Object, Val};
+use heap::{Halt, Heap, Look, Val};
 use meaning::faults;
 use texts::{Memory, Text};
 
@@ -46,14 +46,14 @@ fn object_method(heap: &mut Heap, a: usize, name: &str, xs: &[Val]) -> Result<Va
 {
     let found = heap.object(a)?;
     match found {
-        Some(Object::Text(bytes)) => {
+        Some(Look::Text(bytes)) => {
             let whole = bytes.share()?;
             text_method(heap, whole.as_slice(), name, xs)
         }
-        Some(Object::List { .. }) => list_method(heap, a, name, xs),
-        Some(Object::Dict { .. }) => dict_method(heap, a, name, xs),
-        Some(Object::Tuple(_)) => Err(Halt::Code(faults::WRONG_TYPE)),
-        Some(Object::Function(_, _)) => Err(Halt::Code(faults::WRONG_TYPE)),
+        Some(Look::List { .. }) => list_method(heap, a, name, xs),
+        Some(Look::Dict { .. }) => dict_method(heap, a, name, xs),
+        Some(Look::Tuple(_)) => Err(Halt::Code(faults::WRONG_TYPE)),
+        Some(Look::Function(_, _)) => Err(Halt::Code(faults::WRONG_TYPE)),
         None => Err(Halt::Code(faults::WRONG_TYPE)),
     }
 }
@@ -63,7 +63,7 @@ fn has_method(heap: &Heap, a: usize, name: &str) -> Result<bool, Memory>
     ensures { IfOk result (λ b. b ≡ has_method (at a (store_of heap.now)) name.now) }
 {
     match heap.object(a)? {
-        Some(Object::Text(_)) => Ok(
+        Some(Look::Text(_)) => Ok(
             is_name(name, "startswith")
                 || is_name(name, "endswith")
                 || is_name(name, "join")
@@ -71,8 +71,8 @@ fn has_method(heap: &Heap, a: usize, name: &str) -> Result<bool, Memory>
                 || is_name(name, "replace")
                 || is_name(name, "strip"),
         ),
-        Some(Object::List { .. }) => Ok(is_name(name, "append") || is_name(name, "extend")),
-        Some(Object::Dict { .. }) => Ok(
+        Some(Look::List { .. }) => Ok(is_name(name, "append") || is_name(name, "extend")),
+        Some(Look::Dict { .. }) => Ok(
             is_name(name, "get")
                 || is_name(name, "keys")
                 || is_name(name, "values")

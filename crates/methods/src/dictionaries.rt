@@ -5,8 +5,7 @@ ghost use Rattle.methods.specs.Cases.{entry_list, entry_tuple, entry_tuples, get
 ghost use Rattle.heap.specs.View.{store_of, Says, SaysItems};
 
 use crate::names::{is_name, no_arguments};
-use heap::{Entry, Halt, Heap, Key, Object, Val, found, keys};
-use indexmap::IndexMap;
+use heap::{Entries, Entry, Halt, Heap, Key, Look, Val, keys};
 use meaning::faults;
 use operations::hash;
 use std::alloc::Global;
@@ -41,7 +40,7 @@ fn get(heap: &mut Heap, a: usize, xs: &[Val]) -> Result<Val, Halt>
         (store_of heap.new) }
 {
     match heap.object(a)? {
-        Some(Object::Dict { .. }) => {
+        Some(Look::Dict { .. }) => {
             let (k, other) = match xs {
                 [k] => (*k, Val::Nothing),
                 [k, other] => (*k, *other),
@@ -69,8 +68,8 @@ fn all_keys(heap: &mut Heap, a: usize) -> Result<Val, Halt>
         (store_of heap.new) }
 {
     match heap.object(a)? {
-        Some(Object::Dict { entries, .. }) => {
-            let all = keys(heap.alloc, entries)?;
+        Some(Look::Dict { entries, .. }) => {
+            let all = keys(heap.alloc, &entries)?;
             heap.make_list(all)
         }
         _ => Err(Halt::Code(faults::WRONG_TYPE)),
@@ -83,8 +82,8 @@ fn all_values(heap: &mut Heap, a: usize) -> Result<Val, Halt>
         (store_of heap.new) }
 {
     match heap.object(a)? {
-        Some(Object::Dict { entries, .. }) => {
-            let all = values(heap.alloc, entries)?;
+        Some(Look::Dict { entries, .. }) => {
+            let all = values(heap.alloc, &entries)?;
             heap.make_list(all)
         }
         _ => Err(Halt::Code(faults::WRONG_TYPE)),
@@ -97,8 +96,8 @@ fn all_items(heap: &mut Heap, a: usize) -> Result<Val, Halt>
         (store_of heap.new) }
 {
     match heap.object(a)? {
-        Some(Object::Dict { entries, .. }) => {
-            let pairs = pairs(heap.alloc, entries)?;
+        Some(Look::Dict { entries, .. }) => {
+            let pairs = pairs(heap.alloc, &entries)?;
             let all = tuples(heap, pairs.as_slice())?;
             heap.make_list(all)
         }
@@ -107,21 +106,21 @@ fn all_items(heap: &mut Heap, a: usize) -> Result<Val, Halt>
 }
 
 // Returns the values of a dictionary, in order.
-fn values(alloc: Global, entries: &IndexMap<Key, Entry>) -> Result<Vec<Val>, Memory>
-    ensures { IfOk result (λ v. v.items ≡ map (λ e. e.value) (entry_list entries.now.entries)) }
+fn values(alloc: Global, entries: &Entries<'_>) -> Result<Vec<Val>, Memory>
+    ensures { IfOk result (λ v. v.items ≡ map (λ e. e.value) (entry_list entries.now)) }
 {
     let mut all = Vec::new(alloc);
-    for e in entries.values() {
+    for e in entries.copied(alloc)?.as_slice().iter() {
         all.push(e.value)?;
     }
     Ok(all)
 }
 
 // Returns the entries of a dictionary, in order.
-fn pairs(alloc: Global, entries: &IndexMap<Key, Entry>) -> Result<Vec<Entry>, Memory>
-    ensures { IfOk result (λ v. v.items ≡ entry_list entries.now.entries) }
+fn pairs(alloc: Global, entries: &Entries<'_>) -> Result<Vec<Entry>, Memory>
+    ensures { IfOk result (λ v. v.items ≡ entry_list entries.now) }
 {
-    Ok(entries.values().copied().collect(alloc)?)
+    entries.copied(alloc)
 }
 
 // Makes pairs of keys and values.
@@ -152,7 +151,7 @@ fn found_or(heap: &Heap, a: usize, key: &Key, other: Val) -> Result<Val, Halt>
         (store_of heap.now) }
 {
     match heap.object(a)? {
-        Some(Object::Dict { entries, .. }) => match found(entries, key) {
+        Some(Look::Dict { entries, .. }) => match entries.get(key) {
             Some(entry) => Ok(entry.value),
             None => Ok(other),
         },

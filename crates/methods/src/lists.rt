@@ -6,7 +6,7 @@ ghost use Rattle.methods.specs.Cases.{added, objects_added, extended, append_to,
 ghost use Rattle.heap.specs.View.{store_of, Says};
 
 use crate::names::is_name;
-use heap::{Halt, Heap, LONGEST, Object, Val};
+use heap::{Halt, Heap, LONGEST, Look, Object, Val};
 use meaning::faults;
 use operations::{add, items};
 
@@ -41,9 +41,7 @@ fn add_objects(heap: &mut Heap, a: usize, b: usize) -> Result<Val, Halt>
         (store_of heap.old)) result (store_of heap.new) }
 {
     let more = match (heap.object(a)?, heap.object(b)?) {
-        (Some(Object::List { .. }), Some(Object::List { members, .. })) => {
-            Vec::from_slice(heap.alloc, members.as_slice())?
-        }
+        (Some(Look::List { .. }), Some(Look::List { members, .. })) => members.copied(heap.alloc)?,
         _ => {
             return add(heap, Val::At(a), Val::At(b));
         }
@@ -83,8 +81,7 @@ fn adds(heap: &mut Heap, a: usize, more: &[Val]) -> Result<(), Halt>
         (store_of heap.new) }
 {
     match heap.object(a)? {
-        Some(Object::List { frozen, .. }) => {
-            let frozen = *frozen;
+        Some(Look::List { frozen, .. }) => {
             may_change(heap, a, frozen)?;
             extend_members(heap, a, more)?;
             Ok(())
@@ -124,7 +121,7 @@ fn extend_members(heap: &mut Heap, a: usize, more: &[Val]) -> Result<(), Halt>
         return Err(Halt::Code(faults::TOO_LARGE));
     }
     members.extend_from_slice(more)?;
-    heap.put(a, Object::List { members, frozen });
+    heap.put(a, Object::List { members, frozen })?;
     heap.hold_members(more.len())?;
     Ok(())
 }

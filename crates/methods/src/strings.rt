@@ -8,7 +8,7 @@ ghost use Rattle.heap.specs.View.{store_of, Says, SaysItems};
 use crate::names::{is_name, no_arguments};
 use crate::spaces::{begins, ends, stripped};
 use crate::splitting::{join_parts, split_parts};
-use heap::{Halt, Heap, LONGEST, Object, Val};
+use heap::{Halt, Heap, LONGEST, Look, Val};
 use meaning::faults;
 use operations::items;
 
@@ -47,7 +47,7 @@ fn text_at<'a>(heap: &'a Heap, x: Val) -> Result<&'a [u8], Halt>
 {
     match x {
         Val::At(place) => match heap.object(place)? {
-            Some(Object::Text(bytes)) => Ok(bytes.as_slice()),
+            Some(Look::Text(bytes)) => Ok(bytes.as_slice()),
             _ => Err(Halt::Code(faults::WRONG_TYPE)),
         },
         _ => Err(Halt::Code(faults::WRONG_TYPE)),

@@ -8,7 +8,7 @@ ghost use Rattle.names.specs.AimView.{aim_of, aims_of};
 
 use crate::objects::{index, set_index};
 use crate::{Standing, State, bind, read};
-use heap::{Halt, Heap, Object, Val};
+use heap::{Halt, Heap, Look, Val};
 use meaning::faults;
 use std::sync::atomic::AtomicUsize;
 use texts::Text;
@@ -47,14 +47,14 @@ fn unpack(heap: &Heap, n: usize, x: Val) -> Result<Vec<Val>, Halt>
         return Err(Halt::Code(faults::WRONG_TYPE));
     };
     let members = match heap.object(place)? {
-        Some(Object::List { members, .. }) => members,
-        Some(Object::Tuple(members)) => members,
+        Some(Look::List { members, .. }) => members,
+        Some(Look::Tuple(members)) => members,
         _ => return Err(Halt::Code(faults::WRONG_TYPE)),
     };
     if members.len() != n {
         return Err(Halt::Code(faults::WRONG_TYPE));
     }
-    Ok(Vec::from_slice(heap.alloc, members.as_slice())?)
+    Ok(members.copied(heap.alloc)?)
 }
 
 /// Stores a value in a target.

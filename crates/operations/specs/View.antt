@@ -16,17 +16,17 @@ use Rattle.operations.specs.declared.ordering.Parting.TheVariants as t
 
 abbrev pub key_seen : AsKey → h.AsKey
 key_seen (k.Part p) = h.part p
-key_seen (k.Parts members) = h.parts members.now
+key_seen (k.Parts members) = h.parts members
 key_seen k.NoKey = h.no_key
 
 abbrev pub pair_seen : Pair → e.Pair
 pair_seen (p.Settled same) = e.settled same
-pair_seen (p.Members xs ys) = e.members xs.now ys.now
-pair_seen (p.Entries xs ys) = e.entries xs.now.entries ys.now.entries
+pair_seen (p.Members xs ys) = e.members xs ys
+pair_seen (p.Entries xs ys) = e.entries xs ys
 
 abbrev pub sides_seen : Sides → e.Sides
 sides_seen (s.Ordered o) = e.ordered o
-sides_seen (s.Listed xs ys) = e.listed xs.now ys.now
+sides_seen (s.Listed xs ys) = e.listed xs ys
 sides_seen s.NoOrder = e.no_order
 
 abbrev pub parting_seen : Parting → e.Parting

@@ -5,7 +5,7 @@ ghost use Rattle.heap.specs.View.{store_of, Says};
 
 use crate::hash;
 use crate::reading::as_int;
-use heap::{Entry, Halt, Heap, Key, Object, Val, has_room, place, set_entry};
+use heap::{Entry, Halt, Heap, Key, Look, Object, Val, has_room, place, set_entry};
 use meaning::faults;
 
 /// Executes `a[i] = x`. The faults are tested in order: type (5), frozen (6), iterated (7), index (8), size (13).
@@ -27,23 +27,21 @@ fn set_object(heap: &mut Heap, a: usize, i: Val, x: Val) -> Result<(), Halt>
         (store_of heap.new) }
 {
     match heap.object(a)? {
-        Some(Object::List { frozen, .. }) => {
-            let frozen = *frozen;
+        Some(Look::List { frozen, .. }) => {
             let n = as_int(i)?;
             may_change(heap, a, frozen)?;
             set_member(heap, a, n, x)?;
             Ok(())
         }
-        Some(Object::Dict { frozen, .. }) => {
-            let frozen = *frozen;
+        Some(Look::Dict { frozen, .. }) => {
             let key = hash(heap, i)?;
             may_change(heap, a, frozen)?;
             set_key(heap, a, key, Entry { key: i, value: x })?;
             Ok(())
         }
-        Some(Object::Text(_)) => Err(Halt::Code(faults::WRONG_TYPE)),
-        Some(Object::Tuple(_)) => Err(Halt::Code(faults::WRONG_TYPE)),
-        Some(Object::Function(_, _)) => Err(Halt::Code(faults::WRONG_TYPE)),
+        Some(Look::Text(_)) => Err(Halt::Code(faults::WRONG_TYPE)),
+        Some(Look::Tuple(_)) => Err(Halt::Code(faults::WRONG_TYPE)),
+        Some(Look::Function(_, _)) => Err(Halt::Code(faults::WRONG_TYPE)),
         None => Err(Halt::Code(faults::WRONG_TYPE)),
     }
 }
@@ -79,7 +77,7 @@ fn set_member(heap: &mut Heap, a: usize, i: i64, x: Val) -> Result<(), Halt>
         return Err(Halt::Code(faults::ABSENT));
     };
     members[at] = x;
-    heap.put(a, Object::List { members, frozen });
+    heap.put(a, Object::List { members, frozen })?;
     Ok(())
 }
 
@@ -101,7 +99,7 @@ fn set_key(heap: &mut Heap, a: usize, key: Key, entry: Entry) -> Result<(), Halt
         return Err(Halt::Code(faults::TOO_LARGE));
     }
     set_entry(&mut entries, key, entry)?;
-    heap.put(a, Object::Dict { entries, frozen });
+    heap.put(a, Object::Dict { entries, frozen })?;
     heap.hold_entry()?;
     Ok(())
 }

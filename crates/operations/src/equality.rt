@@ -5,9 +5,8 @@ ghost use Rattle.heap.specs.View.{object_in, Says};
 ghost use Rattle.operations.specs.View.{pair_seen};
 
 use heap::{
-    Builtin, Entry, Halt, HeapObject, Key, Object, Val, found, object_at, spend, tick, val_at,
+    Builtin, Entries, Entry, Halt, Key, Look, Members, Objects, Val, object_at, spend, tick, val_at,
 };
-use indexmap::IndexMap;
 use meaning::faults;
 use texts::Memory;
 
@@ -15,12 +14,12 @@ use texts::Memory;
 #[derive(Drop)]
 pub enum Pair<'a> {
     Settled(bool),
-    Members(&'a [Val], &'a [Val]),
-    Entries(&'a IndexMap<Key, Entry>, &'a IndexMap<Key, Entry>),
+    Members(Members<'a>, Members<'a>),
+    Entries(Entries<'a>, Entries<'a>),
 }
 
 // Returns how two values are compared: settled at once, by their members, or by their entries.
-fn make_pair<'a>(objects: &'a [HeapObject], a: Val, b: Val) -> Result<Pair<'a>, Memory>
+fn make_pair<'a>(objects: &'a Objects, a: Val, b: Val) -> Result<Pair<'a>, Memory>
     ensures { IfOk result (λ p. pair_seen p ≡ pair (map object_in objects.now) a b) }
 {
     match (a, b) {
@@ -34,34 +33,34 @@ fn make_pair<'a>(objects: &'a [HeapObject], a: Val, b: Val) -> Result<Pair<'a>, 
 }
 
 // Returns how two objects are compared: settled at once, by their members, or by their entries.
-fn pair_objects<'a>(objects: &'a [HeapObject], a: usize, b: usize) -> Result<Pair<'a>, Memory>
+fn pair_objects<'a>(objects: &'a Objects, a: usize, b: usize) -> Result<Pair<'a>, Memory>
     ensures { IfOk result (λ p. pair_seen p ≡ pair_objects (slice_get (map object_in objects.now) a)
         (slice_get (map object_in objects.now) b)) }
 {
     match (object_at(objects, a)?, object_at(objects, b)?) {
-        (Some(Object::Text(x)), Some(Object::Text(y))) => Ok(Pair::Settled(x == y)),
-        (Some(Object::List { members: x, .. }), Some(Object::List { members: y, .. })) => {
+        (Some(Look::Text(x)), Some(Look::Text(y))) => Ok(Pair::Settled(x == y)),
+        (Some(Look::List { members: x, .. }), Some(Look::List { members: y, .. })) => {
             if x.len() == y.len() {
-                Ok(Pair::Members(x.as_slice(), y.as_slice()))
+                Ok(Pair::Members(x, y))
             } else {
                 Ok(Pair::Settled(false))
             }
         }
-        (Some(Object::Tuple(x)), Some(Object::Tuple(y))) => {
+        (Some(Look::Tuple(x)), Some(Look::Tuple(y))) => {
             if x.len() == y.len() {
-                Ok(Pair::Members(x.as_slice(), y.as_slice()))
+                Ok(Pair::Members(x, y))
             } else {
                 Ok(Pair::Settled(false))
             }
         }
-        (Some(Object::Dict { entries: x, .. }), Some(Object::Dict { entries: y, .. })) => {
+        (Some(Look::Dict { entries: x, .. }), Some(Look::Dict { entries: y, .. })) => {
             if x.len() == y.len() {
                 Ok(Pair::Entries(x, y))
             } else {
                 Ok(Pair::Settled(false))
             }
         }
-        (Some(Object::Function(l, f)), Some(Object::Function(m, g))) => {
+        (Some(Look::Function(l, f)), Some(Look::Function(m, g))) => {
             Ok(Pair::Settled(l == m && f == g))
         }
         _ => Ok(Pair::Settled(false)),
@@ -72,13 +71,7 @@ fn pair_objects<'a>(objects: &'a [HeapObject], a: usize, b: usize) -> Result<Pai
 /// may be entered.
 #[cycle(comparing)]
 #[tactic(auto, using(crate::proofs::Comparisons::equal_is))]
-pub fn equal(
-    objects: &[HeapObject],
-    steps: &mut u64,
-    a: Val,
-    b: Val,
-    left: u32,
-) -> Result<bool, Halt>
+pub fn equal(objects: &Objects, steps: &mut u64, a: Val, b: Val, left: u32) -> Result<bool, Halt>
     ensures { Says (equal left (map object_in objects.now) a b steps.old) result steps.new }
 {
     match make_pair(objects, a, b)? {
@@ -86,8 +79,8 @@ pub fn equal(
             tick(steps)?;
             Ok(same)
         }
-        Pair::Members(xs, ys) => equal_lists(objects, steps, xs, ys, left),
-        Pair::Entries(xs, ys) => equal_dicts(objects, steps, xs, ys, left),
+        Pair::Members(xs, ys) => equal_lists(objects, steps, &xs, &ys, left),
+        Pair::Entries(xs, ys) => equal_dicts(objects, steps, &xs, &ys, left),
     }
 }
 
@@ -95,10 +88,10 @@ pub fn equal(
 #[cycle(comparing)]
 #[tactic(auto, using(crate::proofs::Comparisons::lists_deep, crate::proofs::Comparisons::lists_more))]
 fn equal_lists(
-    objects: &[HeapObject],
+    objects: &Objects,
     steps: &mut u64,
-    xs: &[Val],
-    ys: &[Val],
+    xs: &Members<'_>,
+    ys: &Members<'_>,
     left: u32,
 ) -> Result<bool, Halt>
     ensures { Says (visit_pair (inner_equal left (map object_in objects.now))
@@ -115,10 +108,10 @@ fn equal_lists(
 #[cycle(comparing)]
 #[tactic(auto, using(crate::proofs::Comparisons::members_same, crate::proofs::Comparisons::members_differ, crate::proofs::Comparisons::members_first_over, crate::proofs::Comparisons::members_second_over))]
 fn equal_members(
-    objects: &[HeapObject],
+    objects: &Objects,
     steps: &mut u64,
-    xs: &[Val],
-    ys: &[Val],
+    xs: &Members<'_>,
+    ys: &Members<'_>,
     left: u32,
 ) -> Result<bool, Halt>
     ensures { Says (equal_members (equal left (map object_in objects.now)) xs.now ys.now steps.old)
@@ -144,14 +137,14 @@ fn equal_members(
 #[cycle(comparing)]
 #[tactic(auto, using(crate::proofs::Comparisons::dicts_deep, crate::proofs::Comparisons::dicts_more))]
 fn equal_dicts(
-    objects: &[HeapObject],
+    objects: &Objects,
     steps: &mut u64,
-    xs: &IndexMap<Key, Entry>,
-    ys: &IndexMap<Key, Entry>,
+    xs: &Entries<'_>,
+    ys: &Entries<'_>,
     left: u32,
 ) -> Result<bool, Halt>
     ensures { Says (visit_pair (inner_equal left (map object_in objects.now))
-        (entries xs.now.entries ys.now.entries) steps.old) result steps.new }
+        (entries xs.now ys.now) steps.old) result steps.new }
 {
     if left == 0 {
         return Err(Halt::Code(faults::TOO_DEEP));
@@ -164,14 +157,14 @@ fn equal_dicts(
 #[cycle(comparing)]
 #[tactic(auto, using(crate::proofs::Comparisons::entries_same, crate::proofs::Comparisons::entries_differ))]
 fn equal_entries(
-    objects: &[HeapObject],
+    objects: &Objects,
     steps: &mut u64,
-    xs: &IndexMap<Key, Entry>,
-    ys: &IndexMap<Key, Entry>,
+    xs: &Entries<'_>,
+    ys: &Entries<'_>,
     left: u32,
 ) -> Result<bool, Halt>
-    ensures { Says (equal_entries (equal left (map object_in objects.now)) xs.now.entries
-        ys.now.entries steps.old) result steps.new }
+    ensures { Says (equal_entries (equal left (map object_in objects.now)) xs.now
+        ys.now steps.old) result steps.new }
 {
     for i in 0..xs.len() {
         let Some((key, entry)) = xs.get_index(i) else {
@@ -189,24 +182,24 @@ fn equal_entries(
 // Returns whether the right has a key with an equal value.
 #[cycle(comparing)]
 fn equal_entry(
-    objects: &[HeapObject],
+    objects: &Objects,
     steps: &mut u64,
     key: &Key,
     x: Val,
-    ys: &IndexMap<Key, Entry>,
+    ys: &Entries<'_>,
     left: u32,
 ) -> Result<bool, Halt>
-    ensures { Says (equal_entry (equal left (map object_in objects.now)) key.now x ys.now.entries
+    ensures { Says (equal_entry (equal left (map object_in objects.now)) key.now x ys.now
         steps.old) result steps.new }
 {
     spend(steps, key.parts().len())?;
-    equal_found(objects, steps, x, found(ys, key), left)
+    equal_found(objects, steps, x, ys.get(key), left)
 }
 
 // Returns whether a value is equal to the one of an entry, if there is an entry.
 #[cycle(comparing)]
 fn equal_found(
-    objects: &[HeapObject],
+    objects: &Objects,
     steps: &mut u64,
     x: Val,
     found: Option<Entry>,

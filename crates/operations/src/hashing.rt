@@ -4,7 +4,7 @@ ghost use Rattle.meaning.specs.Hashing.{key, inner_key, along, part_key, visit_k
 ghost use Rattle.heap.specs.View.{object_in, Says, SaysItems};
 ghost use Rattle.operations.specs.View.{key_seen};
 
-use heap::{Halt, HeapObject, Key, Object, Part, Val, object_at, tick};
+use heap::{Halt, Key, Look, Members, Objects, Part, Val, object_at, tick};
 use meaning::faults;
 use std::alloc::Global;
 use texts::Memory;
@@ -13,12 +13,12 @@ use texts::Memory;
 #[derive(Drop)]
 pub enum AsKey<'a> {
     Part(Part),
-    Parts(&'a [Val]),
+    Parts(Members<'a>),
     NoKey,
 }
 
 // Returns a value as a key: one part, the members of a tuple, or no key.
-fn as_key<'a>(objects: &'a [HeapObject], x: Val) -> Result<AsKey<'a>, Memory>
+fn as_key<'a>(objects: &'a Objects, x: Val) -> Result<AsKey<'a>, Memory>
     ensures { IfOk result (λ k. key_seen k ≡ as_key (map object_in objects.now) x) }
 {
     match x {
@@ -27,8 +27,8 @@ fn as_key<'a>(objects: &'a [HeapObject], x: Val) -> Result<AsKey<'a>, Memory>
         Val::Int(n) => Ok(AsKey::Part(Part::Int(n))),
         Val::Builtin(_) => Ok(AsKey::NoKey),
         Val::At(place) => match object_at(objects, place)? {
-            Some(Object::Text(bytes)) => Ok(AsKey::Part(Part::Text(bytes.share()?))),
-            Some(Object::Tuple(members)) => Ok(AsKey::Parts(members.as_slice())),
+            Some(Look::Text(bytes)) => Ok(AsKey::Part(Part::Text(bytes.share()?))),
+            Some(Look::Tuple(members)) => Ok(AsKey::Parts(members)),
             _ => Ok(AsKey::NoKey),
         },
     }
@@ -40,7 +40,7 @@ fn as_key<'a>(objects: &'a [HeapObject], x: Val) -> Result<AsKey<'a>, Memory>
 #[tactic(auto, using(crate::proofs::Hashes::key_is))]
 pub fn key(
     alloc: Global,
-    objects: &[HeapObject],
+    objects: &Objects,
     steps: &mut u64,
     x: Val,
     left: u32,
@@ -53,7 +53,7 @@ pub fn key(
             tick(steps)?;
             Err(Halt::Code(faults::WRONG_TYPE))
         }
-        AsKey::Parts(members) => tuple_key(alloc, objects, steps, members, left),
+        AsKey::Parts(members) => tuple_key(alloc, objects, steps, &members, left),
     }
 }
 
@@ -61,7 +61,7 @@ pub fn key(
 #[tactic(auto, using(crate::proofs::Hashes::key_is))]
 pub fn key_of(
     alloc: Global,
-    objects: &[HeapObject],
+    objects: &Objects,
     steps: &mut u64,
     x: Val,
     left: u32,
@@ -100,9 +100,9 @@ fn one_part(alloc: Global, steps: &mut u64, x: Part) -> Result<Vec<Part>, Halt>
 #[tactic(auto, using(crate::proofs::Hashes::tuple_deep, crate::proofs::Hashes::tuple_more))]
 fn tuple_key(
     alloc: Global,
-    objects: &[HeapObject],
+    objects: &Objects,
     steps: &mut u64,
-    members: &[Val],
+    members: &Members<'_>,
     left: u32,
 ) -> Result<Vec<Part>, Halt>
     ensures { SaysItems (visit_key (inner_key left (map object_in objects.now)) (parts members.now)
@@ -123,17 +123,20 @@ fn tuple_key(
 #[cycle(hashing)]
 fn along(
     alloc: Global,
-    objects: &[HeapObject],
+    objects: &Objects,
     steps: &mut u64,
-    members: &[Val],
+    members: &Members<'_>,
     left: u32,
 ) -> Result<Vec<Part>, Halt>
     ensures { SaysItems (along (key left (map object_in objects.now)) members.now steps.old) result
         steps.new }
 {
     let mut all = Vec::new(alloc);
-    for member in members.iter() {
-        let mut more = key(alloc, objects, steps, *member, left)?;
+    for i in 0..members.len() {
+        let mut more = match key(alloc, objects, steps, members.at(i), left) {
+            Ok(more) => more,
+            Err(halt) => return Err(halt),
+        };
         all.append(&mut more)?;
     }
     Ok(all)

@@ -7,7 +7,7 @@ ghost use Rattle.heap.specs.View.{object_in, store_of, Says, Checks};
 
 use crate::equality::equal;
 use crate::walks::hash;
-use heap::{DEEPEST, Halt, Heap, HeapObject, Key, Object, Val, found, object_at, val_at};
+use heap::{DEEPEST, Halt, Heap, Key, Look, Members, Objects, Val, object_at, val_at};
 use meaning::faults;
 use memchr::memmem;
 
@@ -22,10 +22,10 @@ fn is_part(part: &[u8], whole: &[u8]) -> bool
 // Returns whether a value is equal to one of the members. Compares each in order up to the first that is equal.
 #[tactic(auto, using(crate::proofs::Members::any_same, crate::proofs::Members::any_differ, crate::proofs::Members::any_over))]
 fn any_equal(
-    objects: &[HeapObject],
+    objects: &Objects,
     steps: &mut u64,
     x: Val,
-    members: &[Val],
+    members: &Members<'_>,
     left: u32,
 ) -> Result<bool, Halt>
     ensures { Says (any_equal (equal left (map object_in objects.now)) x members.now steps.old)
@@ -60,28 +60,16 @@ fn object_has(heap: &mut Heap, a: usize, x: Val) -> Result<bool, Halt>
     ensures { Says (object_has (at a (store_of heap.old)) x (store_of heap.old)) result
         (store_of heap.new) }
 {
-    match object_at(heap.objects.as_slice(), a)? {
-        Some(Object::Text(whole)) => text_has(heap.objects.as_slice(), whole.as_slice(), x),
-        Some(Object::List { members, .. }) => {
-            any_equal(
-                heap.objects.as_slice(),
-                &mut heap.steps,
-                x,
-                members.as_slice(),
-                DEEPEST,
-            )
+    match object_at(&heap.objects, a)? {
+        Some(Look::Text(whole)) => text_has(&heap.objects, whole.as_slice(), x),
+        Some(Look::List { members, .. }) => {
+            any_equal(&heap.objects, &mut heap.steps, x, &members, DEEPEST)
         }
-        Some(Object::Tuple(members)) => {
-            any_equal(
-                heap.objects.as_slice(),
-                &mut heap.steps,
-                x,
-                members.as_slice(),
-                DEEPEST,
-            )
+        Some(Look::Tuple(members)) => {
+            any_equal(&heap.objects, &mut heap.steps, x, &members, DEEPEST)
         }
-        Some(Object::Dict { .. }) => hashed_has(heap, a, x),
-        Some(Object::Function(_, _)) => Err(Halt::Code(faults::WRONG_TYPE)),
+        Some(Look::Dict { .. }) => hashed_has(heap, a, x),
+        Some(Look::Function(_, _)) => Err(Halt::Code(faults::WRONG_TYPE)),
         None => Err(Halt::Code(faults::WRONG_TYPE)),
     }
 }
@@ -102,18 +90,18 @@ fn has_key(heap: &Heap, a: usize, key: &Key) -> Result<bool, Halt>
         (store_of heap.now) }
 {
     match heap.object(a)? {
-        Some(Object::Dict { entries, .. }) => Ok(found(entries, key).is_some()),
+        Some(Look::Dict { entries, .. }) => Ok(entries.get(key).is_some()),
         _ => Err(Halt::Code(faults::WRONG_TYPE)),
     }
 }
 
 // Returns whether a value is a part of a text.
-fn text_has(objects: &[HeapObject], whole: &[u8], x: Val) -> Result<bool, Halt>
+fn text_has(objects: &Objects, whole: &[u8], x: Val) -> Result<bool, Halt>
     ensures { Checks (text_has (map object_in objects.now) whole.now x) result }
 {
     match x {
         Val::At(place) => match object_at(objects, place)? {
-            Some(Object::Text(part)) => Ok(is_part(part.as_slice(), whole)),
+            Some(Look::Text(part)) => Ok(is_part(part.as_slice(), whole)),
             _ => Err(Halt::Code(faults::WRONG_TYPE)),
         },
         _ => Err(Halt::Code(faults::WRONG_TYPE)),

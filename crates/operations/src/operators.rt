@@ -5,7 +5,7 @@ ghost use Rattle.meaning.specs.Operators.{add, subtract, multiply, divide, remai
 ghost use Rattle.heap.specs.View.{store_of, Says};
 
 use crate::numbers;
-use heap::{Halt, Heap, Object, Val, joined, repeated};
+use heap::{Halt, Heap, Look, Val, joined, repeated};
 use meaning::faults;
 use texts::Memory;
 
@@ -29,23 +29,23 @@ fn join(heap: &mut Heap, a: usize, b: usize) -> Result<Val, Halt>
         result (store_of heap.new) }
 {
     match heap.object(a)? {
-        Some(Object::Text(x)) => match heap.object(b)? {
-            Some(Object::Text(y)) => {
+        Some(Look::Text(x)) => match heap.object(b)? {
+            Some(Look::Text(y)) => {
                 let bytes = joined(heap.alloc, x.as_slice(), y.as_slice())?;
                 heap.make_text(bytes)
             }
             _ => Err(Halt::Code(faults::WRONG_TYPE)),
         },
-        Some(Object::List { members: x, .. }) => match heap.object(b)? {
-            Some(Object::List { members: y, .. }) => {
-                let members = joined(heap.alloc, x.as_slice(), y.as_slice())?;
+        Some(Look::List { members: x, .. }) => match heap.object(b)? {
+            Some(Look::List { members: y, .. }) => {
+                let members = x.joined(heap.alloc, &y)?;
                 heap.make_list(members)
             }
             _ => Err(Halt::Code(faults::WRONG_TYPE)),
         },
-        Some(Object::Tuple(x)) => match heap.object(b)? {
-            Some(Object::Tuple(y)) => {
-                let members = joined(heap.alloc, x.as_slice(), y.as_slice())?;
+        Some(Look::Tuple(x)) => match heap.object(b)? {
+            Some(Look::Tuple(y)) => {
+                let members = x.joined(heap.alloc, &y)?;
                 heap.make_tuple(members)
             }
             _ => Err(Halt::Code(faults::WRONG_TYPE)),
@@ -88,20 +88,20 @@ fn repeat(heap: &mut Heap, a: usize, n: i64) -> Result<Val, Halt>
         (store_of heap.new) }
 {
     match heap.object(a)? {
-        Some(Object::Text(x)) => {
+        Some(Look::Text(x)) => {
             let bytes = repeated(heap.alloc, x.as_slice(), n)?;
             heap.make_text(bytes)
         }
-        Some(Object::List { members: x, .. }) => {
-            let members = repeated(heap.alloc, x.as_slice(), n)?;
+        Some(Look::List { members: x, .. }) => {
+            let members = x.repeated(heap.alloc, n)?;
             heap.make_list(members)
         }
-        Some(Object::Tuple(x)) => {
-            let members = repeated(heap.alloc, x.as_slice(), n)?;
+        Some(Look::Tuple(x)) => {
+            let members = x.repeated(heap.alloc, n)?;
             heap.make_tuple(members)
         }
-        Some(Object::Dict { .. }) => Err(Halt::Code(faults::WRONG_TYPE)),
-        Some(Object::Function(_, _)) => Err(Halt::Code(faults::WRONG_TYPE)),
+        Some(Look::Dict { .. }) => Err(Halt::Code(faults::WRONG_TYPE)),
+        Some(Look::Function(_, _)) => Err(Halt::Code(faults::WRONG_TYPE)),
         None => Err(Halt::Code(faults::WRONG_TYPE)),
     }
 }
@@ -167,11 +167,11 @@ fn is_object_true(heap: &Heap, place: usize) -> Result<bool, Memory>
     ensures { IfOk result (λ b. b ≡ object_is_true (at place (store_of heap.now))) }
 {
     match heap.object(place)? {
-        Some(Object::Text(bytes)) => Ok(!bytes.as_slice().is_empty()),
-        Some(Object::List { members, .. }) => Ok(!members.is_empty()),
-        Some(Object::Tuple(members)) => Ok(!members.is_empty()),
-        Some(Object::Dict { entries, .. }) => Ok(!entries.is_empty()),
-        Some(Object::Function(_, _)) => Ok(true),
+        Some(Look::Text(bytes)) => Ok(!bytes.as_slice().is_empty()),
+        Some(Look::List { members, .. }) => Ok(!members.is_empty()),
+        Some(Look::Tuple(members)) => Ok(!members.is_empty()),
+        Some(Look::Dict { entries, .. }) => Ok(!entries.is_empty()),
+        Some(Look::Function(_, _)) => Ok(true),
         None => Ok(false),
     }
 }

@@ -6,7 +6,7 @@ ghost use Rattle.heap.specs.View.{object_in, Says};
 ghost use Rattle.operations.specs.View.{SaysParting, sides_seen};
 
 use crate::equality::equal;
-use heap::{Halt, HeapObject, Object, Val, object_at, tick, val_at};
+use heap::{Halt, Look, Members, Objects, Val, object_at, tick, val_at};
 use meaning::faults;
 use std::cmp::Ordering;
 use texts::Memory;
@@ -15,7 +15,7 @@ use texts::Memory;
 #[derive(Drop)]
 pub enum Sides<'a> {
     Ordered(Ordering),
-    Listed(&'a [Val], &'a [Val]),
+    Listed(Members<'a>, Members<'a>),
     NoOrder,
 }
 
@@ -27,7 +27,7 @@ pub enum Parting {
 }
 
 // Returns how two values are ordered: at once, by their members, or not at all.
-fn make_sides<'a>(objects: &'a [HeapObject], a: Val, b: Val) -> Result<Sides<'a>, Memory>
+fn make_sides<'a>(objects: &'a Objects, a: Val, b: Val) -> Result<Sides<'a>, Memory>
     ensures { IfOk result (λ s. sides_seen s ≡ sides (map object_in objects.now) a b) }
 {
     match (a, b) {
@@ -38,21 +38,19 @@ fn make_sides<'a>(objects: &'a [HeapObject], a: Val, b: Val) -> Result<Sides<'a>
 }
 
 // Returns how two objects are ordered: at once, by their members, or not at all.
-fn side_objects<'a>(objects: &'a [HeapObject], a: usize, b: usize) -> Result<Sides<'a>, Memory>
+fn side_objects<'a>(objects: &'a Objects, a: usize, b: usize) -> Result<Sides<'a>, Memory>
     ensures { IfOk result
         (λ s. sides_seen s ≡ side_objects (slice_get (map object_in objects.now) a)
         (slice_get (map object_in objects.now) b)) }
 {
     match (object_at(objects, a)?, object_at(objects, b)?) {
-        (Some(Object::Text(x)), Some(Object::Text(y))) => {
+        (Some(Look::Text(x)), Some(Look::Text(y))) => {
             Ok(Sides::Ordered(x.as_slice().cmp(y.as_slice())))
         }
-        (Some(Object::List { members: x, .. }), Some(Object::List { members: y, .. })) => {
-            Ok(Sides::Listed(x.as_slice(), y.as_slice()))
+        (Some(Look::List { members: x, .. }), Some(Look::List { members: y, .. })) => {
+            Ok(Sides::Listed(x, y))
         }
-        (Some(Object::Tuple(x)), Some(Object::Tuple(y))) => {
-            Ok(Sides::Listed(x.as_slice(), y.as_slice()))
-        }
+        (Some(Look::Tuple(x)), Some(Look::Tuple(y))) => { Ok(Sides::Listed(x, y)) }
         _ => Ok(Sides::NoOrder),
     }
 }
@@ -62,7 +60,7 @@ fn side_objects<'a>(objects: &'a [HeapObject], a: usize, b: usize) -> Result<Sid
 #[cycle(ordering)]
 #[tactic(auto, using(crate::proofs::Comparisons::order_is))]
 pub fn order(
-    objects: &[HeapObject],
+    objects: &Objects,
     steps: &mut u64,
     a: Val,
     b: Val,
@@ -75,7 +73,7 @@ pub fn order(
             tick(steps)?;
             Ok(o)
         }
-        Sides::Listed(xs, ys) => order_lists(objects, steps, xs, ys, left),
+        Sides::Listed(xs, ys) => order_lists(objects, steps, &xs, &ys, left),
         Sides::NoOrder => {
             tick(steps)?;
             Err(Halt::Code(faults::WRONG_TYPE))
@@ -87,10 +85,10 @@ pub fn order(
 #[cycle(ordering)]
 #[tactic(auto, using(crate::proofs::Comparisons::sides_deep, crate::proofs::Comparisons::sides_more))]
 fn order_lists(
-    objects: &[HeapObject],
+    objects: &Objects,
     steps: &mut u64,
-    xs: &[Val],
-    ys: &[Val],
+    xs: &Members<'_>,
+    ys: &Members<'_>,
     left: u32,
 ) -> Result<Ordering, Halt>
     ensures { Says (visit_sides (inner_order left (map object_in objects.now))
@@ -109,10 +107,10 @@ fn order_lists(
 // Returns where two lists part.
 #[tactic(auto, using(crate::proofs::Comparisons::parts_same, crate::proofs::Comparisons::parts_differ, crate::proofs::Comparisons::parts_end, crate::proofs::Comparisons::parts_last, crate::proofs::Comparisons::parts_greater))]
 fn part(
-    objects: &[HeapObject],
+    objects: &Objects,
     steps: &mut u64,
-    xs: &[Val],
-    ys: &[Val],
+    xs: &Members<'_>,
+    ys: &Members<'_>,
     left: u32,
 ) -> Result<Parting, Halt>
     ensures { SaysParting (parting (equal left (map object_in objects.now)) xs.now ys.now steps.old)
@@ -135,7 +133,7 @@ fn part(
 }
 
 // Returns the order by lengths, where the left ends at an index.
-fn at_end(ys: &[Val], i: usize) -> Ordering
+fn at_end(ys: &Members<'_>, i: usize) -> Ordering
     ensures { result ≡ ended (slice_get ys.now i) }
 {
     match val_at(ys, i) {

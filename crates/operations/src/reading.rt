@@ -5,7 +5,7 @@ ghost use Rattle.meaning.specs.Indexing.{items, items_of, int_of, found_at, foun
 ghost use Rattle.heap.specs.View.{store_of, Says, Checks, ChecksItems};
 
 use crate::hash;
-use heap::{Halt, Heap, Key, Object, Val, cut, found, keys, member};
+use heap::{Halt, Heap, Key, Look, Members, Val, cut, keys, member};
 use meaning::faults;
 
 /// Returns the number of an int, and not of a bool, or fault 5.
@@ -18,12 +18,23 @@ pub fn as_int(x: Val) -> Result<i64, Halt>
     }
 }
 
-// Returns the member at an index of a list, or fault 5, or 8 if nothing is there.
-fn found_at<T: Copy>(xs: &[T], i: Val) -> Result<T, Halt>
+// Returns the byte at an index, or fault 5, or 8 if nothing is there.
+fn found_at(xs: &[u8], i: Val) -> Result<u8, Halt>
     ensures { Checks (found_at xs.now i) result }
 {
     let n = as_int(i)?;
     match member(xs, n) {
+        Some(x) => Ok(x),
+        None => Err(Halt::Code(faults::ABSENT)),
+    }
+}
+
+// Returns the member at an index, or fault 5, or 8 if nothing is there.
+fn member_at(xs: &Members<'_>, i: Val) -> Result<Val, Halt>
+    ensures { Checks (found_at xs.now i) result }
+{
+    let n = as_int(i)?;
+    match xs.member(n) {
         Some(x) => Ok(x),
         None => Err(Halt::Code(faults::ABSENT)),
     }
@@ -45,14 +56,14 @@ fn index_object(heap: &mut Heap, a: usize, i: Val) -> Result<Val, Halt>
         (store_of heap.new) }
 {
     match heap.object(a)? {
-        Some(Object::Text(bytes)) => {
+        Some(Look::Text(bytes)) => {
             let byte = found_at(bytes.as_slice(), i)?;
             make_letter(heap, byte)
         }
-        Some(Object::List { members, .. }) => found_at(members.as_slice(), i),
-        Some(Object::Tuple(members)) => found_at(members.as_slice(), i),
-        Some(Object::Dict { .. }) => found_key(heap, a, i),
-        Some(Object::Function(_, _)) => Err(Halt::Code(faults::WRONG_TYPE)),
+        Some(Look::List { members, .. }) => member_at(&members, i),
+        Some(Look::Tuple(members)) => member_at(&members, i),
+        Some(Look::Dict { .. }) => found_key(heap, a, i),
+        Some(Look::Function(_, _)) => Err(Halt::Code(faults::WRONG_TYPE)),
         None => Err(Halt::Code(faults::WRONG_TYPE)),
     }
 }
@@ -73,7 +84,7 @@ fn at_key(heap: &Heap, a: usize, key: &Key) -> Result<Val, Halt>
         (store_of heap.now) }
 {
     match heap.object(a)? {
-        Some(Object::Dict { entries, .. }) => match found(entries, key) {
+        Some(Look::Dict { entries, .. }) => match entries.get(key) {
             Some(entry) => Ok(entry.value),
             None => Err(Halt::Code(faults::ABSENT)),
         },
@@ -106,16 +117,16 @@ fn slice_object(heap: &mut Heap, a: usize, i: Val, j: Val) -> Result<Val, Halt>
         (store_of heap.new) }
 {
     match heap.object(a)? {
-        Some(Object::Text(bytes)) => {
+        Some(Look::Text(bytes)) => {
             let part = cut(heap.alloc, bytes.as_slice(), i, j)?;
             heap.make_text(part)
         }
-        Some(Object::List { members, .. }) => {
-            let part = cut(heap.alloc, members.as_slice(), i, j)?;
+        Some(Look::List { members, .. }) => {
+            let part = members.cut(heap.alloc, i, j)?;
             heap.make_list(part)
         }
-        Some(Object::Tuple(members)) => {
-            let part = cut(heap.alloc, members.as_slice(), i, j)?;
+        Some(Look::Tuple(members)) => {
+            let part = members.cut(heap.alloc, i, j)?;
             heap.make_tuple(part)
         }
         _ => Err(Halt::Code(faults::WRONG_TYPE)),
@@ -137,11 +148,11 @@ fn object_items(heap: &Heap, a: usize) -> Result<Vec<Val>, Halt>
     ensures { ChecksItems (items_of (at a (store_of heap.now))) result }
 {
     match heap.object(a)? {
-        Some(Object::List { members, .. }) => Ok(Vec::from_slice(heap.alloc, members.as_slice())?),
-        Some(Object::Tuple(members)) => Ok(Vec::from_slice(heap.alloc, members.as_slice())?),
-        Some(Object::Dict { entries, .. }) => Ok(keys(heap.alloc, entries)?),
-        Some(Object::Text(_)) => Err(Halt::Code(faults::WRONG_TYPE)),
-        Some(Object::Function(_, _)) => Err(Halt::Code(faults::WRONG_TYPE)),
+        Some(Look::List { members, .. }) => Ok(members.copied(heap.alloc)?),
+        Some(Look::Tuple(members)) => Ok(members.copied(heap.alloc)?),
+        Some(Look::Dict { entries, .. }) => Ok(keys(heap.alloc, &entries)?),
+        Some(Look::Text(_)) => Err(Halt::Code(faults::WRONG_TYPE)),
+        Some(Look::Function(_, _)) => Err(Halt::Code(faults::WRONG_TYPE)),
         None => Err(Halt::Code(faults::WRONG_TYPE)),
     }
 }

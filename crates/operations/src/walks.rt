@@ -15,25 +15,19 @@ pub fn hash(heap: &mut Heap, x: Val) -> Result<Key, Halt>
     ensures says { Says (hash x (store_of heap.old)) result (store_of heap.new) }
     ensures kept { heap.new.objects ≡ heap.old.objects }
 {
-    key_of(
-        heap.alloc,
-        heap.objects.as_slice(),
-        &mut heap.steps,
-        x,
-        DEEPEST,
-    )
+    key_of(heap.alloc, &heap.objects, &mut heap.steps, x, DEEPEST)
 }
 
 /// Evaluates `a == b`, or returns fault 11 or 12.
 pub fn equal(heap: &mut Heap, a: Val, b: Val) -> Result<bool, Halt>
     ensures { Says (equals a b (store_of heap.old)) result (store_of heap.new) }
 {
-    equality::equal(heap.objects.as_slice(), &mut heap.steps, a, b, DEEPEST)
+    equality::equal(&heap.objects, &mut heap.steps, a, b, DEEPEST)
 }
 
 /// Returns the order of two values, or fault 5, 11 or 12.
 pub fn compare(heap: &mut Heap, a: Val, b: Val) -> Result<Ordering, Halt>
     ensures { Says (compares a b (store_of heap.old)) result (store_of heap.new) }
 {
-    order(heap.objects.as_slice(), &mut heap.steps, a, b, DEEPEST)
+    order(&heap.objects, &mut heap.steps, a, b, DEEPEST)
 }

@@ -3,7 +3,7 @@ ghost use Rattle.meaning.specs.Methods.{bytes_of};
 ghost use Rattle.language.specs.Globs.{all_texts, texts_in};
 ghost use Rattle.heap.specs.View.{store_of, Checks, ChecksItems};
 
-use heap::{Bytes, Halt, Heap, Object, Val};
+use heap::{Bytes, Halt, Heap, Look, Val};
 use meaning::faults;
 
 /// Returns the bytes of a string, or fault 5.
@@ -12,7 +12,7 @@ pub fn text_in(heap: &Heap, x: Val) -> Result<Bytes, Halt>
 {
     match x {
         Val::At(place) => match heap.object(place)? {
-            Some(Object::Text(bytes)) => {
+            Some(Look::Text(bytes)) => {
                 let bytes = bytes.share()?;
                 Ok(bytes)
             }
@@ -28,7 +28,10 @@ pub fn texts_in(heap: &Heap, x: Val) -> Result<Vec<Bytes>, Halt>
 {
     match x {
         Val::At(place) => match heap.object(place)? {
-            Some(Object::List { members, .. }) => all_texts(heap, members.as_slice()),
+            Some(Look::List { members, .. }) => {
+                let members = members.copied(heap.alloc)?;
+                all_texts(heap, members.as_slice())
+            }
             _ => Err(Halt::Code(faults::WRONG_TYPE)),
         },
         _ => Err(Halt::Code(faults::WRONG_TYPE)),

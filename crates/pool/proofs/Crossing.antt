@@ -18,6 +18,7 @@ use Rattle.core.proofs.option.Option.TheSendSync as OptionSends
 use Rattle.core.specs.contracts.option.Option
 use Rattle.evaluator.proofs.Trees.{trees_cross}
 use Rattle.freezing.proofs.frozen.Frozen.TheLaws.TheKnot as frozen
+use Rattle.freezing.proofs.laid.Laid.TheSendSync as LaidSends
 use Rattle.freezing.specs.contracts.value.FrozenValue
 use Rattle.keys.proofs.key.Key.TheSendSync as KeySends
 use Rattle.keys.proofs.value.BuildName.TheSendSync as BuildNameSends
@@ -44,10 +45,10 @@ use Rattle.pool.specs.contracts.worker.Back
 
 -- modules
 frozen_send : IsSend FrozenValue.the_row
-frozen_send = search (crosses, frozen.crosses_both, sendable) depth 60 fits 20000
+frozen_send = search (LaidSends.the_send, LaidSends.the_sync, crosses, frozen.crosses_both, sendable) depth 60 fits 20000
 
 frozen_sync : IsSync FrozenValue.the_row
-frozen_sync = search (crosses, frozen.crosses_both, sendable) depth 60 fits 20000
+frozen_sync = search (LaidSends.the_send, LaidSends.the_sync, crosses, frozen.crosses_both, sendable) depth 60 fits 20000
 
 function_send : IsSend Function.the_row
 function_send = search trees_cross depth 60 fits 20000

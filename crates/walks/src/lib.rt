@@ -13,7 +13,7 @@
 //!
 //! An empty group is not asked, and a key that repeats in a group is asked once, at its first place.
 //!
-//! Layer: loading, on base, files and engine. Begin at `lookup_node.rt` and `glob_node.rt`.
+//! Layer: loading, on base, files and engine. Begin at `lookup_node.rt`, `glob_node.rt` and `names_node.rt`.
 #![tactic(auto)]
 
 ghost use Rattle.walks.specs.NodeValues.{LookupsHold, GlobsHold};

@@ -3,4 +3,4 @@ use Rattle.builtins.specs.Results.{pairs_of}
 use Rattle.builtins.proofs.dictionaries.pairs.Given as goal
 
 abbrev pub invariant-loop-i : goal.invariant-loop-i
-invariant-loop-i l = l.all.items ++ pairs_of (drop l.i l.entries.entries) ≡ pairs_of l.entries.entries
+invariant-loop-i l = l.all.items ++ pairs_of (drop l.i l.entries) ≡ pairs_of l.entries

@@ -28,19 +28,19 @@ print_members-returns t c =
 pub print_entries-returns-in-Err : goal.print_entries-returns-in-Err
 print_entries-returns-in-Err t c =
     let show = pair_text (print c.args.left (map object_in c.args.objects.now)) in
-    let xs = c.args.entries.now.entries in
-    item_halts show xs c.loop-i.i c.loop-i.steps (kept c.loop-i.out) (separated show xs) c.args.steps.now (kept c.args.out.now) c.loop-i.invariant (c.in-Some._key.now, c.in-Some.entry.now) c.in-Some.ensures.entry (Unit {0}) (kept c.write_before.new.out) c.in-Err.halt c.print_entry.new.steps (kept c.print_entry.new.out) (kept c.print_entry.new.out) c.in-Err.ensures
+    let xs = c.args.entries.now in
+    item_halts show xs c.loop-i.i c.loop-i.steps (kept c.loop-i.out) (separated show xs) c.args.steps.now (kept c.args.out.now) c.loop-i.invariant (c.in-Some._key.now, c.in-Some.entry) c.in-Some.ensures (Unit {0}) (kept c.write_before.new.out) c.in-Err.halt c.print_entry.new.steps (kept c.print_entry.new.out) (kept c.print_entry.new.out) c.in-Err.ensures
 
 pub print_entries-loop-i-preserved : goal.print_entries-loop-i-preserved
 print_entries-loop-i-preserved t c =
     let show = pair_text (print c.args.left (map object_in c.args.objects.now)) in
-    let xs = c.args.entries.now.entries in
-    item_told show xs c.loop-i.i c.loop-i.steps (kept c.loop-i.out) (separated show xs) c.args.steps.now (kept c.args.out.now) c.loop-i.invariant (c.in-Some._key.now, c.in-Some.entry.now) c.in-Some.ensures.entry (kept c.write_before.new.out) c.print_entry.new.steps (kept c.print_entry.new.out) c.in_ok-write_before.ensures c.in-Ok.ensures
+    let xs = c.args.entries.now in
+    item_told show xs c.loop-i.i c.loop-i.steps (kept c.loop-i.out) (separated show xs) c.args.steps.now (kept c.args.out.now) c.loop-i.invariant (c.in-Some._key.now, c.in-Some.entry) c.in-Some.ensures (kept c.write_before.new.out) c.print_entry.new.steps (kept c.print_entry.new.out) c.in_ok-write_before.ensures c.in-Ok.ensures
 
 pub print_entries-returns : goal.print_entries-returns
 print_entries-returns t c =
     let show = pair_text (print c.args.left (map object_in c.args.objects.now)) in
-    let xs = c.args.entries.now.entries in
+    let xs = c.args.entries.now in
     items_end show xs c.loop-i.i c.loop-i.steps (kept c.loop-i.out) (separated show xs) c.args.steps.now (kept c.args.out.now) c.loop-i.invariant (omega (arith, c.loop-i-test.false, c.loop-i.auto.i-end) ∙ c.len-i-end.ensures.len) ∙ ap (λ o. gives o c.loop-i.steps) (more_nothing c.loop-i.out)
 
 pub print-returns-in_ok-print_int-in-Int : goal.print-returns-in_ok-print_int-in-Int
@@ -51,7 +51,7 @@ print-returns-in_ok-print_int-in-Int t c =
 pub print_braced-returns : goal.print_braced-returns
 print_braced-returns t c =
     let show = pair_text (print c.args.left (map object_in c.args.objects.now)) in
-    contained (separated show c.args.entries.now.entries) c.args.steps.now c.tick.new.steps c.print_entries.new.steps (kept c.args.out.now) (kept c.write.new.self) (kept c.print_entries.new.out) (kept c.write-2.new.self) (codes "{") (codes "}") c.in_ok-tick.ensures c.in_ok-write.ensures c.in_ok-print_entries.ensures c.in_ok-write-2.ensures
+    contained (separated show c.args.entries.now) c.args.steps.now c.tick.new.steps c.print_entries.new.steps (kept c.args.out.now) (kept c.write.new.self) (kept c.print_entries.new.out) (kept c.write-2.new.self) (codes "{") (codes "}") c.in_ok-tick.ensures c.in_ok-write.ensures c.in_ok-print_entries.ensures c.in_ok-write-2.ensures
 
 pub print_enclosed-returns : goal.print_enclosed-returns
 print_enclosed-returns t c =

@@ -43,4 +43,4 @@ invariant-print_members-loop-i l =
 abbrev pub invariant-print_entries-loop-i : goal.invariant-print_entries-loop-i
 invariant-print_entries-loop-i l =
     let show = pair_text (print l.left (map object_in l.objects)) in
-    told (left_of show l.i (drop l.i l.entries.entries)) l.steps (kept l.out) ≡ told (separated show l.entries.entries) l.fn.steps (kept l.fn.out)
+    told (left_of show l.i (drop l.i l.entries)) l.steps (kept l.out) ≡ told (separated show l.entries) l.fn.steps (kept l.fn.out)

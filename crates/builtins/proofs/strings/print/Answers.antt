@@ -5,10 +5,10 @@ use Rattle.builtins.proofs.Reprs.{repr_long, repr_kept, long_kept, short_kept}
 use Rattle.builtins.proofs.strings.print.Goals as goal
 
 pub returns-then-long : goal.returns-then-long
-returns-then-long c = repr_long (store_of c.args.heap.now) c.print.new.steps c.args.x (kept c.new-out.result) (kept c.print.new.out) c.new-out.ensures (rw c.as_slice.ensures.value at c.in_ok-print.ensures) (long_kept c.print.new.out c.if-long.true)
+returns-then-long c = repr_long (store_of c.args.heap.now) c.print.new.steps c.args.x (kept c.new-out.result) (kept c.print.new.out) c.new-out.ensures c.in_ok-print.ensures (long_kept c.print.new.out c.if-long.true)
 
 pub returns-in_err-made : goal.returns-in_err-made
-returns-in_err-made c = rw (repr_kept (store_of c.args.heap.now) c.print.new.steps c.args.x (kept c.new-out.result) (kept c.print.new.out) c.new-out.ensures (rw c.as_slice.ensures.value at c.in_ok-print.ensures) c.print.new.out.bytes.items (short_kept c.print.new.out c.if-long.false)) (search rules)
+returns-in_err-made c = rw (repr_kept (store_of c.args.heap.now) c.print.new.steps c.args.x (kept c.new-out.result) (kept c.print.new.out) c.new-out.ensures c.in_ok-print.ensures c.print.new.out.bytes.items (short_kept c.print.new.out c.if-long.false)) (search rules)
 
 pub returns : goal.returns
-returns c = rw (repr_kept (store_of c.args.heap.now) c.print.new.steps c.args.x (kept c.new-out.result) (kept c.print.new.out) c.new-out.ensures (rw c.as_slice.ensures.value at c.in_ok-print.ensures) c.print.new.out.bytes.items (short_kept c.print.new.out c.if-long.false)) c.in_ok-made.ensures
+returns c = rw (repr_kept (store_of c.args.heap.now) c.print.new.steps c.args.x (kept c.new-out.result) (kept c.print.new.out) c.new-out.ensures c.in_ok-print.ensures c.print.new.out.bytes.items (short_kept c.print.new.out c.if-long.false)) c.in_ok-made.ensures

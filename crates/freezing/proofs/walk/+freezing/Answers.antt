@@ -23,12 +23,12 @@ freeze_members-loop-i-preserved t c =
 pub freeze_entries-returns-in-Err : goal.freeze_entries-returns-in-Err
 freeze_entries-returns-in-Err t c =
     let fz = freeze c.args.left (map object_in c.args.objects.now) in
-    entry_halts fz c.args.entries.now.entries c.loop-i.i c.loop-i.steps (map entry_of c.loop-i.all.items) _ c.loop-i.invariant c.in-Some._key.now c.in-Some.entry.now c.in-Some.ensures.entry c.in-Err.halt c.freeze_entry.new.steps c.in-Err.ensures
+    entry_halts fz c.args.entries.now c.loop-i.i c.loop-i.steps (map entry_of c.loop-i.all.items) _ c.loop-i.invariant c.in-Some._key.now c.in-Some.entry c.in-Some.ensures c.in-Err.halt c.freeze_entry.new.steps c.in-Err.ensures
 
 pub freeze_entries-loop-i-preserved : goal.freeze_entries-loop-i-preserved
 freeze_entries-loop-i-preserved t c =
     let fz = freeze c.args.left (map object_in c.args.objects.now) in
-    let xs = c.args.entries.now.entries in
-    let next = entry_frozen fz xs c.loop-i.i c.loop-i.steps (map entry_of c.loop-i.all.items) _ c.loop-i.invariant c.in-Some._key.now c.in-Some.entry.now c.in-Some.ensures.entry (entry_of c.in-Ok.e) c.freeze_entry.new.steps c.in-Ok.ensures in
+    let xs = c.args.entries.now in
+    let next = entry_frozen fz xs c.loop-i.i c.loop-i.steps (map entry_of c.loop-i.all.items) _ c.loop-i.invariant c.in-Some._key.now c.in-Some.entry c.in-Some.ensures (entry_of c.in-Ok.e) c.freeze_entry.new.steps c.in-Ok.ensures in
     let done = ap (map entry_of) c.in_ok-push-in-Ok.ensures.items ∙ map-append entry_of c.loop-i.all.items (c.in-Ok.e ∷ []) in
     ap (λ (l : List (Fz × Fz)). and_then (freeze_entries fz (drop (c.loop-i.i + 1) xs) c.freeze_entry.new.steps) (λ ps. gives (pairs_onto l ps))) done ∙ next

@@ -37,4 +37,4 @@ invariant-freeze_members-loop-i l =
 abbrev pub invariant-freeze_entries-loop-i : goal.invariant-freeze_entries-loop-i
 invariant-freeze_entries-loop-i l =
     let fz = freeze l.left (map object_in l.objects) in
-    and_then (freeze_entries fz (drop l.i l.entries.entries) l.steps) (λ ps. gives (pairs_onto (map entry_of l.all.items) ps)) ≡ freeze_entries fz l.entries.entries l.fn.steps
+    and_then (freeze_entries fz (drop l.i l.entries) l.steps) (λ ps. gives (pairs_onto (map entry_of l.all.items) ps)) ≡ freeze_entries fz l.entries l.fn.steps

@@ -29,7 +29,7 @@ invariant-equal_members-loop-i l =
 abbrev pub invariant-equal_entries-loop-i : goal.invariant-equal_entries-loop-i
 invariant-equal_entries-loop-i l =
     let eq = equal l.left (map object_in l.objects) in
-    equal_entries eq (drop l.i l.xs.entries) l.ys.entries l.steps ≡ equal_entries eq l.xs.entries l.ys.entries l.fn.steps
+    equal_entries eq (drop l.i l.xs) l.ys l.steps ≡ equal_entries eq l.xs l.ys l.fn.steps
 
 abbrev pub decreases-equal_entry : goal.decreases-equal_entry
 decreases-equal_entry l = 5 * l.left + 3

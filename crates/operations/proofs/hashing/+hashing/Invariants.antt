@@ -13,7 +13,7 @@ decreases-tuple_key l = 3 * l.left
 abbrev pub decreases-along : goal.decreases-along
 decreases-along l = 3 * l.left + 2
 
-abbrev pub invariant-along-loop-member : goal.invariant-along-loop-member
-invariant-along-loop-member l =
+abbrev pub invariant-along-loop-i : goal.invariant-along-loop-i
+invariant-along-loop-i l =
     let walk = along (key l.left (map object_in l.objects)) in
-    and_then (walk (drop l.member-index l.members) l.steps) (λ ps. gives (l.all.items ++ ps)) ≡ walk l.members l.fn.steps
+    and_then (walk (drop l.i l.members) l.steps) (λ ps. gives (l.all.items ++ ps)) ≡ walk l.members l.fn.steps

@@ -5,4 +5,4 @@ use Rattle.freezing.proofs.Sames.{one_answer}
 use Rattle.freezing.proofs.value.FrozenValuePartialEq.eq.Goals as goal
 
 pub returns : goal.returns
-returns c = one_answer c.same_frozen.result (frozen_of c.self.inside.inner) (frozen_of c.other.inside.inner) c.self.invariant c.same_frozen.ensures.exact ∙ (λ i. same (c.self.view_is i) (c.other.view_is i))
+returns c = one_answer c.same_frozen.result (frozen_of c.self.inside.inner) (frozen_of c.other.inside.inner) c.self.invariant.0 c.same_frozen.ensures.exact ∙ (λ i. same (c.self.view_is i) (c.other.view_is i))

@@ -1,0 +1,4 @@
+pub mod Shift
+pub mod Objects
+pub mod Places
+pub mod Values

@@ -1,0 +1,26 @@
+//! An object of frozen values.
+use crate::dict::FrozenDict;
+use crate::value::FrozenVal;
+use meaning::Bytes;
+
+/// An object of frozen values. It is not changed any more.
+pub enum FrozenObject {
+    Text(Bytes),
+    List(Vec<FrozenVal>),
+    Tuple(Vec<FrozenVal>),
+    Dict(FrozenDict),
+    /// A function of a file: the file's label, and the name.
+    Function(Bytes, Bytes),
+}
+
+impl Drop for FrozenObject {
+    fn drop(self) {
+        match self {
+            FrozenObject::Text(_) => {}
+            FrozenObject::List(_) => {}
+            FrozenObject::Tuple(_) => {}
+            FrozenObject::Dict(_) => {}
+            FrozenObject::Function(_, _) => {}
+        }
+    }
+}

@@ -1,0 +1,20 @@
+use Rattle.std.proofs.Common.{◌≡◌, List, Option, Some, None, option_map, map, refl, sym, subst, ap, ◌∙◌}
+use Rattle.std.specs.Prelude.{slice_get}
+use Rattle.heap.specs.declared.objects.Spot.TheVariants as s
+use Rattle.heap.specs.Reclamation.{standing_bytes}
+use Rattle.heap.specs.View.{object_in}
+use Rattle.heap.proofs.Places.{told_same, stands_now, lent_bytes}
+use Rattle.heap.proofs.objects.Objects.give_back.Goals as goal
+
+pub returns-in-Own-clause-same : goal.returns-in-Own-clause-same
+returns-in-Own-clause-same c = told_same c.self.inside.ranges.items c.self.inside.own.items c.give_back_own.new.objects.items c.give_back_own.ensures.same ∙ ap (map object_in) c.self.view_is
+
+pub returns-in-Own-clause-bytes : goal.returns-in-Own-clause-bytes
+returns-in-Own-clause-bytes c =
+    let fields = c.self.inside in
+    c.give_back_own.ensures.bytes ∙ sym (ap standing_bytes (stands_now fields.own.items fields.ranges.items c.as_slice.result.now fields.from fields.lent c.args.place (s.Own c.in-Own.i) c.args.self.now c.self.view_is c.self.invariant c.as_slice.ensures.value c.in-Own.ensures.found))
+
+pub returns-in-Lent-clause-bytes : goal.returns-in-Lent-clause-bytes
+returns-in-Lent-clause-bytes c =
+    let fields = c.self.inside in
+    sym (ap standing_bytes (stands_now fields.own.items fields.ranges.items c.as_slice.result.now fields.from fields.lent c.args.place (s.Lent c.in-Lent._object c.in-Lent._base) c.args.self.now c.self.view_is c.self.invariant c.as_slice.ensures.value c.in-Lent.ensures.found) ∙ lent_bytes c.in-Lent._object c.in-Lent._base)

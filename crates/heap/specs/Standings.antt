@@ -1,0 +1,81 @@
+-- What stands at the places of a heap: its own objects, and the ranges that are lent to it among them.
+use Rattle.std.specs.Prelude.{◌≡◌, ℕ, ◌+◌, ◌-◌, ◌≤◌, Bool, true, false, List, [], ◌∷◌, ◌++◌, map, drop, length, Option, Some, None, if◌then◌else◌, nat_lt, slice_get, is_none, ◌||◌}
+use Rattle.std.specs.Arc.{arc_value}
+use Rattle.meaning.specs.Heap.{Obj, text, list, tuple, dict, function}
+use Rattle.meaning.specs.Indexing.{between}
+use Rattle.frozen_objects.specs.Shift.{moved}
+use Rattle.heap.specs.declared.heap_object.HeapObject.{HeapObject}
+use Rattle.heap.specs.declared.objects.Range.{Range}
+use Rattle.heap.specs.Own.{written_object}
+
+-- an object of the heap's own, whose memory may have been given back, or one that is lent
+pub data Standing : Type 0 where
+  own : Obj → (is_gone : Bool) → Standing
+  lent : Obj → Standing
+
+abbrev pub standing_object : Standing → Obj
+standing_object (own object gone) = object
+standing_object (lent object) = object
+
+abbrev pub is_gone : Standing → Bool
+is_gone (own object gone) = gone
+is_gone (lent object) = false
+
+-- an object that no program changes
+abbrev pub is_fixed : Obj → Bool
+is_fixed (text bytes) = true
+is_fixed (list members f) = f
+is_fixed (tuple members) = true
+is_fixed (dict entries f) = f
+is_fixed (function label name) = true
+
+-- where an object stands whose memory has been given back, or that no program changes
+abbrev pub stays : Standing → Bool
+stays s = is_gone s || is_fixed (standing_object s)
+
+abbrev pub has_gone : HeapObject → Bool
+has_gone h = is_none h.object
+
+abbrev pub standing_of : HeapObject → Standing
+standing_of h = own (written_object h) (has_gone h)
+
+-- an object that is lent, where so many objects stand before the first of its range
+abbrev pub lent_at : ℕ → Obj → Standing
+lent_at start object = lent (moved start object)
+
+-- the objects of a range
+abbrev pub range_standings : Range → List Standing
+range_standings r = map (lent_at r.start) (arc_value r.objects)
+
+-- What stands at the places from the own object `first` on: the own ones, and where a range begins, what it gives. So
+-- many of the objects before are lent, and the others are own ones.
+abbrev pub laid_by : {A : Type 0} → (Range → List A) → List Range → (first lent_before : ℕ) → List A → List A
+laid_by gives [] first lent_before objects = drop first objects
+laid_by gives (r ∷ rs) first lent_before objects = between objects first (r.start - lent_before) ++ (gives r ++ laid_by gives rs (r.start - lent_before) r.through objects)
+
+abbrev pub laid : List Range → List Standing → List Standing
+laid rs objects = laid_by range_standings rs 0 0 objects
+
+-- Ranges stand one behind the other, from the own object `first` on, which stands behind so many lent ones; the last ends
+-- at `from`, and there are `all_lent` lent objects.
+abbrev pub InOrder : List Range → (first lent_before number from all_lent : ℕ) → Type 0
+InOrder [] first lent_before number from all_lent = (from ≡ first + lent_before) × (all_lent ≡ lent_before) × (first ≤ number)
+InOrder (r ∷ rs) first lent_before number from all_lent =
+    (first + lent_before ≤ r.start) × (r.start ≤ number + lent_before) × (r.end ≡ r.start + length (arc_value r.objects)) × (r.through ≡ lent_before + length (arc_value r.objects)) × InOrder rs (r.start - lent_before) r.through number from all_lent
+
+-- at a place stands an own object, by its number among these, or one of a range, by its number in that
+pub data Where : Type 0 where
+  among_own : ℕ → Where
+  among_lent : Range → ℕ → Where
+
+abbrev pub where_is : List Range → (lent_before place : ℕ) → Where
+where_is [] lent_before place = among_own (place - lent_before)
+where_is (r ∷ rs) lent_before place = if nat_lt place r.start then among_own (place - lent_before) else (if nat_lt place r.end then among_lent r (place - r.start) else where_is rs r.through place)
+
+abbrev pub found_there : {A : Type 0} → (Range → List A) → List A → Where → Option A
+found_there gives objects (among_own i) = slice_get objects i
+found_there gives objects (among_lent r i) = slice_get (gives r) i
+
+abbrev pub own_number : Where → Option ℕ
+own_number (among_own i) = Some i
+own_number (among_lent r i) = None

@@ -1,0 +1,390 @@
+//! The objects of a heap: its own, and among them the ranges that are lent to it.
+ghost use Rattle.std.specs.Prelude.{◌≡◌, ◌∷◌, [], ◌++◌, ◌+◌, ◌<◌, ◌^◌, ℕ, List, map, length, option_map, slice_get, slice_set, Some, true, false, IfOk, OnOk, OnErr};
+ghost use Rattle.std.specs.Arc.{arc_value};
+ghost use Rattle.heap.specs.Looks.{seen_object};
+ghost use Rattle.heap.specs.MemoryUse.{found_bytes};
+ghost use Rattle.heap.specs.Objects.{object_of};
+ghost use Rattle.heap.specs.Reclamation.{IsGone, IsKept, bytes_at, standing_bytes};
+ghost use Rattle.heap.specs.Standings.{Standing, own, has_gone, standing_of, lent_at, laid, InOrder, where_is, found_there, own_number, range_standings};
+ghost use Rattle.heap.specs.Sought.{sought, sought_number};
+ghost use Rattle.heap.specs.View.{object_in};
+ghost use Rattle.heap.specs.Own.{written_object};
+
+use crate::heap_object::HeapObject;
+use crate::look::{Look, show, show_lent};
+use crate::object::{Object, frozen_shape, size_of};
+use frozen_objects::{FrozenObject, FrozenObjects};
+use std::alloc::Global;
+use std::marker::Model;
+use std::sync::Arc;
+use texts::Memory;
+
+// Objects that are lent: the place of the first, the place behind the last, how many lent objects there are up to there,
+// and the objects, whose places count from the first of them.
+#[derive(Drop)]
+struct Range {
+    start: u32,
+    end: u32,
+    through: u32,
+    objects: Arc<FrozenObjects, Global>,
+}
+
+/// What stands on a heap. Its own objects stand in one list. A range that it is lent stands at the places behind all that
+/// stood there before, and is shared. A contract sees what stands at each place.
+pub struct Objects {
+    own: Vec<HeapObject>,
+    ranges: Vec<Range>,
+    // The place behind the last range, and how many objects are lent.
+    from: u32,
+    lent: u32,
+}
+
+impl Drop for Objects {
+    fn drop(self) {
+        let Objects {
+            own: _,
+            ranges: _,
+            from: _,
+            lent: _,
+        } = self;
+    }
+}
+
+impl Model for Objects {
+    ghost use Rattle.std.specs.Prelude.{List, map, length};
+    ghost use Rattle.heap.specs.Standings.{Standing, standing_of, laid, InOrder};
+
+    ghost Value = { List Standing };
+
+    ghost view = { λ o. laid o.ranges.items (map standing_of o.own.items) };
+
+    ghost invariant = { λ o. InOrder o.ranges.items 0 0 (length o.own.items) o.from o.lent };
+}
+
+// What stands at a place: an own object, by its number among these, or a lent one with the place at which its range
+// begins.
+enum Spot<'a> {
+    Own(usize),
+    Lent {
+        object: Option<&'a FrozenObject>,
+        base: u32,
+    },
+}
+
+// Finds what stands at a place, range by range.
+fn seek_in<'a>(ranges: &'a [Range], place: usize) -> Spot<'a>
+    ensures number { sought_number result ≡ own_number (where_is ranges.now 0 place) }
+    ensures found { (objects : List Standing) → sought objects result ≡ found_there
+        range_standings objects (where_is ranges.now 0 place) }
+{
+    let mut lent: u32 = 0;
+    for i in 0..ranges.len() {
+        let range = &ranges[i];
+        if place < range.start as usize {
+            return Spot::Own(place.saturating_sub(lent as usize));
+        }
+        if place < range.end as usize {
+            let base = range.start;
+            let found = range.objects.get(place - base as usize);
+            return Spot::Lent {
+                object: found,
+                base,
+            };
+        }
+        lent = range.through;
+    }
+    Spot::Own(place.saturating_sub(lent as usize))
+}
+
+// Finds what stands at a place. Behind the last range that takes one comparison.
+#[tactic(auto, using(crate::proofs::Laid::where_last))]
+fn seek<'a>(ranges: &'a [Range], from: u32, lent: u32, place: usize) -> Spot<'a>
+    ensures number { (number : ℕ) → InOrder ranges.now 0 0 number from lent → sought_number result
+        ≡ own_number (where_is ranges.now 0 place) }
+    ensures found { (number : ℕ) → InOrder ranges.now 0 0 number from lent → (objects : List
+        Standing) → sought objects result ≡ found_there range_standings objects (where_is
+        ranges.now 0 place) }
+{
+    if place >= from as usize {
+        return Spot::Own(place.saturating_sub(lent as usize));
+    }
+    seek_in(ranges, place)
+}
+
+// Returns the own object with a number, if there are so many, or `Memory` if it has been given back.
+fn look_own(objects: &[HeapObject], i: usize) -> Result<Option<Look<'_>>, Memory>
+    ensures found { IfOk result (λ found. option_map written_object (slice_get objects.now i) ≡
+        option_map seen_object found) }
+    ensures gone { OnErr result (option_map has_gone (slice_get objects.now i) ≡ Some true) }
+{
+    match objects.get(i) {
+        Some(found) => {
+            let object = found.object()?;
+            Ok(Some(show(object)))
+        }
+        None => Ok(None),
+    }
+}
+
+// Takes the own object with a number, if there are so many, or returns `Memory` if it has been given back.
+fn take_own(objects: &mut Vec<HeapObject>, i: usize) -> Result<Option<Object>, Memory>
+    ensures same { map written_object objects.new.items ≡ map written_object objects.old.items }
+    ensures number { length objects.new.items ≡ length objects.old.items }
+    ensures taken { IfOk result (λ found. option_map written_object (slice_get objects.old.items
+        i) ≡ option_map object_of found) }
+    ensures gone { OnErr result (option_map has_gone (slice_get objects.old.items i) ≡ Some true) }
+{
+    match objects.get_mut(i) {
+        Some(found) => match found.take() {
+            Ok(object) => Ok(Some(object)),
+            Err(memory) => Err(memory),
+        },
+        None => Ok(None),
+    }
+}
+
+// Puts another object in the place of the own one with a number, if there are so many.
+fn put_own(objects: &mut Vec<HeapObject>, i: usize, object: Object)
+    ensures put { map written_object objects.new.items ≡ slice_set (map written_object
+        objects.old.items) i (object_of object) }
+    ensures number { length objects.new.items ≡ length objects.old.items }
+{
+    if let Some(found) = objects.get_mut(i) {
+        found.write(object);
+    }
+}
+
+impl Objects {
+    /// Makes what stands on an empty heap.
+    pub fn new(alloc: Global) -> Objects
+        ensures { result ≡ [] }
+    {
+        Objects {
+            own: Vec::new(alloc),
+            ranges: Vec::new(alloc),
+            from: 0,
+            lent: 0,
+        }
+    }
+
+    /// Returns how many objects there are, own and lent.
+    #[tactic(auto, using(crate::proofs::Places::all_places))]
+    pub fn len(&self) -> usize
+        ensures { result ≡ length self.now }
+    {
+        self.own.len() + self.lent as usize
+    }
+
+    /// Returns the object at a place, if one stands there, or `Memory` if it has been given back.
+    pub fn look(&self, place: usize) -> Result<Option<Look<'_>>, Memory>
+        ensures found { IfOk result (λ found. slice_get (map object_in self.now) place ≡
+            option_map seen_object found) }
+        ensures gone { OnErr result (IsGone self.now place) }
+    {
+        match seek(self.ranges.as_slice(), self.from, self.lent, place) {
+            Spot::Own(i) => look_own(self.own.as_slice(), i),
+            Spot::Lent {
+                object: Some(object),
+                base,
+            } => Ok(Some(show_lent(object, base))),
+            Spot::Lent {
+                object: None,
+                base: _base,
+            } => Ok(None),
+        }
+    }
+
+    /// Takes the object at a place, to be changed and then put there again. Until then it counts as given back. Returns
+    /// `Memory` if it has been given back before, and for a lent object, which no program changes.
+    pub fn take(&mut self, place: usize) -> Result<Option<Object>, Memory>
+        ensures same { map object_in self.new ≡ map object_in self.old }
+        ensures taken { IfOk result (λ found. slice_get (map object_in self.old) place ≡
+            option_map object_of found) }
+        ensures kept { OnErr result (IsKept self.old place) }
+    {
+        match seek(self.ranges.as_slice(), self.from, self.lent, place) {
+            Spot::Own(i) => take_own(&mut self.own, i),
+            Spot::Lent {
+                object: Some(_object),
+                base: _base,
+            } => Err(Memory),
+            Spot::Lent {
+                object: None,
+                base: _base,
+            } => Ok(None),
+        }
+    }
+
+    /// Puts another object at a place, if one stands there. Returns `Memory`, and puts nothing, for a lent object, which no
+    /// program changes.
+    pub fn put(&mut self, place: usize, object: Object) -> Result<(), Memory>
+        ensures put { OnOk result (map object_in self.new ≡ slice_set (map object_in self.old)
+            place (object_of object)) }
+        ensures kept { OnErr result (IsKept self.old place) }
+    {
+        match seek(self.ranges.as_slice(), self.from, self.lent, place) {
+            Spot::Own(i) => {
+                put_own(&mut self.own, i, object);
+                Ok(())
+            }
+            Spot::Lent {
+                object: Some(_object),
+                base: _base,
+            } => {
+                drop(object);
+                Err(Memory)
+            }
+            Spot::Lent {
+                object: None,
+                base: _base,
+            } => {
+                drop(object);
+                Ok(())
+            }
+        }
+    }
+
+    /// Returns the bytes that the object at a place counts for: none where none stands.
+    pub fn size_at(&self, place: usize) -> u128
+        ensures { result ≡ found_bytes (slice_get (map object_in self.now) place) }
+    {
+        match seek(self.ranges.as_slice(), self.from, self.lent, place) {
+            Spot::Own(i) => size_own(self.own.as_slice(), i),
+            Spot::Lent {
+                object: Some(object),
+                base: _base,
+            } => size_of(frozen_shape(object)),
+            Spot::Lent {
+                object: None,
+                base: _base,
+            } => 0,
+        }
+    }
+
+    /// Adds an object of the heap's own behind all others.
+    ///
+    /// # Errors
+    ///
+    /// Returns `Memory` if an allocation fails.
+    pub fn push(&mut self, object: Object) -> Result<(), Memory>
+        ensures { OnOk result (self.new ≡ self.old ++ own (object_of object) false ∷ []) }
+    {
+        self.own.push(HeapObject::new(object))?;
+        Ok(())
+    }
+
+    /// Lends objects: they stand behind all others. That takes as long for many as for few.
+    ///
+    /// # Errors
+    ///
+    /// Returns `Memory` if an allocation fails, or for a place of more than 32 bits.
+    pub fn lend(&mut self, objects: &Arc<FrozenObjects, Global>) -> Result<(), Memory>
+        ensures { OnOk result (self.new ≡ self.old ++ map (lent_at (length self.old)) (arc_value
+            objects.now)) }
+    {
+        let range = range_behind(self.own.len(), self.lent, objects)?;
+        let (from, lent) = (range.end, range.through);
+        self.ranges.push(range)?;
+        self.from = from;
+        self.lent = lent;
+        Ok(())
+    }
+
+    /// Returns whether the object at a place is lent.
+    pub fn is_lent(&self, place: usize) -> bool {
+        match seek(self.ranges.as_slice(), self.from, self.lent, place) {
+            Spot::Own(_) => false,
+            Spot::Lent {
+                object: _object,
+                base: _base,
+            } => true,
+        }
+    }
+
+    /// Returns into how many parts the ranges cut the own objects: one more than there are ranges.
+    pub fn parts(&self) -> usize {
+        self.ranges.len().saturating_add(1)
+    }
+
+    /// Returns where a part of the own objects stands: the place of the first, and that behind the last.
+    pub fn part(&self, part: usize) -> (usize, usize) {
+        let first = match part.checked_sub(1) {
+            Some(before) => match self.ranges.get(before) {
+                Some(range) => range.end as usize,
+                None => self.len(),
+            },
+            None => 0,
+        };
+        match self.ranges.get(part) {
+            Some(range) => (first, range.start as usize),
+            None => (first, self.len()),
+        }
+    }
+
+    /// Gives back the memory of the object at a place, if it is the heap's own, and returns the bytes that it counted for:
+    /// none if that was done before, or if it is lent. For a contract it still stands there.
+    pub fn give_back(&mut self, place: usize) -> u128
+        ensures same { map object_in self.new ≡ map object_in self.old }
+        ensures bytes { result ≡ bytes_at self.old place }
+    {
+        match seek(self.ranges.as_slice(), self.from, self.lent, place) {
+            Spot::Own(i) => give_back_own(&mut self.own, i),
+            Spot::Lent {
+                object: _object,
+                base: _base,
+            } => 0,
+        }
+    }
+}
+
+// Gives back the memory of the own object with a number, and returns the bytes that it counted for.
+fn give_back_own(objects: &mut Vec<HeapObject>, i: usize) -> u128
+    ensures same { map written_object objects.new.items ≡ map written_object objects.old.items }
+    ensures number { length objects.new.items ≡ length objects.old.items }
+    ensures bytes { result ≡ standing_bytes
+        (option_map standing_of (slice_get objects.old.items i)) }
+{
+    match objects.get_mut(i) {
+        Some(found) => found.give_back(),
+        None => 0,
+    }
+}
+
+// Returns the bytes that the own object with a number counts for: none where there is none.
+fn size_own(objects: &[HeapObject], i: usize) -> u128
+    ensures { result ≡ found_bytes (option_map written_object (slice_get objects.now i)) }
+{
+    match objects.get(i) {
+        Some(object) => object.size(),
+        None => 0,
+    }
+}
+
+// Makes the range of objects that come to stand behind so many own and lent ones, or returns `Memory` for a place of more
+// than 32 bits.
+fn range_behind(
+    own: usize,
+    lent: u32,
+    objects: &Arc<FrozenObjects, Global>,
+) -> Result<Range, Memory>
+    requires { own < 2 ^ 63 }
+    ensures start { IfOk result (λ r. r.start ≡ own + lent) }
+    ensures end { IfOk result (λ r. r.end ≡ r.start + length (arc_value objects.now)) }
+    ensures through { IfOk result (λ r. r.through ≡ lent + length (arc_value objects.now)) }
+    ensures objects { IfOk result (λ r. arc_value r.objects ≡ arc_value objects.now) }
+{
+    let start = own + lent as usize;
+    let Some(end) = start.checked_add(objects.len()) else {
+        return Err(Memory);
+    };
+    let (Ok(first), Ok(last)) = (u32::try_from(start), u32::try_from(end)) else {
+        return Err(Memory);
+    };
+    let through = lent + (last - first);
+    Ok(Range {
+        start: first,
+        end: last,
+        through,
+        objects: Arc::try_clone(objects)?,
+    })
+}
