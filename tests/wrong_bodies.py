@@ -11,8 +11,8 @@ one check, over the work that `rt check` kept, and each has to be refused in its
     wrong_bodies.py --digests tries nothing: compares the digests, as the gate does
 
 A digest covers what the outcome hangs on: the crate's sources, definitions, proofs and edits, the definitions and
-contracts of the crates below that these name, or that those name in turn, and the kit's logic. Comments and idle
-imports count for nothing. It is written where all edits of the crate were refused. The status is 1 where one is not
+contracts of the crates below that these name, or that those name in turn, and the kit's logic. Comments, idle
+imports and hints on inlining count for nothing. It is written where all edits of the crate were refused. The status is 1 where one is not
 refused, where an edit cannot be tried, or where a crate with contracts has none."""
 import argparse
 import collections
@@ -40,6 +40,8 @@ FUNCTION = re.compile(r"( *)(?:pub(?:\([a-z ]+\))? )?(?:const )?(?:unsafe )?fn (
 OWNER = re.compile(r"impl (?:(.+?) for )?(.+?) (?:where .*)?\{$")
 # What the prover says where a proof names something that the edit took away. That says nothing of the contract.
 GONE = re.compile(r"has no field|is not in scope|has no `|was not admitted")
+# Hints to who compiles a function, which change no proof.
+HINT = re.compile(r" *#\[(?:inline.*|cold)\]$")
 # An answer that names what is not there.
 NO_ANSWER = "\npub no-answer : nothing-here\nno-answer = nothing-here\n"
 
@@ -85,15 +87,16 @@ def files_of(name, parts, ending):
 
 
 def without_comments(text, mark):
-    """A text without the lines that are comments, and without empty lines."""
-    return "\n".join(line for line in text.split("\n") if line.strip() and not line.lstrip().startswith(mark))
+    """A text without the lines that are comments or hints, and without empty lines."""
+    lines = [line for line in text.split("\n") if line.strip() and not HINT.match(line)]
+    return "\n".join(line for line in lines if not line.lstrip().startswith(mark))
 
 
 @functools.lru_cache(maxsize=None)
 def contracts_in(file):
     """What a source shows to the crates above: without comments, imports, bodies, private functions, and how a type that
     contracts see as a model holds it."""
-    lines = read(file).split("\n")
+    lines = [line for line in read(file).split("\n") if not HINT.match(line)]
     for it in reversed(functions("", "\n".join(lines))):
         first = next(at for at in range(it.first - 1, it.last) if FUNCTION.match(lines[at]))
         body = next((at for at in range(first, it.last) if re.match(r" *\{|.*(?<!record )\{$", lines[at])), it.last)
@@ -487,9 +490,11 @@ def full_name(name, batch, path, owner, function):
     own = [it for it in own if any(at == path and it.first <= line <= it.last for at, line in places)]
     above = item_around(text.split("\n"), own[0].last - 1) if len(own) == 1 else ""
     trait = re.match(r"impl (\w+(?:<.*>)?) for ", without_parameters(above))
+    # The name of an impl for one type of a generic kind, as `Vec<Run>`, has the names of both.
+    kind = re.match(rf"impl \S+ for {owner}<([\w, ]+)> ", above)
     if not function or len(own) != 1 or bool(owner) != above.startswith("impl") or " as " in above:
         return ""
-    home, below = module_of_type(name, path, owner), [owner + "".join(re.findall(r"\w+", trait[1]) if trait else "")] if owner else []
+    home, below = module_of_type(name, path, owner), ["".join([owner, *re.findall(r"\w+", f"{kind[1] if kind else ''} {trait[1] if trait else ''}")])] if owner else []
     return "::".join([name, *home, *below, function])
 
 

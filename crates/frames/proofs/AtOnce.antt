@@ -20,12 +20,12 @@ use Rattle.frames.specs.declared.frame.Once.{Once}
 use Rattle.frames.specs.declared.frame.Frame.{Frame}
 use Rattle.frames.specs.declared.frame.Frame.TheVariants as f
 use Rattle.quiet.specs.StatementResults.{Done, Tested}
-use Rattle.frames.specs.Frames.{Sig, an_exit, on, Goes, body, control_does, frame_does, turns_behind, stack_does}
+use Rattle.frames.specs.Frames.{Sig, an_exit, on, Goes, on_exit, exited, body, suite_from, control_does, frame_does, turns_behind, stack_does}
 use Rattle.frames.specs.declared.frame.Ahead.{Ahead}
 use Rattle.frames.specs.declared.frame.Ahead.TheVariants as far
 use Rattle.frames.specs.Weight.{Lighter}
 use Rattle.names.specs.declared.state.State.{State}
-use Rattle.frames.specs.Ahead.{OnceDoes, StopsAs, LeadCosts, AsLight, left_weight, exited_as}
+use Rattle.frames.specs.Ahead.{OnceDoes, LeadsTo, StopsAs, LeadCosts, AsLight, left_weight, exited_as}
 
 -- a piece, its rest, and what waits for it
 pub past : {A B C D : Type 0} (m : Ends A) (k : A → Runs B) (p : B → Runs C) (wrap : A → D) (fr : D → Runs C) → ((a : A) (u : World) → fr (wrap a) u ≡ then_runs (k a u) p) → then_runs (then_runs m k) p ≡ then_runs (then_runs m (λ a. pure (wrap a))) fr
@@ -103,3 +103,13 @@ pub handed_exit : (env : Env) (n : ℕ) (here : Here) (turns : Box Turns Global)
 handed_exit env n here turns frames pushed m e =
     through m (turns_behind env n here turns.value) (λ x. pure (an_exit x)) (stack_does env n here frames) an_exit (frame_does env n here (f.Turns turns)) (λ x u. refl)
     ∙ ap (λ j. then_runs (exited_as m) j) (sym e)
+
+-- a suite that is shared once more leads to the same
+same_rest : (env : Env) (n : ℕ) (here : Here) (i : ℕ) (ss tt : Arc (Vec Stmt Global) Global) → arc_value ss ≡ arc_value tt → frame_does env n here (f.Rest ss i) ≡ frame_does env n here (f.Rest tt i)
+same_rest env n here i ss tt e = ap (λ (d : Vec Stmt Global). on_exit (λ exit. exited (unless_over exit (body env n here (stmts_of (drop i d.items)))))) e
+
+pub same_suite : (env : Env) (n : ℕ) (here : Here) (ss tt : Arc (Vec Stmt Global) Global) (says : Ends s.Exit) (ahead : Ahead) (u : World) → arc_value ss ≡ arc_value tt → LeadsTo env n here ss says ahead u → LeadsTo env n here tt says ahead u
+same_suite env n here ss tt says far.Ended u e h = h
+same_suite env n here ss tt says (far.At i) u e h = h ∙ ap (λ (d : Vec Stmt Global). body env n here (stmts_of (drop i d.items)) u) e
+same_suite env n here ss tt says (far.Above i control) u e h = h ∙ ap (λ q. then_runs (control_does env n here control u) q) (same_rest env n here i ss tt e)
+same_suite env n here ss tt says (far.Faulty line code) u e h = h

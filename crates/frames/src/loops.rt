@@ -191,10 +191,10 @@ fn begin_named(
     if let Err(halt) = bind(state, at, name, last, x) {
         return Err(halt);
     }
-    let body = Arc::try_clone(&turns.body)?;
-    match ahead(state, at, &body, 0) {
+    match ahead(state, at, &turns.body, 0) {
         Ok(Ahead::Ended) => Ok(Control::Turns(turns)),
         Ok(ahead) => {
+            let body = Arc::try_clone(&turns.body)?;
             push(frames, Frame::Turns(turns))?;
             lead(frames, body, ahead)
         }

@@ -13,7 +13,7 @@ use Rattle.heap.specs.MemoryUse.{object_bytes}
 use Rattle.heap.specs.Reclamation.{standing_bytes, counted_bytes, bytes_while}
 use Rattle.heap.specs.declared.object.Object.{Object}
 use Rattle.heap.specs.declared.objects.Range.{Range}
-use Rattle.heap.specs.Standings.{Standing, own, standing_object, standing_of, has_gone, is_gone, is_fixed, stays, laid, laid_by, InOrder, range_standings, where_is, found_there, own_number, among_own, among_lent, lent_at}
+use Rattle.heap.specs.Standings.{Standing, own, standing_object, standing_of, has_gone, is_gone, is_lent, stays, laid, laid_by, InOrder, range_standings, where_is, found_there, own_number, among_own, among_lent, lent_at}
 use Rattle.frozen_objects.specs.Shift.{moved, moved_val, moved_pair}
 use Rattle.frozen_objects.specs.Objects.{frozen_obj}
 use Rattle.frozen_objects.specs.declared.object.FrozenObject.{FrozenObject}
@@ -82,27 +82,22 @@ gone rs n from l objects e h place i is g =
     at None g = g
 
 gone_stays : (o : Option Standing) → option_map is_gone o ≡ Some true → option_map stays o ≡ Some true
-gone_stays (Some x) g = ap (λ (b : Option Bool). or_fixed b) g
+gone_stays (Some x) g = ap (λ (b : Option Bool). or_lent b) g
   where
-    or_fixed : Option Bool → Option Bool
-    or_fixed o = option_map (λ b. b || is_fixed (standing_object x)) o
+    or_lent : Option Bool → Option Bool
+    or_lent o = option_map (λ b. b || is_lent x) o
 gone_stays None g = cc
 
 pub gone_kept : (rs : List Range) (n from l : ℕ) (objects : List HeapObject) → n ≡ length objects → InOrder rs 0 0 n from l → (place i : ℕ) → ((os : List Standing) → sought os (s.Own i) ≡ found_there range_standings os (where_is rs 0 place)) → option_map has_gone (slice_get objects i) ≡ Some true → option_map stays (slice_get (laid rs (map standing_of objects)) place) ≡ Some true
 gone_kept rs n from l objects e h place i is g = gone_stays (slice_get (laid rs (map standing_of objects)) place) (gone rs n from l objects e h place i is g)
 
--- no program changes what is lent
-lent_fixed : (b : ℕ) (o : FrozenObject) → is_fixed (moved b (frozen_obj o)) ≡ true
-lent_fixed b (f.Text bytes) = refl
-lent_fixed b (f.List members) = refl
-lent_fixed b (f.Tuple members) = refl
-lent_fixed b (f.Dict entries) = refl
-lent_fixed b (f.Function label name) = refl
-
 pub lent_kept : (rs : List Range) (n from l : ℕ) (objects : List HeapObject) → n ≡ length objects → InOrder rs 0 0 n from l → (place base : ℕ) (o : Bor FrozenObject) → ((os : List Standing) → sought os (s.Lent (Some o) base) ≡ found_there range_standings os (where_is rs 0 place)) → option_map stays (slice_get (laid rs (map standing_of objects)) place) ≡ Some true
 lent_kept rs n from l objects e h place base o is =
     ap (option_map stays) (stands rs n from l (map standing_of objects) (e ∙ sym (length-map objects standing_of)) h place ∙ sym (is (map standing_of objects)))
-    ∙ ap Some (lent_fixed base o.now)
+
+pub lent_there : (rs : List Range) (n from l : ℕ) (objects : List HeapObject) → n ≡ length objects → InOrder rs 0 0 n from l → (place base : ℕ) (o : Bor FrozenObject) → ((os : List Standing) → sought os (s.Lent (Some o) base) ≡ found_there range_standings os (where_is rs 0 place)) → option_map is_lent (slice_get (laid rs (map standing_of objects)) place) ≡ Some true
+lent_there rs n from l objects e h place base o is =
+    ap (option_map is_lent) (stands rs n from l (map standing_of objects) (e ∙ sym (length-map objects standing_of)) h place ∙ sym (is (map standing_of objects)))
 
 -- ---- changes in memory
 
@@ -156,6 +151,11 @@ pub lent_kept_now : (objects : List HeapObject) (rs read : List Range) (from l p
 lent_kept_now objects rs read from l place base o now v h e f =
     ap (λ w. option_map stays (slice_get w place)) (sym v)
     ∙ lent_kept rs (length objects) from l objects refl h place base o (subst (λ rs. Finds rs from l place (s.Lent (Some o) base)) e f (length objects) h)
+
+pub lent_there_now : (objects : List HeapObject) (rs read : List Range) (from l place base : ℕ) (o : Bor FrozenObject) (now : List Standing) → laid rs (map standing_of objects) ≡ now → InOrder rs 0 0 (length objects) from l → read ≡ rs → Finds read from l place (s.Lent (Some o) base) → option_map is_lent (slice_get now place) ≡ Some true
+lent_there_now objects rs read from l place base o now v h e f =
+    ap (λ w. option_map is_lent (slice_get w place)) (sym v)
+    ∙ lent_there rs (length objects) from l objects refl h place base o (subst (λ rs. Finds rs from l place (s.Lent (Some o) base)) e f (length objects) h)
 
 pub put_now : (objects changed : List HeapObject) (rs read : List Range) (from l place i : ℕ) (x : Obj) (now : List Standing) → laid rs (map standing_of objects) ≡ now → InOrder rs 0 0 (length objects) from l → read ≡ rs → Numbers read from l place (s.Own i) → map written_object changed ≡ set (map written_object objects) i x → map object_in (laid rs (map standing_of changed)) ≡ set (map object_in now) place x
 put_now objects changed rs read from l place i x now v h e f is =

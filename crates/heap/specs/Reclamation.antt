@@ -3,14 +3,18 @@ use Rattle.std.specs.Prelude.{◌≡◌, ℕ, Bool, true, List, Option, Some, No
 use Rattle.heap.specs.declared.heap_object.HeapObject.{HeapObject}
 use Rattle.heap.specs.declared.object.Object.{Object}
 use Rattle.heap.specs.MemoryUse.{object_bytes}
-use Rattle.heap.specs.Standings.{Standing, own, lent, is_gone, stays}
+use Rattle.heap.specs.Standings.{Standing, own, lent, is_gone, is_lent, stays}
 use Rattle.heap.specs.Own.{written_object}
 
 -- an object has a place here, and its memory has been given back
 abbrev pub IsGone : List Standing → ℕ → Type 0
 IsGone objects place = option_map is_gone (slice_get objects place) ≡ Some true
 
--- an object has a place here, and its memory has been given back, or it is one that no program changes
+-- a lent object stands here
+abbrev pub IsLent : List Standing → ℕ → Type 0
+IsLent objects place = option_map is_lent (slice_get objects place) ≡ Some true
+
+-- an object has a place here, and its memory has been given back, or it is lent
 abbrev pub IsKept : List Standing → ℕ → Type 0
 IsKept objects place = option_map stays (slice_get objects place) ≡ Some true
 

@@ -1,7 +1,7 @@
 -- What stands at the places of a heap: its own objects, and the ranges that are lent to it among them.
 use Rattle.std.specs.Prelude.{◌≡◌, ℕ, ◌+◌, ◌-◌, ◌≤◌, Bool, true, false, List, [], ◌∷◌, ◌++◌, map, drop, length, Option, Some, None, if◌then◌else◌, nat_lt, slice_get, is_none, ◌||◌}
 use Rattle.std.specs.Arc.{arc_value}
-use Rattle.meaning.specs.Heap.{Obj, text, list, tuple, dict, function}
+use Rattle.meaning.specs.Heap.{Obj}
 use Rattle.meaning.specs.Indexing.{between}
 use Rattle.frozen_objects.specs.Shift.{moved}
 use Rattle.heap.specs.declared.heap_object.HeapObject.{HeapObject}
@@ -21,17 +21,13 @@ abbrev pub is_gone : Standing → Bool
 is_gone (own object gone) = gone
 is_gone (lent object) = false
 
--- an object that no program changes
-abbrev pub is_fixed : Obj → Bool
-is_fixed (text bytes) = true
-is_fixed (list members f) = f
-is_fixed (tuple members) = true
-is_fixed (dict entries f) = f
-is_fixed (function label name) = true
+abbrev pub is_lent : Standing → Bool
+is_lent (own object gone) = false
+is_lent (lent object) = true
 
--- where an object stands whose memory has been given back, or that no program changes
+-- where an object stands whose memory has been given back, or one that is lent
 abbrev pub stays : Standing → Bool
-stays s = is_gone s || is_fixed (standing_object s)
+stays s = is_gone s || is_lent s
 
 abbrev pub has_gone : HeapObject → Bool
 has_gone h = is_none h.object

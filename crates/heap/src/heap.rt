@@ -6,7 +6,7 @@ ghost use Rattle.heap.specs.Objects.{object_of};
 ghost use Rattle.heap.specs.Looks.{seen_object};
 ghost use Rattle.std.specs.Arc.{arc_value};
 ghost use Rattle.heap.specs.View.{object_in, store_of, lends, Says};
-ghost use Rattle.heap.specs.Reclamation.{IsGone, IsKept};
+ghost use Rattle.heap.specs.Reclamation.{IsGone, IsLent, IsKept};
 ghost use Rattle.heap.specs.MemoryUse.{most_held, object_bytes, place_bytes, Counted};
 
 use crate::halt::Halt;
@@ -63,6 +63,7 @@ impl Heap {
     }
 
     /// Returns the object at a place, if one stands there, or `Memory` if it has been given back.
+    #[inline(always)]
     pub fn object(&self, place: usize) -> Result<Option<Look<'_>>, Memory>
         ensures found { IfOk result (λ found. at place (store_of self.now) ≡ option_map seen_object
             found) }
@@ -72,7 +73,8 @@ impl Heap {
     }
 
     /// Takes the object at a place, to be changed and then put there again. Until then it counts as given back. Returns
-    /// `Memory` if it has been given back before, or if it is one that no program changes and it is lent.
+    /// `Memory` if it has been given back before, or if it is lent, which no program changes.
+    #[inline(always)]
     pub fn take(&mut self, place: usize) -> Result<Option<Object>, Memory>
         ensures same { store_of self.new ≡ store_of self.old }
         ensures taken { IfOk result (λ found. at place (store_of self.old) ≡ option_map object_of
@@ -84,11 +86,13 @@ impl Heap {
     }
 
     /// Puts another object at a place, if one stands there. The bytes that it takes more are counted by `hold_members`
-    /// and `hold_entry`. Returns `Memory`, and puts nothing, if there stands one that no program changes and it is lent.
+    /// and `hold_entry`. Returns `Memory`, and puts nothing, if a lent one stands there, which no program changes.
+    #[inline(always)]
     pub fn put(&mut self, place: usize, object: Object) -> Result<(), Memory>
         ensures put { OnOk result (puts place (object_of object) (store_of self.old) ≡ gives tt
             (store_of self.new)) }
-        ensures kept { OnErr result (IsKept self.old.objects place) }
+        ensures same { OnErr result (store_of self.new ≡ store_of self.old) }
+        ensures lent { OnErr result (IsLent self.old.objects place) }
         ensures held { self.new.held ≡ self.old.held }
     {
         self.objects.put(place, object)
@@ -103,6 +107,7 @@ impl Heap {
     }
 
     // Counts bytes that the objects are about to take. Returns `Memory` if they would take more than `MOST_HELD`.
+    #[inline(always)]
     fn hold(&mut self, bytes: u128) -> Result<(), Halt>
         ensures same { store_of self.new ≡ store_of self.old }
         ensures counted { Counted bytes self.old.held result self.new.held }
@@ -132,6 +137,7 @@ impl Heap {
 
     /// Counts members that a list is about to get, 16 bytes each. Returns `Memory` if the objects would take more than
     /// `MOST_HELD` bytes.
+    #[inline(always)]
     pub fn hold_members(&mut self, number: usize) -> Result<(), Halt>
         ensures same { store_of self.new ≡ store_of self.old }
         ensures counted { Counted (number * 16) self.old.held result self.new.held }
@@ -140,6 +146,7 @@ impl Heap {
     }
 
     /// Counts an entry that a dictionary is about to get, 96 bytes, as `hold_members` does.
+    #[inline(always)]
     pub fn hold_entry(&mut self) -> Result<(), Halt>
         ensures same { store_of self.new ≡ store_of self.old }
         ensures counted { Counted 96 self.old.held result self.new.held }
@@ -268,6 +275,7 @@ impl Heap {
 }
 
 /// Returns the object at a place, if one stands there, or `Memory` if it has been given back.
+#[inline(always)]
 pub fn object_at(objects: &Objects, place: usize) -> Result<Option<Look<'_>>, Memory>
     ensures found { IfOk result (λ found. slice_get (map object_in objects.now) place ≡ option_map
         seen_object found) }

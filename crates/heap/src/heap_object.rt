@@ -43,6 +43,7 @@ impl HeapObject {
     }
 
     /// Returns the object, or `Memory` if it has been given back.
+    #[inline(always)]
     #[tactic(auto, unfolding(crate::specs::Own::written_object))]
     pub fn object(&self) -> Result<&Object, Memory>
         ensures object { IfOk result (λ object. object_of object.now ≡ written_object self.now) }
@@ -56,6 +57,7 @@ impl HeapObject {
 
     /// Takes the object, to be changed and then written again. Until then it counts as given back. Returns `Memory` if
     /// it has been given back before.
+    #[inline(always)]
     #[tactic(auto, unfolding(crate::specs::Own::written_object))]
     pub fn take(&mut self) -> Result<Object, Memory>
         ensures taken { IfOk result (λ object. object_of object ≡ written_object self.old) }
@@ -66,6 +68,7 @@ impl HeapObject {
     }
 
     /// Writes another object in the place of this one.
+    #[inline(always)]
     #[tactic(auto, unfolding(crate::specs::Own::written_object))]
     pub fn write(&mut self, object: Object)
         ensures { written_object self.new ≡ object_of object }

@@ -91,6 +91,7 @@ fn add_times<T: Copy>(all: &mut Vec<T>, a: &[T], n: usize) -> Result<(), Memory>
 }
 
 /// Returns the place that an index names among so many: negative from the end.
+#[inline(always)]
 pub fn place(i: i64, len: usize) -> Option<usize>
     ensures { result ≡ place i len }
 {
@@ -108,6 +109,7 @@ pub fn place(i: i64, len: usize) -> Option<usize>
 }
 
 /// Returns the member at a place.
+#[inline(always)]
 pub fn val_at(xs: &Members<'_>, i: usize) -> Option<Val>
     ensures { result ≡ slice_get xs.now i }
 {

@@ -80,6 +80,7 @@ fn cut_lent(
 
 impl<'a> Members<'a> {
     /// Shows values as the members of an object.
+    #[inline(always)]
     pub fn new(items: &'a [Val]) -> Members<'a>
         ensures { result ≡ items.now }
     {
@@ -89,6 +90,7 @@ impl<'a> Members<'a> {
     }
 
     // Shows the values of a frozen object that stands behind so many others.
+    #[inline(always)]
     fn lent(items: &'a [FrozenVal], base: u32) -> Members<'a>
         ensures { result ≡ map (moved_val base) items.now }
     {
@@ -98,6 +100,7 @@ impl<'a> Members<'a> {
     }
 
     /// Returns how many members there are.
+    #[inline(always)]
     pub fn len(&self) -> usize
         ensures { result ≡ length self.now }
     {
@@ -115,6 +118,7 @@ impl<'a> Members<'a> {
     }
 
     /// Returns the member at a place, if there are so many.
+    #[inline(always)]
     #[tactic(auto, using(crate::proofs::Lent::member_moved))]
     pub fn get(&self, i: usize) -> Option<Val>
         ensures { result ≡ slice_get self.now i }
@@ -129,6 +133,7 @@ impl<'a> Members<'a> {
     }
 
     /// Returns the member at a place. There has to be one.
+    #[inline(always)]
     pub fn at(&self, i: usize) -> Val
         requires { i < length self.now }
         ensures { slice_get self.now i ≡ Some result }
@@ -137,6 +142,7 @@ impl<'a> Members<'a> {
     }
 
     /// Returns the member at an index, negative from the end.
+    #[inline(always)]
     pub fn member(&self, i: i64) -> Option<Val>
         ensures { result ≡ member self.now i }
     {
@@ -232,6 +238,7 @@ fn copied_pairs(alloc: Global, dict: &FrozenDict, base: u32) -> Result<Vec<Entry
 
 impl<'a> Entries<'a> {
     /// Shows a table as the entries of a dictionary.
+    #[inline(always)]
     pub fn new(map: &'a IndexMap<Key, Entry>) -> Entries<'a>
         ensures { result ≡ map.now.entries }
     {
@@ -241,6 +248,7 @@ impl<'a> Entries<'a> {
     }
 
     // Shows the entries of a frozen dictionary that stands behind so many objects.
+    #[inline(always)]
     fn lent(dict: &'a FrozenDict, base: u32) -> Entries<'a>
         ensures { result ≡ map (moved_pair base) dict.now }
     {
@@ -250,6 +258,7 @@ impl<'a> Entries<'a> {
     }
 
     /// Returns how many entries there are.
+    #[inline(always)]
     pub fn len(&self) -> usize
         ensures len { result ≡ length self.now }
         ensures within { result < 2 ^ 63 }
@@ -268,6 +277,7 @@ impl<'a> Entries<'a> {
     }
 
     /// Returns the entry at a key, if there is one.
+    #[inline(always)]
     #[tactic(auto, using(crate::proofs::DictionaryKeys::lookup_found, crate::proofs::Lent::found_moved))]
     pub fn get(&self, key: &Key) -> Option<Entry>
         ensures { result ≡ found key.now self.now }
@@ -321,6 +331,7 @@ pub enum Look<'a> {
 }
 
 /// Shows an object.
+#[inline(always)]
 pub fn show(object: &Object) -> Look<'_>
     ensures { seen_object result ≡ object_of object.now }
 {
@@ -340,6 +351,7 @@ pub fn show(object: &Object) -> Look<'_>
 }
 
 /// Shows a frozen object that stands behind so many others.
+#[inline(always)]
 pub fn show_lent(object: &FrozenObject, base: u32) -> Look<'_>
     ensures { seen_object result ≡ moved base (frozen_obj object.now) }
 {

@@ -4,7 +4,7 @@ ghost use Rattle.std.specs.Arc.{arc_value};
 ghost use Rattle.heap.specs.Looks.{seen_object};
 ghost use Rattle.heap.specs.MemoryUse.{found_bytes};
 ghost use Rattle.heap.specs.Objects.{object_of};
-ghost use Rattle.heap.specs.Reclamation.{IsGone, IsKept, bytes_at, standing_bytes};
+ghost use Rattle.heap.specs.Reclamation.{IsGone, IsLent, IsKept, bytes_at, standing_bytes};
 ghost use Rattle.heap.specs.Standings.{Standing, own, has_gone, standing_of, lent_at, laid, InOrder, where_is, found_there, own_number, range_standings};
 ghost use Rattle.heap.specs.Sought.{sought, sought_number};
 ghost use Rattle.heap.specs.View.{object_in};
@@ -97,6 +97,7 @@ fn seek_in<'a>(ranges: &'a [Range], place: usize) -> Spot<'a>
 }
 
 // Finds what stands at a place. Behind the last range that takes one comparison.
+#[inline(always)]
 #[tactic(auto, using(crate::proofs::Laid::where_last))]
 fn seek<'a>(ranges: &'a [Range], from: u32, lent: u32, place: usize) -> Spot<'a>
     ensures number { (number : ℕ) → InOrder ranges.now 0 0 number from lent → sought_number result
@@ -112,6 +113,7 @@ fn seek<'a>(ranges: &'a [Range], from: u32, lent: u32, place: usize) -> Spot<'a>
 }
 
 // Returns the own object with a number, if there are so many, or `Memory` if it has been given back.
+#[inline(always)]
 fn look_own(objects: &[HeapObject], i: usize) -> Result<Option<Look<'_>>, Memory>
     ensures found { IfOk result (λ found. option_map written_object (slice_get objects.now i) ≡
         option_map seen_object found) }
@@ -127,6 +129,7 @@ fn look_own(objects: &[HeapObject], i: usize) -> Result<Option<Look<'_>>, Memory
 }
 
 // Takes the own object with a number, if there are so many, or returns `Memory` if it has been given back.
+#[inline(always)]
 fn take_own(objects: &mut Vec<HeapObject>, i: usize) -> Result<Option<Object>, Memory>
     ensures same { map written_object objects.new.items ≡ map written_object objects.old.items }
     ensures number { length objects.new.items ≡ length objects.old.items }
@@ -144,6 +147,7 @@ fn take_own(objects: &mut Vec<HeapObject>, i: usize) -> Result<Option<Object>, M
 }
 
 // Puts another object in the place of the own one with a number, if there are so many.
+#[inline(always)]
 fn put_own(objects: &mut Vec<HeapObject>, i: usize, object: Object)
     ensures put { map written_object objects.new.items ≡ slice_set (map written_object
         objects.old.items) i (object_of object) }
@@ -176,6 +180,7 @@ impl Objects {
     }
 
     /// Returns the object at a place, if one stands there, or `Memory` if it has been given back.
+    #[inline(always)]
     pub fn look(&self, place: usize) -> Result<Option<Look<'_>>, Memory>
         ensures found { IfOk result (λ found. slice_get (map object_in self.now) place ≡
             option_map seen_object found) }
@@ -196,6 +201,7 @@ impl Objects {
 
     /// Takes the object at a place, to be changed and then put there again. Until then it counts as given back. Returns
     /// `Memory` if it has been given back before, and for a lent object, which no program changes.
+    #[inline(always)]
     pub fn take(&mut self, place: usize) -> Result<Option<Object>, Memory>
         ensures same { map object_in self.new ≡ map object_in self.old }
         ensures taken { IfOk result (λ found. slice_get (map object_in self.old) place ≡
@@ -217,10 +223,12 @@ impl Objects {
 
     /// Puts another object at a place, if one stands there. Returns `Memory`, and puts nothing, for a lent object, which no
     /// program changes.
+    #[inline(always)]
     pub fn put(&mut self, place: usize, object: Object) -> Result<(), Memory>
         ensures put { OnOk result (map object_in self.new ≡ slice_set (map object_in self.old)
             place (object_of object)) }
-        ensures kept { OnErr result (IsKept self.old place) }
+        ensures same { OnErr result (self.new ≡ self.old) }
+        ensures lent { OnErr result (IsLent self.old place) }
     {
         match seek(self.ranges.as_slice(), self.from, self.lent, place) {
             Spot::Own(i) => {
@@ -291,7 +299,7 @@ impl Objects {
     }
 
     /// Returns whether the object at a place is lent.
-    pub fn is_lent(&self, place: usize) -> bool {
+    pub(crate) fn is_lent(&self, place: usize) -> bool {
         match seek(self.ranges.as_slice(), self.from, self.lent, place) {
             Spot::Own(_) => false,
             Spot::Lent {
@@ -302,12 +310,12 @@ impl Objects {
     }
 
     /// Returns into how many parts the ranges cut the own objects: one more than there are ranges.
-    pub fn parts(&self) -> usize {
+    pub(crate) fn parts(&self) -> usize {
         self.ranges.len().saturating_add(1)
     }
 
     /// Returns where a part of the own objects stands: the place of the first, and that behind the last.
-    pub fn part(&self, part: usize) -> (usize, usize) {
+    pub(crate) fn part(&self, part: usize) -> (usize, usize) {
         let first = match part.checked_sub(1) {
             Some(before) => match self.ranges.get(before) {
                 Some(range) => range.end as usize,

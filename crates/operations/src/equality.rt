@@ -19,6 +19,7 @@ pub enum Pair<'a> {
 }
 
 // Returns how two values are compared: settled at once, by their members, or by their entries.
+#[inline(always)]
 fn make_pair<'a>(objects: &'a Objects, a: Val, b: Val) -> Result<Pair<'a>, Memory>
     ensures { IfOk result (λ p. pair_seen p ≡ pair (map object_in objects.now) a b) }
 {
@@ -33,6 +34,7 @@ fn make_pair<'a>(objects: &'a Objects, a: Val, b: Val) -> Result<Pair<'a>, Memor
 }
 
 // Returns how two objects are compared: settled at once, by their members, or by their entries.
+#[inline(always)]
 fn pair_objects<'a>(objects: &'a Objects, a: usize, b: usize) -> Result<Pair<'a>, Memory>
     ensures { IfOk result (λ p. pair_seen p ≡ pair_objects (slice_get (map object_in objects.now) a)
         (slice_get (map object_in objects.now) b)) }

@@ -18,6 +18,7 @@ pub enum AsKey<'a> {
 }
 
 // Returns a value as a key: one part, the members of a tuple, or no key.
+#[inline(always)]
 fn as_key<'a>(objects: &'a Objects, x: Val) -> Result<AsKey<'a>, Memory>
     ensures { IfOk result (λ k. key_seen k ≡ as_key (map object_in objects.now) x) }
 {
@@ -58,6 +59,7 @@ pub fn key(
 }
 
 /// Returns a key, by the walk of `key`. The key of a value that is no tuple takes no list.
+#[inline(always)]
 #[tactic(auto, using(crate::proofs::Hashes::key_is))]
 pub fn key_of(
     alloc: Global,
@@ -78,6 +80,7 @@ pub fn key_of(
 }
 
 // Returns the key that is one part, for a step.
+#[inline(always)]
 fn key_of_part(steps: &mut u64, x: Part) -> Result<Key, Halt>
     ensures { Says (part_key x steps.old) result steps.new }
 {

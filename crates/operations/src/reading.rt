@@ -30,6 +30,7 @@ fn found_at(xs: &[u8], i: Val) -> Result<u8, Halt>
 }
 
 // Returns the member at an index, or fault 5, or 8 if nothing is there.
+#[inline(always)]
 fn member_at(xs: &Members<'_>, i: Val) -> Result<Val, Halt>
     ensures { Checks (found_at xs.now i) result }
 {
@@ -51,6 +52,7 @@ pub fn index(heap: &mut Heap, a: Val, i: Val) -> Result<Val, Halt>
 }
 
 // Returns the value that an object has at an index.
+#[inline(always)]
 fn index_object(heap: &mut Heap, a: usize, i: Val) -> Result<Val, Halt>
     ensures { Says (index_object (at a (store_of heap.old)) i (store_of heap.old)) result
         (store_of heap.new) }
@@ -69,6 +71,7 @@ fn index_object(heap: &mut Heap, a: usize, i: Val) -> Result<Val, Halt>
 }
 
 // Returns the value that a dictionary has at a key, which is hashed first.
+#[inline(never)]
 #[tactic(auto, unfolding(meaning::specs::Indexing::found_key))]
 fn found_key(heap: &mut Heap, a: usize, i: Val) -> Result<Val, Halt>
     ensures { Says (found_key (at a (store_of heap.old)) i (store_of heap.old)) result
@@ -79,6 +82,7 @@ fn found_key(heap: &mut Heap, a: usize, i: Val) -> Result<Val, Halt>
 }
 
 // Returns the value at a key.
+#[inline(always)]
 fn at_key(heap: &Heap, a: usize, key: &Key) -> Result<Val, Halt>
     ensures { Says (at_key (at a (store_of heap.now)) key.now (store_of heap.now)) result
         (store_of heap.now) }
@@ -93,6 +97,7 @@ fn at_key(heap: &Heap, a: usize, key: &Key) -> Result<Val, Halt>
 }
 
 // Makes a string of one byte.
+#[inline(never)]
 fn make_letter(heap: &mut Heap, byte: u8) -> Result<Val, Halt>
     ensures { Says (makes_text (byte ∷ []) (store_of heap.old)) result (store_of heap.new) }
 {

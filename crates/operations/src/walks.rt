@@ -11,6 +11,7 @@ use heap::{DEEPEST, Halt, Heap, Key, Val};
 use std::cmp::Ordering;
 
 /// Returns the key that a value is, by a walk, or fault 5 for a value that is no key, 11 or 12.
+#[inline(always)]
 pub fn hash(heap: &mut Heap, x: Val) -> Result<Key, Halt>
     ensures says { Says (hash x (store_of heap.old)) result (store_of heap.new) }
     ensures kept { heap.new.objects ≡ heap.old.objects }

@@ -4,3 +4,4 @@ pub mod Strings
 pub mod Scan
 pub mod Depths
 pub mod PlainTexts
+pub mod Foreign

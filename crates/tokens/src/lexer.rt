@@ -1,5 +1,5 @@
 //! The tokens of a text.
-ghost use Rattle.std.specs.Prelude.{◌≡◌, ◌+◌, IfNone};
+ghost use Rattle.std.specs.Prelude.{◌≡◌, ◌+◌, ◌≤◌, ℕ, slice_index, IfNone};
 ghost use Rattle.std.specs.Str.{IsAscii};
 ghost use Rattle.tokens.specs.Lines.{scan, start};
 ghost use Rattle.tokens.specs.Reading.{foreign, tokens_of, Reads};
@@ -13,11 +13,27 @@ use crate::token::Lexeme;
 use meaning::faults;
 use std::alloc::Global;
 
-/// Returns the line of the first byte over 127, if there is one.
+// Returns a byte that none of the text exceeds.
+fn highest(text: &[u8]) -> u8
+    ensures { (k : ℕ) → slice_index text.now k ≤ result }
+{
+    let mut most = 0;
+    for b in text {
+        most = most.max(*b);
+    }
+    most
+}
+
+/// Returns the line of the first byte over 127, if there is one. Most texts have none, which is found without counting
+/// lines.
+#[tactic(auto, using(crate::proofs::Foreign::is_ascii))]
 fn foreign(text: &[u8]) -> Option<usize>
     ensures exact { result ≡ foreign 1 text.now }
     ensures ascii { IfNone result (IsAscii text.now) }
 {
+    if highest(text) < 128 {
+        return None;
+    }
     let mut line = 1;
     for b in text {
         if *b > 127 {

@@ -1,6 +1,5 @@
-use Rattle.std.proofs.Common.{◌≡◌, Vec, Global, ap, sym, subst, ◌∙◌}
-use Rattle.tree.specs.declared.stmt.Stmt.{Stmt}
-use Rattle.tree.specs.Statements.{stmts_of}
+use Rattle.std.proofs.Common.{◌≡◌, ap, sym, subst, ◌∙◌}
+use Rattle.std.specs.Arc.{arc_value}
 use Rattle.language.specs.World.{Ends, ended, then_runs, pure}
 use Rattle.language.specs.Names.{bind}
 use Rattle.language.specs.Statements as s
@@ -11,7 +10,7 @@ use Rattle.frames.specs.Frames.{Sig, Goes, an_exit, on, body, shared_suite, turn
 use Rattle.frames.specs.declared.frame.Ahead.{Ahead}
 use Rattle.frames.specs.Ahead.{LeadsTo, exited_as}
 use Rattle.frames.proofs.Suites.{stops4}
-use Rattle.frames.proofs.AtOnce.{led, handed_exit}
+use Rattle.frames.proofs.AtOnce.{led, handed_exit, same_suite}
 use Rattle.frames.proofs.loops.begin_named.Goals as goal
 
 pub returns-in-Err-clause-goes : goal.returns-in-Err-clause-goes
@@ -34,14 +33,13 @@ returns-in-Ok-Ended-clause-goes c = λ env n running.
     let after = world_of c.ahead.new.state in
     let j = stack_does env n here c.args.frames.now.items in
     let p = λ (x : s.Exit). pure (an_exit x) in
-    let ss = c.in_ok-body.body in
+    let ss = c.deref.result.now.body in
     let bound_is : bind c.args.name.now c.args.x h w ≡ ended tt bound = c.in_default.ensures.says u.line running in
     let rest = turns_behind env n here u in
     let says = body env n here (shared_suite ss) bound in
     let ends : says ≡ ended s.goes_on after = subst (λ (a : Ahead). LeadsTo env n here ss says a after) c.in-Ok-Ended.field-0-is (c.in-Ok-Ended.ensures.leads env n running) in
     ap (λ q. then_runs (then_runs (then_runs (then_runs q (λ _. body env n here (shared_suite u.body))) rest) p) j) bound_is
     ∙ ap (λ (d : Turns). then_runs (then_runs (then_runs (body env n here (shared_suite d.body) bound) rest) p) j) (sym c.deref.ensures)
-    ∙ ap (λ (d : Vec Stmt Global). then_runs (then_runs (then_runs (body env n here (stmts_of d.items) bound) rest) p) j) (sym c.in_ok-body.ensures)
     ∙ ap (λ q. then_runs (then_runs (then_runs q rest) p) j) ends
 
 pub returns-in_ok-push-in-Ok-clause-goes : goal.returns-in_ok-push-in-Ok-clause-goes
@@ -55,7 +53,9 @@ returns-in_ok-push-in-Ok-clause-goes c = λ env n running.
     let pushed = c.push.new.frames.items in
     let j = stack_does env n here frames in
     let p = λ (x : s.Exit). pure (an_exit x) in
-    let ss = c.in_ok-body.body in
+    let ss = c.deref.result.now.body in
+    let again = ap (λ (d : Turns). arc_value d.body) (c.deref.ensures ∙ sym c.deref-in-Ok.ensures) ∙ sym c.in_ok-body-in-Ok.ensures in
+    let leads = same_suite env n here ss c.in_ok-body-in-Ok.body (body env n here (shared_suite ss) bound) c.in-Ok.ahead (world_of c.ahead.new.state) again (c.in-Ok.ensures.leads env n running) in
     let pushed_is = c.in_ok-push-in-Ok.ensures.ok env n here in
     let bound_is : bind c.args.name.now c.args.x h w ≡ ended tt bound = c.in_default.ensures.says u.line running in
     let rest = turns_behind env n here u in
@@ -63,8 +63,7 @@ returns-in_ok-push-in-Ok-clause-goes c = λ env n running.
     let before =
     ap (λ q. then_runs (then_runs (then_runs (then_runs q (λ _. body env n here (shared_suite u.body))) rest) p) j) bound_is
     ∙ ap (λ (d : Turns). then_runs (then_runs (then_runs (body env n here (shared_suite d.body) bound) rest) p) j) (sym c.deref.ensures)
-    ∙ ap (λ (d : Vec Stmt Global). then_runs (then_runs (then_runs (body env n here (stmts_of d.items) bound) rest) p) j) (sym c.in_ok-body.ensures)
     ∙ handed_exit env n here c.args.turns frames pushed says pushed_is in
     let after = λ (control : Control). machine_does env n here control c.lead.new.frames.items (world_of c.ahead.new.state) in
-    let goes = led h.site (then_runs (exited_as says) (stack_does env n here pushed)) c.lead.result after (c.lead.ensures.goes env n here says (world_of c.ahead.new.state) (c.in-Ok.ensures.leads env n running)) c.lead.ensures.err in
+    let goes = led h.site (then_runs (exited_as says) (stack_does env n here pushed)) c.lead.result after (c.lead.ensures.goes env n here says (world_of c.ahead.new.state) leads) c.lead.ensures.err in
     subst (λ (q : Ends Sig). Goes h.site q c.lead.result after) (sym before) goes

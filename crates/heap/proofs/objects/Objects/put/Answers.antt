@@ -4,7 +4,7 @@ use Rattle.heap.specs.declared.heap_object.HeapObject.{HeapObject}
 use Rattle.heap.specs.declared.objects.Spot.TheVariants as s
 use Rattle.heap.specs.Objects.{object_of}
 use Rattle.heap.specs.View.{object_in}
-use Rattle.heap.proofs.Places.{Finds, seen_now, lent_kept_now, put_now, put_nothing}
+use Rattle.heap.proofs.Places.{Finds, seen_now, lent_there_now, put_now, put_nothing}
 use Rattle.heap.proofs.objects.Objects.put.Goals as goal
 
 pub returns-in-Own-clause-put : goal.returns-in-Own-clause-put
@@ -12,11 +12,11 @@ returns-in-Own-clause-put c =
     let fields = c.self.inside in
     put_now fields.own.items c.put_own.new.objects.items fields.ranges.items c.as_slice.result.now fields.from fields.lent c.args.place c.in-Own.i (object_of c.args.object) c.args.self.now c.self.view_is c.self.invariant c.as_slice.ensures.value c.in-Own.ensures.number c.put_own.ensures.put
 
-pub returns-in-Lent-Some-default-clause-kept : goal.returns-in-Lent-Some-default-clause-kept
-returns-in-Lent-Some-default-clause-kept c =
+pub returns-in-Lent-Some-default-clause-lent : goal.returns-in-Lent-Some-default-clause-lent
+returns-in-Lent-Some-default-clause-lent c =
     let fields = c.self.inside in
     let case = c.in-Lent-Some-default in
-    lent_kept_now fields.own.items fields.ranges.items c.as_slice.result.now fields.from fields.lent c.args.place case._base case._object c.args.self.now c.self.view_is c.self.invariant c.as_slice.ensures.value (subst (λ f. Finds c.as_slice.result.now fields.from fields.lent c.args.place (s.Lent f case._base)) case.object-is case.ensures.found)
+    lent_there_now fields.own.items fields.ranges.items c.as_slice.result.now fields.from fields.lent c.args.place case._base case._object c.args.self.now c.self.view_is c.self.invariant c.as_slice.ensures.value (subst (λ f. Finds c.as_slice.result.now fields.from fields.lent c.args.place (s.Lent f case._base)) case.object-is case.ensures.found)
 
 pub returns-in-Lent-None-default-clause-put : goal.returns-in-Lent-None-default-clause-put
 returns-in-Lent-None-default-clause-put c =
