@@ -1,12 +1,11 @@
 //! How suites, branches and loops go on.
-ghost use Rattle.std.specs.Prelude.{◌≡◌, ◌<◌, ◌+◌, ◌≤◌, length, IfOk};
+ghost use Rattle.std.specs.Prelude.{◌<◌, ◌+◌, ◌≤◌, length, IfOk};
 ghost use Rattle.std.specs.Arc.{arc_value};
-ghost use Rattle.tree.specs.View.{tree_of};
-ghost use Rattle.language.specs.World.{then_runs};
-ghost use Rattle.language.specs.Targets.{to_name};
+ghost use Rattle.tree.specs.View.{shared_tree};
+ghost use Rattle.language.specs.World.{then_runs, pure};
 ghost use Rattle.names.specs.View.{world_of};
 ghost use Rattle.frames.specs.Going.{GetsLighter, LeadsOn};
-ghost use Rattle.frames.specs.Frames.{Goes, on, an_aim, aims_at, frame_does, above, machine_does, suite_from, branches_from, suite_line, first_line};
+ghost use Rattle.frames.specs.Frames.{Goes, on, an_aim, an_exit, aims_at, frame_does, above, body, shared_suite, turns_behind, stack_does, machine_does, suite_from, branches_from, suite_line, first_line};
 ghost use Rattle.frames.specs.Weight.{frames_weight};
 ghost use Rattle.frames.specs.declared.frame.Control.TheVariants as c;
 ghost use Rattle.frames.specs.declared.frame.Frame.TheVariants as f;
@@ -22,8 +21,6 @@ use heap::{Halt, Val};
 use names::{Standing, State, bind, tick, unlock};
 use std::alloc::Global;
 use std::sync::Arc;
-use std::sync::atomic::AtomicUsize;
-use texts::Text;
 use tree::{Branch, Expr, Stmt};
 
 /// Goes on with a suite. Its statements are run at once, as far as they can be.
@@ -140,10 +137,8 @@ pub fn next_turn(
         return Err(halt);
     }
     let value = now.items[now.next];
-    let line = now.line;
-    let target = Arc::try_clone(&now.target)?;
     let next = next_turns(turns);
-    aim_turn(state, frames, at, line, &target, next, value)
+    aim_turn(state, frames, at, next, value)
 }
 
 // Aims at the target of a turn. A name is bound at once, and the body is next.
@@ -151,46 +146,46 @@ fn aim_turn(
     state: &mut State,
     frames: &mut Vec<Frame>,
     at: &Standing,
-    line: usize,
-    target: &Expr,
-    turns: Box<Turns>,
-    x: Val,
-) -> Result<Control, Halt>
-    requires { line ≡ turns.value.line }
-    ensures goes { LeadsOn at.now line
-        (λ env n here. then_runs (aims_at env n here (tree_of target.now) line (world_of state.old))
-        (λ a. above env n here (frame_does env n here (f.Turn turns x) (an_aim a))
-        frames.old.items)) result frames.new.items state.new }
-    ensures steps { IfOk result (λ _. state.new.heap.steps ≤ state.old.heap.steps) }
-{
-    match target {
-        Expr::Name(name, last) => begin_named(state, frames, at, name, last, turns, x),
-        _ => {
-            push(frames, Frame::Turn(turns, x))?;
-            begin_aim(state, frames, at, line, target)
-        }
-    }
-}
-
-// Binds the name that a turn is for, and runs the body at once, as far as it can be.
-fn begin_named(
-    state: &mut State,
-    frames: &mut Vec<Frame>,
-    at: &Standing,
-    name: &Text,
-    last: &AtomicUsize,
     turns: Box<Turns>,
     x: Val,
 ) -> Result<Control, Halt>
     ensures goes { LeadsOn at.now turns.value.line
-        (λ env n here. above env n here
-        (frame_does env n here (f.Turn turns x) (an_aim (to_name name.now))) frames.old.items
-        (world_of state.old)) result frames.new.items state.new }
+        (λ env n here. then_runs
+        (aims_at env n here (shared_tree turns.value.target) turns.value.line (world_of state.old))
+        (λ a. above env n here (frame_does env n here (f.Turn turns x) (an_aim a))
+        frames.old.items)) result frames.new.items state.new }
     ensures steps { IfOk result (λ _. state.new.heap.steps ≤ state.old.heap.steps) }
 {
-    if let Err(halt) = bind(state, at, name, last, x) {
-        return Err(halt);
+    match &*turns.target {
+        Expr::Name(name, last) => {
+            if let Err(halt) = bind(state, at, name, last, x) {
+                return Err(halt);
+            }
+            run_turn(state, frames, at, turns)
+        }
+        _ => {
+            let line = turns.line;
+            let target = Arc::try_clone(&turns.target)?;
+            push(frames, Frame::Turn(turns, x))?;
+            begin_aim(state, frames, at, line, &target)
+        }
     }
+}
+
+// Runs the body of a turn at once, as far as it can be.
+fn run_turn(
+    state: &mut State,
+    frames: &mut Vec<Frame>,
+    at: &Standing,
+    turns: Box<Turns>,
+) -> Result<Control, Halt>
+    ensures goes { LeadsOn at.now turns.value.line
+        (λ env n here. then_runs
+        (then_runs (then_runs (body env n here (shared_suite turns.value.body) (world_of state.old))
+        (turns_behind env n here turns.value)) (λ e. pure (an_exit e)))
+        (stack_does env n here frames.old.items)) result frames.new.items state.new }
+    ensures steps { IfOk result (λ _. state.new.heap.steps ≤ state.old.heap.steps) }
+{
     match ahead(state, at, &turns.body, 0) {
         Ok(Ahead::Ended) => Ok(Control::Turns(turns)),
         Ok(ahead) => {

@@ -68,8 +68,8 @@ returns-clause-goes c = λ env n running.
     let next : Turns = record u { next = k + 1 } in
     let before = ap (λ (l : List Val). then_runs (then_runs (then_runs (turns turn l w) unl) p) j) first
     ∙ ap (λ q. then_runs (then_runs (then_runs (then_runs (then_runs q (λ _. aims_at env n here target u.line >>= sb)) behind) unl) p) j) (tick_ends h w (store_of c.tick.new.heap) c.in_default.ensures.says)
-    ∙ turn_begins env n here frames w (aims_at env n here target u.line ticked) sb behind unl j
-    ∙ ap (λ (d : Turns). then_runs (aims_at env n here target u.line ticked) (λ a. above env n here (exited ((store a v (on env n here d.line) >>= λ _. body env n here (shared_suite d.body)) >>= turns_behind env n here d)) frames)) (sym (c.next_turns-next.ensures ∙ ap (λ (d : Turns). record d { next = d.next + 1 }) (sym c.deref-now.ensures)))
-    ∙ ap (λ (d : Expr). then_runs (aims_at env n here (tree_of d) u.line ticked) (λ a. above env n here (frame_does env n here (f.Turn c.next_turns-next.result v) (an_aim a)) frames)) (sym (c.deref.ensures ∙ c.in_ok-target.ensures)) in
+    ∙ turn_begins env n here frames w (aims_at env n here target u.line ticked) sb behind unl j in
     let after = λ (control : Control). machine_does env n here control c.aim_turn.new.frames.items (world_of c.aim_turn.new.state) in
-    subst (λ (d : Turns). Goes (on env n here d.line).site (above env n here (exited (turns_behind env n here d goes_on)) frames w) c.aim_turn.result after) c.deref-now.ensures (subst (λ (q : Ends Sig). Goes h.site q c.aim_turn.result after) (sym before) (c.aim_turn.ensures.goes env n running))
+    let Says = λ (d : Turns). Goes (on env n here d.line).site (then_runs (aims_at env n here (shared_tree d.target) d.line ticked) (λ a. above env n here (exited ((store a v (on env n here d.line) >>= λ _. body env n here (shared_suite d.body)) >>= turns_behind env n here d)) frames)) c.aim_turn.result after in
+    let says : Says next = subst Says (c.next_turns-next.ensures ∙ ap (λ (d : Turns). record d { next = d.next + 1 }) (sym c.deref-now.ensures)) (c.aim_turn.ensures.goes env n running) in
+    subst (λ (d : Turns). Goes (on env n here d.line).site (above env n here (exited (turns_behind env n here d goes_on)) frames w) c.aim_turn.result after) c.deref-now.ensures (subst (λ (q : Ends Sig). Goes h.site q c.aim_turn.result after) (sym before) says)
