@@ -49,7 +49,6 @@ impl From<texts::Memory> for Stop {
 }
 
 /// Returns the number of a symbol.
-#[inline(always)]
 fn code(symbol: Symbol) -> u8
     ensures { result ≡ code symbol }
 {
@@ -103,7 +102,6 @@ fn code(symbol: Symbol) -> u8
     }
 }
 
-#[inline(always)]
 #[tactic(auto, unfolding(grammar::specs::Front::same))]
 fn same(a: Symbol, b: Symbol) -> bool
     ensures { result ≡ same a b }
@@ -113,7 +111,6 @@ fn same(a: Symbol, b: Symbol) -> bool
 
 /// Says whether an expression may go on with a symbol. Those are a dot, an opening bracket, a binary operator, the `not`
 /// of `not in` and the `if` of a choice.
-#[inline(always)]
 #[tactic(auto, unfolding(crate::specs::Alone::joins, grammar::specs::Front::same))]
 fn joins(symbol: Symbol) -> bool
     ensures { result ≡ joins symbol }
@@ -143,7 +140,6 @@ fn joins(symbol: Symbol) -> bool
 }
 
 /// Says whether an expression may go on with the next token.
-#[inline(always)]
 #[tactic(auto, unfolding(grammar::specs::Front::is_at, crate::specs::Alone::goes_on, crate::specs::Alone::joins))]
 fn goes_on(rest: &[Lexeme<'_>]) -> bool
     ensures { result ≡ goes_on (map lex_of rest.now) }
@@ -168,7 +164,6 @@ pub struct Tokens<'a, 't> {
 
 impl<'a, 't> Tokens<'a, 't> {
     /// Returns how many tokens are left.
-    #[inline(always)]
     pub fn len(&self) -> usize
         ensures { result ≡ length (left self.now) }
     {
@@ -176,7 +171,6 @@ impl<'a, 't> Tokens<'a, 't> {
     }
 
     /// Returns whether that symbol is the next token.
-    #[inline(always)]
     #[tactic(auto, unfolding(grammar::specs::Front::is_at))]
     pub fn is_at(&self, wanted: Symbol) -> bool
         ensures { result ≡ is_at wanted (left self.now) }
@@ -193,7 +187,6 @@ impl<'a, 't> Tokens<'a, 't> {
     }
 
     /// Says whether the next token is a whole expression: a name, a number or a string that does not go on.
-    #[inline(always)]
     #[tactic(auto, unfolding(crate::specs::Alone::is_alone))]
     pub(crate) fn is_alone(&self) -> bool
         ensures { result ≡ is_alone (left self.now) }
@@ -210,7 +203,6 @@ impl<'a, 't> Tokens<'a, 't> {
     }
 
     /// Takes the next token, whatever it is.
-    #[inline(always)]
     #[tactic(auto, unfolding(grammar::specs::Front::tail))]
     pub fn skip(&mut self)
         ensures { left self.new ≡ tail (left self.old) }
@@ -221,7 +213,6 @@ impl<'a, 't> Tokens<'a, 't> {
     }
 
     /// Takes the next token, if it is that symbol.
-    #[inline(always)]
     pub fn eat(&mut self, wanted: Symbol) -> bool
         ensures found { result ≡ is_at wanted (left self.old) }
         ensures rest { left self.new ≡ (if result then tail (left self.old) else left self.old) }
@@ -234,7 +225,6 @@ impl<'a, 't> Tokens<'a, 't> {
     }
 
     /// Takes that symbol.
-    #[inline(always)]
     pub fn expect(&mut self, wanted: Symbol) -> Result<(), Stop>
         ensures { Reads (λ _. tt) (expect wanted (left self.old)) result (left self.new) }
     {
@@ -246,7 +236,6 @@ impl<'a, 't> Tokens<'a, 't> {
     }
 
     /// Returns the line of the next token.
-    #[inline(always)]
     #[tactic(auto, unfolding(grammar::specs::Front::line_at))]
     pub fn line(&self) -> usize
         ensures { result ≡ line_at (left self.now) }
@@ -258,7 +247,6 @@ impl<'a, 't> Tokens<'a, 't> {
     }
 
     /// Returns the name that the next token is, if it is one.
-    #[inline(always)]
     #[tactic(auto, unfolding(grammar::specs::Front::name_at))]
     pub fn name(&self) -> Option<Ascii<'t>>
         ensures { option_map (λ x. x.bytes.now) result ≡ name_at (left self.now) }
@@ -316,7 +304,6 @@ impl<'a, 't> Tokens<'a, 't> {
     }
 
     /// Takes the next token.
-    #[inline(always)]
     #[tactic(auto, unfolding(grammar::specs::Front::tail))]
     pub fn take(&mut self) -> Option<Token<'t>>
         ensures { Takes (left self.old) result (left self.new) }
@@ -348,7 +335,6 @@ impl<'a, 't> Tokens<'a, 't> {
     }
 
     /// Returns whether no token is left.
-    #[inline(always)]
     #[tactic(auto, unfolding(grammar::specs::Front::is_end))]
     pub fn is_end(&self) -> bool
         ensures { result ≡ is_end (left self.now) }

@@ -21,7 +21,6 @@ pub fn slot_in(block: &Block, x: &Text, last: &AtomicUsize) -> Option<Option<Val
 }
 
 // Returns the value of a name of a block, if the name stands where it was found last and is bound.
-#[inline(always)]
 fn value_there(block: &Block, x: &Text, last: &AtomicUsize) -> Option<Val>
     ensures { IfSome result (λ v. slot_in x.now (held block.now) ≡ Some (Some v)) }
 {
@@ -35,7 +34,6 @@ fn value_there(block: &Block, x: &Text, last: &AtomicUsize) -> Option<Val>
 
 /// Returns the value of a name that the innermost block has where the name was found last, if it is bound there. That is
 /// how most names are found; nothing is said of the others.
-#[inline(always)]
 pub(crate) fn innermost(blocks: &[Block], x: &Text, last: &AtomicUsize) -> Option<Val>
     ensures { IfSome result (λ v. slot_among x.now (map held blocks.now) ≡ Some (Some v)) }
 {
@@ -70,7 +68,6 @@ pub fn file_at(files: &[FileNames], label: &Text) -> Option<usize>
 }
 
 // Binds the name that stands first at a place of a block.
-#[inline(always)]
 fn bind_at(block: &mut Block, x: &Text, place: usize, value: Val)
     requires { FirstSo (is_slot x.now) block.old.slots.items place }
     ensures { held block.new ≡ bind_in x.now value (held block.old) }
@@ -90,7 +87,6 @@ pub fn bind_in(block: &mut Block, x: &Text, last: &AtomicUsize, value: Val)
 }
 
 // Binds a name of the innermost block, if the name stands where it was found last. Returns whether it does.
-#[inline(always)]
 fn bind_innermost(blocks: &mut Vec<Block>, x: &Text, last: &AtomicUsize, value: Val) -> bool
     ensures had { result ≡ true → is_some (slot_among x.now (map held blocks.old.items)) ≡ true }
     ensures bound { result ≡ true
@@ -111,7 +107,6 @@ fn bind_innermost(blocks: &mut Vec<Block>, x: &Text, last: &AtomicUsize, value: 
 }
 
 // Binds a name in the first block that has it, and returns whether there is one.
-#[inline(never)]
 fn bind_first(blocks: &mut Vec<Block>, x: &Text, last: &AtomicUsize, value: Val) -> bool
     ensures had { result ≡ is_some (slot_among x.now (map held blocks.old.items)) }
     ensures bound { map held blocks.new.items ≡ bind_among x.now value (map held blocks.old.items) }

@@ -16,7 +16,6 @@ use texts::{Memory, Text};
 const FEW: usize = 16;
 
 // Returns whether two names are the same. Names are short, so their bytes are compared one by one.
-#[inline(always)]
 fn is_same(x: &Text, y: &Text) -> bool
     ensures { result ≡ same_text x.now y.now }
 {
@@ -46,7 +45,6 @@ fn first_place(slots: &[Slot], x: &Text) -> Option<usize>
 }
 
 /// Returns whether a name is known to stand first at a place.
-#[inline(always)]
 pub(crate) fn is_at(block: &Block, x: &Text, place: usize) -> bool
     ensures { result ≡ true → FirstSo (is_slot x.now) block.now.slots.items place }
 {

@@ -28,7 +28,6 @@ fn file_slot(files: &[FileNames], label: &Text, x: &Text, last: &AtomicUsize) ->
 
 /// Returns what a name has in a scope: in one of the blocks, else as a global of the file. `last` is where it was found
 /// last.
-#[inline(never)]
 pub fn slot_in_scope(scope: &Scope<'_>, x: &Text, last: &AtomicUsize) -> Option<Option<Val>>
     ensures { result ≡ or_else (slot_among x.now (map held scope.now.blocks.now))
         (file_slot x.now (names_at scope.now.at.now.label (map names_of scope.now.files.now))) }
@@ -54,7 +53,6 @@ pub fn slot(state: &State, at: &Standing, x: &Text, last: &AtomicUsize) -> Optio
 }
 
 // Returns the value of a universal name.
-#[inline(never)]
 fn read_universal(at: &Standing, x: &Text) -> Result<Val, Halt>
     ensures { (line : ℕ) (running : List (List ℕ × List ℕ)) (w : World)
         → let here = here_of at.now line running in Ran here.site (read_universal x.now here w)
@@ -70,7 +68,6 @@ fn read_universal(at: &Standing, x: &Text) -> Result<Val, Halt>
 }
 
 /// Returns the value of a name in a scope. Returns fault 4 if it has none, and 5 for `native` that is not before a dot.
-#[inline(always)]
 pub fn read_in_scope(scope: &Scope<'_>, x: &Text, last: &AtomicUsize) -> Result<Val, Halt>
     ensures { (line : ℕ) (running : List (List ℕ × List ℕ)) (store : Store) (targets : List Target)
         → let here = here_of scope.now.at.now line running in let w = world_in store scope.now
@@ -111,7 +108,6 @@ pub fn is_native_name(state: &State, at: &Standing, x: &Text, last: &AtomicUsize
 }
 
 /// Binds a name in the innermost block that has it, else as a global. Returns fault 26 if the global is bound.
-#[inline(always)]
 pub fn bind(
     state: &mut State,
     at: &Standing,
@@ -131,7 +127,6 @@ pub fn bind(
 }
 
 // Binds a global that is not bound.
-#[inline(never)]
 fn bind_global(
     files: &mut Vec<FileNames>,
     at: &Standing,

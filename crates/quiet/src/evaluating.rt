@@ -84,7 +84,6 @@ pub fn values(heap: &mut Heap, scope: &Scope<'_>, es: &[Expr]) -> Result<Vec<Val
 }
 
 // Makes a tuple of the values of several expressions.
-#[inline(never)]
 #[cycle(values)]
 fn tuple(heap: &mut Heap, scope: &Scope<'_>, es: &[Expr]) -> Result<Val, Halt>
     requires { quiets (is_free scope.now) (trees_of es.now) ≡ true }
@@ -100,7 +99,6 @@ fn tuple(heap: &mut Heap, scope: &Scope<'_>, es: &[Expr]) -> Result<Val, Halt>
 }
 
 // Makes a list of the values of several expressions.
-#[inline(never)]
 #[cycle(values)]
 fn list(heap: &mut Heap, scope: &Scope<'_>, es: &[Expr]) -> Result<Val, Halt>
     requires { quiets (is_free scope.now) (trees_of es.now) ≡ true }
@@ -116,7 +114,6 @@ fn list(heap: &mut Heap, scope: &Scope<'_>, es: &[Expr]) -> Result<Val, Halt>
 }
 
 // Evaluates an operator before an expression.
-#[inline(never)]
 #[cycle(values)]
 fn operated(heap: &mut Heap, scope: &Scope<'_>, op: UnaryOp, a: &Expr) -> Result<Val, Halt>
     requires { quiet (is_free scope.now) (tree_of a.now) ≡ true }
@@ -183,7 +180,6 @@ fn second(heap: &mut Heap, scope: &Scope<'_>, op: BinaryOp, x: Val, b: &Expr) ->
 }
 
 // Evaluates one of two expressions, by a condition.
-#[inline(never)]
 #[cycle(values)]
 fn choice(heap: &mut Heap, scope: &Scope<'_>, a: &Expr, c: &Expr, b: &Expr) -> Result<Val, Halt>
     requires first { quiet (is_free scope.now) (tree_of a.now) ≡ true }
@@ -204,7 +200,6 @@ fn choice(heap: &mut Heap, scope: &Scope<'_>, a: &Expr, c: &Expr, b: &Expr) -> R
 }
 
 // Evaluates an index.
-#[inline(never)]
 #[cycle(values)]
 fn member(heap: &mut Heap, scope: &Scope<'_>, a: &Expr, i: &Expr) -> Result<Val, Halt>
     requires first { quiet (is_free scope.now) (tree_of a.now) ≡ true }
@@ -225,7 +220,6 @@ fn member(heap: &mut Heap, scope: &Scope<'_>, a: &Expr, i: &Expr) -> Result<Val,
 }
 
 // Evaluates a slice.
-#[inline(never)]
 #[cycle(values)]
 fn part(
     heap: &mut Heap,
@@ -285,7 +279,6 @@ fn plain(e: &Expr) -> Option<Builtin>
 }
 
 // Calls a function that every file has. The name of the function is a node, too.
-#[inline(never)]
 #[cycle(values)]
 fn of_function(
     heap: &mut Heap,
@@ -316,7 +309,6 @@ fn of_function(
 }
 
 // Calls a method of a value.
-#[inline(never)]
 #[cycle(values)]
 fn of_method(
     heap: &mut Heap,
