@@ -12,8 +12,8 @@ one check, over the work that `rt check` kept, and each has to be refused in its
 
 A digest covers what the outcome hangs on: the crate's sources, definitions, proofs and edits, the definitions and
 contracts of the crates below that these name, or that those name in turn, and the kit's logic. Comments, idle
-imports and hints on inlining count for nothing. It is written where all edits of the crate were refused. The status is 1 where one is not
-refused, where an edit cannot be tried, or where a crate with contracts has none."""
+imports and hints on inlining count for nothing. It is written where all edits of the crate were refused. The status
+is 1 where one is not refused, where an edit cannot be tried, or where a crate with contracts has none."""
 import argparse
 import collections
 import fcntl
