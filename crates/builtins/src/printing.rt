@@ -7,7 +7,7 @@ ghost use Rattle.builtins.specs.TextBuffers.{kept, more, before, Tells};
 
 use crate::quoting::write_quoted;
 use crate::text_buffer::TextBuffer;
-use heap::{Builtin, Entries, Entry, Halt, Look, Members, Objects, Val, object_at, tick, val_at};
+use heap::{Builtin, Entries, Entry, Halt, Look, Members, Objects, Val, tick};
 use itoa::Buffer;
 use meaning::faults;
 use texts::Memory;
@@ -103,12 +103,14 @@ fn print_object(
         (shown_object (slice_get (map object_in objects.now) place))) steps.old (kept out.old)
         result steps.new (kept out.new) }
 {
-    match object_at(objects, place)? {
+    match objects.look(place)? {
         Some(Look::Text(bytes)) => print_text(steps, bytes.as_slice(), out)?,
         Some(Look::List { members, .. }) => print_list(objects, steps, &members, left, out)?,
         Some(Look::Tuple(members)) => print_tuple(objects, steps, &members, left, out)?,
         Some(Look::Dict { entries, .. }) => print_dict(objects, steps, &entries, left, out)?,
-        Some(Look::Function(_, name)) => print_function(steps, name.as_slice(), out)?,
+        Some(Look::Function(_, name)) => {
+            print_function(steps, name.as_str().as_bytes(), out)?;
+        }
         None => {
             tick(steps)?;
             return Err(Halt::Code(faults::WRONG_TYPE));
@@ -208,7 +210,7 @@ fn print_members(
         (kept out.old) result steps.new (kept out.new) }
 {
     for i in 0..members.len() {
-        let Some(x) = val_at(members, i) else {
+        let Some(x) = members.get(i) else {
             return Ok(());
         };
         write_before(out, i)?;

@@ -117,9 +117,10 @@ fn taken(
     }
 }
 
-// Returns the parameters with their values, or fault 25.
+// Returns the parameters with their values, or fault 25. Room is made for so many slots.
 fn given(
     alloc: Global,
+    room: usize,
     params: &[Param],
     plain: &[Val],
     names: &[Text],
@@ -129,7 +130,7 @@ fn given(
     ensures { Blocks (given (map param_of params.now) plain.now (zip names.now values.now)
         defaults.now) result }
 {
-    let mut block = Vec::new(alloc);
+    let mut block = Vec::with_capacity(alloc, room)?;
     let mut left = plain;
     let mut others = defaults;
     for param in params.iter() {
@@ -174,5 +175,6 @@ pub fn arguments(
     if !are_parameters(names, values, params) {
         return Err(Halt::Code(faults::WRONG_ARGUMENTS));
     }
-    given(alloc, params, plain, names, values, defaults)
+    let room = def.names.len();
+    given(alloc, room, params, plain, names, values, defaults)
 }

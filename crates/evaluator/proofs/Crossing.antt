@@ -43,6 +43,7 @@ use Rattle.frames.specs.contracts.frame.Comprehension
 use Rattle.frames.specs.contracts.frame.Control
 use Rattle.frames.specs.contracts.frame.Frame
 use Rattle.frames.specs.contracts.frame.Gathering
+use Rattle.frames.specs.contracts.frame.MethodCall
 use Rattle.frames.specs.contracts.frame.Signal
 use Rattle.frames.specs.contracts.frame.Turns
 use Rattle.evaluator.proofs.Trees.{trees_cross}
@@ -52,10 +53,10 @@ use Rattle.evaluator.specs.contracts.outcome.Suspended
 
 -- modules
 frozen_send : IsSend FrozenValue.the_row
-frozen_send = search (LaidSends.the_send, LaidSends.the_sync, crosses, frozen.crosses_both, sendable) depth 60 fits 20000
+frozen_send = search (LaidSends.the_send, LaidSends.the_sync, TextSends.the_send, TextSends.the_sync, crosses, frozen.crosses_both, sendable) depth 60 fits 20000
 
 frozen_sync : IsSync FrozenValue.the_row
-frozen_sync = search (LaidSends.the_send, LaidSends.the_sync, crosses, frozen.crosses_both, sendable) depth 60 fits 20000
+frozen_sync = search (LaidSends.the_send, LaidSends.the_sync, TextSends.the_send, TextSends.the_sync, crosses, frozen.crosses_both, sendable) depth 60 fits 20000
 
 function_send : IsSend Function.the_row
 function_send = search trees_cross depth 60 fits 20000
@@ -101,6 +102,12 @@ turns_field_send = search (plain_cross, trees_cross) depth 60 fits 20000
 turns_send : IsSend Turns.the_row
 turns_send = search (turns_field_send, recorded_send)
 
+method_call_field_send : IsSend (MethodCall.the_field).row
+method_call_field_send = search (plain_cross, trees_cross) depth 60 fits 20000
+
+method_call_send : IsSend MethodCall.the_row
+method_call_send = search (method_call_field_send, recorded_send)
+
 gathering_field_send : IsSend (Gathering.the_field).row
 gathering_field_send = search (comprehension_send, comprehension_sync, plain_cross, trees_cross) depth 60 fits 20000
 
@@ -120,6 +127,8 @@ ruleset running_crosses = (aim_send, aim_field_send, comprehension_send, compreh
 -- apart: to tell the rows of `Turns` and of `Branch` from one another would cost each search many steps
 ruleset turns_cross = (turns_field_send, turns_send, plain_cross, crosses, sendable)
 
+ruleset method_call_crosses = (method_call_field_send, method_call_send, plain_cross, crosses, sendable)
+
 frame_field_send : IsSend (Frame.the_field).row
 frame_field_send = enum_send (shape Frame.the_type) ((search running_crosses depth 20) besides (search running_crosses depth 20) besides (search running_crosses depth 20) besides (search running_crosses depth 20) besides
     (search running_crosses depth 20) besides (search running_crosses depth 20) besides (search running_crosses depth 20) besides (search running_crosses depth 20) besides
@@ -137,7 +146,7 @@ control_field_send : IsSend (Control.the_field).row
 control_field_send = enum_send (shape Control.the_type) ((search running_crosses depth 20) besides (search running_crosses depth 20) besides (search running_crosses depth 20) besides (search running_crosses depth 20) besides
     (search running_crosses depth 20) besides (search running_crosses depth 20) besides (search running_crosses depth 20) besides (search running_crosses depth 20) besides
     (search turns_cross depth 20) besides (search running_crosses depth 20) besides (search running_crosses depth 20) besides (search running_crosses depth 20) besides
-    (search running_crosses depth 20) besides (search running_crosses depth 20) besides (search running_crosses depth 20) besides (search running_crosses depth 20) besides
+    (search running_crosses depth 20) besides (search running_crosses depth 20) besides (search method_call_crosses depth 20) besides (search running_crosses depth 20) besides
     (search running_crosses depth 20) besides (search running_crosses depth 20) besides (search running_crosses depth 20) besides (search running_crosses depth 20) besides
     (search running_crosses depth 20) besides tt)
 

@@ -11,6 +11,7 @@ use Rattle.tree.specs.declared.def.Def.{Def}
 use Rattle.names.specs.declared.aims.Aim.{Aim}
 use Rattle.frames.specs.declared.frame.Comprehension.{Comprehension}
 use Rattle.frames.specs.declared.frame.Control.{Control}
+use Rattle.frames.specs.declared.frame.MethodCall.{MethodCall}
 use Rattle.frames.specs.declared.frame.Control.TheVariants as c
 use Rattle.frames.specs.Frames.{is_within}
 use Rattle.frames.specs.Weight.{Lighter, control_weight}
@@ -26,7 +27,7 @@ pub within : (k : Control) → IsActing k
     → ((line : ℕ) (target : Arc Expr Global) (of : Arc Comprehension Global) (x : Val) → k ≡ c.First line target of x → ⊥)
     → ((line place : ℕ) (xs : Vec Val Global) (names : Arc (Vec Text Global) Global) → k ≡ c.Enter line place xs names → ⊥)
     → ((line : ℕ) (f : Builtin) (xs : Vec Val Global) (names : Arc (Vec Text Global) Global) → k ≡ c.Builtin line f xs names → ⊥)
-    → ((line : ℕ) (x : Val) (name : Text) (xs : Vec Val Global) (names : Arc (Vec Text Global) Global) → k ≡ c.Method line x name xs names → ⊥)
+    → ((line : ℕ) (call : Box MethodCall Global) → k ≡ c.Method line call → ⊥)
     → ((line : ℕ) (aim : Box Aim Global) (x y : Val) → k ≡ c.Add line aim x y → ⊥)
     → ((line : ℕ) (def : Arc Def Global) (xs : Vec Val Global) → k ≡ c.Define line def xs → ⊥)
     → is_within k ≡ true
@@ -44,7 +45,7 @@ within (c.Gather turns got) a p q r s t u = refl
 within (c.First line target of x) a p q r s t u = absurd (p line target of x refl)
 within (c.Enter line place xs names) a p q r s t u = absurd (q line place xs names refl)
 within (c.Builtin line f xs names) a p q r s t u = absurd (r line f xs names refl)
-within (c.Method line x name xs names) a p q r s t u = absurd (s line x name xs names refl)
+within (c.Method line call) a p q r s t u = absurd (s line call refl)
 within (c.Package line f xs names) a p q r s t u = absurd a
 within (c.Tops file next) a p q r s t u = refl
 within (c.Defaults line def next done) a p q r s t u = refl

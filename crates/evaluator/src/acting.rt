@@ -9,8 +9,8 @@ ghost use Rattle.frames.specs.Weight.{Lighter, frames_weight, control_weight};
 ghost use Rattle.frames.specs.declared.frame.Control.TheVariants as c;
 
 use calls::{comprehension_block, keep_defaults};
-use frames::{Comprehension, Control, Exit, Frame, Gathering, Signal, push};
-use heap::{Builtin, Bytes, Halt, Object, Val};
+use frames::{Comprehension, Control, Exit, Frame, Gathering, MethodCall, Signal, push};
+use heap::{Builtin, Halt, Object, Val};
 use names::{
     Aim, Block, Standing, State, add, bind, call_builtin, call_method, items, lock, nothing_yet,
     store,
@@ -41,22 +41,21 @@ pub fn built_in(
 }
 
 /// Calls a method of a value.
-pub fn of_value(
-    state: &mut State,
-    line: usize,
-    x: Val,
-    name: Text,
-    xs: Vec<Val>,
-    names: Arc<Vec<Text>, Global>,
-) -> Result<Control, Halt>
+pub fn of_value(state: &mut State, line: usize, call: Box<MethodCall>) -> Result<Control, Halt>
     ensures goes { (env : Env) (n : ℕ) (here : Here) (frames : List Frame)
         → Goes (on env n here line).site
-        (machine_does env n here (c.Method line x name xs names) frames (world_of state.old)) result
+        (machine_does env n here (c.Method line call) frames (world_of state.old)) result
         (λ control. machine_does env n here control frames (world_of state.new)) }
     ensures light { IfOk result (λ control. (state.new.heap.steps ≤ state.old.heap.steps)
         × (control_weight control ≡ 0)) }
 {
-    let value = call_method(&mut state.heap, x, &name, xs.as_slice(), names.as_slice())?;
+    let value = call_method(
+        &mut state.heap,
+        call.receiver,
+        &call.name,
+        call.arguments.as_slice(),
+        call.names.as_slice(),
+    )?;
     Ok(Control::Signal(Signal::Value(value)))
 }
 
@@ -135,10 +134,9 @@ pub fn define(
         × (control_weight control ≡ 0)) }
 {
     let name = &def.name;
-    let label = Bytes::of_text(at.label.share()?);
     let made = state
         .heap
-        .make(Object::Function(label, Bytes::of_text(name.share()?)))?;
+        .make(Object::Function(at.label.share()?, name.share()?))?;
     if let Err(halt) = keep_defaults(state, &at.label, name, xs) {
         return Err(halt);
     }

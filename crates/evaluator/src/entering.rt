@@ -45,8 +45,8 @@ fn function_at(heap: &Heap, place: usize) -> Result<FunctionName, Halt>
 {
     match heap.object(place)? {
         Some(Look::Function(label, name)) => Ok(FunctionName {
-            label: label.share()?,
-            name: name.share()?,
+            label: Bytes::of_text(label.share()?),
+            name: Bytes::of_text(name.share()?),
         }),
         _ => Err(Halt::Code(faults::WRONG_TYPE)),
     }

@@ -112,13 +112,7 @@ fn act(m: &mut Machine, e: &Setting<'_>, control: Control) -> Result<Control, Ha
             arguments: xs,
             names,
         } => built_in(&mut m.state, line, f, xs, names),
-        Control::Method {
-            line,
-            receiver: x,
-            name,
-            arguments: xs,
-            names,
-        } => { of_value(&mut m.state, line, x, name, xs, names) }
+        Control::Method { line, call } => of_value(&mut m.state, line, call),
         Control::Add {
             line,
             aim,

@@ -97,6 +97,15 @@ pub struct Pairs {
     pub done: IndexMap<Key, Entry>,
 }
 
+/// A call of a method: the receiver, the method, the arguments, and the names of the last ones.
+#[derive(Drop)]
+pub struct MethodCall {
+    pub receiver: Val,
+    pub name: Text,
+    pub arguments: Vec<Val>,
+    pub names: Arc<Vec<Text>, Global>,
+}
+
 /// Where a call goes back to: where the caller stands, its blocks, and how many more calls may be open there.
 #[derive(Drop)]
 pub struct Caller {
@@ -379,13 +388,10 @@ pub enum Control {
         arguments: Vec<Val>,
         names: Arc<Vec<Text>, Global>,
     },
-    /// A call of a method.
+    /// A call of a method. Boxed, so that what comes next is small.
     Method {
         line: usize,
-        receiver: Val,
-        name: Text,
-        arguments: Vec<Val>,
-        names: Arc<Vec<Text>, Global>,
+        call: Box<MethodCall>,
     },
     /// A package call.
     Package {

@@ -14,7 +14,7 @@ ghost use Rattle.frames.specs.Weight.{frames_weight, control_weight};
 ghost use Rattle.frames.specs.declared.frame.Control.TheVariants as c;
 
 use crate::begin::{begin, begin_parts};
-use crate::frame::{Control, Frame, Purpose, Receiver, Series, Signal};
+use crate::frame::{Control, Frame, MethodCall, Purpose, Receiver, Series, Signal};
 use crate::making::items_of;
 use crate::once::one_item;
 use crate::stack::push;
@@ -69,6 +69,7 @@ fn apply(line: usize, g: Val, xs: Vec<Val>, names: Arc<Vec<Text>, Global>) -> Re
 // Begins a call of a method. A method of `native` is a package call; one that it does not have is fault 5.
 #[tactic(auto, unfolding(language::specs::Expressions::apply_method))]
 fn apply_method(
+    alloc: Global,
     line: usize,
     r: Receiver,
     name: Text,
@@ -94,13 +95,16 @@ fn apply_method(
             }),
             None => Err(Halt::Code(faults::WRONG_TYPE)),
         },
-        Receiver::Of(x) => Ok(Control::Method {
-            line,
-            receiver: x,
-            name,
-            arguments: xs,
-            names,
-        }),
+        Receiver::Of(x) => {
+            let call = MethodCall {
+                receiver: x,
+                name,
+                arguments: xs,
+                names,
+            };
+            let call = Box::new(alloc, call)?;
+            Ok(Control::Method { line, call })
+        }
     }
 }
 
@@ -116,7 +120,9 @@ fn use_items(state: &mut State, line: usize, xs: Vec<Val>, p: Purpose) -> Result
         Purpose::Tuple => Ok(Control::Signal(Signal::Value(make_tuple(&mut state.heap, xs)?))),
         Purpose::List => Ok(Control::Signal(Signal::Value(make_list(&mut state.heap, xs)?))),
         Purpose::Call(g, names) => apply(line, g, xs, names),
-        Purpose::Method(r, name, names) => apply_method(line, r, name, xs, names),
+        Purpose::Method(r, name, names) => {
+            apply_method(state.heap.alloc, line, r, name, xs, names)
+        }
     }
 }
 

@@ -26,8 +26,8 @@ mod tops;
 
 pub use deliver::given_by;
 pub use frame::{
-    Caller, Comprehension, Control, Exit, Frame, Gathering, Item, Pairs, Purpose, Receiver, Series,
-    Signal, Turns,
+    Caller, Comprehension, Control, Exit, Frame, Gathering, Item, MethodCall, Pairs, Purpose,
+    Receiver, Series, Signal, Turns,
 };
 pub use moves::hand_down;
 pub use places::{control_line, frame_line};

@@ -160,11 +160,9 @@ pub fn reach_control(reached: &mut LiveObjects, control: &Control) -> Result<(),
             ..
         } => reach_arguments(reached, Val::At(*place), xs.as_slice()),
         Control::Builtin { arguments: xs, .. } => reached.add_all(xs.as_slice()),
-        Control::Method {
-            receiver: x,
-            arguments: xs,
-            ..
-        } => reach_arguments(reached, *x, xs.as_slice()),
+        Control::Method { call, .. } => {
+            reach_arguments(reached, call.receiver, call.arguments.as_slice())
+        }
         Control::Package { arguments: xs, .. } => reached.add_all(xs.as_slice()),
         Control::Add {
             aim,

@@ -3,6 +3,7 @@
 use heap::{Builtin, Bytes};
 use std::alloc::Global;
 use std::sync::Arc;
+use texts::Text;
 
 /// A value that a file's evaluation leaves. What it holds is shared.
 #[cycle(frozen)]
@@ -18,7 +19,7 @@ pub enum Frozen {
     /// The entries, in the dictionary's order.
     Dict(Arc<Vec<FrozenEntry>, Global>),
     /// A function of a file: the file's label, and the name.
-    Function(Bytes, Bytes),
+    Function(Text, Text),
 }
 
 impl Drop for Frozen {

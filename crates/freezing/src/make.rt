@@ -7,7 +7,7 @@ use crate::frozen::{Frozen, FrozenEntry};
 use heap::{Builtin, Bytes};
 use std::alloc::Global;
 use std::sync::Arc;
-use texts::Memory;
+use texts::{Memory, Text};
 
 impl Frozen {
     /// Makes `None`.
@@ -68,7 +68,7 @@ impl Frozen {
     }
 
     /// Makes a function of a file, by the file's label and the name.
-    pub fn function(label: Bytes, name: Bytes) -> Frozen
+    pub fn function(label: Text, name: Text) -> Frozen
         ensures { frozen_of result ≡ function label name }
     {
         Frozen::Function(label, name)

@@ -5,7 +5,7 @@ ghost use Rattle.heap.specs.View.{object_in};
 ghost use Rattle.freezing.specs.View.{frozen_of, SaysFrozen, SaysMembers, SaysEntry, SaysEntries};
 
 use crate::frozen::{Frozen, FrozenEntry};
-use heap::{Entries, Entry, Halt, Look, Members, Objects, Val, object_at, tick, val_at};
+use heap::{Entries, Entry, Halt, Look, Members, Objects, Val, tick};
 use meaning::faults;
 use std::alloc::Global;
 
@@ -51,7 +51,7 @@ fn freeze_object(
     ensures { SaysFrozen (visit_held (inner_freeze left (map object_in objects.now))
         (held_object (slice_get (map object_in objects.now) place)) steps.old) result steps.new }
 {
-    match object_at(objects, place)? {
+    match objects.look(place)? {
         Some(Look::Text(bytes)) => settled(steps, Frozen::text(bytes.share()?)),
         Some(Look::List { members, .. }) => freeze_list(alloc, objects, steps, &members, left),
         Some(Look::Tuple(members)) => freeze_tuple(alloc, objects, steps, &members, left),
@@ -123,7 +123,7 @@ fn freeze_members(
 {
     let mut all = Vec::new(alloc);
     for i in 0..members.len() {
-        let Some(x) = val_at(members, i) else {
+        let Some(x) = members.get(i) else {
             return Ok(all);
         };
         match freeze(alloc, objects, steps, x, left) {

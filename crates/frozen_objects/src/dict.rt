@@ -1,5 +1,5 @@
 //! Dictionaries of frozen values.
-ghost use Rattle.std.specs.Prelude.{◌≡◌, [], length, slice_get, option_map, ◌<◌, ◌^◌, IfOk, OnOk};
+ghost use Rattle.std.specs.Prelude.{◌≡◌, [], length, slice_get, option_map, ◌<◌, ◌^◌, IfOk, OnOk, OnErr};
 ghost use Rattle.meaning.specs.Comparing.{found};
 ghost use Rattle.meaning.specs.Indexing.{with_key};
 ghost use Rattle.frozen_objects.specs.Objects.{pair_seen};
@@ -81,10 +81,11 @@ impl FrozenDict {
     ///
     /// # Errors
     ///
-    /// Returns `Memory` if an allocation fails.
+    /// Returns `Memory`, and sets nothing, if an allocation fails.
     #[tactic(auto, using(crate::proofs::KeyPlaces::place_within, crate::proofs::KeyPlaces::set_there, crate::proofs::KeyPlaces::places_stay, crate::proofs::KeyPlaces::set_behind, crate::proofs::KeyPlaces::place_more))]
     pub fn set(&mut self, key: Key, entry: FrozenPair) -> Result<(), Memory>
-        ensures { OnOk result (self.new ≡ with_key key entry self.old) }
+        ensures set { OnOk result (self.new ≡ with_key key entry self.old) }
+        ensures same { OnErr result (self.new ≡ self.old) }
     {
         if let Some(place) = self.places.get(&key).copied() {
             self.pairs[place].1 = entry;

@@ -2,6 +2,7 @@
 use crate::dict::FrozenDict;
 use crate::value::FrozenVal;
 use meaning::Bytes;
+use texts::Text;
 
 /// An object of frozen values. It is not changed any more.
 pub enum FrozenObject {
@@ -10,7 +11,7 @@ pub enum FrozenObject {
     Tuple(Vec<FrozenVal>),
     Dict(FrozenDict),
     /// A function of a file: the file's label, and the name.
-    Function(Bytes, Bytes),
+    Function(Text, Text),
 }
 
 impl Drop for FrozenObject {

@@ -1,5 +1,5 @@
 //! Objects of frozen values, in order.
-ghost use Rattle.std.specs.Prelude.{◌≡◌, ◌∷◌, [], ◌++◌, length, slice_get, option_map, OnOk};
+ghost use Rattle.std.specs.Prelude.{◌≡◌, ◌∷◌, [], ◌++◌, length, slice_get, option_map, OnOk, OnErr};
 ghost use Rattle.frozen_objects.specs.Objects.{frozen_obj};
 
 use crate::object::FrozenObject;
@@ -51,9 +51,10 @@ impl FrozenObjects {
     ///
     /// # Errors
     ///
-    /// Returns `Memory` if an allocation fails.
+    /// Returns `Memory`, and adds nothing, if an allocation fails.
     pub fn push(&mut self, object: FrozenObject) -> Result<(), Memory>
-        ensures { OnOk result (self.new ≡ self.old ++ frozen_obj object ∷ []) }
+        ensures pushed { OnOk result (self.new ≡ self.old ++ frozen_obj object ∷ []) }
+        ensures same { OnErr result (self.new ≡ self.old) }
     {
         self.items.push(object)?;
         Ok(())

@@ -1,11 +1,11 @@
 //! The heap.
-ghost use Rattle.std.specs.Prelude.{◌≡◌, [], length, map, option_map, slice_get, IfOk, OnOk, OnErr, ◌+◌, ◌*◌, ◌-◌, ◌≤◌, nat_le};
+ghost use Rattle.std.specs.Prelude.{◌≡◌, [], length, option_map, IfOk, OnOk, OnErr, ◌+◌, ◌*◌, ◌-◌, ◌≤◌, nat_le};
 ghost use Rattle.meaning.specs.Outcome.{gives};
 ghost use Rattle.meaning.specs.Heap.{at, puts, makes, makes_text, makes_list, makes_tuple, makes_dict};
 ghost use Rattle.heap.specs.Objects.{object_of};
 ghost use Rattle.heap.specs.Looks.{seen_object};
 ghost use Rattle.std.specs.Arc.{arc_value};
-ghost use Rattle.heap.specs.View.{object_in, store_of, lends, Says};
+ghost use Rattle.heap.specs.View.{store_of, lends, Says};
 ghost use Rattle.heap.specs.Reclamation.{IsGone, IsLent, IsKept};
 ghost use Rattle.heap.specs.MemoryUse.{most_held, object_bytes, place_bytes, Counted};
 
@@ -209,11 +209,12 @@ impl Heap {
     ///
     /// # Errors
     ///
-    /// Returns `Memory` if an allocation fails, or for a place of more than 32 bits.
+    /// Returns `Memory`, and lends nothing, if an allocation fails, or for a place of more than 32 bits.
     pub fn lend(&mut self, objects: &Arc<FrozenObjects, Global>) -> Result<u32, Memory>
         ensures first { IfOk result (λ first. first ≡ length (store_of self.old).heap) }
         ensures lent { OnOk result
             (store_of self.new ≡ lends (arc_value objects.now) (store_of self.old)) }
+        ensures same { OnErr result (store_of self.new ≡ store_of self.old) }
         ensures held { self.new.held ≡ self.old.held }
     {
         let Ok(first) = u32::try_from(self.objects.len()) else {
@@ -272,14 +273,4 @@ impl Heap {
         let made = self.make(Object::Dict { entries, frozen })?;
         Ok(made)
     }
-}
-
-/// Returns the object at a place, if one stands there, or `Memory` if it has been given back.
-#[inline(always)]
-pub fn object_at(objects: &Objects, place: usize) -> Result<Option<Look<'_>>, Memory>
-    ensures found { IfOk result (λ found. slice_get (map object_in objects.now) place ≡ option_map
-        seen_object found) }
-    ensures gone { OnErr result (IsGone objects.now place) }
-{
-    objects.look(place)
 }

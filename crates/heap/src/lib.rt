@@ -17,8 +17,8 @@ mod steps;
 
 pub use dictionaries::{found, has_room, keys, set_entry};
 pub use halt::Halt;
-pub use heap::{DEEPEST, Heap, LONGEST, object_at};
-pub use lists::{cut, joined, member, place, repeated, val_at};
+pub use heap::{DEEPEST, Heap, LONGEST};
+pub use lists::{cut, joined, member, place, repeated};
 pub use live_objects::LiveObjects;
 pub use look::{Entries, Look, Members};
 pub use meaning::{Builtin, Bytes, Entry, Key, Operator, PACKAGE, PLAIN, Part, Val};

@@ -1,5 +1,5 @@
 //! Lists of bytes or members, apart from any heap.
-ghost use Rattle.std.specs.Prelude.{◌≡◌, ◌≤◌, ◌*◌, ◌++◌, not, length, slice_get, IfOk, IfSome, OnOk};
+ghost use Rattle.std.specs.Prelude.{◌≡◌, ◌≤◌, ◌*◌, ◌++◌, not, length, IfOk, IfSome, OnOk};
 ghost use Rattle.meaning.specs.Heap.{is_sized};
 ghost use Rattle.meaning.specs.Operators.{repeated, times};
 ghost use Rattle.meaning.specs.Indexing.{place, member, bound, bound_or, cut, between};
@@ -7,7 +7,6 @@ ghost use Rattle.heap.specs.ListSizes.{SizedAs, CutAs};
 
 use crate::halt::Halt;
 use crate::heap::LONGEST;
-use crate::look::Members;
 use meaning::{Val, faults};
 use std::alloc::Global;
 use texts::Memory;
@@ -106,14 +105,6 @@ pub fn place(i: i64, len: usize) -> Option<usize>
             None
         }
     }
-}
-
-/// Returns the member at a place.
-#[inline(always)]
-pub fn val_at(xs: &Members<'_>, i: usize) -> Option<Val>
-    ensures { result ≡ slice_get xs.now i }
-{
-    xs.get(i)
 }
 
 /// Returns the member at an index.

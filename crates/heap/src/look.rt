@@ -18,7 +18,7 @@ use indexmap::IndexMap;
 use meaning::{Bytes, Entry, Key, Val, faults};
 use std::alloc::Global;
 use std::marker::Model;
-use texts::Memory;
+use texts::{Memory, Text};
 
 // Where the members of an object are held: in the heap's own object, or in a frozen one that stands behind so many others.
 #[derive(Drop)]
@@ -327,7 +327,7 @@ pub enum Look<'a> {
     Tuple(Members<'a>),
     Dict { entries: Entries<'a>, frozen: bool },
     /// A function of a file: the file's label, and the name.
-    Function(&'a Bytes, &'a Bytes),
+    Function(&'a Text, &'a Text),
 }
 
 /// Shows an object.

@@ -7,6 +7,7 @@ ghost use Rattle.heap.specs.MemoryUse.{object_bytes, shape_bytes};
 use frozen_objects::FrozenObject;
 use indexmap::IndexMap;
 use meaning::{Bytes, Entry, Key, Val};
+use texts::Text;
 
 // What counts for an object whatever it has, for a member of a list or tuple, and for an entry of a dictionary, in bytes.
 const OBJECT: u128 = 64;
@@ -30,7 +31,7 @@ pub enum Object {
         frozen: bool,
     },
     /// A function of a file: the file's label, and the name.
-    Function(Bytes, Bytes),
+    Function(Text, Text),
 }
 
 /// What the bytes of an object hang on: how many bytes, members or entries it has.

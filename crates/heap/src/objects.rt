@@ -273,9 +273,10 @@ impl Objects {
     ///
     /// # Errors
     ///
-    /// Returns `Memory` if an allocation fails.
+    /// Returns `Memory`, and adds nothing, if an allocation fails.
     pub fn push(&mut self, object: Object) -> Result<(), Memory>
-        ensures { OnOk result (self.new ≡ self.old ++ own (object_of object) false ∷ []) }
+        ensures pushed { OnOk result (self.new ≡ self.old ++ own (object_of object) false ∷ []) }
+        ensures same { OnErr result (self.new ≡ self.old) }
     {
         self.own.push(HeapObject::new(object))?;
         Ok(())
@@ -285,10 +286,11 @@ impl Objects {
     ///
     /// # Errors
     ///
-    /// Returns `Memory` if an allocation fails, or for a place of more than 32 bits.
+    /// Returns `Memory`, and lends nothing, if an allocation fails, or for a place of more than 32 bits.
     pub fn lend(&mut self, objects: &Arc<FrozenObjects, Global>) -> Result<(), Memory>
-        ensures { OnOk result (self.new ≡ self.old ++ map (lent_at (length self.old)) (arc_value
-            objects.now)) }
+        ensures lent { OnOk result (self.new ≡ self.old ++ map (lent_at (length self.old))
+            (arc_value objects.now)) }
+        ensures same { OnErr result (self.new ≡ self.old) }
     {
         let range = range_behind(self.own.len(), self.lent, objects)?;
         let (from, lent) = (range.end, range.through);

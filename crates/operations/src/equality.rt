@@ -4,9 +4,7 @@ ghost use Rattle.meaning.specs.Comparing.{equal, inner_equal, pair, pair_objects
 ghost use Rattle.heap.specs.View.{object_in, Says};
 ghost use Rattle.operations.specs.View.{pair_seen};
 
-use heap::{
-    Builtin, Entries, Entry, Halt, Key, Look, Members, Objects, Val, object_at, spend, tick, val_at,
-};
+use heap::{Builtin, Entries, Entry, Halt, Key, Look, Members, Objects, Val, spend, tick};
 use meaning::faults;
 use texts::Memory;
 
@@ -39,7 +37,7 @@ fn pair_objects<'a>(objects: &'a Objects, a: usize, b: usize) -> Result<Pair<'a>
     ensures { IfOk result (λ p. pair_seen p ≡ pair_objects (slice_get (map object_in objects.now) a)
         (slice_get (map object_in objects.now) b)) }
 {
-    match (object_at(objects, a)?, object_at(objects, b)?) {
+    match (objects.look(a)?, objects.look(b)?) {
         (Some(Look::Text(x)), Some(Look::Text(y))) => Ok(Pair::Settled(x == y)),
         (Some(Look::List { members: x, .. }), Some(Look::List { members: y, .. })) => {
             if x.len() == y.len() {
@@ -120,10 +118,10 @@ fn equal_members(
         result steps.new }
 {
     for i in 0..xs.len() {
-        let Some(x) = val_at(xs, i) else {
+        let Some(x) = xs.get(i) else {
             return Ok(true);
         };
-        let Some(y) = val_at(ys, i) else {
+        let Some(y) = ys.get(i) else {
             return Ok(true);
         };
         match equal(objects, steps, x, y, left) {

@@ -4,7 +4,7 @@ ghost use Rattle.meaning.specs.Hashing.{key, inner_key, along, part_key, visit_k
 ghost use Rattle.heap.specs.View.{object_in, Says, SaysItems};
 ghost use Rattle.operations.specs.View.{key_seen};
 
-use heap::{Halt, Key, Look, Members, Objects, Part, Val, object_at, tick};
+use heap::{Halt, Key, Look, Members, Objects, Part, Val, tick};
 use meaning::faults;
 use std::alloc::Global;
 use texts::Memory;
@@ -27,7 +27,7 @@ fn as_key<'a>(objects: &'a Objects, x: Val) -> Result<AsKey<'a>, Memory>
         Val::Bool(b) => Ok(AsKey::Part(Part::Bool(b))),
         Val::Int(n) => Ok(AsKey::Part(Part::Int(n))),
         Val::Builtin(_) => Ok(AsKey::NoKey),
-        Val::At(place) => match object_at(objects, place)? {
+        Val::At(place) => match objects.look(place)? {
             Some(Look::Text(bytes)) => Ok(AsKey::Part(Part::Text(bytes.share()?))),
             Some(Look::Tuple(members)) => Ok(AsKey::Parts(members)),
             _ => Ok(AsKey::NoKey),

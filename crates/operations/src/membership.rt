@@ -7,7 +7,7 @@ ghost use Rattle.heap.specs.View.{object_in, store_of, Says, Checks};
 
 use crate::equality::equal;
 use crate::walks::hash;
-use heap::{DEEPEST, Halt, Heap, Key, Look, Members, Objects, Val, object_at, val_at};
+use heap::{DEEPEST, Halt, Heap, Key, Look, Members, Objects, Val};
 use meaning::faults;
 use memchr::memmem;
 
@@ -32,7 +32,7 @@ fn any_equal(
         result steps.new }
 {
     for i in 0..members.len() {
-        let Some(y) = val_at(members, i) else {
+        let Some(y) = members.get(i) else {
             return Ok(false);
         };
         match equal(objects, steps, x, y, left) {
@@ -60,7 +60,7 @@ fn object_has(heap: &mut Heap, a: usize, x: Val) -> Result<bool, Halt>
     ensures { Says (object_has (at a (store_of heap.old)) x (store_of heap.old)) result
         (store_of heap.new) }
 {
-    match object_at(&heap.objects, a)? {
+    match heap.objects.look(a)? {
         Some(Look::Text(whole)) => text_has(&heap.objects, whole.as_slice(), x),
         Some(Look::List { members, .. }) => {
             any_equal(&heap.objects, &mut heap.steps, x, &members, DEEPEST)
@@ -100,7 +100,7 @@ fn text_has(objects: &Objects, whole: &[u8], x: Val) -> Result<bool, Halt>
     ensures { Checks (text_has (map object_in objects.now) whole.now x) result }
 {
     match x {
-        Val::At(place) => match object_at(objects, place)? {
+        Val::At(place) => match objects.look(place)? {
             Some(Look::Text(part)) => Ok(is_part(part.as_slice(), whole)),
             _ => Err(Halt::Code(faults::WRONG_TYPE)),
         },

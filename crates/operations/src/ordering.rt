@@ -6,7 +6,7 @@ ghost use Rattle.heap.specs.View.{object_in, Says};
 ghost use Rattle.operations.specs.View.{SaysParting, sides_seen};
 
 use crate::equality::equal;
-use heap::{Halt, Look, Members, Objects, Val, object_at, tick, val_at};
+use heap::{Halt, Look, Members, Objects, Val, tick};
 use meaning::faults;
 use std::cmp::Ordering;
 use texts::Memory;
@@ -43,7 +43,7 @@ fn side_objects<'a>(objects: &'a Objects, a: usize, b: usize) -> Result<Sides<'a
         (λ s. sides_seen s ≡ side_objects (slice_get (map object_in objects.now) a)
         (slice_get (map object_in objects.now) b)) }
 {
-    match (object_at(objects, a)?, object_at(objects, b)?) {
+    match (objects.look(a)?, objects.look(b)?) {
         (Some(Look::Text(x)), Some(Look::Text(y))) => {
             Ok(Sides::Ordered(x.as_slice().cmp(y.as_slice())))
         }
@@ -117,10 +117,10 @@ fn part(
         result steps.new }
 {
     for i in 0..xs.len() {
-        let Some(x) = val_at(xs, i) else {
+        let Some(x) = xs.get(i) else {
             return Ok(Parting::SettledAs(at_end(ys, i)));
         };
-        let Some(y) = val_at(ys, i) else {
+        let Some(y) = ys.get(i) else {
             return Ok(Parting::SettledAs(Ordering::Greater));
         };
         match equal(objects, steps, x, y, left) {
@@ -136,7 +136,7 @@ fn part(
 fn at_end(ys: &Members<'_>, i: usize) -> Ordering
     ensures { result ≡ ended (slice_get ys.now i) }
 {
-    match val_at(ys, i) {
+    match ys.get(i) {
         Some(_) => Ordering::Less,
         None => Ordering::Equal,
     }

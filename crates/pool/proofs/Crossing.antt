@@ -45,10 +45,10 @@ use Rattle.pool.specs.contracts.worker.Back
 
 -- modules
 frozen_send : IsSend FrozenValue.the_row
-frozen_send = search (LaidSends.the_send, LaidSends.the_sync, crosses, frozen.crosses_both, sendable) depth 60 fits 20000
+frozen_send = search (LaidSends.the_send, LaidSends.the_sync, TextSends.the_send, TextSends.the_sync, crosses, frozen.crosses_both, sendable) depth 60 fits 20000
 
 frozen_sync : IsSync FrozenValue.the_row
-frozen_sync = search (LaidSends.the_send, LaidSends.the_sync, crosses, frozen.crosses_both, sendable) depth 60 fits 20000
+frozen_sync = search (LaidSends.the_send, LaidSends.the_sync, TextSends.the_send, TextSends.the_sync, crosses, frozen.crosses_both, sendable) depth 60 fits 20000
 
 function_send : IsSend Function.the_row
 function_send = search trees_cross depth 60 fits 20000

@@ -5,7 +5,7 @@ use Rattle.operations.proofs.Comparisons.{members_fault, entries_fault, entries_
 use Rattle.operations.proofs.equality.+comparing.Goals as goal
 
 pub equal_members-returns-in-Err : goal.equal_members-returns-in-Err
-equal_members-returns-in-Err t c = members_fault (equal c.args.left (map object_in c.args.objects.now)) c.args.xs.now c.args.ys.now c.loop-i.i c.loop-i.steps _ c.in-Some.x c.in-Some-val_at.y c.loop-i.invariant c.in-Some.ensures c.in-Some-val_at.ensures c.in-Err.halt _ c.in-Err.ensures
+equal_members-returns-in-Err t c = members_fault (equal c.args.left (map object_in c.args.objects.now)) c.args.xs.now c.args.ys.now c.loop-i.i c.loop-i.steps _ c.in-Some.x c.in-Some-get.y c.loop-i.invariant c.in-Some.ensures c.in-Some-get.ensures c.in-Err.halt _ c.in-Err.ensures
 
 pub equal_entries-returns-in-Err : goal.equal_entries-returns-in-Err
 equal_entries-returns-in-Err t c = entries_fault (equal c.args.left (map object_in c.args.objects.now)) c.args.xs.now c.args.ys.now c.loop-i.i c.loop-i.steps _ c.in-Some.key.now c.in-Some.entry c.loop-i.invariant c.in-Some.ensures c.in-Err.halt _ c.in-Err.ensures

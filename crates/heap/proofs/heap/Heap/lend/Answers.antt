@@ -12,5 +12,5 @@ returns-clause-lent c =
     let objects = c.args.self.now.objects in
     let more = arc_value c.args.objects.now in
     ap (λ l. record (store_of c.args.self.now) { heap = l })
-    (ap (map object_in) c.in_ok-lend.ensures ∙ map-append object_in objects (map (lent_at (length objects)) more)
+    (ap (map object_in) c.in_ok-lend.ensures.lent ∙ map-append object_in objects (map (lent_at (length objects)) more)
     ∙ ap (λ l. map object_in objects ++ l) (lent_in (length objects) more ∙ ap (λ n. map (moved n) more) (sym (length-map objects object_in))))

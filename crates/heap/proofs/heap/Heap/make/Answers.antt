@@ -15,4 +15,4 @@ returns-clause-says c =
     let x = object_of c.args.object in
     ap (makes x) (sym c.in_ok-hold.ensures.same)
     ∙ ap (λ n. gives (v.At n) (record (store_of h) { heap = map object_in h.objects ++ x ∷ [] })) (length-map h.objects object_in ∙ sym c.len-place.ensures)
-    ∙ ap (λ l. gives (v.At c.len-place.result) (record (store_of h) { heap = l })) (sym (ap (map object_in) c.in_ok-push.ensures ∙ map_more h.objects (own x false) ∙ ap (λ y. map object_in h.objects ++ y ∷ []) (own_in x false)))
+    ∙ ap (λ l. gives (v.At c.len-place.result) (record (store_of h) { heap = l })) (sym (ap (map object_in) c.in_ok-push.ensures.pushed ∙ map_more h.objects (own x false) ∙ ap (λ y. map object_in h.objects ++ y ∷ []) (own_in x false)))

@@ -15,8 +15,8 @@ invariant_of-self-2 c =
     subst (λ rs. InOrder rs 0 0 (length fields.own.items) r.range.end r.range.through) (sym c.in_ok-push.ensures.items)
     (order_lent fields.ranges.items r.range 0 0 (length fields.own.items) fields.from fields.lent c.self.invariant start (r.ensures.end ∙ ap (λ n. r.range.start + n) objects) (r.ensures.through ∙ ap (λ n. fields.lent + n) objects))
 
-pub returns : goal.returns
-returns c =
+pub returns-clause-lent : goal.returns-clause-lent
+returns-clause-lent c =
     let fields = c.self.inside in
     let r = c.in_ok-range in
     let start = r.ensures.start ∙ ap (λ n. n + fields.lent) (c.len.ensures ∙ fields.own.ok.0) in

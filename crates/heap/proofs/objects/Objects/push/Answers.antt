@@ -13,8 +13,8 @@ invariant_of-self-2 c =
     let more = ap length c.in_ok-push.ensures.items ∙ length-append fields.own.items (c.new.result ∷ []) in
     order_more fields.ranges.items 0 0 (length fields.own.items) (length c.push.new.self.items) fields.from fields.lent (omega (arith, more)) c.self.invariant
 
-pub returns : goal.returns
-returns c =
+pub returns-clause-pushed : goal.returns-clause-pushed
+returns-clause-pushed c =
     let fields = c.self.inside in
     ap (λ xs. laid fields.ranges.items (map standing_of xs)) c.in_ok-push.ensures.items
     ∙ pushed fields.ranges.items (length fields.own.items) fields.from fields.lent fields.own.items c.new.result refl c.self.invariant
