@@ -3,7 +3,7 @@ use Rattle.std.proofs.Common.{◌≡◌, ℕ, zero, suc, ◌+◌, ◌-◌, ◌<�
 use Rattle.std.specs.Prelude.{nat_lt, slice_get}
 use Rattle.std.specs.Arc.{arc_value}
 use Rattle.std.proofs.lemmas.Bool.{ltb-true, ltb-false, le-ltb}
-use Rattle.std.proofs.lemmas.List.{length-append, length-take, length-drop, length-set, set-append_left, set-append_right, drop-set-lt, drop-set-add, take-set-le, drop-append-le, take-append-le, map-append, take-map, drop-map}
+use Rattle.std.proofs.lemmas.List.{length-append, length-take, length-drop, set-append_left, set-append_right, drop-set-lt, drop-set-add, take-set-le, drop-append-le, take-append-le, map-append, take-map, drop-map}
 use Rattle.std.proofs.Math.Seq.{take-set-lt, take-length, drop-length}
 use Rattle.meaning.specs.Indexing.{between}
 use Rattle.heap.specs.declared.objects.Range.{Range}

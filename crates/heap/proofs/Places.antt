@@ -13,11 +13,10 @@ use Rattle.heap.specs.MemoryUse.{object_bytes}
 use Rattle.heap.specs.Reclamation.{standing_bytes, counted_bytes, bytes_while}
 use Rattle.heap.specs.declared.object.Object.{Object}
 use Rattle.heap.specs.declared.objects.Range.{Range}
-use Rattle.heap.specs.Standings.{Standing, own, standing_object, standing_of, has_gone, is_gone, is_lent, stays, laid, laid_by, InOrder, range_standings, where_is, found_there, own_number, among_own, among_lent, lent_at}
+use Rattle.heap.specs.Standings.{Standing, own, standing_of, has_gone, is_gone, is_lent, stays, laid, laid_by, InOrder, range_standings, where_is, found_there, own_number, among_own, among_lent, lent_at}
 use Rattle.frozen_objects.specs.Shift.{moved, moved_val, moved_pair}
 use Rattle.frozen_objects.specs.Objects.{frozen_obj}
 use Rattle.frozen_objects.specs.declared.object.FrozenObject.{FrozenObject}
-use Rattle.frozen_objects.specs.declared.object.FrozenObject.TheVariants as f
 use Rattle.heap.specs.declared.heap_object.HeapObject.{HeapObject}
 use Rattle.heap.specs.declared.objects.Spot.{Spot}
 use Rattle.heap.specs.declared.objects.Spot.TheVariants as s

@@ -1,6 +1,6 @@
 use Rattle.std.proofs.Common.{Some, map, sym, ap, ◌∙◌}
 use Rattle.frozen_objects.specs.Shift.{moved_val}
-use Rattle.heap.proofs.Lent.{cut_moved, cut_there}
+use Rattle.heap.proofs.Lent.{cut_there}
 use Rattle.heap.proofs.look.cut_lent.Goals as goal
 
 pub returns : goal.returns

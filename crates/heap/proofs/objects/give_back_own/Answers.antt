@@ -1,4 +1,4 @@
-use Rattle.std.proofs.Common.{Some, option_map, refl, sym, ap, ◌∙◌}
+use Rattle.std.proofs.Common.{refl, sym, ap, ◌∙◌}
 use Rattle.std.proofs.Math.Seq.{map-set_same}
 use Rattle.heap.specs.Reclamation.{standing_bytes}
 use Rattle.heap.specs.Standings.{standing_of}

@@ -1,6 +1,4 @@
-use Rattle.std.proofs.Common.{set, ap, ◌∙◌}
 use Rattle.std.proofs.lemmas.List.{map-set}
-use Rattle.heap.specs.Own.{written_object}
 use Rattle.heap.proofs.objects.put_own.Goals as goal
 
 pub returns-in-Some-clause-put : goal.returns-in-Some-clause-put

@@ -1,5 +1,4 @@
-use Rattle.std.proofs.Common.{◌≡◌, List, Option, Some, None, option_map, map, refl, sym, subst, ap, ◌∙◌}
-use Rattle.std.specs.Prelude.{slice_get}
+use Rattle.std.proofs.Common.{map, sym, ap, ◌∙◌}
 use Rattle.heap.specs.declared.objects.Spot.TheVariants as s
 use Rattle.heap.specs.Reclamation.{standing_bytes}
 use Rattle.heap.specs.View.{object_in}

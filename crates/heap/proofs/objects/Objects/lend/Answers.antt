@@ -1,6 +1,5 @@
-use Rattle.std.proofs.Common.{◌≡◌, ◌+◌, ◌∷◌, [], ◌++◌, List, length, map, refl, sym, subst, ap, ◌∙◌, arith}
+use Rattle.std.proofs.Common.{◌+◌, ◌++◌, length, map, refl, sym, subst, ap, ◌∙◌}
 use Rattle.std.specs.Arc.{arc_value}
-use Rattle.heap.specs.declared.objects.Range.{Range}
 use Rattle.heap.specs.Standings.{InOrder, laid, lent_at, standing_of}
 use Rattle.heap.proofs.Laid.{order_lent}
 use Rattle.heap.proofs.Places.{range_lent}

@@ -1,4 +1,4 @@
-use Rattle.std.proofs.Common.{◌≡◌, List, Option, Some, None, option_map, map, IfOk, refl, sym, subst, ap, ◌∙◌}
+use Rattle.std.proofs.Common.{◌≡◌, List, Some, None, option_map, IfOk, sym, subst, ap, ◌∙◌}
 use Rattle.std.specs.Prelude.{slice_get}
 use Rattle.heap.specs.declared.heap_object.HeapObject.{HeapObject}
 use Rattle.heap.specs.declared.objects.Spot.TheVariants as s

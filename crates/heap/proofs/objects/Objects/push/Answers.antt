@@ -1,8 +1,7 @@
-use Rattle.std.proofs.Common.{◌≡◌, ◌≤◌, ◌∷◌, [], ◌++◌, List, length, map, refl, sym, subst, ap, ◌∙◌, arith}
+use Rattle.std.proofs.Common.{◌∷◌, [], ◌++◌, length, map, refl, ap, ◌∙◌, arith}
 use Rattle.std.proofs.lemmas.List.{length-append}
 use Rattle.heap.specs.Objects.{object_of}
 use Rattle.heap.specs.Standings.{own, laid, standing_of, has_gone}
-use Rattle.heap.specs.Own.{written_object}
 use Rattle.heap.proofs.Laid.{order_more}
 use Rattle.heap.proofs.Places.{pushed}
 use Rattle.heap.proofs.objects.Objects.push.Goals as goal

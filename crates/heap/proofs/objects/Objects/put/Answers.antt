@@ -1,6 +1,4 @@
-use Rattle.std.proofs.Common.{◌≡◌, List, Option, Some, None, option_map, map, IfOk, refl, sym, subst, ap, ◌∙◌}
-use Rattle.std.specs.Prelude.{slice_get}
-use Rattle.heap.specs.declared.heap_object.HeapObject.{HeapObject}
+use Rattle.std.proofs.Common.{None, map, subst}
 use Rattle.heap.specs.declared.objects.Spot.TheVariants as s
 use Rattle.heap.specs.Objects.{object_of}
 use Rattle.heap.specs.View.{object_in}
