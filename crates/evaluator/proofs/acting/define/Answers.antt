@@ -21,8 +21,8 @@ returns-in-Err-clause-goes c = λ env n running frames.
     let xs = c.args.xs.items in
     let after = λ (control : Control). machine_does env n here control frames (world_of c.keep_defaults.new.state) in
     let made : makes (function label name) w.store ≡ o.gives c.in_ok-made.made (store_of c.make.new.self) =
-    ap (λ (l : List ℕ). makes (function l name) w.store) (sym (c.of_text-label.ensures ∙ c.in_ok-share.ensures))
-    ∙ ap (λ (l : List ℕ). makes (function c.of_text-label.result l) w.store) (sym (c.of_text.ensures ∙ c.in_ok-share-2.ensures))
+    ap (λ (l : List ℕ). makes (function l name) w.store) (sym c.in_ok-share.ensures)
+    ∙ ap (λ (l : List ℕ). makes (function c.in_ok-share.field-0 l) w.store) (sym c.in_ok-share-2.ensures)
     ∙ c.in_ok-made.ensures.says in
     subst (λ (d : Def). Goes h.site (above env n here (exited (defined env n here (fn_of d) xs c.args.line)) frames w) (Err c.in-Err.halt) after) c.deref.ensures
     (kept_stops h label name xs w (store_of c.make.new.self) c.in_ok-made.made (stack_does env n here frames) made c.in-Err.halt (world_of c.keep_defaults.new.state) after (c.in-Err.ensures.says h))
@@ -37,8 +37,8 @@ returns-in-Err-bind-clause-goes c = λ env n running frames.
     let xs = c.args.xs.items in
     let after = λ (control : Control). machine_does env n here control frames (world_of c.bind.new.state) in
     let made : makes (function label name) w.store ≡ o.gives c.in_ok-made.made (store_of c.make.new.self) =
-    ap (λ (l : List ℕ). makes (function l name) w.store) (sym (c.of_text-label.ensures ∙ c.in_ok-share.ensures))
-    ∙ ap (λ (l : List ℕ). makes (function c.of_text-label.result l) w.store) (sym (c.of_text.ensures ∙ c.in_ok-share-2.ensures))
+    ap (λ (l : List ℕ). makes (function l name) w.store) (sym c.in_ok-share.ensures)
+    ∙ ap (λ (l : List ℕ). makes (function c.in_ok-share.field-0 l) w.store) (sym c.in_ok-share-2.ensures)
     ∙ c.in_ok-made.ensures.says in
     subst (λ (d : Def). Goes h.site (above env n here (exited (defined env n here (fn_of d) xs c.args.line)) frames w) (Err c.in-Err-bind.halt) after) c.deref.ensures
     (bound_stops h label name xs w (store_of c.make.new.self) c.in_ok-made.made (stack_does env n here frames) made (world_of c.keep_defaults.new.state) c.in-Err-bind.halt (world_of c.bind.new.state) after (c.in_default.ensures.says h) (c.in-Err-bind.ensures.says c.args.line running))
@@ -53,8 +53,8 @@ returns-clause-goes c = λ env n running frames.
     let xs = c.args.xs.items in
     let j = stack_does env n here frames in
     let made : makes (function label name) w.store ≡ o.gives c.in_ok-made.made (store_of c.make.new.self) =
-    ap (λ (l : List ℕ). makes (function l name) w.store) (sym (c.of_text-label.ensures ∙ c.in_ok-share.ensures))
-    ∙ ap (λ (l : List ℕ). makes (function c.of_text-label.result l) w.store) (sym (c.of_text.ensures ∙ c.in_ok-share-2.ensures))
+    ap (λ (l : List ℕ). makes (function l name) w.store) (sym c.in_ok-share.ensures)
+    ∙ ap (λ (l : List ℕ). makes (function c.in_ok-share.field-0 l) w.store) (sym c.in_ok-share-2.ensures)
     ∙ c.in_ok-made.ensures.says in
     subst (λ (d : Def). above env n here (exited (defined env n here (fn_of d) xs c.args.line)) frames w ≡ j (an_exit goes_on) (world_of c.bind.new.state)) c.deref.ensures
     (bound h label name xs w (store_of c.make.new.self) c.in_ok-made.made j made (world_of c.keep_defaults.new.state) (world_of c.bind.new.state) (c.in_default.ensures.says h) (c.in_default-bind.ensures.says c.args.line running))
