@@ -3,7 +3,6 @@
 
 mod keeping;
 mod memory;
-mod short;
 mod text;
 
 pub use keeping::beside;
