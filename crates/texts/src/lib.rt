@@ -3,6 +3,7 @@
 
 mod keeping;
 mod memory;
+mod short;
 mod text;
 
 pub use keeping::beside;

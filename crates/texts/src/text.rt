@@ -9,6 +9,7 @@ ghost use Rattle.std.specs.Cmp.Lexicographic.{pointwise, slice_cmp, nat_list_eq_
 ghost use Rattle.std.specs.Ordering.{nat_cmp, as_partial_cmp};
 
 use crate::memory::Memory;
+use crate::short::ShortText;
 use arrayvec::ArrayString;
 use std::alloc::Global;
 use std::cmp::Ordering;
@@ -17,34 +18,46 @@ use std::marker::Model;
 use std::sync::Arc;
 
 /// So many bytes stand in one block of memory with their count.
-const SHORT: usize = 24;
+const BLOCK: usize = 24;
 
 /// How the bytes of a text are held.
 #[derive(Drop)]
 enum Storage {
-    Short(ArrayString<SHORT>),
-    Long(String),
+    Short(ShortText),
+    Block(Arc<ArrayString<BLOCK>, Global>),
+    Long(Arc<String, Global>),
 }
 
-/// A shared text, which a contract sees as its bytes. A short one takes one allocation, a longer one two.
+/// A shared text, which a contract sees as its bytes. Up to 14 bytes stand in the text itself, and to share it copies
+/// them. One of up to 24 bytes takes one allocation, a longer one two.
 pub struct Text {
-    inner: Arc<Storage>,
+    storage: Storage,
+}
+
+// Makes a shared text of a copy of bytes that are not so few that they stand in the text itself.
+fn long_text(alloc: Global, text: &str) -> Result<Text, Memory>
+    ensures { IfOk result (λ t. t ≡ text.now) }
+{
+    let storage = match ArrayString::from(text) {
+        Ok(bytes) => Storage::Block(Arc::new(alloc, bytes)?),
+        Err(_) => Storage::Long(Arc::new(alloc, String::from_str(alloc, text)?)?),
+    };
+    Ok(Text { storage })
 }
 
 impl Drop for Text {
     fn drop(self) {
-        let Text { inner: _ } = self;
+        let Text { storage: _ } = self;
     }
 }
 
 impl Model for Text {
     ghost use Rattle.std.specs.Prelude.{ℕ, List};
-    ghost use Rattle.std.specs.Arc.{arc_value};
     ghost use Rattle.texts.specs.Bytes.{bytes_of};
 
     ghost Value = { List ℕ };
 
-    ghost view = { λ t. bytes_of (arc_value t.inner) };
+    ghost view = { λ t. bytes_of t.storage };
 }
 
 impl Text {
@@ -52,31 +65,32 @@ impl Text {
     pub fn new(alloc: Global, text: &str) -> Result<Text, Memory>
         ensures { IfOk result (λ t. t ≡ text.now) }
     {
-        let storage = match ArrayString::from(text) {
-            Ok(short) => Storage::Short(short),
-            Err(_) => Storage::Long(String::from_str(alloc, text)?),
-        };
-        let inner = Arc::new(alloc, storage)?;
-        Ok(Text { inner })
+        match ShortText::new(text) {
+            Some(short) => Ok(Text {
+                storage: Storage::Short(short),
+            }),
+            None => long_text(alloc, text),
+        }
     }
 
     /// Makes a shared text of a string. The bytes of a long one are taken over and not copied.
     pub fn from_string(alloc: Global, text: String) -> Result<Text, Memory>
         ensures { IfOk result (λ t. t ≡ string_bytes text) }
     {
-        if text.len() <= SHORT {
+        if text.len() <= BLOCK {
             return Text::new(alloc, text.as_str());
         }
-        let inner = Arc::new(alloc, Storage::Long(text))?;
-        Ok(Text { inner })
+        let storage = Storage::Long(Arc::new(alloc, text)?);
+        Ok(Text { storage })
     }
 
     /// Returns the text.
     pub fn as_str(&self) -> &str
         ensures { result.now ≡ self.now }
     {
-        match &*self.inner {
+        match &self.storage {
             Storage::Short(text) => text.as_str(),
+            Storage::Block(text) => text.as_str(),
             Storage::Long(text) => text.as_str(),
         }
     }
@@ -85,8 +99,12 @@ impl Text {
     pub fn share(&self) -> Result<Text, Memory>
         ensures { IfOk result (λ t. t ≡ self.now) }
     {
-        let inner = Arc::try_clone(&self.inner)?;
-        Ok(Text { inner })
+        let storage = match &self.storage {
+            Storage::Short(text) => Storage::Short(text.copied()),
+            Storage::Block(text) => Storage::Block(Arc::try_clone(text)?),
+            Storage::Long(text) => Storage::Long(Arc::try_clone(text)?),
+        };
+        Ok(Text { storage })
     }
 }
 

@@ -1,0 +1,61 @@
+//! A short text.
+ghost use Rattle.std.specs.Prelude.{◌≡◌, IfSome};
+
+use std::marker::Model;
+use std::str;
+
+// The most bytes of a short text: with their number and the kind of a text they take 16.
+const MOST: usize = 14;
+
+/// A text of few bytes, which stand in the value itself. A contract sees the bytes.
+#[derive(Drop)]
+pub(crate) struct ShortText {
+    cells: [u8; MOST],
+    len: u8,
+}
+
+impl Model for ShortText {
+    ghost use Rattle.std.specs.Prelude.{◌≡◌, ◌≤◌, ℕ, List, length, take, IsUtf8};
+
+    ghost Value = { List ℕ };
+
+    ghost view = { λ s. take s.len s.cells };
+
+    ghost invariant = { λ s. (s.len ≤ 14) × (length s.cells ≡ 14)
+        × ∥ IsUtf8 (take s.len s.cells) ∥₁ };
+}
+
+impl ShortText {
+    /// Makes a text of a copy of the bytes, if they are so few.
+    pub fn new(text: &str) -> Option<ShortText>
+        ensures { IfSome result (λ t. t ≡ text.now) }
+    {
+        let len = text.len();
+        if len > MOST {
+            return None;
+        }
+        let mut cells = [0; MOST];
+        cells[..len].copy_from_slice(text.as_bytes());
+        Some(ShortText {
+            cells,
+            len: len as u8,
+        })
+    }
+
+    /// Returns the same text.
+    pub fn copied(&self) -> ShortText
+        ensures { result ≡ self.now }
+    {
+        ShortText {
+            cells: self.cells,
+            len: self.len,
+        }
+    }
+
+    /// Returns the text. The bytes are UTF-8, as they were when the text was made.
+    pub fn as_str(&self) -> &str
+        ensures { result.now ≡ self.now }
+    {
+        unsafe { str::from_utf8_unchecked(&self.cells[..self.len as usize]) }
+    }
+}
