@@ -1,5 +1,5 @@
 //! A short text.
-ghost use Rattle.std.specs.Prelude.{◌≡◌, IfSome};
+ghost use Rattle.std.specs.Prelude.{◌≡◌, ◌<◌, length, IfNone, IfSome};
 
 use std::marker::Model;
 use std::str;
@@ -28,7 +28,8 @@ impl Model for ShortText {
 impl ShortText {
     /// Makes a text of a copy of the bytes, if they are so few.
     pub fn new(text: &str) -> Option<ShortText>
-        ensures { IfSome result (λ t. t ≡ text.now) }
+        ensures same { IfSome result (λ t. t ≡ text.now) }
+        ensures long { IfNone result (14 < length text.now) }
     {
         let len = text.len();
         if len > MOST {
