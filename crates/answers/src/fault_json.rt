@@ -8,7 +8,7 @@ use crate::strings::write_texts;
 use texts::{Memory, Text};
 
 /// Writes a fault: its code, and the path and the line at which it is shown.
-pub fn write_fault(out: &mut Draft, code: u8, path: &Text, line: usize) -> Result<(), Memory>
+pub fn write_fault(out: &mut Draft, code: u64, path: &Text, line: usize) -> Result<(), Memory>
     ensures { OnOk result (out.new ≡ out.old ++ tokens_of (fault_data code path.now line)) }
 {
     out.begin_object()?;

@@ -67,7 +67,7 @@ pub fn write_exports(alloc: Global, out: &mut Draft, body: &Module) -> Result<()
 /// Writes a module with a fault: its code, and the path and the line at which it is shown.
 pub fn write_faulty_module(
     out: &mut Draft,
-    code: u8,
+    code: u64,
     path: &Text,
     line: usize,
 ) -> Result<(), Memory>

@@ -88,7 +88,7 @@ pub fn write_package(
 pub fn write_faulty_package(
     out: &mut Draft,
     name: &str,
-    code: u8,
+    code: u64,
     path: &Text,
     line: usize,
 ) -> Result<(), Memory>

@@ -50,7 +50,7 @@ fn of_none(heap: &mut Heap, f: Builtin) -> Result<Val, Halt>
     match f {
         Builtin::List => no_list(heap),
         Builtin::Tuple => no_tuple(heap),
-        Builtin::Bool => Ok(Val::Bool(false)),
+        Builtin::Bool => Ok(Val::False),
         Builtin::Zip => zip(heap, &[]),
         Builtin::Len => Err(Halt::Code(faults::WRONG_ARGUMENTS)),
         Builtin::Range => Err(Halt::Code(faults::WRONG_ARGUMENTS)),

@@ -56,7 +56,8 @@ fn type_name(heap: &Heap, x: Val) -> Result<&'static [u8], Halt>
 {
     match x {
         Val::Nothing => Ok(b"NoneType"),
-        Val::Bool(_) => Ok(b"bool"),
+        Val::True => Ok(b"bool"),
+        Val::False => Ok(b"bool"),
         Val::Int(_) => Ok(b"int"),
         Val::Builtin(_) => Ok(b"function"),
         Val::At(place) => object_type(heap, place),
@@ -82,5 +83,5 @@ pub fn truth(heap: &Heap, x: Val) -> Result<Val, Memory>
     ensures { IfOk result (λ b. truth_of (is_true x (store_of heap.now)) (store_of heap.now)
         ≡ gives b (store_of heap.now)) }
 {
-    Ok(Val::Bool(is_true(heap, x)?))
+    Ok(Val::boolean(is_true(heap, x)?))
 }

@@ -28,10 +28,10 @@ pub fn print(
 {
     match x {
         Val::Nothing => print_plain(steps, b"None", out)?,
-        Val::Bool(true) => print_plain(steps, b"True", out)?,
-        Val::Bool(false) => print_plain(steps, b"False", out)?,
+        Val::True => print_plain(steps, b"True", out)?,
+        Val::False => print_plain(steps, b"False", out)?,
         Val::Int(n) => print_int(steps, n, out)?,
-        Val::Builtin(f) => print_builtin(steps, f, out)?,
+        Val::Builtin(n) => print_builtin(steps, Builtin::at_number(n), out)?,
         Val::At(place) => print_object(objects, steps, place, left, out)?,
     }
     Ok(())

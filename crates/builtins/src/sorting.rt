@@ -33,7 +33,8 @@ fn sorted_by(heap: &mut Heap, x: Val, reverse: Val) -> Result<Val, Halt>
     ensures { Says (sorted_by x reverse (store_of heap.old)) result (store_of heap.new) }
 {
     match reverse {
-        Val::Bool(reverse) => sorted_list(heap, x, reverse),
+        Val::True => sorted_list(heap, x, true),
+        Val::False => sorted_list(heap, x, false),
         _ => Err(Halt::Code(faults::WRONG_TYPE)),
     }
 }

@@ -13,7 +13,7 @@ pub fn any(heap: &Heap, x: Val) -> Result<Val, Halt>
     ensures { Says (any_from x (store_of heap.now)) result (store_of heap.now) }
 {
     let members = items(heap, x)?;
-    Ok(Val::Bool(is_any_true(heap, members.as_slice())?))
+    Ok(Val::boolean(is_any_true(heap, members.as_slice())?))
 }
 
 // Returns whether a member counts as true.
@@ -33,7 +33,7 @@ pub fn all(heap: &Heap, x: Val) -> Result<Val, Halt>
     ensures { Says (all_from x (store_of heap.now)) result (store_of heap.now) }
 {
     let members = items(heap, x)?;
-    Ok(Val::Bool(are_all_true(heap, members.as_slice())?))
+    Ok(Val::boolean(are_all_true(heap, members.as_slice())?))
 }
 
 // Returns whether each member counts as true.

@@ -1,6 +1,6 @@
 -- Edits: why they are refused, and what they make of the files.
 use Rattle.filetree.specs.declared.refusals.TheConstants.{CHANGES_COUNT, VERSIONS_SPENT}
-use Rattle.std.specs.Prelude.{◌≡◌, ℕ, List, [], ◌∷◌, length, map, ◌||◌, ◌==◌, nat_lt, Option, Some, None, option_map, Result, Ok, Err, Bool, true, false, if◌then◌else◌}
+use Rattle.std.specs.Prelude.{◌≡◌, ℕ, List, [], ◌∷◌, length, ◌||◌, ◌==◌, nat_lt, Option, Some, None, option_map, Result, Ok, Err, Bool, true, false, if◌then◌else◌}
 use Rattle.filetree.specs.Files.{Files}
 use Rattle.filetree.specs.Changes.{change_refusal, changes_refusal, all_changed}
 pub use Rattle.commands.specs.Commands.{Edit, one, batch, Change, put, del, changes_of, paths_of}

@@ -48,6 +48,6 @@ pub enum Progress {
 /// Why an evaluation stops: at a fault with its code, file and line, or for want of memory.
 #[derive(Drop)]
 pub enum Stop {
-    Fault { code: u8, path: Text, line: usize },
+    Fault { code: u64, path: Text, line: usize },
     Memory,
 }

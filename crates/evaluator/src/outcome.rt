@@ -10,7 +10,7 @@ use texts::Text;
 /// A fault: its code, and the file and line where it is shown.
 #[derive(Drop)]
 pub struct Fault {
-    pub code: u8,
+    pub code: u64,
     pub path: Text,
     /// Counted from 1; 0 where no statement is shown.
     pub line: usize,

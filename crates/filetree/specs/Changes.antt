@@ -2,8 +2,6 @@
 use Rattle.std.specs.Prelude.{◌≡◌, ℕ, suc, List, [], ◌∷◌, Option, Some, None, Result, Ok, Err}
 use Rattle.std.specs.FinMap as map
 use Rattle.filetree.specs.Files.{Files, put_refusal, del_refusal}
-use Rattle.filetree.specs.Edits.{refusal_of}
-use Rattle.filetree.specs.declared.error.TreeError.{TreeError}
 use Rattle.filetree.specs.declared.error.BatchError.{BatchError}
 use Rattle.filetree.specs.declared.error.BatchError.TheVariants.{At, Memory}
 

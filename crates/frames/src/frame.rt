@@ -428,7 +428,7 @@ pub enum Control {
     /// A fault of a statement that was run ahead, or of a step that was made ahead.
     Fault {
         line: usize,
-        code: u8,
+        code: u64,
     },
 }
 
@@ -440,7 +440,7 @@ pub enum Once {
     /// A part of it is left.
     Begun(Control),
     /// It has stopped at a fault: the line, and the code.
-    Faulty { line: usize, code: u8 },
+    Faulty { line: usize, code: u64 },
     /// Nothing was done.
     Not,
 }
@@ -455,5 +455,5 @@ pub enum Ahead {
     /// Into one of which a part is left. Behind it the one at the place is next.
     Above { next: usize, control: Control },
     /// To a fault: the line, and the code.
-    Faulty { line: usize, code: u8 },
+    Faulty { line: usize, code: u64 },
 }

@@ -39,7 +39,8 @@ fn apply(line: usize, g: Val, xs: Vec<Val>, names: Arc<Vec<Text>, Global>) -> Re
     ensures light { IfOk result (λ control. control_weight control < 8) }
 {
     match g {
-        Val::Builtin(f) => {
+        Val::Builtin(n) => {
+            let f = Builtin::at_number(n);
             if f.is_package_call() {
                 Ok(Control::Package {
                     line,

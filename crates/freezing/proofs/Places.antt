@@ -12,6 +12,7 @@ use Rattle.meaning.specs.Heap.{Obj, Store, Entries, makes}
 use Rattle.meaning.specs.Indexing.{with_key}
 use Rattle.meaning.specs.Freezing.{Fz, Fzs, Pairs, nothing, boolean, whole, built_in, text, list, tuple, dict, function, no_members, member, no_pairs, pair, frozen_key, thaw, thaw_members, thaw_pairs}
 use Rattle.frozen_objects.specs.Shift.{moved_val, moved_entry, moved_pair, moved}
+use Rattle.meaning.specs.Values.{bool_value, builtin_value}
 
 -- ---- the values and objects that thawing makes, by how many objects stand before them
 
@@ -27,9 +28,9 @@ after_pair x y es = (es.0, x.1 ++ y.1 ++ es.1)
 abbrev mutual
   placed : Fz → ℕ → Val × List Obj
   placed nothing b = (v.Nothing, [])
-  placed (boolean x) b = (v.Bool x, [])
+  placed (boolean x) b = (bool_value x, [])
   placed (whole n) b = (v.Int n, [])
-  placed (built_in f) b = (v.Builtin f, [])
+  placed (built_in f) b = (builtin_value f, [])
   placed (text bytes) b = (v.At b, h.text bytes ∷ [])
   placed (list fs) b = behind b (placed_members fs b).1 (h.list (placed_members fs b).0 true)
   placed (tuple fs) b = behind b (placed_members fs b).1 (h.tuple (placed_members fs b).0)
@@ -65,9 +66,9 @@ made s os o = ap (λ n. gives (v.At n) (record s { heap = (s.heap ++ os) ++ o �
 mutual
   thaw_placed : (f : Fz) (s : Store) → thaw f s ≡ gives (placed f (length s.heap)).0 (grown s (placed f (length s.heap)).1)
   thaw_placed nothing s = ap (λ t. gives v.Nothing t) (sym (grown_not s))
-  thaw_placed (boolean x) s = ap (λ t. gives (v.Bool x) t) (sym (grown_not s))
+  thaw_placed (boolean x) s = ap (λ t. gives (bool_value x) t) (sym (grown_not s))
   thaw_placed (whole n) s = ap (λ t. gives (v.Int n) t) (sym (grown_not s))
-  thaw_placed (built_in f) s = ap (λ t. gives (v.Builtin f) t) (sym (grown_not s))
+  thaw_placed (built_in f) s = ap (λ t. gives (builtin_value f) t) (sym (grown_not s))
   thaw_placed (text bytes) s = refl
   thaw_placed (list fs) s =
       let r = placed_members fs (length s.heap) in
@@ -139,7 +140,8 @@ key_moved b k e (x ∷ xs) = ap (λ l. cond (same_key k x.0) ((x.0, moved_entry 
 mutual
   placed_moved : (f : Fz) (b c : ℕ) → placed f (b + c) ≡ shifted b (placed f c)
   placed_moved nothing b c = refl
-  placed_moved (boolean x) b c = refl
+  placed_moved (boolean true) b c = refl
+  placed_moved (boolean false) b c = refl
   placed_moved (whole n) b c = refl
   placed_moved (built_in f) b c = refl
   placed_moved (text bytes) b c = refl

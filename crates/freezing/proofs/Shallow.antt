@@ -41,7 +41,8 @@ object_flat None = tt
 
 held_flat : (heap : List Obj) (x : Val) → IsFlat (held heap x)
 held_flat heap v.Nothing = refl
-held_flat heap (v.Bool b) = refl
+held_flat heap v.True = refl
+held_flat heap v.False = refl
 held_flat heap (v.Int n) = refl
 held_flat heap (v.Builtin f) = refl
 held_flat heap (v.At place) = object_flat (slice_get heap place)

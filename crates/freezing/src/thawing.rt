@@ -17,9 +17,9 @@ pub fn thaw(heap: &mut Heap, f: &Frozen) -> Result<Val, Halt>
 {
     match f {
         Frozen::Nothing => Ok(Val::Nothing),
-        Frozen::Bool(b) => Ok(Val::Bool(*b)),
+        Frozen::Bool(b) => Ok(Val::boolean(*b)),
         Frozen::Int(n) => Ok(Val::Int(*n)),
-        Frozen::Builtin(b) => Ok(Val::Builtin(*b)),
+        Frozen::Builtin(b) => Ok(Val::built_in(*b)),
         Frozen::Text(bytes) => heap.make(Object::Text(bytes.share()?)),
         Frozen::List(members) => {
             let xs = thaw_members(heap, members.as_slice())?;

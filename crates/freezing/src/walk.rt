@@ -5,7 +5,7 @@ ghost use Rattle.heap.specs.View.{object_in};
 ghost use Rattle.freezing.specs.View.{frozen_of, SaysFrozen, SaysMembers, SaysEntry, SaysEntries};
 
 use crate::frozen::{Frozen, FrozenEntry};
-use heap::{Entries, Entry, Halt, Look, Members, Objects, Val, tick};
+use heap::{Builtin, Entries, Entry, Halt, Look, Members, Objects, Val, tick};
 use meaning::faults;
 use std::alloc::Global;
 
@@ -24,9 +24,10 @@ pub fn freeze(
 {
     match x {
         Val::Nothing => settled(steps, Frozen::nothing()),
-        Val::Bool(b) => settled(steps, Frozen::boolean(b)),
+        Val::True => settled(steps, Frozen::boolean(true)),
+        Val::False => settled(steps, Frozen::boolean(false)),
         Val::Int(n) => settled(steps, Frozen::whole(n)),
-        Val::Builtin(f) => settled(steps, Frozen::built_in(f)),
+        Val::Builtin(n) => settled(steps, Frozen::built_in(Builtin::at_number(n))),
         Val::At(place) => freeze_object(alloc, objects, steps, place, left),
     }
 }

@@ -9,9 +9,10 @@ use Rattle.meaning.specs.Heap.{Obj, text, list, tuple, dict, function}
 -- a value, where so many objects stand before those that it counts
 abbrev pub moved_val : ℕ → Val → Val
 moved_val b v.Nothing = v.Nothing
-moved_val b (v.Bool x) = v.Bool x
+moved_val b v.True = v.True
+moved_val b v.False = v.False
 moved_val b (v.Int n) = v.Int n
-moved_val b (v.Builtin f) = v.Builtin f
+moved_val b (v.Builtin n) = v.Builtin n
 moved_val b (v.At place) = v.At (b + place)
 
 abbrev pub moved_entry : ℕ → Entry → Entry

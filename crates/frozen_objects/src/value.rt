@@ -2,6 +2,7 @@
 ghost use Rattle.std.specs.Prelude.{◌≡◌};
 ghost use Rattle.meaning.specs.declared.val.Val.TheVariants as v;
 ghost use Rattle.frozen_objects.specs.Shift.{moved_val, moved_entry};
+ghost use Rattle.meaning.specs.Values.{bool_value, builtin_value};
 
 use meaning::{Builtin, Entry, Val};
 use std::marker::Model;
@@ -60,7 +61,7 @@ impl FrozenVal {
 
     /// Makes a bool.
     pub fn boolean(b: bool) -> FrozenVal
-        ensures { result ≡ v.Bool b }
+        ensures { result ≡ bool_value b }
     {
         FrozenVal {
             inner: Inner::Bool(b),
@@ -78,7 +79,7 @@ impl FrozenVal {
 
     /// Makes a built-in function.
     pub fn built_in(f: Builtin) -> FrozenVal
-        ensures { result ≡ v.Builtin f }
+        ensures { result ≡ builtin_value f }
     {
         FrozenVal {
             inner: Inner::Builtin(f),
@@ -100,9 +101,9 @@ impl FrozenVal {
     {
         match &self.inner {
             Inner::Nothing => Val::Nothing,
-            Inner::Bool(b) => Val::Bool(*b),
+            Inner::Bool(b) => Val::boolean(*b),
             Inner::Int(n) => Val::Int(*n),
-            Inner::Builtin(f) => Val::Builtin(*f),
+            Inner::Builtin(f) => Val::built_in(*f),
             Inner::At(place) => Val::At(base as usize + *place as usize),
         }
     }

@@ -5,7 +5,7 @@ use Rattle.meaning.specs.declared.val.Val.{Val}
 use Rattle.meaning.specs.declared.val.Val.TheVariants as v
 use Rattle.meaning.specs.declared.builtin.Builtin.{Builtin}
 use Rattle.meaning.specs.declared.builtin.Builtin.TheVariants as b
-use Rattle.meaning.specs.Builtins.{same_builtin, package_functions}
+use Rattle.meaning.specs.Builtins.{same_builtin, package_functions, builtin_at}
 use Rattle.meaning.specs.Outcome.{checked}
 use Rattle.meaning.specs.Heap.{Obj, text, list, tuple, dict, function, at}
 use Rattle.meaning.specs.Functions.{KeywordArguments}
@@ -74,10 +74,11 @@ module _ (found : List ℕ → List (List ℕ)) where
 
       pub apply_closes : (g : Val) (xs : List Val) (ns : KeywordArguments) (here : Here) (w : World) → Closes found (λ a. apply (with_answers a env) (call a) g xs ns here w)
       unfolding apply
-      apply_closes (v.Builtin f) xs ns here w = call_builtin_closes f xs ns here w
+      apply_closes (v.Builtin n) xs ns here w = call_builtin_closes (builtin_at n) xs ns here w
       apply_closes (v.At i) xs ns here w = call_object_closes (at i w.store) xs ns here w
       apply_closes v.Nothing xs ns here w = same found _ (search quiet)
-      apply_closes (v.Bool c) xs ns here w = same found _ (search quiet)
+      apply_closes v.True xs ns here w = same found _ (search quiet)
+      apply_closes v.False xs ns here w = same found _ (search quiet)
       apply_closes (v.Int n) xs ns here w = same found _ (search quiet)
 
     pub apply_method_closes : (r : Receiver) (name : List ℕ) (xs : List Val) (ns : KeywordArguments) (here : Here) (w : World) → Closes found (λ a. apply_method (with_answers a env) r name xs ns here w)

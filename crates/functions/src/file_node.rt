@@ -41,7 +41,7 @@ pub struct Source {
 }
 
 /// Makes a fault of a file.
-pub fn fault_at(code: u8, path: &Text, line: usize) -> Result<Fault, Memory>
+pub fn fault_at(code: u64, path: &Text, line: usize) -> Result<Fault, Memory>
     ensures { IfOk result (λ f. f ≡ specs.fault_at code path.now line) }
 {
     Ok(Fault {
@@ -162,7 +162,7 @@ pub fn all_modules(
 }
 
 // Ends with a fault.
-fn faulty(code: u8, path: &Text, line: usize) -> Result<Reply, Memory>
+fn faulty(code: u64, path: &Text, line: usize) -> Result<Reply, Memory>
     ensures { IfOk result (IsReply (specs.faulty code path.now line)) }
 {
     Ok(Reply::Done(Value::Fault(fault_at(code, path, line)?)))

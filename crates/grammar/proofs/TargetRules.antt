@@ -1,6 +1,5 @@
 -- The targets of the grammar are those of their production.
-use Rattle.std.proofs.Common.{◌≡◌, ℕ, List, [], ◌∷◌, ◌++◌, Bool, true, false, refl, sym, ap}
-use Rattle.std.specs.Prelude.{◌&&◌}
+use Rattle.std.proofs.Common.{◌≡◌, List, [], ◌∷◌, ◌++◌, true, refl}
 use Rattle.std.proofs.lemmas.Bool.{and_parts, and_from, false≢true}
 use Rattle.tokens.specs.declared.symbol.Symbol.TheVariants as s
 use Rattle.tokens.specs.Token.{Lex}

@@ -1,5 +1,5 @@
 -- Objects whose memory has been given back.
-use Rattle.std.specs.Prelude.{◌≡◌, ℕ, Bool, true, List, Option, Some, None, option_map, slice_get, if◌then◌else◌}
+use Rattle.std.specs.Prelude.{◌≡◌, ℕ, true, List, Option, Some, None, option_map, slice_get, if◌then◌else◌}
 use Rattle.heap.specs.declared.heap_object.HeapObject.{HeapObject}
 use Rattle.heap.specs.declared.object.Object.{Object}
 use Rattle.heap.specs.MemoryUse.{object_bytes}

@@ -11,7 +11,7 @@ use thiserror::Error;
 pub enum Halt {
     /// A fault, by its code.
     #[error("fault {0}")]
-    Code(u8),
+    Code(u64),
     /// A growth was refused.
     #[error("out of memory")]
     Memory,

@@ -8,7 +8,6 @@ use Rattle.std.specs.Cmp.Lexicographic.{pointwise}
 use lib.Pointwise.{pointwise_decides}
 use Rattle.keys.specs.declared.value.BuildName.{BuildName}
 use Rattle.keys.specs.declared.value.BuildName.TheVariants.{BuildBazel, Build}
-use Rattle.module_values.specs.Equal.{target_eq, loaded_eq}
 use Rattle.module_values.specs.EqualLaws.{targets_decide, loaded_decide}
 use Rattle.keys.specs.declared.value.Fault as fault
 use Rattle.keys.specs.declared.value.Value.{Value}

@@ -215,7 +215,7 @@ impl Eq for Paths {
 /// where it is shown.
 pub struct Fault {
     /// Which fault.
-    pub code: u8,
+    pub code: u64,
     /// Of the file, or of the package.
     pub path: Text,
     /// Counted from 1; 0 where no line is shown.

@@ -1,5 +1,5 @@
 -- Built-in functions and methods never have more steps left than they began with.
-use Rattle.std.proofs.Common.{ℕ, suc, ℤ, pos, List, [], ◌∷◌, Bool, false, Option, Some, map, reverse, length}
+use Rattle.std.proofs.Common.{ℕ, suc, ℤ, pos, List, [], ◌∷◌, Bool, false, Option, Some, map, reverse, length, true}
 use Rattle.std.specs.Prelude.{◌&&◌, not, nat_le, codes}
 use Rattle.std.specs.Ordering.{int_eq, is_lt, is_gt}
 use Rattle.std.specs.declared.cmp.Ordering.{Ordering}
@@ -46,7 +46,8 @@ sorted_list_down : (x : Val) (r : Bool) → Lowers (sorted_list x r)
 sorted_list_down x r s = d_then s.steps (the_items x s) _ (the_items_down x s) λ xs t. d_choice (are_alike t xs) t.steps (makes_list (turned r (sort_from (plain_order t) [] xs)) t) (faults 5) (d_list _ t) (d_fault 5 _)
 
 sorted_by_down : (x r : Val) → Lowers (sorted_by x r)
-sorted_by_down x (v.Bool r) s = sorted_list_down x r s
+sorted_by_down x v.True s = sorted_list_down x true s
+sorted_by_down x v.False s = sorted_list_down x false s
 sorted_by_down x r s = d_fault 5 _
 
 sorted_down : (xs : List Val) (ns : KeywordArguments) → Lowers (sorted xs ns)

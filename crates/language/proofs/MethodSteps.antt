@@ -12,6 +12,7 @@ use Rattle.meaning.specs.Functions.{KeywordArguments, the_items}
 use Rattle.meaning.specs.Methods.{adds, nothing_after, list_method, makes_items, get_or_else, get_from, no_arguments, dict_method, bytes_of, the_bytes, all_bytes, with_between, split_by, stripped, ends, makes_texts, one_text, split, replace_by, replace, joins_items, text_method, object_method, has_method, called, method, add_in_place}
 use Rattle.language.proofs.HeapSteps.{Lowers, d_pure, d_fault, d_then, d_if, d_checked, d_puts, d_text, d_list, d_tuple, hash_down, may_change_down}
 use Rattle.language.proofs.CallSteps.{the_items_down}
+use Rattle.meaning.specs.Values.{bool_value}
 
 pub adds_down : (a : ℕ) (object : Option Obj) (more : List Val) → Lowers (adds a object more)
 adds_down a (Some (list xs f)) more s =
@@ -91,8 +92,8 @@ joins_items_down sep (x ∷ y ∷ xs) s = d_fault 25 _
 
 text_method_down : (bytes name : List ℕ) (args : List Val) → Lowers (text_method bytes name args)
 text_method_down bytes name args s =
-    d_if (same_text name (codes "startswith")) _ _ s s.steps (one_text_down (λ t. pure (v.Bool (begins t bytes))) (λ t u. d_pure _ u) args s)
-    (d_if (same_text name (codes "endswith")) _ _ s s.steps (one_text_down (λ t. pure (v.Bool (ends t bytes))) (λ t u. d_pure _ u) args s)
+    d_if (same_text name (codes "startswith")) _ _ s s.steps (one_text_down (λ t. pure (bool_value (begins t bytes))) (λ t u. d_pure _ u) args s)
+    (d_if (same_text name (codes "endswith")) _ _ s s.steps (one_text_down (λ t. pure (bool_value (ends t bytes))) (λ t u. d_pure _ u) args s)
     (d_if (same_text name (codes "join")) _ _ s s.steps (joins_items_down bytes args s)
     (d_if (same_text name (codes "split")) _ _ s s.steps (one_text_down (split bytes) (split_down bytes) args s)
     (d_if (same_text name (codes "replace")) _ _ s s.steps (replace_down bytes args s)

@@ -6,7 +6,7 @@ use Rattle.meaning.specs.declared.val.Val.{Val}
 use Rattle.meaning.specs.declared.val.Val.TheVariants as v
 use Rattle.meaning.specs.declared.builtin.Builtin.{Builtin}
 use Rattle.meaning.specs.declared.builtin.Builtin.TheVariants as b
-use Rattle.meaning.specs.Builtins.{same_builtin, package_functions}
+use Rattle.meaning.specs.Builtins.{same_builtin, package_functions, builtin_at}
 use Rattle.meaning.specs.Comparing.{same_text}
 use Rattle.meaning.specs.Outcome.{checked}
 use Rattle.meaning.specs.Heap.{Obj, text, list, tuple, dict, function, at}
@@ -104,10 +104,11 @@ module _ (env : Env) (more : Answers) (knows : KnowsMore env.globs more) where
 
     pub apply_below : (g : Val) (xs : List Val) (ns : KeywordArguments) (here : Here) (w : World) → Below (IsAsked env) (apply env call g xs ns here w) (apply env' call' g xs ns here w)
     unfolding apply
-    apply_below (v.Builtin f) xs ns here w = call_builtin_below f xs ns here w
+    apply_below (v.Builtin n) xs ns here w = call_builtin_below (builtin_at n) xs ns here w
     apply_below (v.At a) xs ns here w = call_object_below (at a w.store) xs ns here w
     apply_below v.Nothing xs ns here w = same _ (search quiet)
-    apply_below (v.Bool c) xs ns here w = same _ (search quiet)
+    apply_below v.True xs ns here w = same _ (search quiet)
+    apply_below v.False xs ns here w = same _ (search quiet)
     apply_below (v.Int n) xs ns here w = same _ (search quiet)
 
   pub apply_method_below : (r : Receiver) (name : List ℕ) (xs : List Val) (ns : KeywordArguments) (here : Here) (w : World) → Below (IsAsked env) (apply_method env r name xs ns here w) (apply_method env' r name xs ns here w)

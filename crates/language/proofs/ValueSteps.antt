@@ -12,7 +12,7 @@ use Rattle.meaning.specs.declared.val.Val.{Val}
 use Rattle.meaning.specs.declared.val.Val.TheVariants as v
 use Rattle.meaning.specs.declared.builtin.Builtin.{Builtin}
 use Rattle.meaning.specs.declared.builtin.Builtin.TheVariants as b
-use Rattle.meaning.specs.Builtins.{same_builtin, package_functions}
+use Rattle.meaning.specs.Builtins.{same_builtin, package_functions, builtin_at}
 use Rattle.meaning.specs.Outcome as m
 use Rattle.meaning.specs.Outcome.{checked}
 use Rattle.meaning.specs.Heap.{Entries, Obj, text, list, tuple, dict, function, at, makes_list, is_sized}
@@ -124,10 +124,11 @@ module _ (env : Env) (call : Call) (calls : (label name : List ℕ) (xs : List V
 
   apply_sinks : (g : Val) (xs : List Val) (ns : KeywordArguments) (here : Here) → Sinking (apply env call g xs ns here)
   unfolding apply
-  apply_sinks (v.Builtin f) xs ns here w = call_builtin_sinks env f xs ns here w
+  apply_sinks (v.Builtin n) xs ns here w = call_builtin_sinks env (builtin_at n) xs ns here w
   apply_sinks (v.At a) xs ns here w = call_object_sinks (at a w.store) xs ns here w
   apply_sinks v.Nothing xs ns here w = fails_sink 5 here.site _
-  apply_sinks (v.Bool c) xs ns here w = fails_sink 5 here.site _
+  apply_sinks v.True xs ns here w = fails_sink 5 here.site _
+  apply_sinks v.False xs ns here w = fails_sink 5 here.site _
   apply_sinks (v.Int n) xs ns here w = fails_sink 5 here.site _
 
   mutual

@@ -3,7 +3,7 @@
 -- Each expression node begun is a step; a method call is one node with its receiver and arguments below it. Operands are
 -- evaluated from left to right, a condition before its branch, a key before its value. A function comes before its
 -- arguments; whether it can be called, and with these, is tested once they are evaluated.
-use Rattle.std.specs.Prelude.{ℕ, List, [], ◌∷◌, ◌++◌, true, false, not, Option, Some, is_some, if◌then◌else◌}
+use Rattle.std.specs.Prelude.{ℕ, List, [], ◌∷◌, ◌++◌, not, Option, Some, is_some, if◌then◌else◌}
 use Rattle.std.specs.List.{list_any}
 use Rattle.tree.specs.declared.expr.Literal.{Literal}
 use Rattle.tree.specs.declared.expr.Literal.TheVariants as w
@@ -19,7 +19,7 @@ use Rattle.meaning.specs.declared.builtin.Builtin.{Builtin}
 use Rattle.meaning.specs.declared.val.Operator.{Operator}
 use Rattle.meaning.specs.declared.val.Operator.TheVariants as p
 use Rattle.meaning.specs.Heap.{Entries, Obj, function, at, makes_text, makes_list, makes_tuple, makes_dict}
-use Rattle.meaning.specs.Builtins.{same_builtin, package_functions}
+use Rattle.meaning.specs.Builtins.{same_builtin, package_functions, builtin_at}
 use Rattle.meaning.specs.Operators.{is_true, negate, plus}
 use Rattle.meaning.specs.Comparing.{found}
 use Rattle.meaning.specs.Indexing.{hash, index, slice}
@@ -34,16 +34,17 @@ use Rattle.language.specs.Arguments.{plain_part, named_part}
 use Rattle.language.specs.Targets.{Aim, to_name, to_member, to_each, Aims, no_aims, aim_at, store}
 use Rattle.language.specs.Packages.{package_call}
 use Rattle.language.specs.Loops.{Collection, nothing_yet, one_more, one_entry, gather, over}
+use Rattle.meaning.specs.Values.{bool_value}
 
 -- ---- operators
 
 abbrev pub literal : Literal → Val
 literal w.NoneValue = v.Nothing
-literal w.TrueValue = v.Bool true
-literal w.FalseValue = v.Bool false
+literal w.TrueValue = v.True
+literal w.FalseValue = v.False
 
 abbrev pub unary : UnaryOp → Val → Here → Runs Val
-unary u.Not x here = λ s. pure (v.Bool (not (is_true x s.store))) s
+unary u.Not x here = λ s. pure (bool_value (not (is_true x s.store))) s
 unary u.Plus x here = on_heap here (plus x)
 unary u.Minus x here = on_heap here (negate x)
 
@@ -94,7 +95,7 @@ call_object call object xs ns here = fault WRONG_TYPE here
 
 -- what is no function is fault 5, once the arguments are evaluated
 unfoldable pub apply : Env → Call → Val → List Val → KeywordArguments → Here → Runs Val
-apply env call (v.Builtin f) xs ns here = call_builtin env f xs ns here
+apply env call (v.Builtin n) xs ns here = call_builtin env (builtin_at n) xs ns here
 apply env call (v.At a) xs ns here = λ s. call_object call (at a s.store) xs ns here s
 apply env call x xs ns here = fault WRONG_TYPE here
 

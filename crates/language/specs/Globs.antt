@@ -70,7 +70,8 @@ texts_or_none (Some x) s = texts_in x s
 
 abbrev pub truth_or : Bool → Option Val → ValueOrFault Bool
 truth_or other None = good other
-truth_or other (Some (v.Bool b)) = good b
+truth_or other (Some v.True) = good true
+truth_or other (Some v.False) = good false
 truth_or other (Some x) = bad WRONG_TYPE
 
 abbrev pub int_or : ℤ → Option Val → ValueOrFault ℤ

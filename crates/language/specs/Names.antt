@@ -3,11 +3,9 @@
 --
 -- A name bound anywhere in a function is local in all of it. A comprehension has names of its own. Otherwise a name that
 -- the file binds anywhere at file level is its global, and any other is universal. This profile binds a global once.
-use Rattle.std.specs.Prelude.{ℕ, List, [], ◌∷◌, ◌++◌, Bool, true, false, Option, Some, None, if◌then◌else◌, is_some, codes}
+use Rattle.std.specs.Prelude.{ℕ, List, [], ◌∷◌, ◌++◌, Bool, false, Option, Some, None, if◌then◌else◌, is_some, codes}
 use Rattle.meaning.specs.declared.val.Val.{Val}
-use Rattle.meaning.specs.declared.val.Val.TheVariants as v
 use Rattle.meaning.specs.declared.builtin.Builtin.{Builtin}
-use Rattle.meaning.specs.declared.builtin.Builtin.TheVariants as b
 use Rattle.meaning.specs.Builtins.{builtin_name, plain_functions, package_functions}
 use Rattle.meaning.specs.Comparing.{same_text}
 use Rattle.meaning.specs.declared.faults.TheConstants.{BOUND_TWICE, NOT_BOUND, WRONG_TYPE}
@@ -17,6 +15,7 @@ use Rattle.tree.specs.Tree as t
 use Rattle.tree.specs.Tree.{Ex}
 pub use Rattle.tree.specs.Bindings.{target_names, targets_names, clause_names, stmt_names, suite_names, branches_names, branch_names, top_names, item_names, load_names, has_name, names_once}
 use Rattle.language.specs.World.{World, Block, Names, Here, Runs, ◌>>=◌, pure, fault, or_fault, ended}
+use Rattle.meaning.specs.Values.{builtin_value}
 
 -- ---- blocks
 
@@ -89,7 +88,7 @@ abbrev pub slot : List ℕ → Here → World → Option (Option Val)
 slot x here w = or_else (slot_among x w.blocks) (file_slot x (names_at here.label w.files))
 
 abbrev pub read_universal : List ℕ → Here → Runs Val
-read_universal x here = if is_native here.kind x then fault WRONG_TYPE here else (or_fault NOT_BOUND (universal here.kind x) here >>= λ f. pure (v.Builtin f))
+read_universal x here = if is_native here.kind x then fault WRONG_TYPE here else (or_fault NOT_BOUND (universal here.kind x) here >>= λ f. pure (builtin_value f))
 
 abbrev pub read_slot : Option (Option Val) → List ℕ → Here → Runs Val
 read_slot None x here = read_universal x here

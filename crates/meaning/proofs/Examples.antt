@@ -51,7 +51,7 @@ by_zero : (s : Store) → remainder (v.Int (pos 1)) (v.Int (pos 0)) s ≡ faults
 by_zero s = refl
 
 -- a bool is not an int
-bool_added : (s : Store) → add (v.Bool true) (v.Int (pos 1)) s ≡ faults 5
+bool_added : (s : Store) → add v.True (v.Int (pos 1)) s ≡ faults 5
 bool_added s = refl
 
 -- the last of three is at 2, and -4 is nowhere
@@ -154,7 +154,7 @@ no_step = refl
 no_int_and_no_step : range (v.Nothing ∷ v.Int (pos 2) ∷ v.Int (pos 0) ∷ []) empty ≡ faults 25
 no_int_and_no_step = refl
 
-bool_step : range (v.Int (pos 1) ∷ v.Int (pos 2) ∷ v.Bool false ∷ []) empty ≡ faults 5
+bool_step : range (v.Int (pos 1) ∷ v.Int (pos 2) ∷ v.False ∷ []) empty ≡ faults 5
 bool_step = refl
 
 -- zip of [1, 2] and [3] has one row, and zip() none

@@ -2,7 +2,6 @@
 --
 -- Each pair compared is a step. A walk may enter so many containers inside one another; the next is fault 12.
 use Rattle.std.specs.Prelude.{ℕ, zero, suc, Bool, true, false, ◌==◌, ◌&&◌, List, [], ◌∷◌, length, Option, Some, None, if◌then◌else◌, slice_get}
-use Rattle.std.specs.Bool.{beq}
 use Rattle.std.specs.Ordering.{int_eq, int_cmp, nat_cmp}
 use Rattle.std.specs.Cmp.Lexicographic.{pointwise, slice_cmp}
 use Rattle.std.specs.declared.cmp.Ordering.{Ordering}
@@ -14,7 +13,6 @@ use Rattle.meaning.specs.declared.val.Entry.{Entry}
 use Rattle.meaning.specs.Keys.{same_key}
 use Rattle.meaning.specs.Outcome.{Does, ◌>>=◌, ◌>>◌, pure, fault, tick, spend}
 use Rattle.meaning.specs.Heap.{Entries, Obj, text, list, tuple, dict, function, Store, walks}
-use Rattle.meaning.specs.Builtins.{same_builtin}
 use Rattle.meaning.specs.declared.faults.TheConstants.{TOO_DEEP, WRONG_TYPE}
 
 -- the value at a key, by the first entry that has it
@@ -43,9 +41,10 @@ pair_objects a b = settled false
 -- `==` of different types is False
 abbrev pub pair : List Obj → Val → Val → Pair
 pair heap v.Nothing v.Nothing = settled true
-pair heap (v.Bool a) (v.Bool b) = settled (beq a b)
+pair heap v.True v.True = settled true
+pair heap v.False v.False = settled true
 pair heap (v.Int a) (v.Int b) = settled (int_eq a b)
-pair heap (v.Builtin a) (v.Builtin b) = settled (same_builtin a b)
+pair heap (v.Builtin a) (v.Builtin b) = settled (a == b)
 pair heap (v.At a) (v.At b) = pair_objects (slice_get heap a) (slice_get heap b)
 pair heap a b = settled false
 

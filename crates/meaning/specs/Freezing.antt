@@ -1,10 +1,12 @@
 -- Frozen values: what a file's evaluation leaves, apart from any heap.
-use Rattle.std.specs.Prelude.{ℕ, zero, suc, ℤ, Bool, true, List, [], ◌∷◌, ◌++◌, Option, Some, None, slice_get}
+use Rattle.std.specs.Prelude.{ℕ, zero, suc, ℤ, Bool, true, List, [], ◌∷◌, ◌++◌, Option, Some, None, slice_get, false}
 use Rattle.meaning.specs.declared.key.Part.{Part}
 use Rattle.meaning.specs.declared.key.Part.TheVariants as p
 use Rattle.meaning.specs.declared.builtin.Builtin.{Builtin}
 use Rattle.meaning.specs.declared.val.Val.{Val}
 use Rattle.meaning.specs.declared.val.Val.TheVariants as v
+use Rattle.meaning.specs.Values.{bool_value, builtin_value}
+use Rattle.meaning.specs.Builtins.{builtin_at}
 use Rattle.meaning.specs.declared.val.Entry.{Entry}
 use Rattle.meaning.specs.Outcome.{Does, ◌>>=◌, ◌>>◌, pure, fault, tick}
 use Rattle.meaning.specs.Heap as h
@@ -52,9 +54,10 @@ held_object None = absent
 
 abbrev pub held : List Obj → Val → FreezeShape
 held heap v.Nothing = settled nothing
-held heap (v.Bool b) = settled (boolean b)
+held heap v.True = settled (boolean true)
+held heap v.False = settled (boolean false)
 held heap (v.Int n) = settled (whole n)
-held heap (v.Builtin b) = settled (built_in b)
+held heap (v.Builtin n) = settled (built_in (builtin_at n))
 held heap (v.At place) = held_object (slice_get heap place)
 
 abbrev pub freeze_members : (Val → Does ℕ Fz) → List Val → Does ℕ Fzs
@@ -120,9 +123,9 @@ abbrev mutual
 abbrev mutual
   pub thaw : Fz → Does Store Val
   thaw nothing = pure v.Nothing
-  thaw (boolean b) = pure (v.Bool b)
+  thaw (boolean b) = pure (bool_value b)
   thaw (whole n) = pure (v.Int n)
-  thaw (built_in b) = pure (v.Builtin b)
+  thaw (built_in b) = pure (builtin_value b)
   thaw (text bytes) = makes (h.text bytes)
   thaw (list fs) = thaw_members fs >>= λ xs. makes (h.list xs true)
   thaw (tuple fs) = thaw_members fs >>= λ xs. makes (h.tuple xs)

@@ -7,6 +7,7 @@ use Rattle.std.specs.declared.cmp.Ordering.TheVariants.{Equal}
 use Rattle.std.specs.Cmp.Lexicographic.{slice_cmp}
 use Rattle.meaning.specs.declared.val.Val.{Val}
 use Rattle.meaning.specs.declared.val.Val.TheVariants as v
+use Rattle.meaning.specs.Values.{bool_value}
 use Rattle.meaning.specs.declared.builtin.Builtin.{Builtin}
 use Rattle.meaning.specs.declared.builtin.Builtin.TheVariants as b
 use Rattle.meaning.specs.Outcome.{gives, faults, Does, and_then, ◌>>=◌, pure, fault, ValueOrFault, good, bad, checked}
@@ -73,9 +74,10 @@ object_type None = bad WRONG_TYPE
 
 abbrev pub type_of : Val → Store → ValueOrFault (List ℕ)
 type_of v.Nothing s = good (codes "NoneType")
-type_of (v.Bool b) s = good (codes "bool")
+type_of v.True s = good (codes "bool")
+type_of v.False s = good (codes "bool")
 type_of (v.Int n) s = good (codes "int")
-type_of (v.Builtin b) s = good (codes "function")
+type_of (v.Builtin n) s = good (codes "function")
 type_of (v.At a) s = object_type (at a s)
 
 -- members that are all ints, or all strings; they are ordered without steps
@@ -122,7 +124,8 @@ abbrev pub sorted_list : Val → Bool → Does Store Val
 sorted_list x r = the_items x >>= λ xs s. if are_alike s xs then makes_list (turned r (sort_from (plain_order s) [] xs)) s else faults WRONG_TYPE
 
 abbrev pub sorted_by : Val → Val → Does Store Val
-sorted_by x (v.Bool r) = sorted_list x r
+sorted_by x v.True = sorted_list x true
+sorted_by x v.False = sorted_list x false
 sorted_by x r = fault WRONG_TYPE
 
 -- `sorted(x, reverse = False)`
@@ -247,7 +250,7 @@ at_most_one none f (x ∷ []) = f x
 at_most_one none f xs = fault WRONG_ARGUMENTS
 
 abbrev pub truth_of : Bool → Does Store Val
-truth_of b = pure (v.Bool b)
+truth_of b = pure (bool_value b)
 
 -- the functions that take no names
 abbrev pub plain : Builtin → List Val → Does Store Val

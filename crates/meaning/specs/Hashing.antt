@@ -1,5 +1,5 @@
 -- Keys of dictionaries: None, bools, ints, strings and tuples of keys.
-use Rattle.std.specs.Prelude.{ℕ, zero, suc, List, [], ◌∷◌, ◌++◌, length, Option, Some, None, slice_get}
+use Rattle.std.specs.Prelude.{ℕ, zero, suc, List, [], ◌∷◌, ◌++◌, length, Option, Some, None, slice_get, true, false}
 use Rattle.meaning.specs.declared.key.Part.{Part}
 use Rattle.meaning.specs.declared.key.Part.TheVariants as p
 use Rattle.meaning.specs.declared.val.Val.{Val}
@@ -21,9 +21,10 @@ object_as_key object = no_key
 
 abbrev pub as_key : List Obj → Val → AsKey
 as_key heap v.Nothing = part p.Nothing
-as_key heap (v.Bool b) = part (p.Bool b)
+as_key heap v.True = part (p.Bool true)
+as_key heap v.False = part (p.Bool false)
 as_key heap (v.Int n) = part (p.Int n)
-as_key heap (v.Builtin b) = no_key
+as_key heap (v.Builtin n) = no_key
 as_key heap (v.At place) = object_as_key (slice_get heap place)
 
 -- the parts of keys, one after another

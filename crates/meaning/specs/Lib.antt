@@ -7,6 +7,7 @@ pub mod Heap
 pub mod Numbers
 pub mod Operators
 pub mod Builtins
+pub mod Values
 pub mod Hashing
 pub mod Comparing
 pub mod Indexing

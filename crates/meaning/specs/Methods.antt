@@ -3,6 +3,7 @@
 use Rattle.std.specs.Prelude.{ℕ, zero, suc, ◌==◌, ◌||◌, Bool, false, List, [], ◌∷◌, ◌++◌, length, reverse, map, drop, Option, Some, if◌then◌else◌, codes, unwrap_or}
 use Rattle.meaning.specs.declared.val.Val.{Val}
 use Rattle.meaning.specs.declared.val.Val.TheVariants as v
+use Rattle.meaning.specs.Values.{bool_value}
 use Rattle.meaning.specs.Outcome.{Does, ◌>>=◌, ◌>>◌, pure, fault, ValueOrFault, good, bad, checked}
 use Rattle.meaning.specs.Heap.{Entries, Obj, text, list, dict, Store, at, makes_text, makes_list, makes_tuple, puts, is_sized}
 use Rattle.meaning.specs.Comparing.{same_text, found}
@@ -128,8 +129,8 @@ joins_items sep xs = fault WRONG_ARGUMENTS
 
 abbrev pub text_method : List ℕ → List ℕ → List Val → Does Store Val
 text_method bytes name xs =
-    if same_text name (codes "startswith") then one_text (λ t. pure (v.Bool (begins t bytes))) xs
-    else (if same_text name (codes "endswith") then one_text (λ t. pure (v.Bool (ends t bytes))) xs
+    if same_text name (codes "startswith") then one_text (λ t. pure (bool_value (begins t bytes))) xs
+    else (if same_text name (codes "endswith") then one_text (λ t. pure (bool_value (ends t bytes))) xs
     else (if same_text name (codes "join") then joins_items bytes xs
     else (if same_text name (codes "split") then one_text (split bytes) xs
     else (if same_text name (codes "replace") then replace bytes xs

@@ -78,7 +78,8 @@ object_is_true None = false
 -- false are None, False, 0 and the empty string, list, tuple and dictionary
 abbrev pub is_true : Val → Store → Bool
 is_true v.Nothing s = false
-is_true (v.Bool b) s = b
+is_true v.True s = true
+is_true v.False s = false
 is_true (v.Int n) s = not (int_eq n (pos 0))
-is_true (v.Builtin b) s = true
+is_true (v.Builtin n) s = true
 is_true (v.At a) s = object_is_true (at a s)

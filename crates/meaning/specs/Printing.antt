@@ -9,7 +9,7 @@ use Rattle.meaning.specs.declared.val.Entry.{Entry}
 use Rattle.meaning.specs.declared.val.Val.TheVariants as v
 use Rattle.meaning.specs.Outcome.{Does, ◌>>=◌, ◌>>◌, pure, fault, tick}
 use Rattle.meaning.specs.Heap.{Entries, Obj, text, list, tuple, dict, function, Store, at, walks, makes_text}
-use Rattle.meaning.specs.Builtins.{builtin_name}
+use Rattle.meaning.specs.Builtins.{builtin_name, builtin_at}
 use Rattle.meaning.specs.declared.faults.TheConstants.{TOO_DEEP, WRONG_TYPE}
 
 -- one byte of a string between quotes: `\`, `"`, newline, return and tab are escaped
@@ -49,9 +49,10 @@ shown_object None = absent
 
 abbrev pub shown : List Obj → Val → PrintShape
 shown heap v.Nothing = written (codes "None")
-shown heap (v.Bool b) = written (bool_text b)
+shown heap v.True = written (bool_text true)
+shown heap v.False = written (bool_text false)
 shown heap (v.Int n) = written (int_text n)
-shown heap (v.Builtin b) = written (codes "<built-in " ++ builtin_name b ++ codes ">")
+shown heap (v.Builtin n) = written (codes "<built-in " ++ builtin_name (builtin_at n) ++ codes ">")
 shown heap (v.At place) = shown_object (slice_get heap place)
 
 -- texts that follow others, with a comma and a space before each

@@ -2,7 +2,7 @@
 //! package calls.
 ghost use Rattle.std.specs.Prelude.{◌≡◌};
 ghost use Rattle.std.specs.List.{list_any};
-ghost use Rattle.meaning.specs.Builtins.{builtin_number, builtin_name, same_builtin, package_functions};
+ghost use Rattle.meaning.specs.Builtins.{builtin_number, builtin_at, builtin_name, same_builtin, package_functions};
 
 /// A function that files have without a binding: of every file, or a package call.
 #[derive(Clone, Copy)]
@@ -67,7 +67,7 @@ pub const PACKAGE: [Builtin; 6] = [
 
 impl Builtin {
     /// Returns the function's number. Two functions are equal where their numbers are.
-    pub fn number(self) -> u8
+    pub fn number(self) -> usize
         ensures { result ≡ builtin_number self }
     {
         match self {
@@ -95,6 +95,39 @@ impl Builtin {
             Builtin::Alias => 21,
             Builtin::TestSuite => 22,
             Builtin::PackageName => 23,
+        }
+    }
+
+    /// Returns the function of a number, and of a number that no function has the first one.
+    pub fn at_number(number: usize) -> Builtin
+        ensures { result ≡ builtin_at number }
+    {
+        match number {
+            0 => Builtin::Len,
+            1 => Builtin::Range,
+            2 => Builtin::Str,
+            3 => Builtin::Repr,
+            4 => Builtin::Type,
+            5 => Builtin::Sorted,
+            6 => Builtin::Reversed,
+            7 => Builtin::Enumerate,
+            8 => Builtin::Zip,
+            9 => Builtin::List,
+            10 => Builtin::Tuple,
+            11 => Builtin::Dict,
+            12 => Builtin::Bool,
+            13 => Builtin::Any,
+            14 => Builtin::All,
+            15 => Builtin::Min,
+            16 => Builtin::Max,
+            17 => Builtin::Fail,
+            18 => Builtin::Glob,
+            19 => Builtin::Filegroup,
+            20 => Builtin::Genrule,
+            21 => Builtin::Alias,
+            22 => Builtin::TestSuite,
+            23 => Builtin::PackageName,
+            _ => Builtin::Len,
         }
     }
 

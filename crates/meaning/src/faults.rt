@@ -1,54 +1,54 @@
 //! The codes of the faults that end the evaluation of a file, with their names.
 
 /// There is no package.
-pub const NO_PACKAGE: u8 = 1;
+pub const NO_PACKAGE: u64 = 1;
 /// A file that is not ASCII.
-pub const NOT_ASCII: u8 = 2;
+pub const NOT_ASCII: u64 = 2;
 /// A file that is not in the grammar.
-pub const SYNTAX: u8 = 3;
+pub const SYNTAX: u64 = 3;
 /// A name that nothing binds.
-pub const NOT_BOUND: u8 = 4;
+pub const NOT_BOUND: u64 = 4;
 /// A value of the wrong type or shape.
-pub const WRONG_TYPE: u8 = 5;
+pub const WRONG_TYPE: u64 = 5;
 /// A change of a frozen value.
-pub const FROZEN: u8 = 6;
+pub const FROZEN: u64 = 6;
 /// A change of what a loop goes over.
-pub const ITERATED: u8 = 7;
+pub const ITERATED: u64 = 7;
 /// An index or a key that is absent.
-pub const ABSENT: u8 = 8;
+pub const ABSENT: u64 = 8;
 /// A number out of the range of 64 bits.
-pub const OVERFLOW: u8 = 9;
+pub const OVERFLOW: u64 = 9;
 /// A divisor of zero.
-pub const ZERO_DIVISOR: u8 = 10;
+pub const ZERO_DIVISOR: u64 = 10;
 /// The steps of an evaluation are spent.
-pub const STEPS_SPENT: u8 = 11;
+pub const STEPS_SPENT: u64 = 11;
 /// A container or a call too deep inside others.
-pub const TOO_DEEP: u8 = 12;
+pub const TOO_DEEP: u64 = 12;
 /// A value that is too large.
-pub const TOO_LARGE: u8 = 13;
+pub const TOO_LARGE: u64 = 13;
 /// A call of a function that is open.
-pub const RECURSION: u8 = 14;
+pub const RECURSION: u64 = 14;
 /// A label or the name of a target that is none.
-pub const BAD_LABEL: u8 = 15;
+pub const BAD_LABEL: u64 = 15;
 /// The file of a module is absent.
-pub const NO_MODULE: u8 = 16;
+pub const NO_MODULE: u64 = 16;
 /// A label that crosses the boundary of a package.
-pub const BOUNDARY_CROSSED: u8 = 17;
+pub const BOUNDARY_CROSSED: u64 = 17;
 /// A name that a module does not export.
-pub const NOT_EXPORTED: u8 = 18;
+pub const NOT_EXPORTED: u64 = 18;
 /// A module that loads itself, by others or directly.
-pub const LOAD_CYCLE: u8 = 19;
+pub const LOAD_CYCLE: u64 = 19;
 /// A second target of a name.
-pub const TARGET_TWICE: u8 = 20;
+pub const TARGET_TWICE: u64 = 20;
 /// A pattern that is none.
-pub const BAD_PATTERN: u8 = 21;
+pub const BAD_PATTERN: u64 = 21;
 /// A glob without a result where one has to be.
-pub const EMPTY_GLOB: u8 = 22;
+pub const EMPTY_GLOB: u64 = 22;
 /// A call that is not allowed where it stands.
-pub const NOT_ALLOWED: u8 = 23;
+pub const NOT_ALLOWED: u64 = 23;
 /// `fail` was called.
-pub const FAIL_CALLED: u8 = 24;
+pub const FAIL_CALLED: u64 = 24;
 /// Arguments that a function does not take, or a key twice in one dictionary expression.
-pub const WRONG_ARGUMENTS: u8 = 25;
+pub const WRONG_ARGUMENTS: u64 = 25;
 /// A second binding of a global.
-pub const BOUND_TWICE: u8 = 26;
+pub const BOUND_TWICE: u64 = 26;

@@ -13,6 +13,7 @@ use Rattle.meaning.specs.Membership.{begins}
 use Rattle.meaning.specs.Functions.{the_items}
 use Rattle.meaning.specs.Methods.{adds, add_in_place, nothing_after, the_bytes, ends, stripped, split, replace, joins_items}
 use Rattle.meaning.specs.declared.faults.TheConstants.{TOO_LARGE, WRONG_ARGUMENTS, WRONG_TYPE}
+use Rattle.meaning.specs.Values.{bool_value}
 
 -- members at the end of a list that may be changed, or fault 13
 abbrev pub extended : ℕ → Option Obj → List Val → Does Store (Unit {0})
@@ -109,8 +110,8 @@ split_only whole xs = only_text xs >>= split whole
 
 abbrev pub of_text : List ℕ → List ℕ → List Val → Does Store Val
 of_text bytes name xs =
-    if same_text name (codes "startswith") then (only_text xs >>= λ t. pure (v.Bool (begins t bytes)))
-    else (if same_text name (codes "endswith") then (only_text xs >>= λ t. pure (v.Bool (ends t bytes)))
+    if same_text name (codes "startswith") then (only_text xs >>= λ t. pure (bool_value (begins t bytes)))
+    else (if same_text name (codes "endswith") then (only_text xs >>= λ t. pure (bool_value (ends t bytes)))
     else (if same_text name (codes "join") then joins_items bytes xs
     else (if same_text name (codes "split") then split_only bytes xs
     else (if same_text name (codes "replace") then replace bytes xs

@@ -19,11 +19,11 @@ pub fn text_method(heap: &mut Heap, whole: &[u8], name: &str, xs: &[Val]) -> Res
 {
     if is_name(name, "startswith") {
         let part = only_text(heap, xs)?;
-        return Ok(Val::Bool(begins(part, whole)));
+        return Ok(Val::boolean(begins(part, whole)));
     }
     if is_name(name, "endswith") {
         let part = only_text(heap, xs)?;
-        return Ok(Val::Bool(ends(part, whole)));
+        return Ok(Val::boolean(ends(part, whole)));
     }
     if is_name(name, "join") {
         return join(heap, whole, xs);

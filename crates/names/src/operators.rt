@@ -26,7 +26,7 @@ pub fn unary(heap: &mut Heap, op: UnaryOp, x: Val) -> Result<Val, Halt>
     ensures steps { IfOk result (λ _. heap.new.steps ≤ heap.old.steps) }
 {
     match op {
-        UnaryOp::Not => Ok(Val::Bool(!is_true(heap, x)?)),
+        UnaryOp::Not => Ok(Val::boolean(!is_true(heap, x)?)),
         UnaryOp::Plus => values::plus(heap, x),
         UnaryOp::Minus => values::negate(heap, x),
     }

@@ -62,7 +62,7 @@ fn read_universal(at: &Standing, x: &Text) -> Result<Val, Halt>
         return Err(Halt::Code(faults::WRONG_TYPE));
     }
     match universal(at.kind, x) {
-        Some(f) => Ok(Val::Builtin(f)),
+        Some(f) => Ok(Val::built_in(f)),
         None => Err(Halt::Code(faults::NOT_BOUND)),
     }
 }

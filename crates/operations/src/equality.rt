@@ -23,9 +23,10 @@ fn make_pair<'a>(objects: &'a Objects, a: Val, b: Val) -> Result<Pair<'a>, Memor
 {
     match (a, b) {
         (Val::Nothing, Val::Nothing) => Ok(Pair::Settled(true)),
-        (Val::Bool(x), Val::Bool(y)) => Ok(Pair::Settled(x == y)),
+        (Val::True, Val::True) => Ok(Pair::Settled(true)),
+        (Val::False, Val::False) => Ok(Pair::Settled(true)),
         (Val::Int(x), Val::Int(y)) => Ok(Pair::Settled(x == y)),
-        (Val::Builtin(x), Val::Builtin(y)) => Ok(Pair::Settled(x.number() == y.number())),
+        (Val::Builtin(x), Val::Builtin(y)) => Ok(Pair::Settled(x == y)),
         (Val::At(x), Val::At(y)) => pair_objects(objects, x, y),
         _ => Ok(Pair::Settled(false)),
     }

@@ -24,7 +24,8 @@ fn as_key<'a>(objects: &'a Objects, x: Val) -> Result<AsKey<'a>, Memory>
 {
     match x {
         Val::Nothing => Ok(AsKey::Part(Part::Nothing)),
-        Val::Bool(b) => Ok(AsKey::Part(Part::Bool(b))),
+        Val::True => Ok(AsKey::Part(Part::Bool(true))),
+        Val::False => Ok(AsKey::Part(Part::Bool(false))),
         Val::Int(n) => Ok(AsKey::Part(Part::Int(n))),
         Val::Builtin(_) => Ok(AsKey::NoKey),
         Val::At(place) => match objects.look(place)? {

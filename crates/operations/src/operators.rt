@@ -155,7 +155,8 @@ pub fn is_true(heap: &Heap, a: Val) -> Result<bool, Memory>
 {
     match a {
         Val::Nothing => Ok(false),
-        Val::Bool(b) => Ok(b),
+        Val::True => Ok(true),
+        Val::False => Ok(false),
         Val::Int(n) => Ok(n != 0),
         Val::Builtin(_) => Ok(true),
         Val::At(place) => is_object_true(heap, place),

@@ -171,7 +171,8 @@ fn truth_or(other: bool, x: Option<Val>) -> Result<bool, Halt>
 {
     match x {
         None => Ok(other),
-        Some(Val::Bool(b)) => Ok(b),
+        Some(Val::True) => Ok(true),
+        Some(Val::False) => Ok(false),
         Some(_) => Err(Halt::Code(faults::WRONG_TYPE)),
     }
 }

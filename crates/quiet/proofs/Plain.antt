@@ -3,7 +3,8 @@ use Rattle.std.proofs.Common.{◌≡◌, ℕ, List, [], ◌∷◌, Bool, true, f
 use Rattle.std.specs.Prelude.{codes, not, ◌&&◌, if◌then◌else◌}
 use Rattle.std.specs.List.{list_any}
 use Rattle.meaning.specs.declared.builtin.Builtin.{Builtin}
-use Rattle.meaning.specs.declared.val.Val.TheVariants as v
+use Rattle.meaning.specs.Values.{builtin_value}
+use Rattle.meaning.proofs.Builtins.{numbered}
 use Rattle.meaning.specs.Builtins.{builtin_name, same_builtin, plain_functions, package_functions}
 use lib.Pointwise.{bytes_decides}
 use Rattle.meaning.specs.Comparing.{same_text}
@@ -20,7 +21,7 @@ use Rattle.meaning.specs.Methods.{method}
 use Rattle.language.specs.World.{World, Here, Ends, ended, failed, waits, Runs, then_runs, ◌>>=◌, pure, fault, or_fault, on_heap, tick}
 use Rattle.language.specs.Environment.{Env}
 use Rattle.language.specs.Packages.{package_call}
-use Rattle.language.specs.Expressions.{Call, value, apply, apply_method, on_receiver, Receiver, native, receiver}
+use Rattle.language.specs.Expressions.{Call, value, apply, apply_method, on_receiver, Receiver, native, receiver, call_builtin}
 use Rattle.names.specs.declared.state.Scope.{Scope}
 use Rattle.names.specs.Scope.{is_free}
 use Rattle.names.specs.View.{Ran}
@@ -62,12 +63,12 @@ universal_is k.Build x b h = first_append x plain_functions package_functions �
 universal_is k.Bzl x b h = h
 
 -- what a name gives that nothing hides
-pub read_plain : (x : List ℕ) (b : Builtin) (here : Here) (w : World) → slot x here w ≡ None → first_named x plain_functions ≡ Some b → read x here w ≡ ended (v.Builtin b) w
+pub read_plain : (x : List ℕ) (b : Builtin) (here : Here) (w : World) → slot x here w ≡ None → first_named x plain_functions ≡ Some b → read x here w ≡ ended (builtin_value b) w
 read_plain x b here w free h =
     read_is x here w
     ∙ ap (λ o. read_slot o x here w) free
-    ∙ ap (λ c. (if c then fault 5 here else (or_fault 4 (universal here.kind x) here >>= λ f. pure (v.Builtin f))) w) (not_native here.kind x b h)
-    ∙ ap (λ o. (or_fault 4 o here >>= λ f. pure (v.Builtin f)) w) (universal_is here.kind x b h)
+    ∙ ap (λ c. (if c then fault 5 here else (or_fault 4 (universal here.kind x) here >>= λ f. pure (builtin_value f))) w) (not_native here.kind x b h)
+    ∙ ap (λ o. (or_fault 4 o here >>= λ f. pure (builtin_value f)) w) (universal_is here.kind x b h)
 
 word_hidden : (c : Bool) (kind : FileKind) (x : List ℕ) → same_text x (codes "native") ≡ false → (if c then false else is_native kind x) ≡ false
 word_hidden true kind x h = refl
@@ -102,10 +103,10 @@ both_hold true b h = refl
 both_hold false b h = absurd cc
 
 -- the name of a function that every file has, and what is done with it
-pub plain_call : (env : Env) (call : Call) (scope : Scope) (f : Ex) (g : Builtin) (k : Val → Runs Val) (here : Here) (w : World) (s : Store) (r : Result Val Halt) (u : World) → ((x : List ℕ) → not (is_some (slot x here (record w { store = s }))) ≡ is_free scope x) → is_plain (is_free scope) f ≡ true → plain_of f ≡ Some g → walks (λ objects. o.tick) w.store ≡ o.gives tt s → Ran here.site (k (v.Builtin g) (record w { store = s })) r u → Ran here.site (then_runs (value env call f here w) k) r u
+pub plain_call : (env : Env) (call : Call) (scope : Scope) (f : Ex) (g : Builtin) (k : Val → Runs Val) (here : Here) (w : World) (s : Store) (r : Result Val Halt) (u : World) → ((x : List ℕ) → not (is_some (slot x here (record w { store = s }))) ≡ is_free scope x) → is_plain (is_free scope) f ≡ true → plain_of f ≡ Some g → walks (λ objects. o.tick) w.store ≡ o.gives tt s → Ran here.site (k (builtin_value g) (record w { store = s })) r u → Ran here.site (then_runs (value env call f here w) k) r u
 plain_call env call scope (t.name x) g k here w s r u same plain named ticks h =
     let free : slot x here (record w { store = s }) ≡ None = unhidden (slot x here (record w { store = s })) (same x ∙ both_hold (is_free scope x) (is_some (first_named x plain_functions)) plain) in
-    let reads : read x here (record w { store = s }) ≡ ended (v.Builtin g) (record w { store = s }) = read_plain x g here (record w { store = s }) free named in
+    let reads : read x here (record w { store = s }) ≡ ended (builtin_value g) (record w { store = s }) = read_plain x g here (record w { store = s }) free named in
     subst (λ q. Ran here.site (then_runs q k) r u) (sym (ticked (read x here) here w s ticks ∙ reads)) h
 plain_call env call scope (t.int n) g k here w s r u same plain named ticks h = absurd cc
 plain_call env call scope (t.str x) g k here w s r u same plain named ticks h = absurd cc
@@ -124,9 +125,9 @@ plain_call env call scope (t.call f es names) g k here w s r u same plain named 
 plain_call env call scope (t.method e name es names) g k here w s r u same plain named ticks h = absurd cc
 
 -- a call of such a function
-pub plain_applied : (env : Env) (call : Call) (f : Ex) (g : Builtin) (xs : List Val) (ns : KeywordArguments) (here : Here) → plain_of f ≡ Some g → apply env call (v.Builtin g) xs ns here ≡ on_heap here (builtin g xs ns)
+pub plain_applied : (env : Env) (call : Call) (f : Ex) (g : Builtin) (xs : List Val) (ns : KeywordArguments) (here : Here) → plain_of f ≡ Some g → apply env call (builtin_value g) xs ns here ≡ on_heap here (builtin g xs ns)
 unfolding apply
-plain_applied env call (t.name x) g xs ns here named = ap (λ c. if c then package_call env g xs ns here else on_heap here (builtin g xs ns)) (no_package x g named)
+plain_applied env call (t.name x) g xs ns here named = ap (λ h. call_builtin env h xs ns here) (numbered g) ∙ ap (λ c. if c then package_call env g xs ns here else on_heap here (builtin g xs ns)) (no_package x g named)
 plain_applied env call (t.int n) g xs ns here named = absurd cc
 plain_applied env call (t.str x) g xs ns here named = absurd cc
 plain_applied env call (t.literal l) g xs ns here named = absurd cc

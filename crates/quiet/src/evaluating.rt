@@ -24,8 +24,8 @@ fn literal(word: Literal) -> Val
 {
     match word {
         Literal::NoneValue => Val::Nothing,
-        Literal::TrueValue => Val::Bool(true),
-        Literal::FalseValue => Val::Bool(false),
+        Literal::TrueValue => Val::True,
+        Literal::FalseValue => Val::False,
     }
 }
 

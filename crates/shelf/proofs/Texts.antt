@@ -3,7 +3,6 @@ use Rattle.std.proofs.Common.{◌≡◌, ℕ, Bool, true, false, ◌&&◌, ◌||
 use Rattle.std.proofs.lemmas.Bool.Decides.{nat_tests}
 use Rattle.std.specs.Prelude.{Option}
 use Rattle.std.specs.List.{list_any}
-use Rattle.shelf.specs.declared.publish.Publish.{Publish}
 use Rattle.shelf.specs.Lists.{same_text, or_else, published, entry}
 use Rattle.shelf.specs.Laws.{EachNameHasItsText}
 use Rattle.shelf.proofs.Entries.{entry_snoc}

@@ -1,5 +1,5 @@
 -- What is parsed is what the grammar relates.
-use Rattle.std.proofs.Common.{◌≡◌, ℕ, List, Result, Ok, Err}
+use Rattle.std.proofs.Common.{ℕ, List, Result, Ok, Err}
 use Rattle.tokens.specs.declared.refusal.Refused.{Refused}
 use Rattle.tokens.specs.declared.refusal.Refused.TheVariants as r
 use Rattle.tree.specs.declared.def.File.{File}

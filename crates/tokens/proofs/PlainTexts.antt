@@ -2,7 +2,7 @@
 use Rattle.std.proofs.Common.{◌≡◌, ℕ, List, [], ◌∷◌, Bool, true, false, refl, ap}
 use Rattle.std.specs.Prelude.{◌==◌, ◌||◌}
 use Rattle.tokens.specs.Escapes.{has_escape}
-use Rattle.tokens.specs.Strings.{unescaped, unescaped_after}
+use Rattle.tokens.specs.Strings.{unescaped}
 
 one_more : (b : ℕ) (bs : List ℕ) (e : Bool) → (b == 92) ≡ e → (e || has_escape bs) ≡ false → (has_escape bs ≡ false → unescaped bs ≡ bs) → unescaped (b ∷ bs) ≡ b ∷ bs
 one_more b bs true is h more = cc

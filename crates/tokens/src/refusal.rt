@@ -11,7 +11,7 @@ pub enum Refused {
     /// The text is none of the language: 2 where a byte is over 127, with the line of the first one, counted from 1;
     /// 3 where it breaks the syntax, and 12 where it is nested too deep, both with the line 0.
     #[error("syntax fault {code} in line {line}")]
-    Syntax { code: u8, line: usize },
+    Syntax { code: u64, line: usize },
     /// A growth was refused.
     #[error("out of memory")]
     Memory,

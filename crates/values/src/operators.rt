@@ -18,14 +18,14 @@ pub fn binary(heap: &mut Heap, operator: Operator, a: Val, b: Val) -> Result<Val
     ensures { Says (binary operator a b (store_of heap.old)) result (store_of heap.new) }
 {
     match operator {
-        Operator::Equal => Ok(Val::Bool(equal(heap, a, b)?)),
-        Operator::NotEqual => Ok(Val::Bool(!equal(heap, a, b)?)),
-        Operator::Less => Ok(Val::Bool(less(heap, a, b)?)),
-        Operator::LessEqual => Ok(Val::Bool(compare(heap, a, b)?.is_le())),
-        Operator::Greater => Ok(Val::Bool(compare(heap, a, b)?.is_gt())),
-        Operator::GreaterEqual => Ok(Val::Bool(compare(heap, a, b)?.is_ge())),
-        Operator::In => Ok(Val::Bool(has(heap, a, b)?)),
-        Operator::NotIn => Ok(Val::Bool(!has(heap, a, b)?)),
+        Operator::Equal => Ok(Val::boolean(equal(heap, a, b)?)),
+        Operator::NotEqual => Ok(Val::boolean(!equal(heap, a, b)?)),
+        Operator::Less => Ok(Val::boolean(less(heap, a, b)?)),
+        Operator::LessEqual => Ok(Val::boolean(compare(heap, a, b)?.is_le())),
+        Operator::Greater => Ok(Val::boolean(compare(heap, a, b)?.is_gt())),
+        Operator::GreaterEqual => Ok(Val::boolean(compare(heap, a, b)?.is_ge())),
+        Operator::In => Ok(Val::boolean(has(heap, a, b)?)),
+        Operator::NotIn => Ok(Val::boolean(!has(heap, a, b)?)),
         Operator::Add => Ok(add(heap, a, b)?),
         Operator::Subtract => Ok(subtract(heap, a, b)?),
         Operator::Multiply => Ok(multiply(heap, a, b)?),
