@@ -231,8 +231,7 @@ fn copied_pairs(alloc: Global, dict: &FrozenDict, base: u32) -> Result<Vec<Entry
         let Some((_key, pair)) = dict.get_index(i) else {
             return Ok(all);
         };
-        let Entry { key, value } = pair.moved(base);
-        all.push(Entry { key, value })?;
+        all.push(pair.moved(base))?;
     }
     Ok(all)
 }
