@@ -650,7 +650,9 @@ class Trials:
             is_same = digest(name, self.uses, self.logic) == before
             write_line(name, (str(len(edits)), before) if is_same and not wrong else None, self.uses)
 
-    def lane(self):
+    def lane(self, processor):
+        # The prover's front end works on several processors at once where it may. That takes a fifth more of them in sum.
+        os.sched_setaffinity(0, {processor})
         while True:
             with self.lock:
                 if not self.names:
@@ -663,7 +665,8 @@ class Trials:
                     self.wrong.append((f"crates/{name}", f"it could not be tried: {error}"))
 
     def run(self, jobs):
-        lanes = [threading.Thread(target=self.lane) for _ in range(jobs)]
+        processors = sorted(os.sched_getaffinity(0))
+        lanes = [threading.Thread(target=self.lane, args=(processors[it % len(processors)],)) for it in range(jobs)]
         for it in lanes:
             it.start()
         for it in lanes:

@@ -1,15 +1,10 @@
 -- Calls that begin and end.
-use Rattle.std.proofs.Common.{◌≡◌, ◌+◌, ◌++◌, ◌∷◌, [], ℕ, zero, suc, List, Option, Some, None, Vec, Global, vec_len, drop, map, reverse, MatchOption, Bool, true, false, refl, sym, ap, ◌∙◌, Err}
+use Rattle.std.proofs.Common.{◌≡◌, ◌+◌, ◌++◌, ◌∷◌, [], ℕ, zero, suc, List, Option, Some, None, Vec, Global, vec_len, drop, map, reverse, MatchOption, refl, sym, ap, ◌∙◌, Err}
 use Rattle.std.specs.Option.{option_to_list}
-use Rattle.std.specs.Prelude.{if◌then◌else◌, is_some}
 use Rattle.std.proofs.lemmas.List.{reverse-append, nil_from_length}
 use Rattle.meaning.specs.declared.val.Val.{Val}
 use Rattle.meaning.specs.Functions.{KeywordArguments}
-use Rattle.meaning.specs.Comparing.{same_text}
 use Rattle.tree.specs.Tree.{Fn, Suite}
-use lib.Pointwise.{bytes_decides}
-use Rattle.language.specs.Modules.{body_at}
-use Rattle.module_values.specs.Values.{Body}
 use Rattle.language.proofs.Below.{Asks, Below}
 use Rattle.package_calls.specs.View.{EndsAs}
 use Rattle.names.specs.View.{Ran}
@@ -25,8 +20,7 @@ use Rattle.evaluator.specs.Machines.{Stops, Leads, Under, site_at}
 use Rattle.language.specs.World.{World, Site, Block, Here, Ends, ended, failed, waits, Runs, then_runs, ◌>>=◌, pure, with_blocks, in_blocks}
 use Rattle.language.specs.Statements as s
 use Rattle.language.specs.Statements.{suite}
-use Rattle.language.specs.Names.{names_at}
-use Rattle.language.specs.Environment.{Env, need_names, thaw_body, functions_of, function_named, reached_module}
+use Rattle.language.specs.Environment.{Env, need_names, functions_of, function_named}
 use Rattle.language.specs.Calls.{call, enter, given, function_block, body_does}
 use Rattle.calls.specs.declared.functions.Open.{Open}
 use Rattle.calls.specs.View.{open_of, running_of}
@@ -64,21 +58,6 @@ pub needs_stop : (env : Env) (n : ℕ) (label name : List ℕ) (xs : List Val) (
     → need_names env label here w ≡ failed code here.site → call env n label name xs ns here w ≡ failed code here.site
 needs_stop env n label name xs ns here w code needs =
     ap (λ c. c label name xs ns here w) (call_enters env n) ∙ rw (needs) refl
-
-by_known : (b : Bool) (m : Option Body) (here : Here) (w : World) → m ≡ None → (if b then pure tt else thaw_body m here) w ≡ ended tt w
-by_known true m here w e = refl
-by_known false None here w e = refl
-by_known false (Some body) here w e = absurd cc
-
-none_needed : (env : Env) (label : List ℕ) (here : Here) (w : World) → reached_module env label ≡ None → need_names env label here w ≡ ended tt w
-unfolding need_names
-none_needed env label here w e = by_known (is_some (names_at label w.files)) (reached_module env label) here w e
-
--- where no file has the label there is nothing to put on the heap, and no function
-pub no_file : (env : Env) (n : ℕ) (label name : List ℕ) (xs : List Val) (ns : KeywordArguments) (here : Here) (w : World)
-    → same_text label env.label ≡ false → reached_module env label ≡ None → call env n label name xs ns here w ≡ failed 5 here.site
-no_file env n label name xs ns here w own reached =
-    no_call env n label name xs ns here w w (none_needed env label here w reached) (rw (own, reached) refl)
 
 -- the body of a function, above a frame that ends the call
 pub body_above : (e : Ends s.Exit) (blocks : List Block) (j : Sig → Runs Sig)
@@ -130,15 +109,6 @@ more_failed {Q = Q} (waits ps) b c site p e = absurd cc
 pub package_stops : {Q : Asks} (a b : Ends Val) (halt : Halt) (site : Site) (u : World) (k : Val → Runs Sig) (j : Sig → Runs Sig) (after : Control → Ends Sig) → Below Q a b → EndsAs site a (Err halt) u → Goes site (then_runs (then_runs b k) j) (Err halt) after
 package_stops a b (Code c) site u k j after below e = ap (λ o. then_runs (then_runs o k) j) (more_failed a b c site below e)
 package_stops a b Memory site u k j after below e = tt
-
--- a module that was found by its label has it
-pub label_at : (label : List ℕ) (bs : List Body) (b : Body) → Some b ≡ body_at label bs → b.label ≡ label
-label_at label [] b e = absurd cc
-label_at label (x ∷ bs) b e = at_first (same_text label x.label) refl e (label_at label bs b)
-  where
-    at_first : (t : Bool) → same_text label x.label ≡ t → Some b ≡ (if t then Some x else body_at label bs) → (Some b ≡ body_at label bs → b.label ≡ label) → b.label ≡ label
-    at_first true h e ih = let f : b ≡ x = cc in ap (λ (y : Body). y.label) f ∙ sym ((bytes_decides label x.label).0 h)
-    at_first false h e ih = ih e
 
 -- the names of a file can't be put on the heap
 pub needs_goes : (env : Env) (n : ℕ) (label name : List ℕ) (xs : List Val) (ns : KeywordArguments) (here : Here) (w u : World) (halt : Halt) (k : Val → Runs Sig) (j : Sig → Runs Sig) (after : Control → Ends Sig)

@@ -1,5 +1,5 @@
 -- Turns one after another.
-use Rattle.std.proofs.Common.{◌≡◌, Ok, refl, ◌∙◌}
+use Rattle.std.proofs.Common.{◌≡◌, Result, Ok, Err, refl, ◌∙◌}
 use Rattle.language.specs.World.{Ends}
 use Rattle.language.specs.Environment.{Env}
 use Rattle.language.specs.Laws.{KnowsMore}
@@ -7,6 +7,8 @@ use Rattle.frames.specs.declared.frame.Control.{Control}
 use Rattle.frames.specs.Frames.{Sig}
 use Rattle.evaluator.specs.declared.machine.Environment.{Environment}
 use Rattle.evaluator.specs.declared.machine.Machine.{Machine}
+use Rattle.evaluator.specs.declared.machine.Stop.{Stop}
+use Rattle.evaluator.specs.declared.machine.Stop.TheVariants as s
 use Rattle.evaluator.specs.declared.machine.Progress.{Progress}
 use Rattle.evaluator.specs.declared.machine.Progress.TheVariants as t
 use Rattle.evaluator.specs.Machines.{env_of, Under, Leads, StepsFall, IsOver}
@@ -20,6 +22,11 @@ pub leads_on : (e : Environment) (before next : Env → Ends Sig) (turned : Prog
 leads_on e before next (t.Goes control) m same leads = λ more knows. same more knows ∙ leads more knows
 leads_on e before next (t.Ended sig) m same leads = λ more knows. same more knows ∙ leads more knows
 leads_on e before next (t.Waits control patterns) m same leads = (same (env_of e).globs (knows_own e) ∙ leads.0, λ more knows. same more knows ∙ leads.1 more knows)
+
+pub leads_after : (e : Environment) (before next : Env → Ends Sig) (r : Result Progress Stop) (m : Machine) → Under e (λ env. before env ≡ next env) → Leads e next r m → Leads e before r m
+leads_after e before next (Ok turned) m same leads = leads_on e before next turned m same leads
+leads_after e before next (Err (s.Fault code path line)) m same leads = λ more knows. same more knows ∙ leads more knows
+leads_after e before next (Err s.Memory) m same leads = tt
 
 pub none_left : (turned : Progress) → ((control : Control) → turned ≡ t.Goes control → ⊥) → IsOver turned
 none_left (t.Goes control) h = absurd (h control refl)

@@ -1,17 +1,16 @@
 -- Functions of files that were found, and how their calls go on.
-use Rattle.std.specs.Prelude.{◌≡◌, ℕ, zero, suc, List, Option, Some, None, false, if◌then◌else◌, Result, Ok, Err}
+use Rattle.std.specs.Prelude.{◌≡◌, ℕ, zero, suc, List, Option, Some, None, if◌then◌else◌, Result, Ok, Err}
 use Rattle.std.specs.Arc.{arc_value}
 use Rattle.std.specs.declared.alloc.Global.{Global}
 use Rattle.std.specs.declared.sync.Arc.{Arc}
 use Rattle.meaning.specs.declared.val.Val.{Val}
 use Rattle.meaning.specs.Outcome.{checked}
 use Rattle.meaning.specs.Functions.{KeywordArguments}
-use Rattle.meaning.specs.Comparing.{same_text}
 use Rattle.tree.specs.Tree.{Fn, Suite}
 use Rattle.tree.specs.declared.def.Def.{Def}
 use Rattle.tree.specs.Statements.{fn_of}
 use Rattle.language.specs.World.{Here, Runs, ◌>>=◌, fault, on_heap}
-use Rattle.language.specs.Environment.{Env, path_of, functions_of, function_named, defaults_of, reached_module}
+use Rattle.language.specs.Environment.{Env, path_of, functions_of, function_named, defaults_of}
 use Rattle.language.specs.Arguments.{arguments}
 use Rattle.language.specs.Statements.{Exit, suite}
 use Rattle.language.specs.Calls.{call, is_running, inside, body_does}
@@ -39,11 +38,6 @@ abbrev pub calls_on : Env → ℕ → List ℕ → Fn → List Val → KeywordAr
 calls_on env n label f xs ns here =
     (λ w. on_heap here (checked (arguments f xs ns (defaults_of label f.name w))) w) >>= λ parameters.
     if is_running label f.name here.running then fault RECURSION here else body_does (body_runs env n) f parameters (inside env label f here) here
-
--- the label of a file that is evaluated or reached, or none such
-abbrev pub IsLabel : Env → List ℕ → Option (List ℕ) → Type 0
-IsLabel env label (Some found) = found ≡ label
-IsLabel env label None = (same_text label env.label ≡ false) × (reached_module env label ≡ None)
 
 -- the function with a name of the file with a label, or none such
 abbrev pub IsFound : Env → List ℕ → List ℕ → Option Callee → Type 0

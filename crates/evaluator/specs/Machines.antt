@@ -14,6 +14,7 @@ use Rattle.frames.specs.declared.frame.Control.{Control}
 use Rattle.frames.specs.declared.frame.Control.TheVariants as c
 use Rattle.frames.specs.Frames.{Sig, sig_of, machine_does}
 use Rattle.frames.specs.Weight.{Lighter, frames_weight, control_weight}
+use Rattle.frames.specs.Ahead.{AsLight}
 use Rattle.evaluator.specs.declared.machine.Environment.{Environment}
 use Rattle.evaluator.specs.declared.machine.Machine.{Machine}
 use Rattle.evaluator.specs.declared.machine.Stop.{Stop}
@@ -61,9 +62,19 @@ Leads e before (Err s.Memory) m = Unit {0}
 abbrev pub Falls : Machine → Control → Machine → Control → Type 0
 Falls m control after next = Lighter m.state.heap.steps (frames_weight m.frames.items + control_weight control) after.state.heap.steps (frames_weight after.frames.items + control_weight next)
 
+-- a part of a turn leaves less to be done than there was of this weight
+abbrev pub Lightens : Machine → ℕ → Machine → Progress → Type 0
+Lightens m weight after (t.Goes next) = Lighter m.state.heap.steps weight after.state.heap.steps (frames_weight after.frames.items + control_weight next)
+Lightens m weight after turned = Unit {0}
+
+-- and less than there was of a control and the frames below it
 abbrev pub TurnFalls : Machine → Control → Machine → Progress → Type 0
-TurnFalls m control after (t.Goes next) = Falls m control after next
-TurnFalls m control after turned = Unit {0}
+TurnFalls m control after turned = Lightens m (frames_weight m.frames.items + control_weight control) after turned
+
+-- and no more
+abbrev pub StaysLight : Machine → Control → Machine → Progress → Type 0
+StaysLight m control after (t.Goes next) = AsLight m.state.heap.steps (frames_weight m.frames.items + control_weight control) after.state.heap.steps (frames_weight after.frames.items + control_weight next)
+StaysLight m control after turned = Unit {0}
 
 -- why a part stops that stands in a line of a file
 abbrev pub Stops : List ℕ → ℕ → Halt → Stop → Type 0
@@ -81,13 +92,9 @@ abbrev pub IsOver : Progress → Type 0
 IsOver (t.Goes next) = ⊥
 IsOver turned = Unit {0}
 
--- what is neither a signal nor a package call
+-- what is neither a signal, nor a call of a function of a file, nor a package call
 abbrev pub IsActing : Control → Type 0
 IsActing (c.Signal sig) = ⊥
+IsActing (c.Enter line place xs names) = ⊥
 IsActing (c.Package line g xs names) = ⊥
 IsActing control = Unit {0}
-
--- what is handed on next
-abbrev pub IsLight : Progress → Type 0
-IsLight (t.Goes next) = control_weight next ≡ 0
-IsLight turned = Unit {0}

@@ -17,7 +17,7 @@ ghost use Rattle.frames.specs.declared.frame.Frame.TheVariants as f;
 ghost use Rattle.evaluator.specs.Machines.{Under, means, here_in};
 ghost use Rattle.evaluator.specs.Finding.{calls_on, body_runs, IsFunction};
 
-use crate::finding::{find, label_text};
+use crate::finding::find;
 use crate::machine::Machine;
 use crate::setting::Setting;
 use calls::{Open, call_block, defaults_of, is_running, need_names};
@@ -35,7 +35,7 @@ use tree::Def;
 // A function of the heap: the label of its file, and its name.
 #[derive(Drop)]
 struct FunctionName {
-    label: Bytes,
+    label: Text,
     name: Bytes,
 }
 
@@ -45,7 +45,7 @@ fn function_at(heap: &Heap, place: usize) -> Result<FunctionName, Halt>
 {
     match heap.object(place)? {
         Some(Look::Function(label, name)) => Ok(FunctionName {
-            label: Bytes::of_text(label.share()?),
+            label: label.share()?,
             name: Bytes::of_text(name.share()?),
         }),
         _ => Err(Halt::Code(faults::WRONG_TYPE)),
@@ -72,18 +72,14 @@ pub fn enter(
         ≤ frames_weight m.old.frames.items + 5)) }
     ensures stands { OnErr result (m.new.at ≡ m.old.at) }
 {
-    let called = match function_at(&m.state.heap, place) {
+    let FunctionName { label, name } = match function_at(&m.state.heap, place) {
         Ok(called) => called,
         Err(halt) => return Err(halt),
-    };
-    let label = match label_text(e, called.label.as_slice())? {
-        Some(label) => label,
-        None => return Err(Halt::Code(faults::WRONG_TYPE)),
     };
     if let Err(halt) = need_names(&mut m.state, e.given().loads.as_slice(), &label) {
         return Err(halt);
     }
-    match find(e, &label, &called.name)? {
+    match find(e, &label, &name)? {
         Some(found) => call(m, label, found.path, &found.def, xs, names),
         None => Err(Halt::Code(faults::WRONG_TYPE)),
     }
@@ -188,14 +184,14 @@ fn copy_of(at: &Standing) -> Result<Standing, Halt>
     })
 }
 
-/// Ends a call. The caller goes on where it stood, with its own blocks and the number of calls that may be open there.
-pub fn leave(m: &mut Machine, caller: Box<Caller>, signal: Signal) -> Control
+/// Ends a call, and returns what it gives. The caller goes on where it stood, with its own blocks and the number of calls
+/// that may be open there.
+pub fn leave(m: &mut Machine, caller: Box<Caller>, signal: Signal) -> Signal
     ensures goes { (env : Env) → machine_does env m.old.left (here_in m.old) (c.Signal signal)
         (m.old.frames.items ++ f.Leave caller ∷ []) (world_of m.old.state)
-        ≡ means env m.new result }
+        ≡ means env m.new (c.Signal result) }
     ensures steps { m.new.state.heap ≡ m.old.state.heap }
     ensures frames { m.new.frames ≡ m.old.frames }
-    ensures light { control_weight result ≡ 0 }
 {
     let caller = Box::into_inner(caller);
     m.at = caller.at;
@@ -203,5 +199,5 @@ pub fn leave(m: &mut Machine, caller: Box<Caller>, signal: Signal) -> Control
     m.left = caller.left;
     let ended = m.running.pop();
     drop(ended);
-    Control::Signal(given_by(signal))
+    given_by(signal)
 }

@@ -1,5 +1,5 @@
 -- Statements that are run at once, one after another.
-use Rattle.std.proofs.Common.{◌≡◌, ℕ, ◌+◌, List, [], ◌∷◌, length, drop, Result, Ok, Err, IfOk, Vec, Global, arith, refl, ap, sym, subst, ◌∙◌}
+use Rattle.std.proofs.Common.{◌≡◌, ◌≤◌, ℕ, ◌+◌, List, [], ◌∷◌, length, drop, Result, Ok, Err, IfOk, Vec, Global, arith, refl, ap, sym, subst, ◌∙◌}
 use Rattle.std.specs.Prelude.{IsOkUnless}
 use Rattle.std.specs.declared.sync.Arc.{Arc}
 use Rattle.std.specs.Arc.{arc_value}
@@ -20,7 +20,7 @@ use Rattle.frames.specs.declared.frame.Once.{Once}
 use Rattle.frames.specs.declared.frame.Frame.{Frame}
 use Rattle.frames.specs.declared.frame.Frame.TheVariants as f
 use Rattle.quiet.specs.StatementResults.{Done, Tested}
-use Rattle.frames.specs.Frames.{Sig, an_exit, on, Goes, on_exit, exited, body, suite_from, control_does, frame_does, turns_behind, stack_does}
+use Rattle.frames.specs.Frames.{Sig, an_exit, on, Goes, on_exit, exited, body, control_does, frame_does, turns_behind, stack_does}
 use Rattle.frames.specs.declared.frame.Ahead.{Ahead}
 use Rattle.frames.specs.declared.frame.Ahead.TheVariants as far
 use Rattle.frames.specs.Weight.{Lighter}
@@ -46,15 +46,18 @@ module _ (env : Env) (n : ℕ) (here : Here) (w : World) (ss : List Stmt) (st : 
       ap (λ (l : List Stmt). body env n here (stmts_of l) w) first
       ∙ ap (λ q. then_runs q (λ x. unless_over x (body env n here (stmts_of (drop m ss))))) stops
 
-  -- and of which a part is left of the first
-  pub first_begun : (again : Arc (Vec Stmt Global) Global) (control : Control) (u : World) → (arc_value again).items ≡ ss → exited_as (exec env (call env n) (stmt_of st) here w) ≡ control_does env n here control u → exited_as (body env n here (stmts_of (drop k ss)) w) ≡ then_runs (control_does env n here control u) (frame_does env n here (f.Rest again m))
-  first_begun again control u same begun =
+  -- and of which the first ends above a frame that waits for it
+  pub first_exits : (again : Arc (Vec Stmt Global) Global) → (arc_value again).items ≡ ss → exited_as (body env n here (stmts_of (drop k ss)) w) ≡ then_runs (exited_as (exec env (call env n) (stmt_of st) here w)) (frame_does env n here (f.Rest again m))
+  first_exits again same =
       let p = λ (x : s.Exit). pure (an_exit x) in
       let rest = λ (l : List Stmt) (x : s.Exit). unless_over x (body env n here (stmts_of (drop m l))) in
       ap (λ (l : List Stmt). exited_as (body env n here (stmts_of l) w)) first
       ∙ ap (λ (l : List Stmt). then_runs (then_runs (exec env (call env n) (stmt_of st) here w) (rest l)) p) (sym same)
       ∙ past (exec env (call env n) (stmt_of st) here w) (rest (arc_value again).items) p an_exit (frame_does env n here (f.Rest again m)) (λ x u. refl)
-      ∙ ap (λ q. then_runs q (frame_does env n here (f.Rest again m))) begun
+
+  -- and of which a part is left of the first
+  pub first_begun : (again : Arc (Vec Stmt Global) Global) (control : Control) (u : World) → (arc_value again).items ≡ ss → exited_as (exec env (call env n) (stmt_of st) here w) ≡ control_does env n here control u → exited_as (body env n here (stmts_of (drop k ss)) w) ≡ then_runs (control_does env n here control u) (frame_does env n here (f.Rest again m))
+  first_begun again control u same begun = first_exits again same ∙ ap (λ q. then_runs q (frame_does env n here (f.Rest again m))) begun
 
 -- a fault of a piece that was run at once
 pub stopped_as : {E : Type 0} (env : Env) (n : ℕ) (here : Here) (m says : Ends s.Exit) (r : Result Once E) (line : ℕ) (halt : Halt) (u v : World) → IfOk r (StopsAs line halt) → Done (on env n here line).site m (Err halt) u → ((c : ℕ) → m ≡ failed c (on env n here line).site → says ≡ failed c (on env n here line).site) → IfOk r (λ once. OnceDoes env n here says once v)
@@ -83,7 +86,7 @@ none_of [] h = refl
 none_of (x ∷ xs) h = absurd (omega (arith, h))
 
 -- what is left of a suite is less than all of it, unless it leads to a statement as it is
-pub led_lighter : (next : ℕ) (ss : Arc (Vec Stmt Global) Global) (a : Ahead) (r : Result Control Halt) (old new : State) (fw : ℕ) (f : Control → ℕ) → ((i : ℕ) → a ≡ far.At i → ⊥) → LeadCosts next ss a old new → IfOk r (λ control. f control ≡ fw + left_weight a) → IfOk r (λ control. Lighter old.heap.steps (fw + 1) new.heap.steps (f control))
+pub led_lighter : (next : ℕ) (ss : Arc (Vec Stmt Global) Global) (a : Ahead) (r : Result Control Halt) (old new : State) (fw : ℕ) (f : Control → ℕ) → ((i : ℕ) → a ≡ far.At i → ⊥) → LeadCosts next ss a old new → IfOk r (λ control. f control ≤ fw + left_weight a) → IfOk r (λ control. Lighter old.heap.steps (fw + 1) new.heap.steps (f control))
 led_lighter next ss far.Ended (Ok control) old new fw f not costs w = record { steps = costs; weight = λ e. omega (arith, w) }
 led_lighter next ss (far.At i) (Ok control) old new fw f not costs w = absurd (not i refl)
 led_lighter next ss (far.Above i left) (Ok control) old new fw f not costs w = record { steps = omega (arith, costs); weight = λ e. absurd (omega (arith, costs, e)) }
@@ -91,7 +94,7 @@ led_lighter next ss (far.Faulty line code) (Ok control) old new fw f not costs w
 led_lighter next ss a (Err halt) old new fw f not costs w = tt
 
 -- and it is never more
-pub led_light : (next : ℕ) (ss : Arc (Vec Stmt Global) Global) (a : Ahead) (r : Result Control Halt) (old new : State) (fw : ℕ) (f : Control → ℕ) → LeadCosts next ss a old new → IfOk r (λ control. f control ≡ fw + left_weight a) → IfOk r (λ control. AsLight old.heap.steps (fw + 1) new.heap.steps (f control))
+pub led_light : (next : ℕ) (ss : Arc (Vec Stmt Global) Global) (a : Ahead) (r : Result Control Halt) (old new : State) (fw : ℕ) (f : Control → ℕ) → LeadCosts next ss a old new → IfOk r (λ control. f control ≤ fw + left_weight a) → IfOk r (λ control. AsLight old.heap.steps (fw + 1) new.heap.steps (f control))
 led_light next ss far.Ended (Ok control) old new fw f costs w = record { steps = costs; weight = λ e. omega (arith, w) }
 led_light next ss (far.At i) (Ok control) old new fw f costs w = record { steps = costs.1.1.0; weight = λ e. omega (arith, w) }
 led_light next ss (far.Above i left) (Ok control) old new fw f costs w = record { steps = omega (arith, costs); weight = λ e. absurd (omega (arith, costs, e)) }
@@ -105,7 +108,7 @@ handed_exit env n here turns frames pushed m e =
     ∙ ap (λ j. then_runs (exited_as m) j) (sym e)
 
 -- a suite that is shared once more leads to the same
-same_rest : (env : Env) (n : ℕ) (here : Here) (i : ℕ) (ss tt : Arc (Vec Stmt Global) Global) → arc_value ss ≡ arc_value tt → frame_does env n here (f.Rest ss i) ≡ frame_does env n here (f.Rest tt i)
+pub same_rest : (env : Env) (n : ℕ) (here : Here) (i : ℕ) (ss tt : Arc (Vec Stmt Global) Global) → arc_value ss ≡ arc_value tt → frame_does env n here (f.Rest ss i) ≡ frame_does env n here (f.Rest tt i)
 same_rest env n here i ss tt e = ap (λ (d : Vec Stmt Global). on_exit (λ exit. exited (unless_over exit (body env n here (stmts_of (drop i d.items)))))) e
 
 pub same_suite : (env : Env) (n : ℕ) (here : Here) (ss tt : Arc (Vec Stmt Global) Global) (says : Ends s.Exit) (ahead : Ahead) (u : World) → arc_value ss ≡ arc_value tt → LeadsTo env n here ss says ahead u → LeadsTo env n here tt says ahead u

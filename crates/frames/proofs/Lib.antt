@@ -11,3 +11,4 @@ pub mod FileLevel
 pub mod Immediate
 pub mod Between
 pub mod AtOnce
+pub mod Exits

@@ -1,7 +1,5 @@
 -- Suites, branches and loops, one part after another.
-use Rattle.std.proofs.Common.{◌≡◌, ℕ, List, ◌∷◌, drop, Err, refl, ap, sym, ◌∙◌, Vec, Global}
-use Rattle.std.specs.declared.sync.Arc.{Arc}
-use Rattle.std.specs.Arc.{arc_value}
+use Rattle.std.proofs.Common.{◌≡◌, ℕ, List, ◌∷◌, drop, Err, refl, ap, ◌∙◌}
 use Rattle.heap.specs.declared.halt.Halt.{Halt}
 use Rattle.heap.specs.declared.halt.Halt.TheVariants.{Code, Memory}
 use Rattle.heap.specs.View.{Says}
@@ -19,23 +17,10 @@ use Rattle.names.specs.View.{Ran}
 use Rattle.quiet.specs.StatementResults.{Done}
 use Rattle.frames.specs.declared.frame.Frame.{Frame}
 use Rattle.frames.specs.declared.frame.Control.{Control}
-use Rattle.frames.specs.Frames.{Sig, Goes, an_exit, on_exit, body, exited, above, stack_does}
-use Rattle.frames.proofs.Bind.{through, then_assoc}
+use Rattle.frames.specs.Frames.{Sig, Goes, an_exit, body, exited, above, stack_does}
+use Rattle.frames.proofs.Bind.{then_assoc}
 
 module _ (env : Env) (n : ℕ) (here : Here) (frames : List Frame) (w : World) where
-  -- the statements from a place on, of which the first runs above a frame
-  pub stmt_begins : (ss again : Arc (Vec Stmt Global) Global) (st : Stmt) (k m : ℕ) (j : Sig → Runs Sig) → drop k (arc_value ss).items ≡ st ∷ drop m (arc_value ss).items → arc_value again ≡ arc_value ss
-      → j ≡ (λ (sig : Sig) (u : World). then_runs (on_exit (λ exit. exited (unless_over exit (body env n here (stmts_of (drop m (arc_value again).items))))) sig u) (stack_does env n here frames))
-      → above env n here (exited (body env n here (stmts_of (drop k (arc_value ss).items)))) frames w ≡ then_runs (exited (exec env (call env n) (stmt_of st) here) w) j
-  stmt_begins ss again st k m j first same pushed =
-      let e = exec env (call env n) (stmt_of st) here w in
-      let p = λ (x : s.Exit). pure (an_exit x) in
-      let rest = λ (v : Vec Stmt Global) (x : s.Exit). unless_over x (body env n here (stmts_of (drop m v.items))) in
-      ap (λ (l : List Stmt). above env n here (exited (body env n here (stmts_of l))) frames w) first
-      ∙ through e (rest (arc_value ss)) p (stack_does env n here frames) an_exit (on_exit (λ exit. exited (rest (arc_value ss) exit))) (λ x u. refl)
-      ∙ ap (λ (v : Vec Stmt Global). then_runs (then_runs e p) (λ sig u. then_runs (on_exit (λ exit. exited (rest v exit)) sig u) (stack_does env n here frames))) (sym same)
-      ∙ ap (λ i. then_runs (then_runs e p) i) (sym pushed)
-
   -- the statements from a place on, of which the first is done
   pub stmt_done : (ss : List Stmt) (st : Stmt) (k m : ℕ) (u : World) → drop k ss ≡ st ∷ drop m ss → exec env (call env n) (stmt_of st) here w ≡ ended goes_on u → above env n here (exited (body env n here (stmts_of (drop k ss)))) frames w ≡ above env n here (exited (body env n here (stmts_of (drop m ss)))) frames u
   stmt_done ss st k m u first done =

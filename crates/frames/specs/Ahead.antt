@@ -7,10 +7,13 @@ use Rattle.std.specs.Arc.{arc_value}
 use Rattle.tree.specs.declared.stmt.Stmt.{Stmt}
 use Rattle.heap.specs.declared.halt.Halt.{Halt}
 use Rattle.heap.specs.declared.halt.Halt.TheVariants.{Code, Memory}
-use Rattle.language.specs.World.{World, Here, Ends, ended, failed, then_runs, pure}
+use Rattle.language.specs.World.{World, Here, Ends, ended, failed, Runs, then_runs, pure}
 use Rattle.language.specs.Environment.{Env}
-use Rattle.language.specs.Statements.{Exit, goes_on}
+use Rattle.language.specs.Statements.{Exit, goes_on, unless_over}
 use Rattle.names.specs.declared.state.State.{State}
+use Rattle.frames.specs.declared.frame.Control.{Control}
+use Rattle.frames.specs.declared.frame.Exit as kinds
+use Rattle.frames.specs.declared.frame.Exit.TheVariants as e
 use Rattle.frames.specs.declared.frame.Once.{Once}
 use Rattle.frames.specs.declared.frame.Once.TheVariants as o
 use Rattle.frames.specs.declared.frame.Ahead.{Ahead}
@@ -49,6 +52,23 @@ SuiteCosts o.Done old new = new.heap.steps ≤ old.heap.steps
 SuiteCosts (o.Begun control) old new = new.heap.steps ≤ old.heap.steps
 SuiteCosts (o.Faulty line code) old new = new.heap.steps ≡ 0
 SuiteCosts o.Not old new = ⊥
+
+-- what ends a statement and its suite
+abbrev pub IsExit : kinds.Exit → Type 0
+IsExit e.GoesOn = ⊥
+IsExit exit = Unit {0}
+
+-- A statement that leaves its suite at once: whatever stands behind it, a control is left to do; it has stopped at a fault;
+-- or nothing was done.
+abbrev pub LeavesAs : Env → ℕ → Here → Ends Exit → Once → World → Type 0
+LeavesAs env n here says o.Done u = ⊥
+LeavesAs env n here says (o.Begun control) u = (rest : Runs Exit) → exited_as (then_runs says (λ exit. unless_over exit rest)) ≡ control_does env n here control u
+LeavesAs env n here says (o.Faulty line code) u = says ≡ failed code (on env n here line).site
+LeavesAs env n here says o.Not u = Unit {0}
+
+-- what comes next means the same in a suite and behind it
+abbrev pub Leaves : Control → Type 0
+Leaves control = (env : Env) (n : ℕ) (here : Here) (ss : Arc (Vec Stmt Global) Global) (i : ℕ) (u : World) → then_runs (control_does env n here control u) (frame_does env n here (f.Rest ss i)) ≡ control_does env n here control u
 
 -- How far the statements of a suite lead: to their end; to the one at a place; into one, behind which the one at a place is
 -- next; or to a fault.

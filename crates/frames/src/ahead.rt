@@ -1,5 +1,6 @@
 //! Statements that are run at once, as far as they can be.
-ghost use Rattle.std.specs.Prelude.{◌≡◌, ◌+◌, ◌<◌, ℕ, List, IfOk, IsOkUnless};
+ghost use Rattle.std.specs.Prelude.{◌≡◌, ◌+◌, ◌<◌, ◌≤◌, ℕ, List, length, IfOk, IsOkUnless};
+ghost use Rattle.std.specs.Arc.{arc_value};
 ghost use Rattle.tree.specs.Statements.{stmt_of};
 ghost use Rattle.language.specs.Calls.{call};
 ghost use Rattle.language.specs.Statements as s;
@@ -13,7 +14,7 @@ ghost use Rattle.frames.specs.Weight.{frames_weight, control_weight};
 ghost use Rattle.frames.specs.Ahead.{OnceDoes, OnceCosts, SuiteCosts, StopsAs, LeadsTo, LeadCosts, exited_as, left_weight};
 
 use crate::frame::{Ahead, Control, Exit, Frame, Once, Signal};
-use crate::stack::push;
+use crate::leaving::{exit_once, leaves, rest_above};
 use crate::statements::line_of;
 use heap::Halt;
 use names::{Standing, State};
@@ -23,8 +24,8 @@ use std::sync::Arc;
 use texts::Memory;
 use tree::Stmt;
 
-// Stops in a line: no step is left. Returns the fault, or `Memory` if memory was refused.
-fn stopped(state: &mut State, line: usize, halt: Halt) -> Result<Once, Memory>
+/// Stops in a line: no step is left. Returns the fault, or `Memory` if memory was refused.
+pub(crate) fn stopped(state: &mut State, line: usize, halt: Halt) -> Result<Once, Memory>
     ensures stops { IfOk result (StopsAs line halt) }
     ensures steps { state.new.heap.steps ≡ 0 }
 {
@@ -54,17 +55,39 @@ fn suite_once(state: &mut State, at: &Standing, ss: &Arc<Vec<Stmt>, Global>) -> 
         let stmt = &ss[i];
         match run(state, at, stmt) {
             Ok(true) => {}
-            Ok(false) => return Ok(Once::Begun(Control::Suite {
-                suite: Arc::try_clone(ss)?,
-                next: i,
-            })),
+            Ok(false) => return end_once(state, at, ss, i),
             Err(halt) => return stopped(state, line_of(stmt), halt),
         }
     }
     Ok(Once::Done)
 }
 
-// Runs an `if` at once, where its condition is tested so: the statements that it chooses, as far as they can be.
+// Leaves a suite at once by the statement at a place, or leaves that and what stands behind it to be done.
+fn end_once(
+    state: &mut State,
+    at: &Standing,
+    ss: &Arc<Vec<Stmt>, Global>,
+    i: usize,
+) -> Result<Once, Memory>
+    requires { i < length (arc_value ss.now).items }
+    ensures does { (env : Env) (n : ℕ) (running : List (List ℕ × List ℕ))
+        → let here = here_of at.now at.now.line running in
+        IfOk result
+        (λ once. OnceDoes env n here (body env n here (suite_from i ss.now) (world_of state.old))
+        once (world_of state.new)) }
+    ensures costs { IfOk result (λ once. SuiteCosts once state.old state.new) }
+{
+    match exit_once(state, at, &ss[i])? {
+        Once::Not => Ok(Once::Begun(Control::Suite {
+            suite: Arc::try_clone(ss)?,
+            next: i,
+        })),
+        once => Ok(once),
+    }
+}
+
+// Runs an `if` at once, where its condition is tested so: the statements that it chooses, as far as they can be. So is a
+// statement that leaves its suite.
 fn if_once(state: &mut State, at: &Standing, stmt: &Stmt) -> Result<Once, Memory>
     ensures does { (env : Env) (n : ℕ) (running : List (List ℕ × List ℕ))
         → let here = here_of at.now at.now.line running in
@@ -98,7 +121,7 @@ fn if_once(state: &mut State, at: &Standing, stmt: &Stmt) -> Result<Once, Memory
             Ok(None) => Ok(Once::Not),
             Err(halt) => stopped(state, *line, halt),
         },
-        _ => Ok(Once::Not),
+        _ => exit_once(state, at, stmt),
     }
 }
 
@@ -152,7 +175,8 @@ pub fn ahead(
     Ok(Ahead::Ended)
 }
 
-/// Goes on with a suite whose statements were run ahead. Pushes a frame if one of them is left half done.
+/// Goes on with a suite whose statements were run ahead. Pushes a frame if one of them is left half done, and others
+/// stand behind it.
 pub fn lead(
     frames: &mut Vec<Frame>,
     ss: Arc<Vec<Stmt>, Global>,
@@ -165,13 +189,16 @@ pub fn lead(
         ≡ machine_does env n here control frames.new.items u) }
     ensures err { IsOkUnless result h.Memory }
     ensures weight { IfOk result (λ control. frames_weight frames.new.items + control_weight control
-        ≡ frames_weight frames.old.items + left_weight ahead) }
+        ≤ frames_weight frames.old.items + left_weight ahead) }
 {
     match ahead {
         Ahead::Ended => Ok(Control::Signal(Signal::Exit(Exit::GoesOn))),
         Ahead::At(i) => Ok(Control::Suite { suite: ss, next: i }),
         Ahead::Above { next: i, control } => {
-            if let Err(halt) = push(frames, Frame::Rest { suite: ss, next: i }) {
+            if leaves(&control) {
+                return Ok(control);
+            }
+            if let Err(halt) = rest_above(frames, &ss, i) {
                 return Err(halt);
             }
             Ok(control)

@@ -11,6 +11,7 @@ mod frame;
 mod gather;
 mod handing;
 mod items;
+mod leaving;
 mod loops;
 mod making;
 mod moves;

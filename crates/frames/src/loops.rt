@@ -13,6 +13,7 @@ ghost use Rattle.frames.specs.declared.frame.Frame.TheVariants as f;
 use crate::ahead::{ahead, lead};
 use crate::frame::{Ahead, Control, Exit, Frame, Signal, Turns};
 use crate::items::begin_above;
+use crate::leaving::rest_above;
 use crate::making::next_turns;
 use crate::stack::push;
 use crate::statements::{begin_stmt, line_of};
@@ -52,7 +53,7 @@ pub fn next_stmt(
     }
 }
 
-// Begins a statement above a frame that waits for its end.
+// Begins a statement above a frame that waits for its end, if others stand behind it.
 fn stmt_above(
     state: &mut State,
     frames: &mut Vec<Frame>,
@@ -66,14 +67,9 @@ fn stmt_above(
         (world_of state.old)) result frames.new.items state.new }
     ensures steps { IfOk result (λ _. state.new.heap.steps < state.old.heap.steps) }
 {
-    let again = Arc::try_clone(&ss)?;
-    push(
-        frames,
-        Frame::Rest {
-            suite: again,
-            next: next + 1,
-        },
-    )?;
+    if let Err(halt) = rest_above(frames, &ss, next + 1) {
+        return Err(halt);
+    }
     let stmt = &ss[next];
     let line = line_of(stmt);
     begin_stmt(state, frames, at, line, stmt)

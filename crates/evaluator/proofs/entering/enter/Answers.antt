@@ -1,4 +1,4 @@
-use Rattle.std.proofs.Common.{◌≡◌, ℕ, List, Option, None, Err, sym, ap, subst, ◌∙◌}
+use Rattle.std.proofs.Common.{Option, Err, sym, ap, subst, ◌∙◌}
 use Rattle.std.specs.Arc.{arc_value}
 use Rattle.meaning.specs.declared.val.Val.{Val}
 use Rattle.meaning.specs.Heap.{Obj}
@@ -14,29 +14,10 @@ use Rattle.frames.specs.declared.frame.Control.{Control}
 use Rattle.frames.specs.Frames.{a_value, Goes, on, stack_does}
 use Rattle.evaluator.specs.declared.machine.Environment.{Environment}
 use Rattle.evaluator.specs.Machines.{env_of, here_in, means}
-use Rattle.evaluator.specs.Finding.{IsLabel, IsFound, calls_on}
+use Rattle.evaluator.specs.Finding.{IsFound, calls_on}
 use Rattle.evaluator.specs.declared.finding.Callee.{Callee}
-use Rattle.evaluator.proofs.Calls.{no_file, no_call, needs_goes, found_calls}
+use Rattle.evaluator.proofs.Calls.{no_call, needs_goes, found_calls}
 use Rattle.evaluator.proofs.entering.enter.Goals as goal
-
-pub returns-in-None-clause-goes : goal.returns-in-None-clause-goes
-returns-in-None-clause-goes c = λ more knows.
-    let m = c.args.m.now in
-    let e = env_of c.args.e.now in
-    let env = with_answers more e in
-    let left = m.left in
-    let here = here_in m in
-    let h = on env left here c.args.line in
-    let w = world_of m.state in
-    let l = c.in-Ok.called.label in
-    let name = c.in-Ok.called.name in
-    let xs = plain_part c.args.xs.now c.args.names.now in
-    let ns = named_part c.args.xs.now c.args.names.now in
-    let k = λ (v : Val). pure (a_value v) in
-    let j = stack_does env left here m.frames.items in
-    let object = ap (λ (o : Option Obj). call_object (call env left) o xs ns h w) c.in-Ok.ensures in
-    let none = subst (λ (x : List ℕ). IsLabel e x None) c.as_slice.ensures (subst (λ (o : Option (List ℕ)). IsLabel e c.as_slice.result.now o) c.in-None.is c.in_ok-label.ensures.ok) in
-    ap (λ (o : Ends Val). then_runs (then_runs o k) j) (object ∙ no_file env left l name xs ns h w none.0 none.1)
 
 pub returns-in-Err-need_names-clause-goes : goal.returns-in-Err-need_names-clause-goes
 returns-in-Err-need_names-clause-goes c = λ more knows.
@@ -47,22 +28,19 @@ returns-in-Err-need_names-clause-goes c = λ more knows.
     let here = here_in m in
     let h = on env left here c.args.line in
     let w = world_of m.state in
-    let l = c.in-Ok.called.label in
+    let label = c.in-Ok.called.label in
     let name = c.in-Ok.called.name in
     let xs = plain_part c.args.xs.now c.args.names.now in
     let ns = named_part c.args.xs.now c.args.names.now in
     let k = λ (v : Val). pure (a_value v) in
     let j = stack_does env left here m.frames.items in
     let object = ap (λ (o : Option Obj). call_object (call env left) o xs ns h w) c.in-Ok.ensures in
-    let label = c.in-Some.label in
-    let is_label : label ≡ l = subst (λ (o : Option (List ℕ)). IsLabel e c.as_slice.result.now o) c.in-Some.is c.in_ok-label.ensures.ok ∙ c.as_slice.ensures in
-    let calls = object ∙ ap (λ (x : List ℕ). call env left x name xs ns h w) (sym is_label) in
     let after = λ (control : Control). means env (record m { state = c.need_names.new.state }) control in
-    subst (λ (o : Ends Val). Goes h.site (then_runs (then_runs o k) j) (Err c.in-Err-need_names.halt) after) (sym calls)
-    (needs_goes env left label name xs ns h w (world_of c.need_names.new.state) c.in-Err-need_names.halt k j after (c.in-Err-need_names.ensures.says env h (sym (c.as_slice-2.ensures.value ∙ ap (λ (g : Environment). g.loads.items) c.given.ensures))))
+    subst (λ (o : Ends Val). Goes h.site (then_runs (then_runs o k) j) (Err c.in-Err-need_names.halt) after) (sym object)
+    (needs_goes env left label name xs ns h w (world_of c.need_names.new.state) c.in-Err-need_names.halt k j after (c.in-Err-need_names.ensures.says env h (sym (c.as_slice.ensures.value ∙ ap (λ (g : Environment). g.loads.items) c.given.ensures))))
 
-pub returns-clause-goes : goal.returns-clause-goes
-returns-clause-goes c = λ more knows.
+pub returns-in-None-clause-goes : goal.returns-in-None-clause-goes
+returns-in-None-clause-goes c = λ more knows.
     let m = c.args.m.now in
     let e = env_of c.args.e.now in
     let env = with_answers more e in
@@ -70,23 +48,20 @@ returns-clause-goes c = λ more knows.
     let here = here_in m in
     let h = on env left here c.args.line in
     let w = world_of m.state in
-    let l = c.in-Ok.called.label in
+    let label = c.in-Ok.called.label in
     let name = c.in-Ok.called.name in
     let xs = plain_part c.args.xs.now c.args.names.now in
     let ns = named_part c.args.xs.now c.args.names.now in
     let k = λ (v : Val). pure (a_value v) in
     let j = stack_does env left here m.frames.items in
     let object = ap (λ (o : Option Obj). call_object (call env left) o xs ns h w) c.in-Ok.ensures in
-    let label = c.in-Some.label in
-    let is_label : label ≡ l = subst (λ (o : Option (List ℕ)). IsLabel e c.as_slice.result.now o) c.in-Some.is c.in_ok-label.ensures.ok ∙ c.as_slice.ensures in
-    let calls = object ∙ ap (λ (x : List ℕ). call env left x name xs ns h w) (sym is_label) in
     let u = world_of c.need_names.new.state in
-    let needs = c.in_default.ensures.says env h (sym (c.as_slice-2.ensures.value ∙ ap (λ (g : Environment). g.loads.items) c.given.ensures)) in
-    let none = subst (λ (o : Option Callee). IsFound e label name o) c.in-None-2.is c.in_ok-found.ensures.ok in
-    ap (λ (o : Ends Val). then_runs (then_runs o k) j) (calls ∙ no_call env left label name xs ns h w u needs none)
+    let needs = c.in_default.ensures.says env h (sym (c.as_slice.ensures.value ∙ ap (λ (g : Environment). g.loads.items) c.given.ensures)) in
+    let none = subst (λ (o : Option Callee). IsFound e label name o) c.in-None.is c.in_ok-found.ensures.ok in
+    ap (λ (o : Ends Val). then_runs (then_runs o k) j) (object ∙ no_call env left label name xs ns h w u needs none)
 
-pub returns-in-Some-2-clause-goes : goal.returns-in-Some-2-clause-goes
-returns-in-Some-2-clause-goes c = λ more knows.
+pub returns-in-Some-clause-goes : goal.returns-in-Some-clause-goes
+returns-in-Some-clause-goes c = λ more knows.
     let m = c.args.m.now in
     let e = env_of c.args.e.now in
     let env = with_answers more e in
@@ -94,21 +69,18 @@ returns-in-Some-2-clause-goes c = λ more knows.
     let here = here_in m in
     let h = on env left here c.args.line in
     let w = world_of m.state in
-    let l = c.in-Ok.called.label in
+    let label = c.in-Ok.called.label in
     let name = c.in-Ok.called.name in
     let xs = plain_part c.args.xs.now c.args.names.now in
     let ns = named_part c.args.xs.now c.args.names.now in
     let k = λ (v : Val). pure (a_value v) in
     let j = stack_does env left here m.frames.items in
     let object = ap (λ (o : Option Obj). call_object (call env left) o xs ns h w) c.in-Ok.ensures in
-    let label = c.in-Some.label in
-    let is_label : label ≡ l = subst (λ (o : Option (List ℕ)). IsLabel e c.as_slice.result.now o) c.in-Some.is c.in_ok-label.ensures.ok ∙ c.as_slice.ensures in
-    let calls = object ∙ ap (λ (x : List ℕ). call env left x name xs ns h w) (sym is_label) in
     let u = world_of c.need_names.new.state in
-    let needs = c.in_default.ensures.says env h (sym (c.as_slice-2.ensures.value ∙ ap (λ (g : Environment). g.loads.items) c.given.ensures)) in
-    let found = c.in-Some-2.found in
-    let is = subst (λ (o : Option Callee). IsFound e label name o) c.in-Some-2.is c.in_ok-found.ensures.ok in
+    let needs = c.in_default.ensures.says env h (sym (c.as_slice.ensures.value ∙ ap (λ (g : Environment). g.loads.items) c.given.ensures)) in
+    let found = c.in-Some.found in
+    let is = subst (λ (o : Option Callee). IsFound e label name o) c.in-Some.is c.in_ok-found.ensures.ok in
     let f = fn_of (arc_value found.def) in
-    let chain = calls ∙ found_calls env left label name xs ns h f w u needs is.0 is.1 ∙ ap (λ (d : Def). calls_on env left label (fn_of d) xs ns h u) (sym c.deref.ensures) in
+    let chain = object ∙ found_calls env left label name xs ns h f w u needs is.0 is.1 ∙ ap (λ (d : Def). calls_on env left label (fn_of d) xs ns h u) (sym c.deref.ensures) in
     let after = λ (control : Control). means env c.call.new.m control in
     subst (λ (o : Ends Val). Goes h.site (then_runs (then_runs o k) j) c.call.result after) (sym chain) (c.call.ensures.goes env c.args.line is.2)

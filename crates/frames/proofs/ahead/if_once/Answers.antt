@@ -19,6 +19,7 @@ use Rattle.quiet.proofs.Trees.{stmt-If}
 use Rattle.frames.specs.Frames.{an_exit, exited, on, body}
 use Rattle.frames.specs.Ahead.{exited_as}
 use Rattle.frames.proofs.AtOnce.{stopped_as, tested_stops, same_does, none_of}
+use Rattle.frames.proofs.Exits.{leaves_once}
 use Rattle.frames.proofs.ahead.if_once.Goals as goal
 
 pub returns-then-holds-clause-does : goal.returns-then-holds-clause-does
@@ -103,3 +104,11 @@ returns-in-Err-clause-does c = λ env n running.
     let all = exec env (call env n) (stmt_of c.args.stmt.now) here w in
     let stops : Done site all (Err c.in-Err.halt) u = subst (λ (st : St). Done site (exec env (call env n) st here w) (Err c.in-Err.halt) u) (sym is) (tested_stops site does m k c.in-Err.halt w u (c.in-Err.ensures.says env (call env n) line running)) in
     stopped_as env n here all all c.stopped.result line c.in-Err.halt u (world_of c.stopped.new.state) c.stopped.ensures.stops stops (λ code e. e)
+
+pub returns-in_default : goal.returns-in_default
+returns-in_default c = record {
+  does = λ env n running.
+      let here = here_of c.args.at.now c.args.at.now.line running in
+      leaves_once env n here (exec env (call env n) (stmt_of c.args.stmt.now) here (world_of c.args.state.now)) c.exit_once.result (world_of c.exit_once.new.state) (c.exit_once.ensures.does env n running);
+  costs = c.exit_once.ensures.costs;
+}

@@ -7,8 +7,9 @@ use Rattle.language.specs.Statements.{goes_on, exec}
 use Rattle.language.specs.Calls.{call}
 use Rattle.names.specs.View.{world_of, here_of}
 use Rattle.quiet.specs.StatementResults.{Done, Costs, stmt_line}
-use Rattle.frames.specs.Frames.{on, body, shared_suite}
-use Rattle.frames.proofs.AtOnce.{first_done, first_stops, stopped_as}
+use Rattle.names.specs.declared.state.State.{State}
+use Rattle.frames.specs.Frames.{on, body, shared_suite, suite_from}
+use Rattle.frames.proofs.AtOnce.{first_done, first_stops, stopped_as, same_does}
 use Rattle.frames.proofs.ahead.suite_once.Goals as goal
 
 pub returns-in-Err-clause-does : goal.returns-in-Err-clause-does
@@ -44,3 +45,10 @@ loop-i-preserved c = (
       c.loop-i.invariant.0 env n running ∙ first_done env n here w all.items st k (k + 1) first u done,
   omega (arith, c.loop-i.invariant.1, subst (λ (b : Bool). Costs (Ok b) c.loop-i.state c.run.new.state) c.in-Ok-true.field-0-test c.in-Ok-true.ensures.costs),
 )
+
+pub returns-in-Ok-false-clause-does : goal.returns-in-Ok-false-clause-does
+returns-in-Ok-false-clause-does c = λ env n running.
+    let here = here_of c.args.at.now c.args.at.now.line running in
+    let from = suite_from c.loop-i.i c.args.ss.now in
+    let same : c.run.new.state ≡ c.loop-i.state = subst (λ (b : Bool). Costs (Ok b) c.loop-i.state c.run.new.state) c.in-Ok-false.field-0-test c.in-Ok-false.ensures.costs in
+    same_does env n here (body env n here (shared_suite c.args.ss.now) (world_of c.args.state.now)) (body env n here from (world_of c.run.new.state)) c.end_once.result (world_of c.end_once.new.state) (c.loop-i.invariant.0 env n running ∙ ap (λ (z : State). body env n here from (world_of z)) (sym same)) (c.end_once.ensures.does env n running)

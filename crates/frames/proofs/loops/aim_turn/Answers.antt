@@ -1,6 +1,5 @@
 use Rattle.std.proofs.Common.{◌≡◌, ℕ, Err, refl, ap, sym, subst, ◌∙◌}
 use Rattle.std.specs.Arc.{arc_value}
-use Rattle.tree.specs.declared.expr.Expr.{Expr}
 use Rattle.tree.specs.Tree as t
 use Rattle.tree.specs.Tree.{Ex}
 use Rattle.tree.specs.View.{tree_of, shared_tree}

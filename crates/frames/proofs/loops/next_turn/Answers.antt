@@ -4,8 +4,7 @@ use Rattle.meaning.specs.Outcome as o
 use Rattle.meaning.specs.Heap.{walks}
 use Rattle.meaning.specs.declared.val.Val.{Val}
 use Rattle.meaning.specs.declared.val.Val.TheVariants.{Nothing}
-use Rattle.tree.specs.declared.expr.Expr.{Expr}
-use Rattle.tree.specs.View.{tree_of, shared_tree}
+use Rattle.tree.specs.View.{shared_tree}
 use Rattle.language.specs.World.{World, Ends, then_runs, ◌>>=◌, pure, on_heap}
 use Rattle.language.specs.Targets as ta
 use Rattle.language.specs.Targets.{store}
@@ -15,8 +14,7 @@ use Rattle.language.specs.Statements.{after_turn, turns, goes_on}
 use Rattle.names.specs.View.{world_of, here_of}
 use Rattle.frames.specs.declared.frame.Control.{Control}
 use Rattle.frames.specs.declared.frame.Turns.{Turns}
-use Rattle.frames.specs.declared.frame.Frame.TheVariants as f
-use Rattle.frames.specs.Frames.{Sig, an_aim, frame_does, an_exit, Goes, on, body, exited, aims_at, turn_of, turns_behind, above, machine_does, stack_does, shared_suite}
+use Rattle.frames.specs.Frames.{Sig, an_exit, Goes, on, body, exited, aims_at, turn_of, turns_behind, above, machine_does, stack_does, shared_suite}
 use Rattle.frames.proofs.Suites.{turn_begins, turn_stops}
 use Rattle.frames.proofs.Bind.{tick_ends, tick_is}
 use Rattle.frames.proofs.loops.next_turn.Goals as goal

@@ -1,13 +1,16 @@
-use Rattle.std.proofs.Common.{◌≡◌, ℕ, ◌<◌, ◌+◌, ◌∷◌, List, Vec, Global, suc, length, drop, drop-cons, get_or, add-one, ap, sym, subst, ◌∙◌}
+use Rattle.std.proofs.Common.{◌≡◌, ℕ, ◌<◌, ◌+◌, ◌∷◌, List, Vec, Global, suc, length, drop, drop-cons, get_or, add-one, refl, ap, sym, subst, ◌∙◌}
 use Rattle.std.specs.Arc.{arc_value}
 use Rattle.tree.specs.declared.stmt.Stmt.{Stmt}
-use Rattle.tree.specs.Statements.{stmts_of}
-use Rattle.language.specs.World.{Ends}
+use Rattle.tree.specs.Statements.{stmt_of, stmts_of}
+use Rattle.language.specs.World.{Ends, then_runs}
+use Rattle.language.specs.Statements.{exec}
+use Rattle.language.specs.Calls.{call}
 use Rattle.names.specs.View.{world_of, here_of}
 use Rattle.frames.specs.declared.frame.Control.{Control}
 use Rattle.frames.specs.declared.frame.Control.TheVariants.{Suite}
 use Rattle.frames.specs.Frames.{Sig, Goes, on, machine_does, stack_does, suite_line, suite_from}
-use Rattle.frames.proofs.Suites.{stmt_begins}
+use Rattle.frames.specs.Ahead.{exited_as}
+use Rattle.frames.proofs.AtOnce.{first_exits}
 use Rattle.frames.proofs.loops.stmt_above.Goals as goal
 
 pub returns-clause-goes : goal.returns-clause-goes
@@ -22,7 +25,8 @@ returns-clause-goes c = λ env n running.
     let stands : st ≡ get_or all.items k st = c.index-stmt.ensures ∙ ap (λ (v : Vec Stmt Global). get_or v.items k st) c.deref.ensures in
     let first : drop k all.items ≡ st ∷ drop (k + 1) all.items = rw add-one (drop-cons all.items k st lt ∙ ap (λ (x : Stmt). x ∷ drop (suc k) all.items) (sym stands)) in
     let line : c.line_of-line.result ≡ suite_line (suite_from k c.args.ss) = c.line_of-line.ensures ∙ sym (ap (λ (l : List Stmt). suite_line (stmts_of l)) first) in
-    let before = stmt_begins env n here frames w c.args.ss c.in_ok-again.again st k (k + 1) (stack_does env n here c.push.new.frames.items) first c.in_ok-again.ensures (c.in_ok-push.ensures.ok env n here) in
+    let before = ap (λ q. then_runs q (stack_does env n here frames)) (first_exits env n here w all.items st k (k + 1) first c.args.ss refl)
+    ∙ c.in_default.ensures.ok env n here (exited_as (exec env (call env n) (stmt_of st) here w)) in
     let after = λ (control : Control). machine_does env n here control c.begin_stmt.new.frames.items (world_of c.begin_stmt.new.state) in
     let goes = subst (λ (o : Ends Sig). Goes (on env n here c.line_of-line.result).site o c.begin_stmt.result after) (sym before) (c.begin_stmt.ensures.goes env n running) in
     subst (λ (i : ℕ). Goes (on env n here i).site (machine_does env n here (Suite c.args.ss c.args.next) frames w) c.begin_stmt.result after) line goes

@@ -6,7 +6,7 @@ use Rattle.frames.specs.declared.frame.Control.{Control}
 use Rattle.frames.specs.Frames.{Goes, control_line}
 use Rattle.evaluator.specs.Machines.{env_of, means, site_at, Stops}
 use Rattle.evaluator.proofs.Calls.{goes_stop}
-use Rattle.evaluator.proofs.turning.turn.Goals as goal
+use Rattle.evaluator.proofs.turning.act_on.Goals as goal
 
 pub returns-in-Err : goal.returns-in-Err
 returns-in-Err c = record {
@@ -21,6 +21,6 @@ returns-in-Err c = record {
       goes_stop c.args.e.now before m.at.path i c.in-Err.halt c.stop.result _ after
       (subst (λ (at : Standing). Stops at.path i c.in-Err.halt c.stop.result) stands c.stop.ensures)
       (λ more knows. let env = with_answers more (env_of c.args.e.now) in
-      subst (λ (j : ℕ). Goes (site_at m.at.path j) (before env) (Err c.in-Err.halt) (after env)) (sym line) (c.in-Err.ensures.goes more knows));
-  falls = tt;
+      subst (λ (j : ℕ). Goes (site_at m.at.path j) (before env) (Err c.in-Err.halt) (after env)) (sym line) (c.in-Err.ensures.goes env));
+  falls = λ acting. tt;
 }

@@ -1,0 +1,130 @@
+//! Statements that leave their suite at once, and statements behind which none stands.
+ghost use Rattle.std.specs.Prelude.{◌≡◌, ◌<◌, ◌≤◌, ◌+◌, ℕ, List, true, IfOk, IsOkUnless};
+ghost use Rattle.heap.specs.declared.halt.Halt.TheVariants as h;
+ghost use Rattle.language.specs.World.{Here, Ends, then_runs, tick, pure};
+ghost use Rattle.language.specs.Environment.{Env};
+ghost use Rattle.language.specs.Calls.{call};
+ghost use Rattle.language.specs.Expressions as ex;
+ghost use Rattle.language.specs.Expressions.{Call};
+ghost use Rattle.language.specs.Statements.{exec};
+ghost use Rattle.tree.specs.View.{tree_of};
+ghost use Rattle.tree.specs.Statements.{stmt_of};
+ghost use Rattle.names.specs.View.{world_of, here_of, Ran};
+ghost use Rattle.quiet.specs.Quiet.{quiet};
+ghost use Rattle.quiet.specs.View.{free_at};
+ghost use Rattle.frames.specs.Frames.{Sig, on, exit_of, frame_does, stack_does};
+ghost use Rattle.frames.specs.Weight.{frames_weight};
+ghost use Rattle.frames.specs.Ahead.{Leaves, LeavesAs, IsExit, OnceCosts};
+ghost use Rattle.frames.specs.declared.frame.Frame.TheVariants as f;
+
+use crate::ahead::stopped;
+use crate::frame::{Control, Exit, Frame, Once, Signal};
+use crate::stack::push;
+use heap::{Halt, Val};
+use names::{Standing, State, tick};
+use quiet::{is_quiet_at, value_at};
+use std::alloc::Global;
+use std::sync::Arc;
+use texts::Memory;
+use tree::{Expr, Stmt};
+
+// Returns whether an expression is a call. One of a function of the file waits, and others are evaluated where they stand.
+fn is_call(e: &Expr) -> bool {
+    match e {
+        Expr::Call(_, _, _) => true,
+        _ => false,
+    }
+}
+
+// Evaluates what a `return` gives, behind the step of its statement.
+fn given(state: &mut State, at: &Standing, e: &Expr) -> Result<Val, Halt>
+    requires { quiet (free_at at.now state.old) (tree_of e.now) ≡ true }
+    ensures says { (env : Env) (call : Call) (line : ℕ) (running : List (List ℕ × List ℕ))
+        → let here = here_of at.now line running in
+        Ran here.site (then_runs (tick here (world_of state.old))
+        (λ _. ex.value env call (tree_of e.now) here)) result (world_of state.new) }
+    ensures steps { IfOk result (λ _. state.new.heap.steps < state.old.heap.steps) }
+{
+    if let Err(halt) = tick(&mut state.heap) {
+        return Err(halt);
+    }
+    value_at(state, at, e)
+}
+
+// Takes the step of a statement that leaves its suite.
+fn left(state: &mut State, line: usize, exit: Exit) -> Result<Once, Memory>
+    requires { IsExit exit }
+    ensures does { (env : Env) (n : ℕ) (here : Here)
+        → IfOk result
+        (λ once. LeavesAs env n here (then_runs (tick (on env n here line) (world_of state.old))
+        (λ _. pure (exit_of exit))) once (world_of state.new)) }
+    ensures costs { IfOk result (λ once. OnceCosts once state.old state.new) }
+{
+    match tick(&mut state.heap) {
+        Ok(()) => Ok(Once::Begun(Control::Signal(Signal::Exit(exit)))),
+        Err(halt) => stopped(state, line, halt),
+    }
+}
+
+/// Leaves a suite at once: by a `break`, a `continue`, or a `return` whose value is evaluated at once. With any other
+/// statement, nothing is done.
+pub fn exit_once(state: &mut State, at: &Standing, stmt: &Stmt) -> Result<Once, Memory>
+    ensures does { (env : Env) (n : ℕ) (running : List (List ℕ × List ℕ))
+        → let here = here_of at.now at.now.line running in
+        IfOk result
+        (λ once. LeavesAs env n here (exec env (call env n) (stmt_of stmt.now) here
+        (world_of state.old)) once (world_of state.new)) }
+    ensures costs { IfOk result (λ once. OnceCosts once state.old state.new) }
+{
+    match stmt {
+        Stmt::Break(line) => left(state, *line, Exit::Breaks),
+        Stmt::Continue(line) => left(state, *line, Exit::Continues),
+        Stmt::Return { line, value } => match value {
+            None => left(state, *line, Exit::Returns(Val::Nothing)),
+            Some(e) => {
+                if is_call(e) || !is_quiet_at(state, at, e) {
+                    return Ok(Once::Not);
+                }
+                match given(state, at, e) {
+                    Ok(x) => Ok(Once::Begun(Control::Signal(Signal::Exit(Exit::Returns(x))))),
+                    Err(halt) => stopped(state, *line, halt),
+                }
+            }
+        },
+        _ => Ok(Once::Not),
+    }
+}
+
+/// Returns whether what comes next leaves a suite, whatever stands behind it there.
+pub fn leaves(control: &Control) -> bool
+    ensures { result ≡ true → Leaves control.now }
+{
+    match control {
+        Control::Signal(Signal::Exit(Exit::Breaks)) => true,
+        Control::Signal(Signal::Exit(Exit::Continues)) => true,
+        Control::Signal(Signal::Exit(Exit::Returns(_))) => true,
+        _ => false,
+    }
+}
+
+/// Pushes a frame for the end of a statement, behind which the suite goes on at a place. If nothing stands there, none
+/// is needed.
+pub fn rest_above(
+    frames: &mut Vec<Frame>,
+    ss: &Arc<Vec<Stmt>, Global>,
+    next: usize,
+) -> Result<(), Halt>
+    ensures ok { IfOk result (λ _. (env : Env) (n : ℕ) (here : Here) (m : Ends Sig)
+        → then_runs (then_runs m (frame_does env n here (f.Rest ss.now next)))
+        (stack_does env n here frames.old.items)
+        ≡ then_runs m (stack_does env n here frames.new.items)) }
+    ensures err { IsOkUnless result h.Memory }
+    ensures weight { IfOk result (λ _. frames_weight frames.new.items
+        ≤ frames_weight frames.old.items + 2) }
+{
+    if next >= ss.len() {
+        return Ok(());
+    }
+    let suite = Arc::try_clone(ss)?;
+    push(frames, Frame::Rest { suite, next })
+}
