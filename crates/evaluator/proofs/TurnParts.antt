@@ -1,5 +1,5 @@
 -- What a part of a turn leaves behind.
-use Rattle.std.proofs.Common.{◌≡◌, ◌≤◌, ◌<◌, ◌+◌, ℕ, Vec, Box, Global, Ok, Err, Result, true, refl, sym, ◌∙◌, arith}
+use Rattle.std.proofs.Common.{◌≡◌, ◌≤◌, ◌<◌, ◌+◌, ℕ, Vec, Box, Global, Ok, Err, Result, true, refl, arith}
 use Rattle.std.specs.Prelude.{IfOk, OnErr}
 use Rattle.std.specs.declared.sync.Arc.{Arc}
 use Rattle.texts.specs.declared.text.Text.{Text}
@@ -67,13 +67,6 @@ stays m after k (Ok (t.Goes next)) h = record { steps = h.steps; weight = λ e. 
 stays m after k (Ok (t.Ended sig)) h = tt
 stays m after k (Ok (t.Waits control patterns)) h = tt
 stays m after k (Err stop) h = tt
-
--- what is less than one weight is less than a greater one
-pub lightens_more : (first m after : Machine) (v w : ℕ) (r : Result Progress Stop) → first.state.heap.steps ≡ m.state.heap.steps → v ≤ w → IfOk r (λ turned. Lightens first v after turned) → IfOk r (λ turned. Lightens m w after turned)
-lightens_more first m after v w (Ok (t.Goes next)) same le h = record { steps = omega (arith, same, h.steps); weight = λ e. omega (arith, le, h.weight (e ∙ sym same)) }
-lightens_more first m after v w (Ok (t.Ended sig)) same le h = tt
-lightens_more first m after v w (Ok (t.Waits control patterns)) same le h = tt
-lightens_more first m after v w (Err stop) same le h = tt
 
 -- a part that leaves less, and a second one behind it that leaves no more
 pub lightens_then : (m first after : Machine) (k : Control) (w : ℕ) (r : Result Progress Stop) → Lighter m.state.heap.steps w first.state.heap.steps (frames_weight first.frames.items + control_weight k) → IfOk r (λ turned. StaysLight first k after turned) → IfOk r (λ turned. Lightens m w after turned)

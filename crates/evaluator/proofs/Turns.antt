@@ -23,6 +23,7 @@ leads_on e before next (t.Goes control) m same leads = λ more knows. same more 
 leads_on e before next (t.Ended sig) m same leads = λ more knows. same more knows ∙ leads more knows
 leads_on e before next (t.Waits control patterns) m same leads = (same (env_of e).globs (knows_own e) ∙ leads.0, λ more knows. same more knows ∙ leads.1 more knows)
 
+-- the same of what may have stopped
 pub leads_after : (e : Environment) (before next : Env → Ends Sig) (r : Result Progress Stop) (m : Machine) → Under e (λ env. before env ≡ next env) → Leads e next r m → Leads e before r m
 leads_after e before next (Ok turned) m same leads = leads_on e before next turned m same leads
 leads_after e before next (Err (s.Fault code path line)) m same leads = λ more knows. same more knows ∙ leads more knows

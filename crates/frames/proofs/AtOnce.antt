@@ -1,5 +1,5 @@
 -- Statements that are run at once, one after another.
-use Rattle.std.proofs.Common.{◌≡◌, ◌≤◌, ℕ, ◌+◌, List, [], ◌∷◌, length, drop, Result, Ok, Err, IfOk, Vec, Global, arith, refl, ap, sym, subst, ◌∙◌}
+use Rattle.std.proofs.Common.{◌≡◌, ℕ, ◌+◌, List, [], ◌∷◌, length, drop, Result, Ok, Err, IfOk, Vec, Global, arith, refl, ap, sym, subst, ◌∙◌}
 use Rattle.std.specs.Prelude.{IsOkUnless}
 use Rattle.std.specs.declared.sync.Arc.{Arc}
 use Rattle.std.specs.Arc.{arc_value}
@@ -25,7 +25,7 @@ use Rattle.frames.specs.declared.frame.Ahead.{Ahead}
 use Rattle.frames.specs.declared.frame.Ahead.TheVariants as far
 use Rattle.frames.specs.Weight.{Lighter}
 use Rattle.names.specs.declared.state.State.{State}
-use Rattle.frames.specs.Ahead.{OnceDoes, LeadsTo, StopsAs, LeadCosts, AsLight, left_weight, exited_as}
+use Rattle.frames.specs.Ahead.{OnceDoes, LeadsTo, StopsAs, LeadCosts, left_weight, exited_as}
 
 -- a piece, its rest, and what waits for it
 pub past : {A B C D : Type 0} (m : Ends A) (k : A → Runs B) (p : B → Runs C) (wrap : A → D) (fr : D → Runs C) → ((a : A) (u : World) → fr (wrap a) u ≡ then_runs (k a u) p) → then_runs (then_runs m k) p ≡ then_runs (then_runs m (λ a. pure (wrap a))) fr
@@ -86,20 +86,12 @@ none_of [] h = refl
 none_of (x ∷ xs) h = absurd (omega (arith, h))
 
 -- what is left of a suite is less than all of it, unless it leads to a statement as it is
-pub led_lighter : (next : ℕ) (ss : Arc (Vec Stmt Global) Global) (a : Ahead) (r : Result Control Halt) (old new : State) (fw : ℕ) (f : Control → ℕ) → ((i : ℕ) → a ≡ far.At i → ⊥) → LeadCosts next ss a old new → IfOk r (λ control. f control ≤ fw + left_weight a) → IfOk r (λ control. Lighter old.heap.steps (fw + 1) new.heap.steps (f control))
+pub led_lighter : (next : ℕ) (ss : Arc (Vec Stmt Global) Global) (a : Ahead) (r : Result Control Halt) (old new : State) (fw : ℕ) (f : Control → ℕ) → ((i : ℕ) → a ≡ far.At i → ⊥) → LeadCosts next ss a old new → IfOk r (λ control. f control ≡ fw + left_weight ss a) → IfOk r (λ control. Lighter old.heap.steps (fw + 1) new.heap.steps (f control))
 led_lighter next ss far.Ended (Ok control) old new fw f not costs w = record { steps = costs; weight = λ e. omega (arith, w) }
 led_lighter next ss (far.At i) (Ok control) old new fw f not costs w = absurd (not i refl)
 led_lighter next ss (far.Above i left) (Ok control) old new fw f not costs w = record { steps = omega (arith, costs); weight = λ e. absurd (omega (arith, costs, e)) }
 led_lighter next ss (far.Faulty line code) (Ok control) old new fw f not costs w = record { steps = omega (arith, costs); weight = λ e. omega (arith, w) }
 led_lighter next ss a (Err halt) old new fw f not costs w = tt
-
--- and it is never more
-pub led_light : (next : ℕ) (ss : Arc (Vec Stmt Global) Global) (a : Ahead) (r : Result Control Halt) (old new : State) (fw : ℕ) (f : Control → ℕ) → LeadCosts next ss a old new → IfOk r (λ control. f control ≤ fw + left_weight a) → IfOk r (λ control. AsLight old.heap.steps (fw + 1) new.heap.steps (f control))
-led_light next ss far.Ended (Ok control) old new fw f costs w = record { steps = costs; weight = λ e. omega (arith, w) }
-led_light next ss (far.At i) (Ok control) old new fw f costs w = record { steps = costs.1.1.0; weight = λ e. omega (arith, w) }
-led_light next ss (far.Above i left) (Ok control) old new fw f costs w = record { steps = omega (arith, costs); weight = λ e. absurd (omega (arith, costs, e)) }
-led_light next ss (far.Faulty line code) (Ok control) old new fw f costs w = record { steps = omega (arith, costs); weight = λ e. omega (arith, w) }
-led_light next ss a (Err halt) old new fw f costs w = tt
 
 -- a suite above a frame that waits for its end
 pub handed_exit : (env : Env) (n : ℕ) (here : Here) (turns : Box Turns Global) (frames pushed : List Frame) (m : Ends s.Exit) → Pushed env n here (f.Turns turns) frames pushed → then_runs (then_runs (then_runs m (turns_behind env n here turns.value)) (λ x. pure (an_exit x))) (stack_does env n here frames) ≡ then_runs (exited_as m) (stack_does env n here pushed)
@@ -108,7 +100,7 @@ handed_exit env n here turns frames pushed m e =
     ∙ ap (λ j. then_runs (exited_as m) j) (sym e)
 
 -- a suite that is shared once more leads to the same
-pub same_rest : (env : Env) (n : ℕ) (here : Here) (i : ℕ) (ss tt : Arc (Vec Stmt Global) Global) → arc_value ss ≡ arc_value tt → frame_does env n here (f.Rest ss i) ≡ frame_does env n here (f.Rest tt i)
+same_rest : (env : Env) (n : ℕ) (here : Here) (i : ℕ) (ss tt : Arc (Vec Stmt Global) Global) → arc_value ss ≡ arc_value tt → frame_does env n here (f.Rest ss i) ≡ frame_does env n here (f.Rest tt i)
 same_rest env n here i ss tt e = ap (λ (d : Vec Stmt Global). on_exit (λ exit. exited (unless_over exit (body env n here (stmts_of (drop i d.items)))))) e
 
 pub same_suite : (env : Env) (n : ℕ) (here : Here) (ss tt : Arc (Vec Stmt Global) Global) (says : Ends s.Exit) (ahead : Ahead) (u : World) → arc_value ss ≡ arc_value tt → LeadsTo env n here ss says ahead u → LeadsTo env n here tt says ahead u

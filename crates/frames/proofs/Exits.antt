@@ -1,5 +1,5 @@
 -- Statements that leave their suite at once, and statements behind which none stands.
-use Rattle.std.proofs.Common.{◌≡◌, ◌≤◌, ℕ, List, [], ◌∷◌, length, drop, Option, Result, Ok, Err, IfOk, Vec, Global, arith, refl, ap, sym, subst, ◌∙◌}
+use Rattle.std.proofs.Common.{◌≡◌, ◌≤◌, true, ℕ, List, [], ◌∷◌, length, drop, Option, Result, Ok, Err, IfOk, Vec, Global, arith, refl, ap, sym, subst, ◌∙◌}
 use Rattle.std.specs.declared.sync.Arc.{Arc}
 use Rattle.std.specs.Arc.{arc_value}
 use Rattle.heap.specs.declared.halt.Halt.{Halt}
@@ -24,14 +24,13 @@ use Rattle.frames.specs.declared.frame.Control.TheVariants as c
 use Rattle.frames.specs.declared.frame.Signal.TheVariants as g
 use Rattle.frames.specs.declared.frame.Exit.{Exit}
 use Rattle.frames.specs.declared.frame.Exit.TheVariants as x
-use Rattle.frames.specs.declared.frame.Frame.{Frame}
 use Rattle.frames.specs.declared.frame.Frame.TheVariants as f
 use Rattle.frames.specs.declared.frame.Once.{Once}
 use Rattle.frames.specs.declared.frame.Once.TheVariants as n
-use Rattle.frames.specs.Frames.{Sig, a_value, an_aim, an_exit, a_gathered, on, exit_of, body, frame_does, stack_does}
-use Rattle.frames.specs.Ahead.{IsExit, LeavesAs, OnceDoes, OnceCosts, SuiteCosts, StopsAs, exited_as}
-use Rattle.frames.proofs.Bind.{Pushed, then_assoc, drop_past}
-use Rattle.frames.proofs.AtOnce.{first_stops, same_rest}
+use Rattle.frames.specs.Frames.{Sig, a_value, an_aim, an_exit, a_gathered, on, exit_of, body, frame_does}
+use Rattle.frames.specs.Ahead.{IsExit, LeavesAs, OnceDoes, OnceCosts, SuiteCosts, StopsAs, exited_as, is_run}
+use Rattle.frames.proofs.Bind.{then_assoc, drop_past}
+use Rattle.frames.proofs.AtOnce.{first_stops}
 
 pub stmt-Return : (l : ℕ) (e : Option (Arc Expr Global)) → stmt_of (z.Return l e) ≡ t.return l (bound_tree e)
 stmt-Return l e = ap stmt_of (sym (z.rolls-Return l e)) ∙ fold-roll-Stmt St Br stmt_step branch_step (Stmt-F.Return l e)
@@ -90,6 +89,12 @@ stopped_leaves env k here says (Ok once) line (Code code) u v is h = subst (λ (
 stopped_leaves env k here says (Ok once) line Memory u v is h = absurd is
 stopped_leaves env k here says (Err e) line halt u v is h = tt
 
+-- and something was done
+pub stopped_runs : {E : Type 0} (r : Result Once E) (line : ℕ) (halt : Halt) → IfOk r (StopsAs line halt) → IfOk r (λ once. is_run once ≡ true)
+stopped_runs (Ok once) line (Code code) is = ap is_run is
+stopped_runs (Ok once) line Memory is = absurd is
+stopped_runs (Err e) line halt is = tt
+
 -- a fault costs all steps
 pub stopped_costs : {E : Type 0} (r : Result Once E) (line : ℕ) (halt : Halt) (old new : State) → IfOk r (StopsAs line halt) → new.heap.steps ≡ 0 → IfOk r (λ once. OnceCosts once old new)
 stopped_costs (Ok once) line (Code code) old new is h = subst (λ (q : Once). OnceCosts q old new) (sym is) h
@@ -118,10 +123,3 @@ pub no_rest : (env : Env) (k : ℕ) (here : Here) (ss : Arc (Vec Stmt Global) Gl
 no_rest env k here ss i (ended sig u) le = rest_is env k here ss i sig u (drop_past (arc_value ss).items i le)
 no_rest env k here ss i (failed code site) le = refl
 no_rest env k here ss i (waits ps) le = refl
-
--- a frame for the rest of a suite, pushed for what is to end
-pub rest_pushed : (env : Env) (k : ℕ) (here : Here) (ss again : Arc (Vec Stmt Global) Global) (i : ℕ) (frames pushed : List Frame) (m : Ends Sig) → arc_value again ≡ arc_value ss → Pushed env k here (f.Rest again i) frames pushed → then_runs (then_runs m (frame_does env k here (f.Rest ss i))) (stack_does env k here frames) ≡ then_runs m (stack_does env k here pushed)
-rest_pushed env k here ss again i frames pushed m same e =
-    ap (λ q. then_runs (then_runs m q) (stack_does env k here frames)) (same_rest env k here i ss again (sym same))
-    ∙ then_assoc m (frame_does env k here (f.Rest again i)) (stack_does env k here frames)
-    ∙ ap (λ j. then_runs m j) (sym e)

@@ -1,39 +1,22 @@
 -- Suites, branches and loops, one part after another.
-use Rattle.std.proofs.Common.{◌≡◌, ℕ, List, ◌∷◌, drop, Err, refl, ap, ◌∙◌}
+use Rattle.std.proofs.Common.{◌≡◌, ℕ, List, Err, refl, ap}
 use Rattle.heap.specs.declared.halt.Halt.{Halt}
 use Rattle.heap.specs.declared.halt.Halt.TheVariants.{Code, Memory}
 use Rattle.heap.specs.View.{Says}
 use Rattle.meaning.specs.Outcome.{Out}
 use Rattle.meaning.specs.Heap.{Store}
-use Rattle.tree.specs.declared.stmt.Stmt.{Stmt}
-use Rattle.tree.specs.Statements.{stmt_of, stmts_of}
 use Rattle.language.specs.World.{World, Site, Here, at_site, Ends, ended, failed, waits, Runs, then_runs, pure}
 use Rattle.language.specs.Environment.{Env}
 use Rattle.language.specs.Targets as ta
 use Rattle.language.specs.Statements as s
 use Rattle.language.specs.Statements.{goes_on, unless_over, after_turn, turns, exec, suite}
-use Rattle.language.specs.Calls.{call}
 use Rattle.names.specs.View.{Ran}
-use Rattle.quiet.specs.StatementResults.{Done}
 use Rattle.frames.specs.declared.frame.Frame.{Frame}
 use Rattle.frames.specs.declared.frame.Control.{Control}
-use Rattle.frames.specs.Frames.{Sig, Goes, an_exit, body, exited, above, stack_does}
+use Rattle.frames.specs.Frames.{Sig, Goes, an_exit}
 use Rattle.frames.proofs.Bind.{then_assoc}
 
 module _ (env : Env) (n : ℕ) (here : Here) (frames : List Frame) (w : World) where
-  -- the statements from a place on, of which the first is done
-  pub stmt_done : (ss : List Stmt) (st : Stmt) (k m : ℕ) (u : World) → drop k ss ≡ st ∷ drop m ss → exec env (call env n) (stmt_of st) here w ≡ ended goes_on u → above env n here (exited (body env n here (stmts_of (drop k ss)))) frames w ≡ above env n here (exited (body env n here (stmts_of (drop m ss)))) frames u
-  stmt_done ss st k m u first done =
-      ap (λ (l : List Stmt). above env n here (exited (body env n here (stmts_of l))) frames w) first
-      ∙ ap (λ q. then_runs (then_runs (then_runs q (λ x. unless_over x (body env n here (stmts_of (drop m ss))))) (λ x. pure (an_exit x))) (stack_does env n here frames)) done
-
-  -- and of which the first stops
-  pub stmt_stops : (ss : List Stmt) (st : Stmt) (k m : ℕ) (site : Site) (halt : Halt) (u : World) (after : Control → Ends Sig) → drop k ss ≡ st ∷ drop m ss → Done site (exec env (call env n) (stmt_of st) here w) (Err halt) u → Goes site (above env n here (exited (body env n here (stmts_of (drop k ss)))) frames w) (Err halt) after
-  stmt_stops ss st k m site (Code c) u after first stops =
-      ap (λ (l : List Stmt). above env n here (exited (body env n here (stmts_of l))) frames w) first
-      ∙ ap (λ q. then_runs (then_runs (then_runs q (λ x. unless_over x (body env n here (stmts_of (drop m ss))))) (λ x. pure (an_exit x))) (stack_does env n here frames)) stops
-  stmt_stops ss st k m site Memory u after first stops = tt
-
   -- a turn, whose target is aimed at above a frame that then stores in it
   pub turn_begins : (m : Ends ta.Aim) (sb : ta.Aim → Runs s.Exit) (behind : s.Exit → Runs s.Exit) (unl : s.Exit → Runs s.Exit) (j : Sig → Runs Sig)
       → then_runs (then_runs (then_runs (then_runs (then_runs m sb) behind) unl) (λ x. pure (an_exit x))) j

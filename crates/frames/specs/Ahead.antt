@@ -1,9 +1,11 @@
 -- How far statements lead that are run at once.
-use Rattle.std.specs.Prelude.{◌≡◌, ◌+◌, ◌≤◌, ◌<◌, ℕ, length}
+use Rattle.std.specs.Prelude.{◌≡◌, ◌+◌, ◌≤◌, ◌<◌, ℕ, List, length, Bool, true, false, if◌then◌else◌, nat_lt}
 use Rattle.std.specs.declared.vec.Vec.{Vec}
 use Rattle.std.specs.declared.alloc.Global.{Global}
 use Rattle.std.specs.declared.sync.Arc.{Arc}
 use Rattle.std.specs.Arc.{arc_value}
+use Rattle.tree.specs.Tree as t
+use Rattle.tree.specs.Tree.{Ex, St, Bound}
 use Rattle.tree.specs.declared.stmt.Stmt.{Stmt}
 use Rattle.heap.specs.declared.halt.Halt.{Halt}
 use Rattle.heap.specs.declared.halt.Halt.TheVariants.{Code, Memory}
@@ -11,7 +13,10 @@ use Rattle.language.specs.World.{World, Here, Ends, ended, failed, Runs, then_ru
 use Rattle.language.specs.Environment.{Env}
 use Rattle.language.specs.Statements.{Exit, goes_on, unless_over}
 use Rattle.names.specs.declared.state.State.{State}
+use Rattle.quiet.specs.Running.{at_once}
 use Rattle.frames.specs.declared.frame.Control.{Control}
+use Rattle.frames.specs.declared.frame.Control.TheVariants as c
+use Rattle.frames.specs.declared.frame.Signal.TheVariants as g
 use Rattle.frames.specs.declared.frame.Exit as kinds
 use Rattle.frames.specs.declared.frame.Exit.TheVariants as e
 use Rattle.frames.specs.declared.frame.Once.{Once}
@@ -53,6 +58,27 @@ SuiteCosts (o.Begun control) old new = new.heap.steps ≤ old.heap.steps
 SuiteCosts (o.Faulty line code) old new = new.heap.steps ≡ 0
 SuiteCosts o.Not old new = ⊥
 
+abbrev pub is_call : Ex → Bool
+is_call (t.call f es names) = true
+is_call e = false
+
+-- what a `return` gives: nothing, or what is no call and is evaluated at once
+abbrev pub given_at_once : (List ℕ → Bool) → Bound → Bool
+given_at_once free t.no_bound = true
+given_at_once free (t.bound e) = if is_call e then false else at_once free e
+
+-- the statements that leave their suite at once
+abbrev pub leaves_at_once : (List ℕ → Bool) → St → Bool
+leaves_at_once free (t.break line) = true
+leaves_at_once free (t.continue line) = true
+leaves_at_once free (t.return line e) = given_at_once free e
+leaves_at_once free st = false
+
+-- whether a statement was begun
+abbrev pub is_run : Once → Bool
+is_run o.Not = false
+is_run once = true
+
 -- what ends a statement and its suite
 abbrev pub IsExit : kinds.Exit → Type 0
 IsExit e.GoesOn = ⊥
@@ -65,6 +91,12 @@ LeavesAs env n here says o.Done u = ⊥
 LeavesAs env n here says (o.Begun control) u = (rest : Runs Exit) → exited_as (then_runs says (λ exit. unless_over exit rest)) ≡ control_does env n here control u
 LeavesAs env n here says (o.Faulty line code) u = says ≡ failed code (on env n here line).site
 LeavesAs env n here says o.Not u = Unit {0}
+
+-- what comes next ends a suite
+abbrev pub leaves : Control → Bool
+leaves (c.Signal (g.Exit e.GoesOn)) = false
+leaves (c.Signal (g.Exit exit)) = true
+leaves control = false
 
 -- what comes next means the same in a suite and behind it
 abbrev pub Leaves : Control → Type 0
@@ -85,12 +117,16 @@ LeadCosts next ss (a.At i) old new = (next ≤ i) × ((i < length (arc_value ss)
 LeadCosts next ss (a.Above i control) old new = new.heap.steps < old.heap.steps
 LeadCosts next ss (a.Faulty line code) old new = new.heap.steps ≡ 0
 
+-- the weight of the frame for the statements from a place on; where none stands there, none is pushed
+abbrev pub rest_weight : ℕ → Arc (Vec Stmt Global) Global → ℕ
+rest_weight next ss = if nat_lt next (length (arc_value ss).items) then 2 else 0
+
 -- the weight of what is left of a suite, with the frame that waits for it
-abbrev pub left_weight : Ahead → ℕ
-left_weight a.Ended = 0
-left_weight (a.At i) = 1
-left_weight (a.Above i control) = 2 + control_weight control
-left_weight (a.Faulty line code) = 0
+abbrev pub left_weight : Arc (Vec Stmt Global) Global → Ahead → ℕ
+left_weight ss a.Ended = 0
+left_weight ss (a.At i) = 1
+left_weight ss (a.Above i control) = (if leaves control then 0 else rest_weight i ss) + control_weight control
+left_weight ss (a.Faulty line code) = 0
 
 -- no more steps are left; or as many, and no more is to be done before the next
 pub record AsLight (s w s' w' : ℕ) : Type 0 where

@@ -1,5 +1,5 @@
 //! Statements that are run at once, as far as they can be.
-ghost use Rattle.std.specs.Prelude.{◌≡◌, ◌+◌, ◌<◌, ◌≤◌, ℕ, List, length, IfOk, IsOkUnless};
+ghost use Rattle.std.specs.Prelude.{◌≡◌, ◌+◌, ◌<◌, ℕ, List, length, IfOk, IsOkUnless};
 ghost use Rattle.std.specs.Arc.{arc_value};
 ghost use Rattle.tree.specs.Statements.{stmt_of};
 ghost use Rattle.language.specs.Calls.{call};
@@ -189,7 +189,7 @@ pub fn lead(
         ≡ machine_does env n here control frames.new.items u) }
     ensures err { IsOkUnless result h.Memory }
     ensures weight { IfOk result (λ control. frames_weight frames.new.items + control_weight control
-        ≤ frames_weight frames.old.items + left_weight ahead) }
+        ≡ frames_weight frames.old.items + left_weight ss ahead) }
 {
     match ahead {
         Ahead::Ended => Ok(Control::Signal(Signal::Exit(Exit::GoesOn))),

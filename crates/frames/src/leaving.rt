@@ -1,5 +1,5 @@
 //! Statements that leave their suite at once, and statements behind which none stands.
-ghost use Rattle.std.specs.Prelude.{◌≡◌, ◌<◌, ◌≤◌, ◌+◌, ℕ, List, true, IfOk, IsOkUnless};
+ghost use Rattle.std.specs.Prelude.{◌≡◌, ◌<◌, ◌+◌, ℕ, List, true, IfOk, IsOkUnless};
 ghost use Rattle.heap.specs.declared.halt.Halt.TheVariants as h;
 ghost use Rattle.language.specs.World.{Here, Ends, then_runs, tick, pure};
 ghost use Rattle.language.specs.Environment.{Env};
@@ -14,7 +14,7 @@ ghost use Rattle.quiet.specs.Quiet.{quiet};
 ghost use Rattle.quiet.specs.View.{free_at};
 ghost use Rattle.frames.specs.Frames.{Sig, on, exit_of, frame_does, stack_does};
 ghost use Rattle.frames.specs.Weight.{frames_weight};
-ghost use Rattle.frames.specs.Ahead.{Leaves, LeavesAs, IsExit, OnceCosts};
+ghost use Rattle.frames.specs.Ahead.{Leaves, LeavesAs, IsExit, OnceCosts, is_call, is_run, leaves, leaves_at_once, rest_weight};
 ghost use Rattle.frames.specs.declared.frame.Frame.TheVariants as f;
 
 use crate::ahead::stopped;
@@ -28,8 +28,10 @@ use std::sync::Arc;
 use texts::Memory;
 use tree::{Expr, Stmt};
 
-// Returns whether an expression is a call. One of a function of the file waits, and others are evaluated where they stand.
-fn is_call(e: &Expr) -> bool {
+// Returns whether an expression is a call. Those of functions of the file wait, and to find out whose it is takes a look-up.
+fn is_call(e: &Expr) -> bool
+    ensures { result ≡ is_call (tree_of e.now) }
+{
     match e {
         Expr::Call(_, _, _) => true,
         _ => false,
@@ -58,6 +60,7 @@ fn left(state: &mut State, line: usize, exit: Exit) -> Result<Once, Memory>
         → IfOk result
         (λ once. LeavesAs env n here (then_runs (tick (on env n here line) (world_of state.old))
         (λ _. pure (exit_of exit))) once (world_of state.new)) }
+    ensures exact { IfOk result (λ once. is_run once ≡ true) }
     ensures costs { IfOk result (λ once. OnceCosts once state.old state.new) }
 {
     match tick(&mut state.heap) {
@@ -66,14 +69,16 @@ fn left(state: &mut State, line: usize, exit: Exit) -> Result<Once, Memory>
     }
 }
 
-/// Leaves a suite at once: by a `break`, a `continue`, or a `return` whose value is evaluated at once. With any other
-/// statement, nothing is done.
+/// Leaves a suite at once: by a `break`, a `continue`, or a `return` of nothing or of what is no call and is evaluated at
+/// once. With any other statement, nothing is done.
 pub fn exit_once(state: &mut State, at: &Standing, stmt: &Stmt) -> Result<Once, Memory>
     ensures does { (env : Env) (n : ℕ) (running : List (List ℕ × List ℕ))
         → let here = here_of at.now at.now.line running in
         IfOk result
         (λ once. LeavesAs env n here (exec env (call env n) (stmt_of stmt.now) here
         (world_of state.old)) once (world_of state.new)) }
+    ensures exact { IfOk result
+        (λ once. is_run once ≡ leaves_at_once (free_at at.now state.old) (stmt_of stmt.now)) }
     ensures costs { IfOk result (λ once. OnceCosts once state.old state.new) }
 {
     match stmt {
@@ -97,7 +102,8 @@ pub fn exit_once(state: &mut State, at: &Standing, stmt: &Stmt) -> Result<Once, 
 
 /// Returns whether what comes next leaves a suite, whatever stands behind it there.
 pub fn leaves(control: &Control) -> bool
-    ensures { result ≡ true → Leaves control.now }
+    ensures exact { result ≡ leaves control.now }
+    ensures means { result ≡ true → Leaves control.now }
 {
     match control {
         Control::Signal(Signal::Exit(Exit::Breaks)) => true,
@@ -120,7 +126,7 @@ pub fn rest_above(
         ≡ then_runs m (stack_does env n here frames.new.items)) }
     ensures err { IsOkUnless result h.Memory }
     ensures weight { IfOk result (λ _. frames_weight frames.new.items
-        ≤ frames_weight frames.old.items + 2) }
+        ≡ frames_weight frames.old.items + rest_weight next ss.now) }
 {
     if next >= ss.len() {
         return Ok(());

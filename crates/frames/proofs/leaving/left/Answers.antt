@@ -5,7 +5,7 @@ use Rattle.names.specs.View.{world_of}
 use Rattle.frames.specs.Frames.{on, exit_of}
 use Rattle.quiet.proofs.Runs.{no_step}
 use Rattle.frames.proofs.Bind.{tick_ends}
-use Rattle.frames.proofs.Exits.{exit_leaves, stopped_leaves, stopped_costs}
+use Rattle.frames.proofs.Exits.{exit_leaves, stopped_leaves, stopped_runs, stopped_costs}
 use Rattle.frames.proofs.leaving.left.Goals as goal
 
 pub returns-in-Ok-clause-does : goal.returns-in-Ok-clause-does
@@ -20,5 +20,6 @@ returns-in-Err c = record {
       let h = on env n here c.args.line in
       let w = world_of c.args.state.now in
       stopped_leaves env n here (then_runs (tick h w) (λ _. pure (exit_of c.args.exit))) c.stopped.result c.args.line c.in-Err.halt w (world_of c.stopped.new.state) c.stopped.ensures.stops (no_step (pure (exit_of c.args.exit)) h w c.in-Err.halt (store_of c.tick.new.heap) w c.in-Err.ensures.says);
+  exact = stopped_runs c.stopped.result c.args.line c.in-Err.halt c.stopped.ensures.stops;
   costs = stopped_costs c.stopped.result c.args.line c.in-Err.halt c.args.state.now c.stopped.new.state c.stopped.ensures.stops c.stopped.ensures.steps;
 }
