@@ -55,9 +55,9 @@ language:
 	@python3 tests/language.py --check
 
 # Tries the wrong bodies of the crates that have changed since they were refused, or with ALL=1 of all crates, over the
-# work that `rt check` kept. Writes wrong-bodies.txt.
+# work that `rt check` kept. Two crates at once, or JOBS=N. Writes wrong-bodies.txt.
 wrong-bodies:
-	@python3 tests/wrong_bodies.py $(if $(ALL),--all)
+	@python3 tests/wrong_bodies.py $(if $(ALL),--all) $(if $(JOBS),--jobs $(JOBS))
 
 # What the built program tells of its runs, its words and its devices, and its answers to texts that were cut.
 answers: build

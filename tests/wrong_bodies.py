@@ -49,6 +49,9 @@ NO_ANSWER = "\npub no-answer : nothing-here\nno-answer = nothing-here\n"
 # longer than for all: 70 seconds in the evaluator.
 WHOLE = ("evaluator",)
 
+# Provers at once, where no number is given. Four take less time by the clock, and half more of processors.
+LANES = 2
+
 Function = collections.namedtuple("Function", "path owner name first last")
 Edit = collections.namedtuple("Edit", "file texts functions places")
 
@@ -715,7 +718,7 @@ def main():
     words = argparse.ArgumentParser(description=__doc__, formatter_class=argparse.RawDescriptionHelpFormatter)
     words.add_argument("--all", action="store_true")
     words.add_argument("--digests", action="store_true")
-    words.add_argument("--jobs", type=int, default=len(os.sched_getaffinity(0)))
+    words.add_argument("--jobs", type=int, default=min(LANES, len(os.sched_getaffinity(0))))
     words.add_argument("names", nargs="*")
     asked = words.parse_args()
     uses, logic = crates(), kit_logic()
