@@ -7,4 +7,5 @@ invariant-loop g l = record {
   left : l.self.left ≡ l.fn.self.left;
   ends : l.self.ends ≡ l.fn.self.ends;
   failures : l.self.failures ≡ l.fn.self.failures;
+  first : l.self.first.value ≡ l.fn.self.first.value;
 }

@@ -19,5 +19,6 @@ loop-at-preserved g c =
     record {
       within = within_more c.args.bytes.now c.loop-at.at c.in_ok-n.n i.within c.in_ok-n.ensures.count;
       same = c.in_ok-n.ensures.ok ∙ i.same;
+      device = c.in_ok-n.ensures.first ∙ i.device;
       held = held_more c.args.self.now.held c.loop-at.self.held c.write_some.new.self.held c.args.bytes.now c.loop-at.at c.in_ok-n.n i.held c.in_ok-n.ensures.held;
     }

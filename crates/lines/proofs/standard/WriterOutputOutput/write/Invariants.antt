@@ -5,6 +5,7 @@ abbrev pub invariant-loop-at : goal.invariant-loop-at
 invariant-loop-at g l = record {
   within : l.at ≤ length l.bytes;
   same : l.self.failures ≡ l.fn.self.failures;
+  device : l.self.first.value ≡ l.fn.self.first.value;
   held : l.self.held ≡ l.fn.self.held ++ take l.at l.bytes;
 }
 
