@@ -1,8 +1,7 @@
 //! The program: commands on standard input, answers on standard output. Layer: product, on base.
 #![tactic(auto)]
 
-use lines::{ReaderInput, WriterOutput};
-use loader::command;
+use loader::run_program;
 use std::alloc::AllocError;
 use std::io::ErrorKind;
 use std::process::ExitCode;
@@ -34,22 +33,41 @@ fn keep_freed_memory(rt: &HostRuntime) {
     drop(block);
 }
 
+// The program's name and version, as the packages have it.
+const VERSION: &str = "sefgulaw-loader 1.0.0";
+
+// Returns whether the words ask for the version alone.
+fn asks_version(words: &[String]) -> bool {
+    words.len() == 2 && words[1].as_str() == "--version"
+}
+
+// Tells the version, and returns the exit status.
+fn tell_version(rt: &HostRuntime) -> u8 {
+    if rt.println(VERSION).is_err() {
+        let _ = rt.eprintln("stop: write");
+        return 3;
+    }
+    0
+}
+
 fn main(rt: HostRuntime) -> ExitCode {
     keep_freed_memory(&rt);
     let words = match words(&rt) {
         Ok(words) => words,
         Err(error) => return ExitCode::from(no_words(&rt, &error)),
     };
-    let mut reader = ReaderInput::new(rt.reader());
-    let mut writer = WriterOutput::new(io::writer(&rt));
+    if asks_version(words.as_slice()) {
+        return ExitCode::from(tell_version(&rt));
+    }
+    let (reader, writer) = (rt.reader(), io::writer(&rt));
     let mut errors = rt.stderr();
-    let status = command(
+    let end = run_program(
         &rt,
         rt.alloc(),
         words.as_slice(),
-        &mut reader,
-        &mut writer,
+        reader,
+        writer,
         &mut errors,
     );
-    ExitCode::from(status)
+    ExitCode::from(end.status)
 }

@@ -1,5 +1,5 @@
 -- The evaluations of a request: how they move the session, and where they stop.
-use Rattle.std.proofs.Common.{◌≡◌, ◌∙◌, ap, sym, subst, refl, inl, inr, ℕ, List, ◌++◌, Some, None}
+use Rattle.std.proofs.Common.{◌≡◌, ap, sym, subst, inl, inr, ℕ, List, ◌++◌, Some, None}
 use Rattle.std.specs.Prelude.{Ok, Option, option_map}
 use Rattle.functions.specs.Next.{next}
 use Rattle.keys.specs.Leaves.{read}

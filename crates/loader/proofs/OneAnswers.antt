@@ -1,5 +1,5 @@
 -- The answers are a function of the lines.
-use Rattle.std.proofs.Common.{◌≡◌, ◌∙◌, ap, sym, subst, refl, ◌⊎◌, inl, inr, ℕ, List, [], ◌∷◌, ◌++◌, Bool, true, false, append_assoc}
+use Rattle.std.proofs.Common.{◌≡◌, ◌∙◌, ap, sym, subst, refl, ◌⊎◌, inl, inr, ℕ, ◌<◌, List, [], ◌∷◌, ◌++◌, Bool, true, false, append_assoc}
 use Rattle.std.specs.Prelude.{Option, Some, None, option_and_then}
 use Rattle.std.proofs.lemmas.List.{append-nil, append_cancel_left}
 use Rattle.lines.specs.Lines.{lines_of, IsWhole, is_too_long}
@@ -14,7 +14,7 @@ use Rattle.commands.specs.Commands.{Command, change, ask, Request, find, load, m
 use Rattle.commands.specs.Refusals.{request_refusal, module_label}
 use Rattle.loader.specs.State.{State, start}
 use Rattle.loader.specs.Answers.{package_shown, module_shown, IsPackageShown, ArePackagesShown, IsModuleShown, IsValueOf, IsUnlessRefused, IsAnswerTo, IsAnswerIf, IsAnswerOf, AreAnswers, line_state, state_after, answer_text, texts}
-use Rattle.loader.specs.Service.{IsBeginning, IsPart, nothing, of_next}
+use Rattle.loader.specs.Service.{IsBeginning, IsPart, Stopped, nothing, of_next}
 use Rattle.loader.specs.Laws.{OneAnswer, OneAnswerEach, OneOutput, StopsInOutput}
 
 module _ (files : Files) where
@@ -106,12 +106,20 @@ lines_begin input beyond more (inr e) = ([], ap (λ r. lines_of (input ++ r)) e 
 begin_by : {front all front' all' : List ℕ} → front ≡ front' → all ≡ all' → IsBeginning front' all' → IsBeginning front all
 begin_by e f begins = (begins.0, f ∙ begins.1 ∙ ap (λ r. r ++ begins.0) (sym e))
 
-pub stops_in_output : StopsInOutput
-stops_in_output budget ends ends' input more told told' written written' held held' runs only a b =
+-- what a serving that stopped wrote is a beginning of the answers to any longer input, or to its own where the device had told its end
+pub stop_begins : (ends ends' : ℕ) (input more told written held : List ℕ) → (ends < ends' → more ≡ []) → Stopped ends ends' told (told ++ input) held (held ++ written)
+    → (answers : List Data) → AreAnswers start (lines_of (input ++ more)) answers → IsBeginning written (texts answers)
+stop_begins ends ends' input more told written held only a answers are =
     let read : input ≡ a.input ++ a.beyond = append_cancel_left told input (a.input ++ a.beyond) a.told_is in
-    let all : b.input ≡ a.input ++ (a.beyond ++ more) = sym (append_cancel_left told' (input ++ more) b.input b.told_is) ∙ ap (λ r. r ++ more) read ∙ append_assoc a.input a.beyond more in
+    let all : input ++ more ≡ a.input ++ (a.beyond ++ more) = ap (λ r. r ++ more) read ∙ append_assoc a.input a.beyond more in
     let over : IsWhole a.input ⊎ (a.beyond ++ more ≡ []) = elim a.ended [ inl w ↦ inl w | inr e ↦ inr (ap (λ r. r ++ more) e.1 ∙ only e.0) ] in
     let later = lines_begin a.input a.beyond more over in
-    let cut : lines_of b.input ≡ a.answered ++ (a.left ++ later.0) = ap lines_of all ∙ later.1 ∙ ap (λ r. r ++ later.0) a.lines_are ∙ append_assoc a.answered a.left later.0 in
-    let begins = begin_answers start a.answered a.left later.0 a.answers b.answers a.part a.are a.begins (subst (λ (ls : List (List ℕ)). AreAnswers start ls b.answers) cut b.are) in
-    begin_by (append_cancel_left held written (texts a.answers ++ a.part) a.held_is) (append_cancel_left held' written' (texts b.answers) b.held_is) begins
+    let cut : lines_of (input ++ more) ≡ a.answered ++ (a.left ++ later.0) = ap lines_of all ∙ later.1 ∙ ap (λ r. r ++ later.0) a.lines_are ∙ append_assoc a.answered a.left later.0 in
+    let begins = begin_answers start a.answered a.left later.0 a.answers answers a.part a.are a.begins (subst (λ (ls : List (List ℕ)). AreAnswers start ls answers) cut are) in
+    begin_by (append_cancel_left held written (texts a.answers ++ a.part) a.held_is) refl begins
+
+pub stops_in_output : StopsInOutput
+stops_in_output budget ends ends' input more told told' written written' held held' runs only a b =
+    let all : b.input ≡ input ++ more = sym (append_cancel_left told' (input ++ more) b.input b.told_is) in
+    let begins = stop_begins ends ends' input more told written held only a b.answers (subst (λ (x : List ℕ). AreAnswers start (lines_of x) b.answers) all b.are) in
+    begin_by refl (append_cancel_left held' written' (texts b.answers) b.held_is) begins

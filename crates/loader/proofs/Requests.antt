@@ -25,7 +25,7 @@ use Rattle.round.specs.Call.{Calls, IsHistory as IsPast}
 use Rattle.round.specs.declared.stop.Stop.{Stop}
 use Rattle.loader.specs.Sessions.{SessionView, IsHistory, IsLawful, files_of}
 use Rattle.loader.specs.Answers.{one_member, build_text, ArePackagesShown, IsModuleShown, IsValueOf, IsUnlessRefused, IsRequestAnswer, Tells}
-use Rattle.loader.specs.Effects.{AreHeld, StopsAfter, module_roots, package_roots, request_roots, later_roots}
+use Rattle.loader.specs.Effects.{AreHeld, StopsAfter, module_roots, package_roots}
 use Rattle.loader.specs.KeyAnswers.{package_told, module_told}
 use Rattle.loader.specs.State.{Edit, one, batch, Refusal, plain, files_refusal, changed_files}
 use Rattle.commands.specs.Edits.{refusal_at}

@@ -11,3 +11,4 @@ pub mod KeyAnswers
 pub mod Laws
 pub mod Publishing
 pub mod PublishingLaws
+pub mod Programs

@@ -3,6 +3,7 @@
 #![tactic(auto)]
 
 mod laws;
+mod program;
 mod publishing;
 mod publishing_laws;
 mod request_answers;
@@ -15,6 +16,7 @@ pub use commands::{Edit, EditError, Request};
 pub use filetree::Change;
 pub use laws::{input_determines_output, lines_determine_answers, lines_have_answers};
 pub use lines::{DeviceError, Input, Output};
+pub use program::{ProgramEnd, run_program};
 pub use publishing_laws::{published_load_is_found, published_texts_are_answers};
 pub use round::{Run, Stop};
 pub use serving::{

@@ -183,6 +183,8 @@ fn serve_line<R: Input, W: Output, J: Runs>(
     ensures write { IsErrOf result ServeStop.Write → W.failures writer.old < W.failures writer.new }
     ensures ended { IfOk result (λ more. more ≡ false → R.ends reader.old < R.ends reader.new) }
     ensures ends { R.ends reader.old ≤ R.ends reader.new }
+    ensures devices { (R.at_first reader.new ≡ R.at_first reader.old)
+        × (W.at_first writer.new ≡ W.at_first writer.old) }
 {
     let ended = next_line(reader, pending, line)?;
     if is_end(ended, line) {
@@ -233,6 +235,8 @@ fn serve_line_with<
     ensures write { IsErrOf result ServeStop.Write → W.failures writer.old < W.failures writer.new }
     ensures ended { IfOk result (λ more. more ≡ false → R.ends reader.old < R.ends reader.new) }
     ensures ends { R.ends reader.old ≤ R.ends reader.new }
+    ensures devices { (R.at_first reader.new ≡ R.at_first reader.old)
+        × (W.at_first writer.new ≡ W.at_first writer.old) }
 {
     let ended = next_line(reader, pending, line)?;
     if is_end(ended, line) {
@@ -267,6 +271,8 @@ pub fn serve_into<R: Input, W: Output, J: Runs>(
     ensures read { IsErrOf result ServeStop.Read → R.failures reader.old < R.failures reader.new }
     ensures write { IsErrOf result ServeStop.Write → W.failures writer.old < W.failures writer.new }
     ensures ended { OnOk result (R.ends reader.old < R.ends reader.new) }
+    ensures devices { (R.at_first reader.new ≡ R.at_first reader.old)
+        × (W.at_first writer.new ≡ W.at_first writer.old) }
 {
     let mut session = Session::new(alloc);
     let mut pending = Pending::new(alloc)?;
@@ -303,6 +309,8 @@ pub fn serve_here<R: Input, W: Output>(
     ensures read { IsErrOf result ServeStop.Read → R.failures reader.old < R.failures reader.new }
     ensures write { IsErrOf result ServeStop.Write → W.failures writer.old < W.failures writer.new }
     ensures ended { OnOk result (R.ends reader.old < R.ends reader.new) }
+    ensures devices { (R.at_first reader.new ≡ R.at_first reader.old)
+        × (W.at_first writer.new ≡ W.at_first writer.old) }
 {
     let mut journal = Vec::new(alloc);
     serve_into(alloc, reader, writer, budget, &mut journal)?;
@@ -339,6 +347,8 @@ pub fn serve_with<
     ensures read { IsErrOf result ServeStop.Read → R.failures reader.old < R.failures reader.new }
     ensures write { IsErrOf result ServeStop.Write → W.failures writer.old < W.failures writer.new }
     ensures ended { OnOk result (R.ends reader.old < R.ends reader.new) }
+    ensures devices { (R.at_first reader.new ≡ R.at_first reader.old)
+        × (W.at_first writer.new ≡ W.at_first writer.old) }
 {
     let mut crew = hands;
     let mut pending = Pending::new(alloc)?;
@@ -383,6 +393,8 @@ pub fn serve<H: LoadRules + Send + Drop, T: Threads + Wait + Sync, R: Input, W: 
     ensures read { IsErrOf result ServeStop.Read → R.failures reader.old < R.failures reader.new }
     ensures write { IsErrOf result ServeStop.Write → W.failures writer.old < W.failures writer.new }
     ensures ended { OnOk result (R.ends reader.old < R.ends reader.new) }
+    ensures devices { (R.at_first reader.new ≡ R.at_first reader.old)
+        × (W.at_first writer.new ≡ W.at_first writer.old) }
 {
     let mut journal = Vec::new(alloc);
     let back = serve_with(runtime, alloc, reader, writer, hands, budget, &mut journal)?;
@@ -482,6 +494,8 @@ fn serve_lines<T: Threads + Wait + Sync, R: Input, W: Output, J: Runs>(
     ensures err { OnErr result (Stopped (R.ends reader.old) (R.ends reader.new) (R.told reader.old)
         (R.told reader.new) (W.held writer.old) (W.held writer.new)) }
     ensures ended { OnOk result (R.ends reader.old < R.ends reader.new) }
+    ensures devices { (R.at_first reader.new ≡ R.at_first reader.old)
+        × (W.at_first writer.new ≡ W.at_first writer.old) }
 {
     if count == 1 {
         return serve_into(alloc, reader, writer, BUDGET, journal);
@@ -507,6 +521,8 @@ fn serve_and_tell<T: Threads + Wait + Sync, R: Input, W: Output, E: Write>(
     ensures stopped { result ≡ 3 → Stopped (R.ends reader.old) (R.ends reader.new)
         (R.told reader.old) (R.told reader.new) (W.held writer.old) (W.held writer.new) }
     ensures status { (result ≡ 0) ⊎ (result ≡ 3) }
+    ensures devices { (R.at_first reader.new ≡ R.at_first reader.old)
+        × (W.at_first writer.new ≡ W.at_first writer.old) }
 {
     let mut journal: Vec<Run> = Vec::new(alloc);
     match serve_lines(runtime, alloc, count, reader, writer, &mut journal) {
@@ -536,6 +552,8 @@ fn serve_alone<T: Threads + Wait + Sync, R: Input, W: Output, E: Write>(
     ensures stopped { result ≡ 3 → Stopped (R.ends reader.old) (R.ends reader.new)
         (R.told reader.old) (R.told reader.new) (W.held writer.old) (W.held writer.new) }
     ensures status { (result ≡ 0) ⊎ (result ≡ 3) }
+    ensures devices { (R.at_first reader.new ≡ R.at_first reader.old)
+        × (W.at_first writer.new ≡ W.at_first writer.old) }
 {
     let mut runs = GhostJournal::new();
     match serve_lines(runtime, alloc, count, reader, writer, &mut runs) {
@@ -565,6 +583,8 @@ pub fn command<T: Threads + Wait + Sync, S: AsStr, R: Input, W: Output, E: Write
     ensures bad_words { result ≡ 2 → (R.told reader.new ≡ R.told reader.old)
         × (W.held writer.new ≡ W.held writer.old) }
     ensures status { (result ≡ 0) ⊎ (result ≡ 2) ⊎ (result ≡ 3) }
+    ensures devices { (R.at_first reader.new ≡ R.at_first reader.old)
+        × (W.at_first writer.new ≡ W.at_first writer.old) }
 {
     match read_words(alloc, words) {
         Ok(matches) => {

@@ -1,5 +1,4 @@
-use Rattle.std.proofs.Common.{◌≡◌, ◌∙◌, ap, sym, Some, List}
-use Rattle.std.specs.Prelude.{Option}
+use Rattle.std.proofs.Common.{◌∙◌, ap, sym, Some, List}
 use Rattle.keys.specs.declared.key.Key.{Key}
 use Rattle.commands.specs.View.{request_seen}
 use Rattle.commands.specs.declared.command.Request.{Request}

@@ -1,4 +1,4 @@
-use Rattle.std.proofs.Common.{arith}
+use Rattle.std.proofs.Common.{arith, refl}
 use Rattle.loader.proofs.Steps.{stopped_at_start, stopped_since, between_at_start, on_err}
 use Rattle.loader.proofs.serving.serve_into.Goals as goal
 
@@ -23,4 +23,5 @@ loop-line-init g c = record {
   ends = omega arith;
   reader_counts = omega arith;
   writer_counts = omega arith;
+  devices = (refl, refl);
 }

@@ -1,4 +1,4 @@
-use Rattle.std.proofs.Common.{◌+◌, ◌≤◌, length}
+use Rattle.std.proofs.Common.{◌≡◌, ◌+◌, ◌≤◌, length}
 use Rattle.loader.specs.Service.{Between}
 use Rattle.loader.proofs.serving.serve_into.Given as goal
 
@@ -8,6 +8,7 @@ invariant-loop-line g l = record {
   ends : g.R.Input.ends l.fn.reader ≤ g.R.Input.ends l.reader;
   reader_counts : g.R.Input.failures l.fn.reader ≤ g.R.Input.failures l.reader;
   writer_counts : g.W.Output.failures l.fn.writer ≤ g.W.Output.failures l.writer;
+  devices : (g.R.Input.at_first l.reader ≡ g.R.Input.at_first l.fn.reader) × (g.W.Output.at_first l.writer ≡ g.W.Output.at_first l.fn.writer);
 }
 
 abbrev pub decreases-loop-line : goal.decreases-loop-line

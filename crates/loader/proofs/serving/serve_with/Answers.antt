@@ -26,4 +26,5 @@ loop-held-init g c = record {
   hands = refl;
   counted = let n = ap turns_of c.requires.none in omega (arith, n);
   writer_counts = omega arith;
+  devices = (refl, refl);
 }

@@ -12,6 +12,7 @@ invariant-loop-held g l = record {
   hands : length l.crew.items ≡ length l.fn.hands.items;
   counted : total g.H.Rules.turns l.crew.items ≡ total g.H.Rules.turns l.fn.hands.items + turns_of (g.J.Runs.kept l.journal);
   writer_counts : g.W.Output.failures l.fn.writer ≤ g.W.Output.failures l.writer;
+  devices : (g.R.Input.at_first l.reader ≡ g.R.Input.at_first l.fn.reader) × (g.W.Output.at_first l.writer ≡ g.W.Output.at_first l.fn.writer);
 }
 
 abbrev pub decreases-loop-held : goal.decreases-loop-held

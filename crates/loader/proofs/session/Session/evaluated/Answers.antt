@@ -1,4 +1,4 @@
-use Rattle.std.proofs.Common.{◌≡◌, ◌∙◌, ap, sym, subst, refl, arith, ◌++◌, Some, List, Vec, Global}
+use Rattle.std.proofs.Common.{◌≡◌, ◌∙◌, ap, sym, subst, refl, arith, ◌++◌, Some, Vec, Global}
 use Rattle.std.specs.Prelude.{Option, option_map}
 use Rattle.filetree.specs.Files.{Files}
 use Rattle.filetree.specs.Lawful.{HasPaths}
@@ -6,7 +6,7 @@ use Rattle.keys.specs.declared.key.Key.{Key}
 use Rattle.open_nodes.specs.TurnCounts.{turns_of}
 use Rattle.commands.specs.View.{request_seen}
 use Rattle.loader.specs.Sessions.{SessionView, files_of}
-use Rattle.loader.specs.Effects.{AreHeld, Evaluates, at_version, request_roots, later_roots}
+use Rattle.loader.specs.Effects.{AreHeld, request_roots, later_roots}
 use Rattle.loader.proofs.Counts.{turns_append}
 use Rattle.loader.proofs.Steps.{on_err}
 use Rattle.loader.proofs.Requests.{held_in}

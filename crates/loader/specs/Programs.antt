@@ -1,0 +1,27 @@
+-- What the program does to the reader and the writer that it is given, in the words of the standard library: the bytes that a reader has left and those that a writer holds, each where they are known.
+use Rattle.std.specs.Prelude.{◌≡◌, ℕ, List, [], ◌++◌, Option, Some, IfSome, OnSome}
+use Rattle.serde_json.specs.Data.{Data}
+use Rattle.lines.specs.Lines.{lines_of}
+use Rattle.loader.specs.State.{start}
+use Rattle.loader.specs.Answers.{AreAnswers, texts}
+use Rattle.loader.specs.Service.{IsBeginning}
+
+-- The reader had this input and has nothing left. The writer holds what it held and then the answers to the lines of the input, from no files, each by the files at its line alone.
+pub record AnswersAll (unread left held holds : Option (List ℕ)) : Type 0 where
+  pub input : List ℕ
+  pub answers : List Data
+  pub input_is : IfSome unread (λ bytes. bytes ≡ input)
+  pub nothing_left : OnSome unread (left ≡ Some [])
+  pub are : AreAnswers start (lines_of input) answers
+  pub output_is : IfSome held (λ bytes. holds ≡ Some (bytes ++ texts answers))
+
+-- The reader had this input and has an end of it left. The writer holds what it held and then a beginning of the answers.
+pub record AnswersPart (unread left held holds : Option (List ℕ)) : Type 0 where
+  pub input : List ℕ
+  pub answers : List Data
+  pub written : List ℕ
+  pub input_is : IfSome unread (λ bytes. bytes ≡ input)
+  pub end_left : OnSome unread ((read : List ℕ) × (rest : List ℕ) × (input ≡ read ++ rest) × (left ≡ Some rest))
+  pub are : AreAnswers start (lines_of input) answers
+  pub begins : IsBeginning written (texts answers)
+  pub output_is : IfSome held (λ bytes. holds ≡ Some (bytes ++ written))
