@@ -13,7 +13,7 @@ use Rattle.filetree.specs.Changes.{Change, put, del, change_refusal, changed, fi
 use Rattle.filetree.specs.Lawful.{HasPaths, EditsKeepPaths}
 use Rattle.filetree.proofs.Slashes.{same_bytes, own_bytes}
 
-same_key : (q k : List ℕ) → eq_by_cmp (slice_cmp nat_cmp) q k ≡ true → q ≡ k
+pub same_key : (q k : List ℕ) → eq_by_cmp (slice_cmp nat_cmp) q k ≡ true → q ≡ k
 same_key q k h = same_bytes q k (sym (is_eq-slice_cmp q k) ∙ h)
 
 own_key : (k : List ℕ) → eq_by_cmp (slice_cmp nat_cmp) k k ≡ true
@@ -57,7 +57,7 @@ good_at : (b : Bool) (o : Option ℕ) → cond (not b) (some_number 2) o ≡ Non
 good_at true o h = refl
 good_at false o h = absurd (not_none 2 h)
 
-good_path : (files : Files) (path text : List ℕ) → put_refusal files path text ≡ None → is_path path ≡ true
+pub good_path : (files : Files) (path text : List ℕ) → put_refusal files path text ≡ None → is_path path ≡ true
 good_path files path text h = good_at (is_path path) (later_refusal files path text) h
 
 puts_keep : (files : Files) (path text : List ℕ) → HasPaths files → put_refusal files path text ≡ None → HasPaths (map.insert files path text)

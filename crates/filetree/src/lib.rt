@@ -2,6 +2,7 @@
 #![tactic(auto)]
 
 ghost use Rattle.filetree.specs.Lawful.{EditsKeepPaths};
+ghost use Rattle.filetree.specs.Trees.{EditsMakeTrees};
 
 mod change;
 mod error;
@@ -19,4 +20,11 @@ pub use tree::Tree;
 /// removal, and after each put or batch of changes that is not refused.
 pub fn edits_keep_paths()
     ensures { EditsKeepPaths }
+{}
+
+/// States the law of trees. Whatever edits are made, from no files on: each file has a path for its name, no file lies
+/// below another one, and each text has at most 262,144 bytes. It holds where there are no files, and after each list of
+/// changes that is not refused.
+pub fn edits_make_trees()
+    ensures { EditsMakeTrees }
 {}

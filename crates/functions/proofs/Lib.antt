@@ -31,3 +31,4 @@ pub mod TargetsOfFiles
 pub mod Deciding
 pub mod Following
 pub mod Existence
+pub mod ShownCycles

@@ -23,10 +23,10 @@ module _ (files : Files) where
   loop {u = u} comes (once c) = record { twice = u; next = u; comes = comes; loads_next = is_member c; returns = stay }
   loop {u = u} comes (more {t = t} c follows) = record { twice = u; next = t; comes = comes; loads_next = is_member c; returns = path_along follows }
 
-  reaches : {n : Node} {labels : List (List ℕ)} → ShowsCycle files n labels → ReachesCycle files n
+  pub reaches : {n : Node} {labels : List (List ℕ)} → ShowsCycle files n labels → ReachesCycle files n
   reaches c = loop (path_along c.comes) c.returns
 
-  package_acyclic : {name : List ℕ} {p : Package} → IsPackage files name p → ReachesCycle files (of_package name) → ⊥
+  pub package_acyclic : {name : List ℕ} {p : Package} → IsPackage files name p → ReachesCycle files (of_package name) → ⊥
   package_acyclic {name = name} (of_file e) c = let r = nearer files (of_package name) c in no_member files r.is_load (ap (λ (f : Result File Fault). loads_in f) e)
   package_acyclic {name = name} (of_load e are faults) c =
       let r = nearer files (of_package name) c in all_acyclic files are (subst (λ (ts : List Target). In r.loaded ts) (ap (λ (f : Result File Fault). loads_in f) e) r.is_load) r.reaches

@@ -14,3 +14,4 @@ pub mod Replies
 pub mod Loads
 pub mod FilePackages
 pub mod PackageLaws
+pub mod Readings

@@ -3,7 +3,7 @@ use Rattle.std.specs.Prelude.{◌≡◌, ℕ, List}
 use Rattle.labels.specs.Labels.{Target}
 use Rattle.filetree.specs.Files.{Files}
 use Rattle.keys.specs.declared.value.Value.{Value}
-use Rattle.functions.specs.Loads.{Node, of_module, of_package, ShowsCycle}
+use Rattle.functions.specs.Loads.{Node, of_module, of_package, ReachesCycle, ShowsCycle}
 use Rattle.functions.specs.FilePackages.{Module, Package, IsModule, IsPackage, HoldsModule, HoldsPackage}
 
 -- a label has one module at most
@@ -38,3 +38,13 @@ SomeModuleHeld = (files : Files) (t : Target) → (v : Value) × HoldsModule fil
 
 abbrev pub SomePackageHeld : Type 0
 SomePackageHeld = (files : Files) (name : List ℕ) → (v : Value) × HoldsPackage files name v
+
+-- what reaches a cycle of loads is shown one, and what is shown one reaches it
+abbrev pub IsShownWhereReached : Files → Node → Type 0
+IsShownWhereReached files n = (ReachesCycle files n → (labels : List (List ℕ)) × ShowsCycle files n labels) × ((labels : List (List ℕ)) → ShowsCycle files n labels → ReachesCycle files n)
+
+abbrev pub ModulesShowTheirCycles : Type 0
+ModulesShowTheirCycles = (files : Files) (t : Target) → IsShownWhereReached files (of_module t)
+
+abbrev pub PackagesShowTheirCycles : Type 0
+PackagesShowTheirCycles = (files : Files) (name : List ℕ) → IsShownWhereReached files (of_package name)

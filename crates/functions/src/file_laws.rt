@@ -6,7 +6,8 @@
 //! of the file leaves. Both look at the files, and at nothing that a node asks or keeps; the laws below tie the nodes
 //! to them. Begin at `specs/FilePackages.antt`.
 ghost use Rattle.functions.specs.FilePackages.{ModulesHold, PackagesHold};
-ghost use Rattle.functions.specs.PackageLaws.{CyclesHaveNoModule, CyclesHaveNoPackage, SomeModuleHeld, SomePackageHeld, OneCycle, OneModule, OneModuleHeld, OnePackage, OnePackageHeld};
+ghost use Rattle.functions.specs.PackageLaws.{CyclesHaveNoModule, CyclesHaveNoPackage, SomeModuleHeld, SomePackageHeld, OneCycle, OneModule, OneModuleHeld, OnePackage, OnePackageHeld, ModulesShowTheirCycles, PackagesShowTheirCycles};
+ghost use Rattle.functions.specs.Readings.{FaultsAreByTheGrammar, TreesAreByTheGrammar};
 
 /// States the law of the modules, at files whose names are paths. The node of a module's label holds the module that
 /// the files mean, or its fault. Where a walk along its loads meets a module twice, it holds the cycle to which they
@@ -53,4 +54,18 @@ pub fn files_determine_what_nodes_hold()
 pub fn each_has_a_value()
     ensures module { SomeModuleHeld }
     ensures package { SomePackageHeld }
+{}
+
+/// States the law of shown cycles. A module or a package of which some walk along its loads meets a module twice is shown
+/// a cycle, and it is the one to which the first such loads lead. No other one is shown a cycle.
+pub fn cycles_that_are_reached_are_shown()
+    ensures module { ModulesShowTheirCycles }
+    ensures package { PackagesShowTheirCycles }
+{}
+
+/// States the law of readings. The definitions of nodes read a text by a function; it gives a tree exactly where the
+/// grammar relates the text to that tree, and a fault exactly where that refuses the text.
+pub fn texts_are_read_by_the_grammar()
+    ensures tree { TreesAreByTheGrammar }
+    ensures fault { FaultsAreByTheGrammar }
 {}

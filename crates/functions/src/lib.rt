@@ -37,8 +37,9 @@ mod once;
 mod reply;
 
 pub use file_laws::{
-    cycles_have_no_value, each_has_a_value, each_has_one_value, files_determine_what_nodes_hold,
-    modules_are_those_of_the_files, one_cycle_is_shown, packages_are_those_of_the_files,
+    cycles_have_no_value, cycles_that_are_reached_are_shown, each_has_a_value, each_has_one_value,
+    files_determine_what_nodes_hold, modules_are_those_of_the_files, one_cycle_is_shown,
+    packages_are_those_of_the_files, texts_are_read_by_the_grammar,
 };
 pub use loading::{LoadRules, Loading};
 
