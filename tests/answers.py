@@ -2,6 +2,7 @@
 """Compares what the built program tells of its runs, its words, its devices and texts that were cut. Run it by `make
 answers`, or with `--program PATH` for another program.
 
+    stored      the lines that the gate runs the program on (crates/cli/stdin), by 2, 3 and 16 workers
     journal     what `--runs` says of the lines of answers/journal.jsonl, by 1, 2, 3 and 16 workers
     words       the status, the bytes and the kind of message for the words of answers/words.txt
     devices     input in pieces, input that ends or fails at each byte, output that fails at each byte
@@ -86,6 +87,28 @@ def compared(checks, threads=None):
 def differs(what, got, wanted):
     """A text of the first difference, or None."""
     return None if got == wanted else f"{what}: {got!r:.300} and not {wanted!r:.300}"
+
+
+# The stored lines.
+
+
+def stored(name):
+    with open(os.path.join(CRATES, "cli", name), "rb") as file:
+        return file.read()
+
+
+def tell_stored(program):
+    given, wanted, numbers = stored("stdin"), stored("stdout").splitlines(), [2, 3, 16]
+
+    def check(count):
+        status, written, said = run(program, workers(count), given)
+        got = written.splitlines()
+        at = next((at for at, pair in enumerate(zip(got, wanted), 1) if pair[0] != pair[1]), min(len(got), len(wanted)) + 1)
+        return differs(f"--workers {count}: status, what it said, and the first answer that differs", (status, said, at),
+                       (*WELL, len(wanted) + 1)) or differs("the number of answers", len(got), len(wanted))
+
+    wrong = compared([lambda count=count: check(count) for count in numbers])[1]
+    return f"{len(wanted)} answers with 2, 3 and 16 workers", len(wanted), wrong
 
 
 # The journal.
@@ -422,7 +445,7 @@ def tell_cuts(program):
     return f"{len(cuts)} cuts with 1 and 16 workers, {compared_answers} answers", compared_answers, wrong
 
 
-PARTS = {"journal": tell_journal, "words": tell_words, "devices": tell_devices, "cuts": tell_cuts}
+PARTS = {"stored": tell_stored, "journal": tell_journal, "words": tell_words, "devices": tell_devices, "cuts": tell_cuts}
 
 
 def main():
