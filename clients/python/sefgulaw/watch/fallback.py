@@ -1,0 +1,77 @@
+"""The watch of a tree: by the kernel's events where they are to be had, else by walks."""
+
+from __future__ import annotations
+
+import os
+from collections.abc import Callable, Mapping
+
+from sefgulaw.disk import Found, Ignore
+from sefgulaw.watch import CannotWatch, Changes, Watch
+from sefgulaw.watch.inotify import Inotify
+from sefgulaw.watch.poll import Poll
+
+
+class FallBack:
+    """A watch that goes over to walks where the kernel tells no more, and says so in one line."""
+
+    def __init__(self, root: bytes, ignore: Ignore, say: Callable[[str], None]) -> None:
+        self._root, self._ignore, self._say = root, ignore, say
+        self._inner: Watch
+        try:
+            self._inner = Inotify(root, ignore)
+        except CannotWatch as reason:
+            self._inner = self._poll(reason, {})
+
+    def _poll(self, reason: CannotWatch, known: Mapping[bytes, Found]) -> Poll:
+        self._say(f"{os.fsdecode(self._root)} is walked over for each answer, since {reason}")
+        return Poll(self._root, self._ignore, known)
+
+    @property
+    def files(self) -> Mapping[bytes, Found]:
+        """The files below the root as they were at the last `drain`."""
+        return self._inner.files
+
+    @property
+    def unlisted(self) -> Mapping[bytes, str]:
+        """The directories that could not be listed then, each with the reason."""
+        return self._inner.unlisted
+
+    @property
+    def is_told(self) -> bool:
+        """Whether the kernel tells of changes."""
+        return isinstance(self._inner, Inotify)
+
+    @property
+    def overflows(self) -> int:
+        """How often the kernel's queue was too short for its events."""
+        return self._inner.overflows if isinstance(self._inner, Inotify) else 0
+
+    @property
+    def watches(self) -> int:
+        """How many directories the kernel watches."""
+        return self._inner.watches() if isinstance(self._inner, Inotify) else 0
+
+    def drain(self) -> Changes:
+        """Takes in all that was changed before the call."""
+        try:
+            return self._inner.drain()
+        except CannotWatch as reason:
+            return self._go_over(reason)
+
+    def _go_over(self, reason: CannotWatch) -> Changes:
+        """Goes over to walks. What the events said so far counts as changed."""
+        assert isinstance(self._inner, Inotify)
+        before = self._inner
+        poll = self._poll(reason, before.files)
+        pending = before.pending()
+        before.close()
+        self._inner = poll
+        return Changes(poll.drain().paths | pending, True)
+
+    def fileno(self) -> int | None:
+        """A descriptor that is readable when something changed; None where nothing tells."""
+        return self._inner.fileno()
+
+    def close(self) -> None:
+        """Gives back what the watch holds of the system."""
+        self._inner.close()
