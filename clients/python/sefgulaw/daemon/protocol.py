@@ -1,0 +1,65 @@
+"""The lines between a front end and the daemon.
+
+A line is one object of JSON, both ways. A request is `{"id":1,"method":"targets","params":{..}}`.
+It is answered by lines `{"id":1,"progress":{..}}` and `{"id":1,"item":{..}}`, and by one last line
+`{"id":1,"end":{..}}`. `{"cancel":1}` ends request 1.
+"""
+
+from __future__ import annotations
+
+import json
+from typing import TypedDict
+
+VERSION = 1
+LONGEST_LINE = 1 << 20
+
+OTHER_DAEMON = 4
+"""The status of a `hello` that is meant for another daemon than the one that reads it."""
+
+
+class Hello(TypedDict):
+    """The params of `hello`: the package's version, and path, size and time of the loader."""
+
+    protocol: int
+    version: str
+    loader: list[object]
+
+
+class Asked(TypedDict):
+    """The params of `check`, `targets` and `watch`."""
+
+    patterns: list[str]
+    cwd: str
+
+
+class Progress(TypedDict):
+    """How far something is that a request waits for."""
+
+    done: int
+    of: int
+    what: str
+
+
+class End(TypedDict):
+    """How a request ended."""
+
+    status: int
+    version: int
+    exact: bool
+    notes: list[str]
+    summary: str
+
+
+def request(number: int, method: str, params: Hello | Asked | None = None) -> bytes:
+    """Returns the line of a request."""
+    return line({"id": number, "method": method, "params": params or {}})
+
+
+def line(members: dict[str, object]) -> bytes:
+    """Returns an object as a line. A name that is not UTF-8 has its bytes as lone surrogates."""
+    return json.dumps(members, separators=(",", ":")).encode("ascii") + b"\n"
+
+
+def item_head(number: int) -> bytes:
+    """Returns how the line of an item begins; the item and `}` follow."""
+    return b'{"id":%d,"item":' % number
