@@ -1,0 +1,119 @@
+"""Texts that nobody has saved yet, over the files of a tree.
+
+They go to a bench of their own and never to the base. So no other client sees them, and no package
+of the base runs again for them.
+"""
+
+from __future__ import annotations
+
+import time
+from collections.abc import Iterable, Sequence
+
+from sefgulaw.base import Base
+from sefgulaw.bench import Bench
+from sefgulaw.faults import cycle_message, fault_message, known_message, note_message
+from sefgulaw.guilty import note_of
+from sefgulaw.messages import Message
+from sefgulaw.names import Path, is_build, is_source, parent
+from sefgulaw.places import MOST_FAULTS, AnyFault, all_faults, read_fault
+from sefgulaw.store import Cyclic, cut, name_of
+from sefgulaw.telling import told_text
+from sefgulaw.wire import MOST_NAMES, Load, Stopped
+
+MOST_SECONDS = 5.0
+FEW = 100
+
+
+class Overlay:
+    """The unsaved texts of one client."""
+
+    def __init__(self, base: Base) -> None:
+        self._base = base
+        self._texts: dict[Path, str] = {}
+        self._bench: Bench | None = None
+        self._version = -1
+
+    def takes(self, path: Path) -> bool:
+        """Tells whether a path is that of a source of the tree."""
+        return is_source(path) and path in self._base.told
+
+    def put(self, path: Path, text: str | None) -> None:
+        """Sets the text of a source, or takes it away, so that the file's own counts again."""
+        if text is None:
+            self._texts.pop(path, None)
+        else:
+            self._texts[path] = told_text(text.encode("utf-8", "surrogateescape"))
+        self.close()
+
+    def close(self) -> None:
+        """Ends the bench."""
+        if self._bench is not None:
+            self._bench.close()
+            self._bench = None
+
+    def reached(self) -> set[str]:
+        """Returns the packages that the texts could reach."""
+        needs = self._base.needs
+        found: set[str] = set()
+        for path, text in self._texts.items():
+            if self._base.told.get(path) != text:
+                users = {path} | needs.loaders(path)
+                found |= {parent(user) for user in users if is_build(user)}
+        return {name for name in found if self._base.has_package(name)}
+
+    def messages(self, names: Iterable[str]) -> dict[str, Sequence[Message]]:
+        """Returns the messages about those of the packages that the texts could reach."""
+        wanted = sorted(self.reached().intersection(names))
+        if not wanted:
+            return {}
+        bench = self._filled()
+        faults = self._faults(bench, wanted)
+        until = time.monotonic() + MOST_SECONDS
+        most = MOST_FAULTS if len(faults) <= FEW else 1
+        found: dict[str, Sequence[Message]] = {name: [] for name in wanted}
+        for name, fault in faults.items():
+            found[name] = [self._plain(fault)]
+            if time.monotonic() < until and not isinstance(fault, Message):
+                path = self._base.build_file(name)
+                located = all_faults(bench, path, most, lambda it: known_message(self._base, it))
+                found[name] = list(located) or found[name]
+        return found
+
+    def _filled(self) -> Bench:
+        base = self._base
+        if self._bench is None:
+            texts = {path: text for path, text in self._texts.items() if self.takes(path)}
+            self._bench = Bench(base.start_loader, base.told, base.needs, overlay=texts)
+        elif self._version != base.version:
+            self._bench.refresh()
+        self._version = base.version
+        return self._bench
+
+    def _faults(self, bench: Bench, names: Sequence[str]) -> dict[str, AnyFault | Message]:
+        """Asks for packages. One that ends the loader gets the message about that."""
+        found: dict[str, AnyFault | Message] = {}
+        for at in range(0, len(names), MOST_NAMES):
+            group = names[at : at + MOST_NAMES]
+            try:
+                items = cut(bench.ask(Load(group)))
+            except Stopped as stop:
+                if len(group) > 1:
+                    for name in group:
+                        found.update(self._faults(bench, [name]))
+                    continue
+                path = self._base.build_file(group[0])
+                note = note_of(path, stop, self._base.options.deadline)
+                found[group[0]] = note_message(note)
+                continue
+            for item in items:
+                fault = read_fault(b'{"packages":[%s]}' % item)
+                if fault is not None:
+                    found[name_of(item)] = fault
+        return found
+
+    def _plain(self, fault: AnyFault | Message) -> Message:
+        if isinstance(fault, Message):
+            return fault
+        if isinstance(fault, Cyclic):
+            return cycle_message(self._base, fault)
+        return known_message(self._base, fault) or fault_message(fault)

@@ -1,0 +1,260 @@
+"""What the documents show is run, and their tables are those of the package."""
+
+from __future__ import annotations
+
+import ast
+import hashlib
+import itertools
+import json
+import os
+import re
+import socket
+import subprocess
+import sys
+from collections.abc import Callable
+from pathlib import Path
+
+import pytest
+from conftest import CHECKOUT, Done, Root, Runner
+from sefgulaw import __version__
+from sefgulaw.messages import FAULTS, REFUSALS
+
+Make = Callable[..., Root]
+Direct = Callable[..., Done]
+CLIENTS = (CHECKOUT / "docs" / "CLIENTS.md").read_text()
+
+
+@pytest.mark.parametrize("loads", [1, 40_000])
+def test_the_client_of_the_page_runs(loader: str, tmp_path: Path, loads: int) -> None:
+    code = re.findall(r"^```python\n(.*?)^```$", CLIENTS, re.M | re.S)
+    assert len(code) == 1
+    assert 20 <= len([line for line in code[0].splitlines() if line.strip()]) <= 25
+    program = tmp_path / "client.py"
+    program.write_text(code[0])
+    done = subprocess.run(
+        [sys.executable, str(program), loader, str(loads)],
+        capture_output=True,
+        text=True,
+        timeout=120,
+    )
+    assert (done.returncode, done.stdout, done.stderr) == (0, "//app:src filegroup\n", "")
+
+
+def test_the_table_of_faults_is_that_of_the_language() -> None:
+    text = (CHECKOUT / "docs" / "LANGUAGE.md").read_text()
+    section = text.split("\n## Faults\n")[1].split("\n## ")[0]
+    cells = re.findall(r"\| (\d+) \| ([^|]+?) (?=\|)", section)
+    assert {int(number): words for number, words in cells} == {
+        number: fault.name for number, fault in FAULTS.items()
+    }
+
+
+def test_the_table_of_refusals_is_that_of_the_protocol() -> None:
+    text = (CHECKOUT / "docs" / "PROTOCOL.md").read_text()
+    section = text.split("\n## Refusals\n")[1].split("\n## ")[0]
+    rows = re.findall(r"^\| (\d+) \| (.+) \|$", section, re.M)
+    assert {int(number): words for number, words in rows} == REFUSALS
+
+
+def test_the_page_names_the_refusals_of_single_changes() -> None:
+    """A change is refused by 2, 7, 3 or 2, 4; the others are of the line."""
+    text = (CHECKOUT / "docs" / "PROTOCOL.md").read_text()
+    row = re.search(r"^\| `edit` \| (.*) \|$", text, re.M)
+    assert row and row[1] == "10; then change by change 2, 7, 3 or 2, 4, with its place; then 8"
+    assert "for the refusals 2, 3, 4 and 7." in CLIENTS
+    assert "The refusals 1, 6, 8 and 10 are of the whole line" in CLIENTS
+
+
+FAULTY = """load("//lib:g0.bzl", "joined")
+
+filegrup(
+    name = "src",
+)
+
+filegroup(
+    name = "other",
+    srcs = ["a.c"],
+
+
+# The parts have to be strings.
+
+
+
+
+joined(name = "j", parts = [1])
+"""
+"""A BUILD file with the three faults that docs/TOOLS.md shows."""
+
+G0 = """def joined(name, parts):
+    text = "-"
+
+    # A part that is no string is a fault here.
+
+
+
+    for part in parts:
+        text = text + part
+    native.filegroup(name = name + text)
+"""
+
+
+def shown(text: str, command: str) -> list[str]:
+    """Returns the lines that a document shows of a command."""
+    lines = re.split(r"^\$ ", text, flags=re.M)
+    found = [it.split("\n") for it in lines if it.startswith(f"{command}\n")]
+    assert found, command
+    return list(itertools.takewhile(lambda it: it not in ("", "```"), found[0][1:]))
+
+
+def packages_beside(number: int) -> dict[str, str]:
+    """Returns so many packages without a fault."""
+    return {f"p{at}/BUILD": f'filegroup(name = "f{at}")\n' for at in range(number)}
+
+
+def test_the_faults_that_the_page_shows(tree: Make, direct: Direct) -> None:
+    page = (CHECKOUT / "docs" / "TOOLS.md").read_text()
+    files = {"app/BUILD": FAULTY, "lib/g0.bzl": G0, "lib/BUILD": "", "big/BUILD": "#" * 301_442}
+    done = direct("check", cwd=tree({**files, **packages_beside(297)}))
+    assert done.lines + done.words == shown(page, "sefgulaw check")
+    assert done.status == 1
+
+
+def test_the_walk_that_the_readme_shows(tree: Make, direct: Direct) -> None:
+    page = (CHECKOUT / "README.md").read_text()
+    good = (
+        FAULTY.replace("filegrup", "filegroup")
+        .replace('"a.c"],\n', '"a.c"],\n)')
+        .split("\njoin")[0]
+    )
+    files = {"lib/g0.bzl": G0, "lib/BUILD": "", **packages_beside(298)}
+    root = tree({**files, "app/BUILD": FAULTY.split("joined(name")[0]})
+    done = direct("check", cwd=root)
+    first, second = page.split("$ vi app/BUILD\n")
+    assert done.lines + done.words == shown(first, "sefgulaw check")
+    root.write("app/BUILD", good)
+    done = direct("check", cwd=root)
+    assert done.lines + done.words == shown(second, "sefgulaw check")
+    assert (
+        direct("targets", "//...", cwd=root).lines[:2]
+        == shown(second, "sefgulaw targets //...")[:2]
+    )
+
+
+def test_the_members_of_json_are_those_of_the_page(tree: Make, direct: Direct) -> None:
+    page = (CHECKOUT / "docs" / "TOOLS.md").read_text()
+    faults, targets = page.split("### Faults")[1].split("### Targets")
+    rows = re.findall(r"^\| (`[^|]*`) \|", faults, re.M)
+    named = {name for row in rows for name in re.findall(r"`(\w+)`", row)}
+    root = tree(
+        {"app/BUILD": FAULTY, "lib/g0.bzl": G0, "lib/BUILD": "", "big/BUILD": "#" * 301_442}
+    )
+    root.write(
+        b"\xff/BUILD", 'filegroup(name = "a", srcs = glob(["*2b*"]))\nfilegroup(name = "b")\n'
+    )
+    root.write(b"\xff/c++.c", "")
+    root.write(b"\xfe/BUILD", "x = [\n1,\n2)\n")
+    root.write(b"\xfe/c++.c", "")
+    done = direct("check", "--output", "jsonl", cwd=root)
+    found = {name.removesuffix("_bytes") for line in done.lines for name in json.loads(line)}
+    assert found <= named and named - found <= {"end_line", "exact"}
+    done = direct("targets", "--output", "jsonl", cwd=root)
+    found = {name.removesuffix("_bytes") for line in done.lines for name in json.loads(line)}
+    assert found == {"attrs", "kind", "label", "exact"}
+    assert "one object with `attrs`, `kind` and `label`" in targets and '"exact": false' in targets
+
+
+def test_the_recipes_for_ci_run(tree: Make, run: Runner, tmp_path: Path) -> None:
+    page = (CHECKOUT / "docs" / "TOOLS.md").read_text()
+    recipes = re.findall(r"^```sh\n(.*?)^```$", page.split("## Recipes for CI")[1], re.M | re.S)
+    tagged = 'filegroup(name = "one", tags = ["manual"])\nfilegroup(name = "two")\n'
+    files = {"a/BUILD": tagged, "old/b/BUILD": tagged, "new/b/BUILD": tagged + "x = 1\n"}
+    root = tree(files)
+    script = tmp_path / "sefgulaw"
+    script.write_text(f'#!/bin/sh\nexec {" ".join(run.words())} "$@"\n')
+    script.chmod(0o755)
+    environment = run.environment()
+    environment["PATH"] = f"{tmp_path}:{environment['PATH']}"
+    printed = []
+    for recipe in recipes:
+        words = ["sh", "-ec", recipe]
+        done = subprocess.run(words, cwd=root.path, env=environment, capture_output=True, text=True)
+        assert done.returncode == 0, (recipe, done.stderr)
+        printed.append(done.stdout)
+    assert printed == ["", "", "", "//a:one\n//new/b:one\n//old/b:one\n"]
+    assert (root.path / "faults.jsonl").read_text() == ""
+    root.write("a/BUILD", "x = y\n")
+    again = [
+        subprocess.run(["sh", "-ec", it], cwd=root.path, env=environment, capture_output=True)
+        for it in recipes[:2]
+    ]
+    assert [it.returncode for it in again] == [1, 0]
+    assert '"code":4' in (root.path / "faults.jsonl").read_text()
+
+
+def test_the_lines_that_the_page_shows_are_those_of_the_daemon(tree: Make, run: Runner) -> None:
+    page = (CHECKOUT / "docs" / "DAEMON.md").read_text()
+    sent = [json.loads(it) for it in re.findall(r"^> (.*)$", page, re.M)]
+    sent[0]["params"]["version"] = __version__
+    expected = [json.loads(it) for it in re.findall(r"^< (.*)$", page, re.M)]
+    root = tree({"app/BUILD": 'filegroup(name = "src")\nfilegroup(name = "old")\n'})
+    assert run("daemon", "start", cwd=root).status == 0
+    name = hashlib.sha256(os.fsencode(root.path.resolve())).hexdigest()[:16]
+    directory = run.runtime / "sefgulaw" / name
+    assert {it.name for it in directory.iterdir()} >= {"socket", "lock", "pid", "log"}
+    assert directory.stat().st_mode & 0o777 == 0o700
+    number = os.open(directory, os.O_PATH)
+    with socket.socket(socket.AF_UNIX, socket.SOCK_STREAM) as peer:
+        peer.connect(f"/proc/self/fd/{number}/socket")
+        peer.sendall("".join(json.dumps(it) + "\n" for it in sent).encode())
+        stream = peer.makefile("rb")
+        got = [json.loads(stream.readline()) for _ in range(3)]
+        peer.sendall(b'{"id":3,"method":"watch","params":{"patterns":[]}}\n')
+        marks = [json.loads(stream.readline()) for _ in range(3)]
+        peer.sendall(b'{"cancel":3}\n')
+        cancelled = json.loads(stream.readline())
+        peer.sendall(b"nonsense\n")
+        nonsense = json.loads(stream.readline())
+    os.close(number)
+    run("daemon", "stop", cwd=root)
+    for end in (it["end"] for it in [*got, *expected] if "end" in it):
+        end["version"] = 0
+    assert got == [it for it in expected if "progress" not in it]
+    assert marks[-1]["item"]["packages"] == ["app"]
+    assert (cancelled["id"], cancelled["end"]["status"]) == (3, 130)
+    assert "id" not in nonsense and nonsense["end"]["status"] == 2
+
+
+def rows_of_modules() -> list[list[str]]:
+    """Returns the modules of each row of the table in docs/ARCHITECTURE.md."""
+    text = (CHECKOUT / "docs" / "ARCHITECTURE.md").read_text()
+    section = text.split("\n## The command `sefgulaw`\n")[1]
+    cells = re.findall(r"^\| (`[^|]*`) \|", section, re.M)
+    return [re.findall(r"`(\w+)`", cell) for cell in cells]
+
+
+def imported(path: Path) -> set[str]:
+    """Returns the modules of the package that a file imports, by their first names."""
+    found = set()
+    for node in ast.walk(ast.parse(path.read_text())):
+        if isinstance(node, ast.ImportFrom) and node.module == "sefgulaw":
+            found |= {alias.name for alias in node.names if not alias.name.startswith("_")}
+        elif isinstance(node, ast.ImportFrom) and node.module:
+            parts = node.module.split(".")
+            found |= {parts[1]} if parts[0] == "sefgulaw" else set()
+    return found
+
+
+def test_each_module_uses_only_those_above_it() -> None:
+    package = CHECKOUT / "clients" / "python" / "sefgulaw"
+    files: dict[str, list[Path]] = {}
+    for path in package.rglob("*.py"):
+        files.setdefault(path.relative_to(package).parts[0].removesuffix(".py"), []).append(path)
+    rows = rows_of_modules()
+    named = {name for row in rows for name in row}
+    assert named == set(files) - {"__init__", "__main__"}
+    above: set[str] = set()
+    for row in rows:
+        above |= set(row)
+        for name in row:
+            for path in files[name]:
+                assert imported(path) <= above, path
