@@ -1,13 +1,19 @@
 # 'make quick' shows the program at work without any proof, 'make run' proves it first, 'make test' is the whole gate.
-# They need nothing but the kit's command `rt`, python3 (as `rt` does), GNU make and a shell.
+# They need the kit's command `rt`, and Debian's packages, which they install by themselves where they may.
 
 PROGRAM := crates/cli/out/cli
 EXAMPLE := examples/session.jsonl
 
-.PHONY: quick run build measures shelf-trials readers overlaps trials schedules test lint digests language wrong-bodies answers limits allocations workers batches under hostile giving-back bench
+# The system's interpreter has Debian's libraries. Another `python3` may stand before it on the path.
+PYTHON := /usr/bin/python3
+CLIENT := clients/python
+LOADER := $(abspath $(or $(SEFGULAW_LOADER),$(PROGRAM)))
+
+.PHONY: clients clients-long has-loader quick run build measures shelf-trials readers overlaps trials schedules test lint digests language wrong-bodies answers limits allocations workers batches under hostile giving-back bench
 
 # Shows each line of an example with its answer. It proves nothing: the kit interprets the program.
 quick:
+	@tools/install-packages run
 	@echo 'A quick look: the program is interpreted, and nothing is proved.'
 	@cd crates/cli && rt try -- run < ../../$(EXAMPLE) > quick.log 2> quick.err || { tail -n 30 quick.err quick.log; exit 1; }
 	@paste -d '\n' $(EXAMPLE) crates/cli/quick.log
@@ -17,6 +23,7 @@ run: build
 	@$(PROGRAM) run < $(EXAMPLE) | paste -d '\n' $(EXAMPLE) -
 
 build:
+	@tools/install-packages run
 	@cd crates/cli && rt run -- run < /dev/null > build.log 2>&1 || { tail -n 30 build.log; exit 1; }
 
 # The program that measures, proved and built over the libraries of `build`. The gate does not build it.
@@ -38,9 +45,30 @@ readers: build
 # The gate: the house's rules of style, each crate's wrong bodies refused at its present text, everything proved from
 # nothing, the program run, and more answers of the built program compared. What takes a second comes first, with the
 # lines of the program compared with the topic files. A proof gets one job, since two cost a quarter more in sum.
-test: lint digests language
+# At its end the command `sefgulaw` is tried over the program.
+test:
+	@tools/install-packages run test
+	@$(MAKE) --no-print-directory lint digests language
 	RT_JOBS=$$(nproc) rt ci
 	python3 tests/answers.py
+	python3 tests/talk.py
+	@$(MAKE) --no-print-directory clients
+
+# The command `sefgulaw` over the built program: format, style, types, and the tests that take minutes at most.
+clients: has-loader
+	@tools/install-packages test
+	cd $(CLIENT) && $(PYTHON) -m black --check --quiet .
+	cd $(CLIENT) && $(PYTHON) -m flake8
+	cd $(CLIENT) && $(PYTHON) -m mypy --no-error-summary
+	cd $(CLIENT) && SEFGULAW_LOADER=$(LOADER) $(PYTHON) -m pytest -q -n 2 -m 'not long'
+
+# Its long tests: many steps of random trees, real trees, packages in a fresh root, editors.
+clients-long: has-loader
+	@tools/install-packages test packages long
+	cd $(CLIENT) && SEFGULAW_LOADER=$(LOADER) $(PYTHON) -m pytest -q -m long
+
+has-loader:
+	@test -x $(LOADER) || { echo "no loader at $(LOADER): 'make run' builds it" >&2; exit 1; }
 
 # Sentences, words and links of the documents, sizes of files and functions, the layout of the crates.
 lint:
@@ -62,6 +90,7 @@ wrong-bodies:
 # What the built program tells of its runs, its words and its devices, and its answers to texts that were cut.
 answers: build
 	@python3 tests/answers.py
+	@python3 tests/talk.py
 
 # Lines, texts and paths at their limits.
 limits: build
@@ -86,6 +115,7 @@ trials schedules: build
 	@python3 bench/build_measures.py $@
 	@bench/out/$@ < tests/$@/stdin > bench/out/$@.stdout
 	@diff tests/$@/stdout bench/out/$@.stdout
+	@test $@ = schedules || python3 tests/talk.py bench/out/$@ talk
 	@echo "$@: $$(wc -l < tests/$@/stdout) lines compared, 0 wrong"
 
 # The same answers with 1 to 16 workers, over the gate's commands, scripts and 10,000 random scripts.
@@ -115,3 +145,5 @@ bench: build measures
 	python3 bench/programs.py
 	python3 bench/lines.py 1000
 	python3 bench/tables.py 10000 1000
+
+include packaging/targets.mk

@@ -1,11 +1,12 @@
 #!/usr/bin/env python3
 """Checks the house's rules of style that a program can check. Run it by `make lint`.
 
-- README.md, CONTRIBUTING.md and docs/*.md: no sentence of over 25 words, no banned word, no dead link.
+- README.md, CONTRIBUTING.md and docs/*.md: no sentence of over 40 words, no banned word, no dead link.
 - README.md: its session is the example that `make quick` runs.
 - Sources, definitions, proofs, scripts and programs of the language: no file of over 800 lines.
 - Sources: no function of over 60 lines. Fields that the layout puts on lines of their own do not count.
-- Programs beside the gate (`.rattle`, `.proof`): no sentence of over 25 words in a comment.
+- The client (`clients/python`): no module of over 400 lines, no function of over 60.
+- Programs beside the gate (`.rattle`, `.proof`): no sentence of over 40 words in a comment.
 - Crates: no line of a clause of over 100 columns, no module that is imported from twice, no number or flag without a
   name in a variant, no definition that is imported for nothing.
 - Files and types of sources: no past participle as a name, but for those of `PARTICIPLES` that the public surface fixes.
@@ -13,6 +14,7 @@
 
 It prints one line for each fault, as `path:line: what`, and fails where there is one.
 """
+import ast
 import glob
 import os
 import re
@@ -22,7 +24,8 @@ import sys
 import tempfile
 
 ROOT = os.path.join(os.path.dirname(os.path.abspath(__file__)), "..")
-MOST_WORDS, MOST_LINES, MOST_FUNCTION = 25, 800, 60
+MOST_WORDS, MOST_LINES, MOST_FUNCTION = 40, 800, 60
+MOST_MODULE = 400
 
 # Past participles that do not end in "ed", and the names that the public surface fixes.
 IRREGULAR = {
@@ -134,8 +137,17 @@ def check_links(path, text):
 
 def check_length(path, text):
     count = text.count("\n")
-    if count > MOST_LINES:
+    if count > (MOST_MODULE if path.startswith("clients/") else MOST_LINES):
         yield f"{path}:1: {count} lines"
+
+
+def check_client(path, text):
+    """The functions of a module of the client, from the first decorator or `def` to the last line."""
+    for at in ast.walk(ast.parse(text, path)):
+        if isinstance(at, (ast.FunctionDef, ast.AsyncFunctionDef)):
+            begun = min([at.lineno] + [it.lineno for it in at.decorator_list])
+            if at.end_lineno - begun + 1 > MOST_FUNCTION:
+                yield f"{path}:{begun}: {at.name} has {at.end_lineno - begun + 1} lines"
 
 
 def check_functions(path, text):
@@ -257,6 +269,8 @@ def main():
             with open(path) as file:
                 text = file.read()
             faults += list(check_length(path, text))
+            if path.startswith("clients/") and path.endswith(".py"):
+                faults += list(check_client(path, text))
             if path.endswith((".rt", ".rattle")):
                 faults += list(check_functions(path, text))
             if path.endswith((".rt", ".rattle", ".antt", ".proof")):
