@@ -3,7 +3,8 @@
 from __future__ import annotations
 
 import time
-from collections.abc import Iterable, Sequence
+from collections.abc import Iterable, Mapping, Sequence
+from typing import NamedTuple
 
 from sefgulaw.base import Base
 from sefgulaw.bench import Bench
@@ -24,12 +25,24 @@ FEW = 100
 DEADLINE = 3.0
 
 
+class Located(NamedTuple):
+    """The messages about faulty packages, by package.
+
+    `missed` is for how many packages no place was looked for, and `only_first` says that no further
+    faults were looked for in any of them.
+    """
+
+    messages: Mapping[str, Sequence[Message]]
+    missed: int
+    only_first: bool
+
+
 class Locator:
     """Finds the places of the faults of a base's packages."""
 
     def __init__(self, base: Base) -> None:
         self._base = base
-        self._kept: dict[str, tuple[int, Sequence[Message]]] = {}
+        self._kept: dict[str, tuple[tuple[int, int], Sequence[Message]]] = {}
         self._version = -1
         self._bench = Bench(self._start, base.told, base.needs, base.store.raw)
 
@@ -42,8 +55,8 @@ class Locator:
         deadline = min(DEADLINE, options.deadline or DEADLINE)
         return Loader.start([options.program], 1, deadline)
 
-    def messages(self, names: Iterable[str]) -> tuple[dict[str, Sequence[Message]], int]:
-        """Returns the messages about faulty packages, and for how many no place was looked for."""
+    def messages(self, names: Iterable[str]) -> Located:
+        """Returns the messages about faulty packages."""
         until = time.monotonic() + MOST_SECONDS
         names = list(names)
         most = MOST_FAULTS if len(names) <= FEW else 1
@@ -52,7 +65,7 @@ class Locator:
         missed = 0
         for name in names:
             kept = self._kept.get(name)
-            moment = self._base.loaded_at(name)
+            moment = (self._base.loaded_at(name), most)
             item = self._base.store.item(name)
             is_in_time = time.monotonic() < until
             if kept is not None and kept[0] == moment:
@@ -67,7 +80,7 @@ class Locator:
                 missed += 1
             if self._is_of_module(name, found[name]):
                 shared.setdefault(item, found[name][:1])
-        return found, missed
+        return Located(found, missed, most == 1)
 
     def _is_of_module(self, name: str, messages: Sequence[Message]) -> bool:
         """Tells whether a package has its fault from a module that it loads.

@@ -10,7 +10,7 @@ from typing import NamedTuple
 from sefgulaw.base import Base
 from sefgulaw.exactness import STAND_INS, Exactness
 from sefgulaw.faults import grouped, is_faulty, note_message
-from sefgulaw.locating import Locator
+from sefgulaw.locating import FEW, Locator
 from sefgulaw.messages import Message, as_object, dumps, first_line
 from sefgulaw.names import BadPattern, Path, Pattern, decode, encode, real, show_label
 from sefgulaw.overlay import Overlay
@@ -81,6 +81,7 @@ class Tree:
         self.exactness = Exactness(base)
         self._locator = Locator(base)
         self.unlocated = 0
+        self.only_first = False
 
     def close(self) -> None:
         """Ends the loaders and the watch."""
@@ -98,8 +99,9 @@ class Tree:
         unsaved = overlay.messages(names) if overlay is not None else {}
         known = {*untold, *unsaved}
         faulty = [name for name in names if name not in known and is_faulty(base, name)]
-        located, self.unlocated = self._locator.messages(faulty)
-        found: dict[str, Sequence[Message]] = {**located, **unsaved}
+        located = self._locator.messages(faulty)
+        self.unlocated, self.only_first = located.missed, located.only_first
+        found: dict[str, Sequence[Message]] = {**located.messages, **unsaved}
         found.update((name, [note_message(untold[Path(name)])]) for name in names if name in untold)
         return grouped(found)
 
@@ -207,6 +209,10 @@ class Tree:
         found = list(notes[:MOST_NOTES])
         if len(notes) > MOST_NOTES:
             found.append(f"and {len(notes) - MOST_NOTES:,} more such lines")
+        if self.only_first:
+            found.append(
+                f"more than {FEW} packages have faults, so only the first one of each is shown"
+            )
         if self.unlocated:
             packages = _packages(self.unlocated)
             found.append(f"the places in {packages} were not looked for, since there are many")
