@@ -52,7 +52,7 @@ def log_of(place: Place) -> str:
     return Path(place.file("log")).read_text()
 
 
-def wait_for(what: Callable[[], bool], seconds: float = 10.0) -> None:
+def wait_for(what: Callable[[], bool], seconds: float = 60.0) -> None:
     """Waits until something holds."""
     until = time.monotonic() + seconds
     while not what():
@@ -384,7 +384,7 @@ def test_an_interrupted_front_end_leaves_the_daemon(root: Root, run: Runner, pla
     for _ in range(3):
         assert process.stdout.readline()
     process.send_signal(signal.SIGINT)
-    out, err = process.communicate(timeout=20)
+    out, err = process.communicate(timeout=60)
     assert (process.returncode, out, err) == (130, b"", b"")
     assert is_running(process_of(place))
     wait_for(lambda: ", 0 clients, " in run("daemon", "status", cwd=root).lines[0])

@@ -146,7 +146,7 @@ def test_a_full_disk(tree: Make, run: Runner, way: list[str]) -> None:
     full = os.open("/dev/full", os.O_WRONLY)
     process = run.start("targets", *way, cwd=tree(SMALL).path, stdout=full)
     os.close(full)
-    _, err = process.communicate(timeout=30)
+    _, err = process.communicate(timeout=60)
     assert err == b"sefgulaw: standard output: No space left on device\n"
     assert process.returncode == 3
 
@@ -154,7 +154,7 @@ def test_a_full_disk(tree: Make, run: Runner, way: list[str]) -> None:
 def test_standard_error_that_is_closed(tree: Make, run: Runner) -> None:
     words = ["/bin/sh", "-c", '"$@" 2>&-', "sh", *run.words("targets", "--no-daemon")]
     done = subprocess.run(
-        words, cwd=tree(SMALL).path, env=run.environment(), stdout=subprocess.PIPE, timeout=30
+        words, cwd=tree(SMALL).path, env=run.environment(), stdout=subprocess.PIPE, timeout=60
     )
     assert done.stdout.decode().splitlines() == SMALL_TARGETS
     assert done.returncode == 0
@@ -167,7 +167,7 @@ def test_interrupted_during_a_request(tree: Make, run: Runner, way: list[str]) -
     process = run.start("check", *way, cwd=root.path)
     time.sleep(1.5)
     process.send_signal(signal.SIGINT)
-    out, err = process.communicate(timeout=30)
+    out, err = process.communicate(timeout=60)
     assert (process.returncode, out, err) == (130, b"", b"")
 
 

@@ -18,7 +18,7 @@ from conftest import Root, Runner
 from trees import SMALL
 
 Make = Callable[..., Root]
-SECONDS = 20
+SECONDS = 60.0
 
 
 class Watching:
@@ -58,7 +58,7 @@ class Watching:
     def end(self) -> None:
         """Ends the watch as from the keyboard."""
         self.process.send_signal(signal.SIGINT)
-        assert self.process.wait(20) == 130
+        assert self.process.wait(60) == 130
 
 
 @pytest.fixture(params=["daemon", "direct"])
@@ -199,7 +199,7 @@ def test_the_tree_goes(tree: Make, watch: Start) -> None:
     watching = watch(root)
     watching.update()
     os.rename(root.path, root.path.parent / "gone")
-    assert watching.process.wait(20) == 3
+    assert watching.process.wait(60) == 3
     assert watching.process.stderr and watching.process.stderr.read().startswith(b"sefgulaw: ")
 
 
