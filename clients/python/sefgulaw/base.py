@@ -8,10 +8,12 @@ from __future__ import annotations
 
 from collections.abc import Callable, Iterable, Mapping, Sequence
 from dataclasses import dataclass
+from functools import partial
+from typing import Union
 
 from sefgulaw import disk, telling
 from sefgulaw.bridge.tree import Bridge
-from sefgulaw.disk import Ignore
+from sefgulaw.disk import Ignore, Unreadable
 from sefgulaw.guilty import Guilty, Search
 from sefgulaw.mirror import Mirror, Progress, no_progress
 from sefgulaw.names import (
@@ -35,6 +37,9 @@ from sefgulaw.watch.fallback import FallBack
 from sefgulaw.watch.poll import Poll
 from sefgulaw.wire import MOST_NAMES, Loader, Stopped
 
+Reader = Callable[[bytes], Union[bytes, Unreadable]]
+"""Reads a source by its path on disk."""
+
 
 @dataclass(frozen=True)
 class Options:
@@ -52,9 +57,15 @@ class Base:
     """One tree, its loader and its answers."""
 
     def __init__(
-        self, root: bytes, options: Options, watch: Watch, progress: Progress = no_progress
+        self,
+        root: bytes,
+        options: Options,
+        watch: Watch,
+        progress: Progress = no_progress,
+        read: Reader | None = None,
     ) -> None:
         self.root, self.options = root, options
+        self._read = read or partial(disk.read, root)
         self.watch = watch
         self.progress = progress
         self.needs = Needs()
@@ -123,7 +134,7 @@ class Base:
             return telling.too_long(path)
         if found.kind == "other":
             return Text("")
-        return telling.told_source(path, disk.read(self.root, name))
+        return telling.told_source(path, self._read(name))
 
     @property
     def unlisted(self) -> Mapping[Path, str]:
@@ -136,7 +147,7 @@ class Base:
 
     def readable(self, path: Path) -> bytes | None:
         """Returns a source's own bytes as the disk has them; None where it cannot be read."""
-        content = disk.read(self.root, decode(path))
+        content = self._read(decode(path))
         return content if isinstance(content, bytes) else None
 
     def _take_in(self, changed: Iterable[Path]) -> None:

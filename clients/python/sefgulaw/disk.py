@@ -164,8 +164,16 @@ def _content(number: int, size: int) -> bytes | Unreadable:
             return b"".join(parts)
         parts.append(part)
         length += len(part)
-    words = f"has {max(size, length):,} bytes, and the loader takes {LONGEST_TEXT:,}"
-    return Unreadable("too large", words)
+    return _too_large(max(size, length))
+
+
+def _too_large(size: int) -> Unreadable:
+    return Unreadable("too large", f"has {size:,} bytes, and the loader takes {LONGEST_TEXT:,}")
+
+
+def bounded(content: bytes) -> bytes | Unreadable:
+    """Returns the content of a source as far as the loader takes it."""
+    return content if len(content) <= LONGEST_TEXT else _too_large(len(content))
 
 
 def walk(root: bytes, ignore: Ignore) -> Iterator[Found]:

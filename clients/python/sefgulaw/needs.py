@@ -58,6 +58,14 @@ class Needs:
         """Tells whether a file is told."""
         return basename(path) in self._names.get(parent(path), ())
 
+    def has_directory(self, path: Path) -> bool:
+        """Tells whether a told file lies below a path."""
+        return path in self._names or path in self._below
+
+    def files_in(self, directory: Path) -> Iterator[str]:
+        """Yields the names of the told files that lie in a directory itself."""
+        return iter(self._names.get(directory, ()))
+
     def is_package(self, directory: Path) -> bool:
         """Tells whether a directory has a BUILD file among the told ones."""
         names = self._names.get(directory)

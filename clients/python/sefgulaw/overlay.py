@@ -43,7 +43,23 @@ class Overlay:
             self._texts.pop(path, None)
         else:
             self._texts[path] = told_text(text.encode("utf-8", "surrogateescape"))
-        self.close()
+        if self._bench is not None:
+            self._bench.overlay = self._present()
+            self._bench.refresh()
+
+    def text(self, path: Path) -> str | None:
+        """Returns the unsaved text of a path, if there is one."""
+        return self._texts.get(path)
+
+    def module_messages(self, path: Path) -> Sequence[Message]:
+        """Returns the messages about a .bzl file's own faults, whoever loads it."""
+        bench = self._filled()
+        try:
+            return list(
+                all_faults(bench, path, MOST_FAULTS, lambda it: known_message(self._base, it))
+            )
+        except Stopped as stop:
+            return [note_message(note_of(path, stop, self._base.options.deadline))]
 
     def close(self) -> None:
         """Ends the bench."""
@@ -82,12 +98,17 @@ class Overlay:
     def _filled(self) -> Bench:
         base = self._base
         if self._bench is None:
-            texts = {path: text for path, text in self._texts.items() if self.takes(path)}
+            texts = self._present()
             self._bench = Bench(base.start_loader, base.told, base.needs, overlay=texts)
         elif self._version != base.version:
+            self._bench.overlay = self._present()
             self._bench.refresh()
         self._version = base.version
         return self._bench
+
+    def _present(self) -> dict[Path, str]:
+        """Returns the texts of files that are there."""
+        return {path: text for path, text in self._texts.items() if self.takes(path)}
 
     def _faults(self, bench: Bench, names: Sequence[str]) -> dict[str, AnyFault | Message]:
         """Asks for packages. One that ends the loader gets the message about that."""

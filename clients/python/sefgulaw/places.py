@@ -11,7 +11,7 @@ from __future__ import annotations
 import ast
 import json
 import time
-from collections.abc import Callable, Generator, Iterator, Mapping
+from collections.abc import Callable, Collection, Generator, Iterator, Mapping
 from dataclasses import replace
 from typing import NamedTuple
 
@@ -265,24 +265,33 @@ def message_of(place: Place, fault: AnyFault) -> Message:
 # Targets.
 
 
-def target_places(bench: Bench, package: str) -> Mapping[str, Span]:
+def target_places(
+    bench: Bench, package: str, known: Collection[str] | None = None
+) -> Mapping[str, Span]:
     """Returns the statement that declares each target of a package without a fault.
 
     A statement at file level that calls a rule by its own name, with a literal name, declares that
-    target. For the others the beginnings are divided until each has its statement.
+    target. For the others the beginnings are divided until each has its statement. `known` are the
+    names of the targets where they are known already.
     """
     builds = bench.needs.builds(Path(package))[:1]
     if not builds:
         return {}
     text = bench.text(builds[0]) or ""
     file = Beginnings(bench, builds[0], text, time.monotonic() + MOST_SECONDS)
-    wanted = _target_names(file.answer(text))
+    wanted = _target_names(file.answer(text)) if known is None else set(known)
     found = {name: span for name, span in _written_targets(file) if name in wanted}
     try:
         _divide(file, 0, len(file.spans), frozenset(), frozenset(wanted - found.keys()), found)
     except (TooLong, Stopped):
         pass
     return found
+
+
+def literal_name_of(call: ast.Call) -> str | None:
+    """Returns the name that a call gives to a target, where it is written out."""
+    name = literal_name(call)
+    return None if name is None else str(name.value)
 
 
 def _target_names(answer: bytes) -> set[str]:

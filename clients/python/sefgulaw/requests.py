@@ -29,6 +29,16 @@ class Question:
 
 
 @dataclass(frozen=True)
+class QueryAsked:
+    """A query, the directory that it is read in, and the form of its answer."""
+
+    expression: str
+    cwd: str = ""
+    output: str = "label"
+    missing: bool = False
+
+
+@dataclass(frozen=True)
 class End:
     """How a request ended. `notes` are warnings for people, and `summary` is what was counted."""
 
@@ -115,7 +125,7 @@ class Tree:
         if not messages:
             summary = f"no faults in {_packages(len(names))}"
         status = FAULTS_STATUS if messages else 0
-        end = End(status, self.base.version, not notes, self._all_notes(notes), summary)
+        end = End(status, self.base.version, not notes, self.all_notes(notes), summary)
         return Answer(end, iter([self.message_line(message) for message in messages]))
 
     def targets(self, question: Question) -> Answer:
@@ -124,9 +134,13 @@ class Tree:
         names, messages = self._loaded(patterns)
         notes = self.notes(names)
         status = FAULTS_STATUS if messages else 0
-        end = End(status, self.base.version, not notes, self._all_notes(notes))
+        end = End(status, self.base.version, not notes, self.all_notes(notes))
         faults = [self.message_line(message) for message in messages]
         return Answer(end, _lines(self.kept(names), patterns, faults))
+
+    def loaded(self, question: Question) -> tuple[list[str], list[Message]]:
+        """Loads what is asked for. Returns the packages and the messages about them."""
+        return self._loaded(self._begin(question))
 
     def _begin(self, question: Question) -> list[Pattern]:
         self.base.refresh()
@@ -204,7 +218,7 @@ class Tree:
             found.insert(0, f"{packages} {verb} on stand-ins, see sefgulaw bridge")
         return found
 
-    def _all_notes(self, notes: Sequence[str]) -> tuple[str, ...]:
+    def all_notes(self, notes: Sequence[str]) -> tuple[str, ...]:
         """Returns what a person is told beside an answer."""
         found = list(notes[:MOST_NOTES])
         if len(notes) > MOST_NOTES:

@@ -19,12 +19,11 @@ from sefgulaw.base import Options
 from sefgulaw.daemon.client import Client, connect, hello
 from sefgulaw.daemon.keeper import Job, Keeper
 from sefgulaw.daemon.place import Place
-from sefgulaw.daemon.protocol import Asked
-from sefgulaw.requests import Question
+from sefgulaw.daemon.protocol import Params
 from trees import SMALL, SMALL_TARGETS
 
 Make = Callable[..., Root]
-ALL: Asked = {"patterns": ["//..."], "cwd": ""}
+ALL: Params = {"patterns": ["//..."], "cwd": ""}
 
 
 @pytest.fixture
@@ -221,7 +220,7 @@ def test_a_reader_that_is_slow_waits_alone(root: Root, run: Runner, place: Place
     slow.sendall(b'{"id":1,"method":"targets","params":{"patterns":["//..."],"cwd":""}}\n')
     assert slow.recv(1) == b"{"
     client = connected(place)
-    wanted: Asked = {"patterns": ["//a"], "cwd": ""}
+    wanted: Params = {"patterns": ["//a"], "cwd": ""}
     took = []
     for _ in range(5):
         begun = time.monotonic()
@@ -274,13 +273,13 @@ def test_a_kept_answer_that_is_wrong_is_found(
 ) -> None:
     keeper = Keeper(os.fsencode(root.path), Options(loader))
     try:
-        assert len(list(keeper.answer(Job(), "targets", Question()).lines)) == 2
+        assert len(list(keeper.answer(Job(), "targets", {}).lines)) == 2
         assert keeper.compare() == 0 and caplog.text == ""
         wrong = (keeper.tree.base.store.raw("a") or b"").replace(b'"l"', b'"wrong"')
         keeper.tree.base.store.put(b'{"packages":[%s]}' % wrong)
         assert keeper.compare() == 1
         assert "//a was kept as " in caplog.text and "wrong" in caplog.text
-        assert b'"//a:l"' in next(keeper.answer(Job(), "targets", Question()).lines)
+        assert b'"//a:l"' in next(keeper.answer(Job(), "targets", {}).lines)
         assert keeper.state()["differences"] == 1
     finally:
         keeper.close()

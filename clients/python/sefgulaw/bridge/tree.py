@@ -98,6 +98,10 @@ class Bridge:
         names = {parent(path) for path in changed if is_build(path)} & self.states.keys()
         return {self.states.pop(name).path for name in names}
 
+    def is_stand_in(self, path: Path) -> bool:
+        """Tells whether a file is none of the tree's, and was told for the stand-ins."""
+        return path in self._stand_ins
+
     def is_bridged(self, name: str) -> bool:
         """Tells whether a package's answer rests on stand-ins."""
         state = self.states.get(name)

@@ -68,6 +68,15 @@ def run(found: argparse.Namespace) -> int:
         from sefgulaw.cli.ask import ask
 
         return ask(found)
+    if found.command in ("query", "changed", "index"):
+        from sefgulaw.cli import ask as asking
+
+        commands = {"query": asking.query, "changed": asking.changed, "index": asking.index}
+        return commands[found.command](found)
+    if found.command == "lsp":
+        from sefgulaw.cli.lsp import lsp
+
+        return lsp(found)
     if found.command == "watch":
         from sefgulaw.cli.watch import watch
 

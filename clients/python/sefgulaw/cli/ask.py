@@ -3,48 +3,52 @@
 from __future__ import annotations
 
 import argparse
-import json
 
 from sefgulaw.cli.asking import Where, replies, where
-from sefgulaw.cli.output import BAD_WORDS, Failure, Output, say, say_raw
+from sefgulaw.cli.output import BAD_WORDS, Failure, say
+from sefgulaw.cli.printing import Printer, printer
 from sefgulaw.cli.progress import Bar
-from sefgulaw.daemon.protocol import Asked, End
-from sefgulaw.plain import is_message, text_lines
-
-
-class Printer:
-    """Prints the lines of an answer in the form that was asked for."""
-
-    def __init__(self, command: str, form: str) -> None:
-        self.output = Output()
-        self._faults_aside = command == "targets"
-        self._text = form == "text"
-
-    def take(self, line: bytes) -> None:
-        """Prints one line of an answer."""
-        if not self._text and not self._faults_aside:
-            self.output.line(line)
-            return
-        if not self._text and line.startswith(b'{"attrs"'):
-            self.output.line(line)
-            return
-        members = json.loads(line)
-        if self._faults_aside and is_message(members):
-            self.output.flush()
-            say_raw(text_lines(members) + b"\n")
-        else:
-            self.output.line(text_lines(members))
+from sefgulaw.daemon.protocol import End, Params
 
 
 def ask(found: argparse.Namespace) -> int:
     """Asks for the faults or the targets of packages."""
     at = where(found)
-    printer, bar = Printer(found.command, found.output), Bar()
-    asked: Asked = {"patterns": found.patterns, "cwd": at.cwd}
+    asked: dict[str, object] = {"patterns": found.patterns, "cwd": at.cwd}
+    if getattr(found, "names", False):
+        asked["names"] = True
+    return _ask(found, at, asked, Printer(found.command, found.output))
+
+
+def query(found: argparse.Namespace) -> int:
+    """Asks for the targets that an expression stands for."""
+    at = where(found)
+    asked: dict[str, object] = {"expression": found.expression, "cwd": at.cwd}
+    asked["output"] = found.output
+    asked["missing"] = found.missing
+    return _ask(found, at, asked, printer("query", found.output))
+
+
+def changed(found: argparse.Namespace) -> int:
+    """Asks for the targets that differ between two revisions."""
+    form = "changed" if found.output == "text" else found.output
+    asked: dict[str, object] = {"old": found.old, "new": found.new}
+    return _ask(found, where(found), asked, Printer("changed", form))
+
+
+def index(found: argparse.Namespace) -> int:
+    """Asks for all targets, edges and modules."""
+    at = where(found)
+    asked: dict[str, object] = {"patterns": found.patterns, "cwd": at.cwd}
+    return _ask(found, at, asked, Printer("index", "jsonl"))
+
+
+def _ask(found: argparse.Namespace, at: Where, asked: Params, printer: Printer) -> int:
+    bar = Bar()
     try:
         answering = None if at.is_direct else replies(at, found.command, asked)
         if answering is None:
-            end = _direct(at, found, printer, bar)
+            end = _direct(at, found, asked, printer, bar)
         else:
             for reply in answering:
                 if reply.item is not None:
@@ -57,7 +61,8 @@ def ask(found: argparse.Namespace) -> int:
                     end = reply.end
     finally:
         bar.close()
-    printer.output.flush()
+    if end["status"] < BAD_WORDS:
+        printer.end()
     return show_end(end, getattr(found, "quiet", False))
 
 
@@ -73,9 +78,8 @@ def show_end(end: End, quiet: bool) -> int:
     return end["status"]
 
 
-def _direct(at: Where, found: argparse.Namespace, printer: Printer, bar: Bar) -> End:
+def _direct(at: Where, found: argparse.Namespace, asked: Params, printer: Printer, bar: Bar) -> End:
     from sefgulaw.cli.direct import answer, options_of, settings_of
-    from sefgulaw.requests import Question
 
     settings = settings_of(at.root)
     options = options_of(
@@ -89,8 +93,7 @@ def _direct(at: Where, found: argparse.Namespace, printer: Printer, bar: Bar) ->
         bar.close()
         printer.take(line)
 
-    question = Question(tuple(found.patterns), at.cwd)
-    end = answer(at.root, options, found.command, question, take, bar.update)
+    end = answer(at.root, options, found.command, asked, take, bar.update)
     return {
         "status": end.status,
         "version": end.version,

@@ -11,7 +11,7 @@ from typing import NamedTuple
 from sefgulaw.cli.output import BAD_WORDS, NO_ANSWER, Failure
 from sefgulaw.daemon.client import Client, Lost, Other, Reply, connect, hello
 from sefgulaw.daemon.place import Place
-from sefgulaw.daemon.protocol import Asked, Hello
+from sefgulaw.daemon.protocol import Hello, Params
 from sefgulaw.roots import NoTree, find_loader, find_root, named_loader, no_loader
 
 ATTEMPTS = 5
@@ -60,7 +60,7 @@ def connected(at: Where, starts: bool) -> tuple[Client, Hello] | None:
     return Client(found), hello(loader)
 
 
-def replies(at: Where, method: str, asked: Asked | None) -> Iterator[Reply] | None:
+def replies(at: Where, method: str, asked: Params | None) -> Iterator[Reply] | None:
     """Yields the daemon's replies. None says that there is no daemon, and none is to be started."""
     starts = not os.environ.get("CI")
     first = connected(at, starts)
@@ -68,7 +68,7 @@ def replies(at: Where, method: str, asked: Asked | None) -> Iterator[Reply] | No
 
 
 def _replies(
-    at: Where, method: str, asked: Asked | None, first: tuple[Client, Hello]
+    at: Where, method: str, asked: Params | None, first: tuple[Client, Hello]
 ) -> Iterator[Reply]:
     """A connection that ends before its first item is tried again: the daemon was just ending."""
     found: tuple[Client, Hello] | None = first

@@ -11,7 +11,7 @@ from sefgulaw.cli.asking import where
 from sefgulaw.cli.output import NO_ANSWER, Failure, Output
 from sefgulaw.daemon.client import Client, Lost, connect
 from sefgulaw.daemon.place import Place
-from sefgulaw.daemon.protocol import Asked
+from sefgulaw.daemon.protocol import Params
 
 _ZSH = """#compdef sefgulaw
 _sefgulaw() {
@@ -87,7 +87,7 @@ def _candidates(prefix: str, found: argparse.Namespace) -> Iterator[str]:
             return
         client = Client(connection)
         try:
-            asked: Asked = {"patterns": [package or "."], "cwd": at.cwd}
+            asked: Params = {"patterns": [package or "."], "cwd": at.cwd}
             for reply in client.ask("targets", asked, None):
                 label = json.loads(reply.item or b"{}").get("label", "")
                 target = label.partition(":")[2]

@@ -7,9 +7,11 @@ import os
 from collections.abc import Callable, Iterator
 from contextlib import contextmanager
 
+from sefgulaw.answers import Answers
 from sefgulaw.base import Base, Options
 from sefgulaw.cli.output import BAD_WORDS, NO_ANSWER, Failure, say
 from sefgulaw.mirror import BrokenLoader, Progress
+from sefgulaw.plain import Members
 from sefgulaw.roots import find_loader, no_loader
 from sefgulaw.requests import BadWords, End, Question, Tree, read_patterns
 from sefgulaw.settings import BadSettings, Settings, StandIns, read_settings
@@ -67,7 +69,7 @@ def answer(
     root: bytes,
     options: Options,
     method: str,
-    question: Question,
+    asked: Members,
     take: Callable[[bytes], None],
     progress: Progress,
 ) -> End:
@@ -77,14 +79,14 @@ def answer(
     """
     gc.disable()
     with failures(root):
-        tree = Tree(Base.open(root, options, progress))
+        answers = Answers(Tree(Base.open(root, options, progress)))
         try:
-            answered = tree.check(question) if method == "check" else tree.targets(question)
+            answered = answers.answer(method, asked)
             for line in answered.lines:
                 take(line)
             return answered.end
         finally:
-            tree.close()
+            answers.close()
 
 
 def watched(

@@ -10,7 +10,7 @@ from collections.abc import Callable
 from sefgulaw.cli.asking import replies, where
 from sefgulaw.cli.output import Failure, Output, say
 from sefgulaw.cli.progress import Bar
-from sefgulaw.daemon.protocol import Asked
+from sefgulaw.daemon.protocol import Params
 from sefgulaw.plain import Members, text_lines
 
 MOST_LOSSES = 3
@@ -60,7 +60,7 @@ def watch(found: argparse.Namespace) -> int:
     """Prints until it is interrupted."""
     at = where(found)
     updates = Updates(found.output, getattr(found, "quiet", False))
-    asked: Asked = {"patterns": found.patterns, "cwd": at.cwd}
+    asked: Params = {"patterns": found.patterns, "cwd": at.cwd}
     losses: list[float] = []
     while True:
         answering = None if at.is_direct else replies(at, "watch", asked)

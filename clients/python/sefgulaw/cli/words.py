@@ -11,6 +11,8 @@ STAND_INS = ("auto", "always", "never")
 MOST_WORKERS = 16
 DAEMON_WORDS = ("start", "stop", "status", "log")
 SHELLS = ("bash", "zsh", "fish")
+QUERY_FORMS = ("label", "label_kind", "location", "package", "jsonl", "graph")
+LEFT_OUT_FORMS = ("xml", "proto", "build")
 
 _NEGATIVE = re.compile(r"-(?://|:|@)")
 _MARK = "\0"
@@ -20,6 +22,14 @@ def _workers(text: str) -> int:
     if not text.isdecimal() or not 1 <= int(text) <= MOST_WORKERS:
         raise argparse.ArgumentTypeError(f"a whole number from 1 to {MOST_WORKERS}")
     return int(text)
+
+
+def _query_form(text: str) -> str:
+    if text in LEFT_OUT_FORMS:
+        raise argparse.ArgumentTypeError(f"the form {text} is left out")
+    if text not in QUERY_FORMS:
+        raise argparse.ArgumentTypeError(f"one of {', '.join(QUERY_FORMS)}")
+    return text
 
 
 class _Parser(argparse.ArgumentParser):
@@ -65,6 +75,10 @@ def parser() -> argparse.ArgumentParser:
         command = commands.add_parser(name, parents=[common], help=words, description=words)
         command.add_argument("patterns", nargs="*", metavar="PATTERN", help="//a, //a:b, //a/...")
         command.add_argument("--output", choices=("text", "jsonl"), default="text", help="form")
+        if name == "check":
+            words = "also warn of unbound names in functions that nothing calls"
+            command.add_argument("--names", action="store_true", help=words)
+    _add_graph_commands(commands, common)
     words = "print what stands in for rules and modules that only Bazel has"
     bridge = commands.add_parser("bridge", parents=[common], help=words, description=words)
     bridge.add_argument("--json", action="store_true", help="a line of JSON for each file")
@@ -73,6 +87,29 @@ def parser() -> argparse.ArgumentParser:
     completion = commands.add_parser("completion", help="print the completion of a shell")
     completion.add_argument("shell", choices=SHELLS)
     return top
+
+
+def _add_graph_commands(
+    commands: argparse._SubParsersAction[_Parser], common: _Parser
+) -> None:
+    """Adds the commands that see targets as a graph."""
+    words = "print the targets that an expression of Bazel's query language stands for"
+    query = commands.add_parser("query", parents=[common], help=words, description=words)
+    query.add_argument("expression", metavar="EXPRESSION", help="deps(//a:b), kind(..) and so on")
+    words = f"form: {', '.join(QUERY_FORMS)}"
+    query.add_argument("--output", type=_query_form, default="label", metavar="FORM", help=words)
+    words = "print the labels of the answer that no target and no file has"
+    query.add_argument("--missing", action="store_true", help=words)
+    words = "print the targets that differ between two revisions of git, and why"
+    changed = commands.add_parser("changed", parents=[common], help=words, description=words)
+    changed.add_argument("old", metavar="OLD", help="a commit")
+    changed.add_argument("new", metavar="NEW", help="a commit, or . for the working tree")
+    changed.add_argument("--output", choices=("text", "jsonl"), default="text", help="form")
+    words = "print targets, edges and modules with their places as lines of JSON"
+    index = commands.add_parser("index", parents=[common], help=words, description=words)
+    index.add_argument("patterns", nargs="*", metavar="PATTERN", help="//a, //a:b, //a/...")
+    words = "serve an editor by the Language Server Protocol"
+    commands.add_parser("lsp", parents=[common], help=words, description=words)
 
 
 def read_words(words: Sequence[str]) -> argparse.Namespace:

@@ -13,9 +13,9 @@ from sefgulaw.daemon.place import Place
 from sefgulaw.daemon.protocol import (
     OTHER_DAEMON,
     VERSION,
-    Asked,
     End,
     Hello,
+    Params,
     Progress,
     item_head,
     request,
@@ -81,7 +81,7 @@ class Client:
         """The descriptor of the connection."""
         return self._connection.fileno()
 
-    def ask(self, method: str, params: Asked | None, greeting: Hello | None) -> Iterator[Reply]:
+    def ask(self, method: str, params: Params | None, greeting: Hello | None) -> Iterator[Reply]:
         """Sends one request, with a greeting before the first one, and yields its replies."""
         lines = b""
         if greeting is not None:

@@ -12,6 +12,7 @@ from collections.abc import Callable, Iterable
 from functools import partial
 from typing import TYPE_CHECKING, TypeVar
 
+from sefgulaw.answers import METHODS, read_question
 from sefgulaw.daemon.keeper import FATAL, LOG, Cancelled, Job
 from sefgulaw.daemon.protocol import OTHER_DAEMON, item_head, line
 from sefgulaw.overlay import Overlay
@@ -26,7 +27,7 @@ MOST_UNSENT = 1 << 20
 MOST_UPDATES = 256
 _PIECE = 1 << 16
 _CREDENTIALS = struct.Struct("3i")
-_METHODS = ("check", "targets", "watch", "status", "stop", "text", "close")
+_OWN_METHODS = ("watch", "status", "stop", "text", "close")
 
 INTERRUPTED = 130
 NO_ANSWER = 3
@@ -173,7 +174,7 @@ class Connection:
         LOG.info("%s: status %d, %.1f ms", method, end.status, 1000 * (time.monotonic() - begun))
 
     async def _run(self, number: int, job: Job, method: str, params: Members) -> End:
-        if method not in _METHODS:
+        if method not in METHODS and method not in _OWN_METHODS:
             raise BadWords(f"there is no method {method}")
         if method == "stop":
             self._server.end("it was told to stop")
@@ -182,11 +183,10 @@ class Connection:
             return await self._status(number)
         if method in ("text", "close"):
             return await self._set_text(method, params)
-        question = _question(params)
         if method == "watch":
-            await self._watch(number, job, question)
+            await self._watch(number, job, read_question(params))
         keeper = self._server.keeper
-        call = partial(keeper.answer, job, method, question, self._overlay)
+        call = partial(keeper.answer, job, method, params, self._overlay)
         answer: Answer = await self._in_thread(call)
         self._jobs.pop(number, None)
         await self._send(number, answer.lines)
@@ -247,12 +247,3 @@ class Connection:
         state["idle_seconds"] = self._server.idle_seconds()
         await self._send(number, [json.dumps(state, sort_keys=True).encode("ascii")])
         return End(0, 0)
-
-
-def _question(params: Members) -> Question:
-    patterns, cwd = params.get("patterns", []), params.get("cwd", "")
-    if not isinstance(patterns, list) or not all(isinstance(it, str) for it in patterns):
-        raise BadWords("patterns is a list of strings")
-    if not isinstance(cwd, str):
-        raise BadWords("cwd is a string")
-    return Question(tuple(patterns), cwd)

@@ -10,10 +10,12 @@ import time
 from collections.abc import Callable
 from typing import TypeVar
 
+from sefgulaw.answers import Answers
 from sefgulaw.base import Base, Options
 from sefgulaw.mirror import BrokenLoader
 from sefgulaw.names import Pattern, encode
 from sefgulaw.overlay import Overlay
+from sefgulaw.plain import Members
 from sefgulaw.requests import Answer, BadWords, Question, Tree, read_patterns
 from sefgulaw.settling import Settling
 from sefgulaw.store import cut, name_of
@@ -52,6 +54,7 @@ class Keeper:
         self.asked_at = time.monotonic()
         self.differences = 0
         self._tree: Tree | None = None
+        self._answers: Answers | None = None
         self._job: Job | None = None
         self._tell: Callable[[int, int, str], None] = lambda done, total, what: None
         self._told_at = 0.0
@@ -68,7 +71,14 @@ class Keeper:
         if self._tree is None:
             base = Base.open_watched(self.root, self.options, LOG.warning, self._progress)
             self._tree = Tree(base)
+            self._answers = Answers(self._tree)
         return self._tree
+
+    @property
+    def answers(self) -> Answers:
+        """The tree with all that its answers are made of."""
+        assert self.tree and self._answers
+        return self._answers
 
     def _settle_memory(self) -> None:
         """Looks for garbage only among what came after the first load, which stays anyway."""
@@ -78,8 +88,8 @@ class Keeper:
 
     def close(self) -> None:
         """Ends the loader and the watch."""
-        if self._tree is not None:
-            self._tree.close()
+        if self._answers is not None:
+            self._answers.close()
 
     def _progress(self, done: int, total: int, what: str) -> None:
         """Tells how far the tree is. A request that nobody waits for ends between two groups."""
@@ -103,16 +113,14 @@ class Keeper:
         return found
 
     def answer(
-        self, job: Job, method: str, question: Question, overlay: Overlay | None = None
+        self, job: Job, method: str, params: Members, overlay: Overlay | None = None
     ) -> Answer:
         """Answers a request, with the unsaved texts of the client that asks."""
         if job.cancelled:
             raise Cancelled
         self._job, self.asked_at = job, time.monotonic()
         try:
-            if method == "check":
-                return self.tree.check(question, overlay)
-            return self.tree.targets(question)
+            return self.answers.answer(method, params, overlay)
         finally:
             self._job = None
             self._touch()

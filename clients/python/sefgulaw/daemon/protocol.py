@@ -8,6 +8,7 @@ It is answered by lines `{"id":1,"progress":{..}}` and `{"id":1,"item":{..}}`, a
 from __future__ import annotations
 
 import json
+from collections.abc import Mapping
 from typing import TypedDict
 
 VERSION = 1
@@ -25,11 +26,8 @@ class Hello(TypedDict):
     loader: list[object]
 
 
-class Asked(TypedDict):
-    """The params of `check`, `targets` and `watch`."""
-
-    patterns: list[str]
-    cwd: str
+Params = Mapping[str, object]
+"""The params of every other method, as the page about these lines has them."""
 
 
 class Progress(TypedDict):
@@ -50,7 +48,7 @@ class End(TypedDict):
     summary: str
 
 
-def request(number: int, method: str, params: Hello | Asked | None = None) -> bytes:
+def request(number: int, method: str, params: Hello | Params | None = None) -> bytes:
     """Returns the line of a request."""
     return line({"id": number, "method": method, "params": params or {}})
 

@@ -1,0 +1,1 @@
+"""Bazel's query language over the targets of a tree."""

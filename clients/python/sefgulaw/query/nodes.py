@@ -1,0 +1,145 @@
+"""What each package of a base declares, as nodes of a graph, kept until its answer differs."""
+
+from __future__ import annotations
+
+import json
+from collections.abc import Iterable, Iterator, Mapping, Sequence
+from dataclasses import dataclass, field
+
+from sefgulaw.base import Base
+from sefgulaw.names import Path, basename, join
+from sefgulaw.query.world import Value
+
+LABELS: dict[str, tuple[str, ...]] = {
+    "alias": ("actual",),
+    "filegroup": ("srcs", "data"),
+    "genrule": ("srcs", "tools"),
+    "test_suite": ("tests",),
+}
+"""The attributes of labels of the loader's own rules. Those of other rules are known by a look."""
+
+OTHERS: dict[str, tuple[str, ...]] = {
+    "alias": ("tags", "visibility"),
+    "filegroup": ("tags", "visibility"),
+    "genrule": ("outs", "cmd", "tags", "visibility"),
+    "test_suite": ("tags", "visibility"),
+}
+
+OUTS = "outs"
+NO_LABELS = ("visibility", "tags", OUTS)
+
+
+@dataclass(frozen=True)
+class Rule:
+    """A target that a rule declares."""
+
+    kind: str
+    attrs: Mapping[str, Value]
+
+
+@dataclass
+class PackageNodes:
+    """The nodes of one package. `needs` has an entry for each rule and each generated file."""
+
+    raw: bytes
+    rules: dict[str, Rule] = field(default_factory=dict)
+    generated: dict[str, str] = field(default_factory=dict)
+    needs: dict[str, tuple[str, ...]] = field(default_factory=dict)
+
+
+def looks_like_labels(name: str, value: Value) -> bool:
+    """Tells whether an attribute of a rule that the loader does not know holds labels."""
+    if name in NO_LABELS:
+        return False
+    texts = [value] if isinstance(value, str) else value
+    return bool(texts) and all(it.startswith(("//", "@")) and ":" in it for it in texts)
+
+
+def label_attributes(rule: Rule) -> Iterator[tuple[str, Sequence[str]]]:
+    """Yields the attributes of a target that hold labels, each with the labels."""
+    known = LABELS.get(rule.kind)
+    for name in known if known is not None else rule.attrs:
+        value = rule.attrs.get(name)
+        if value is None or (known is None and not looks_like_labels(name, value)):
+            continue
+        yield name, [value] if isinstance(value, str) else value
+
+
+def read_nodes(raw: bytes, package: str) -> PackageNodes:
+    """Returns the nodes of a package from the loader's answer about it."""
+    nodes = PackageNodes(raw)
+    head = f"//{package}:"
+    for target in json.loads(raw)["targets"]:
+        label = head + target["name"]
+        rule = Rule(target["kind"], target["attrs"])
+        nodes.rules[label] = rule
+        needed = [it for _, labels in label_attributes(rule) for it in labels]
+        nodes.needs[label] = tuple(dict.fromkeys(needed))
+        outs = rule.attrs.get(OUTS, ())
+        for name in [outs] if isinstance(outs, str) else outs:
+            generated = head + name.removeprefix(":")
+            if generated not in nodes.rules:
+                nodes.generated[generated] = label
+    for generated, label in nodes.generated.items():
+        nodes.needs.setdefault(generated, (label,))
+    return nodes
+
+
+class Nodes:
+    """The nodes of the packages of a base that somebody has asked for."""
+
+    def __init__(self, base: Base) -> None:
+        self._base = base
+        self._kept: dict[str, PackageNodes] = {}
+        self.stamp = 0
+
+    def of(self, package: str) -> PackageNodes | None:
+        """Returns the nodes of a package that was loaded; None where it has none, or a fault."""
+        raw = self._base.store.raw(package)
+        kept = self._kept.get(package)
+        if kept is not None and kept.raw is raw:
+            return kept
+        self.stamp += 1
+        if raw is None or not raw.startswith(b'{"name":'):
+            if kept is not None:
+                del self._kept[package]
+            return None
+        self._kept[package] = read_nodes(raw, package)
+        return self._kept[package]
+
+    def is_source(self, package: str, name: str) -> bool:
+        """Tells whether a package has a file or a directory of this name that is its own."""
+        path = join(package, name)
+        needs = self._base.needs
+        if not (needs.has(path) or needs.has_directory(path)):
+            return False
+        return needs.nearest(Path(path.rpartition("/")[0])) == package
+
+    def build_label(self, package: str) -> str:
+        """Returns the label of a package's BUILD file."""
+        return f"//{package}:{basename(self._base.build_file(package))}"
+
+    def siblings(self, package: str) -> Iterator[str]:
+        """Yields the targets of a package, and the files that it names."""
+        nodes = self.of(package)
+        if nodes is None:
+            return
+        yield from nodes.rules
+        yield from nodes.generated
+        head = f"//{package}:"
+        named = {it for needed in nodes.needs.values() for it in needed if it.startswith(head)}
+        for label in named - nodes.rules.keys() - nodes.generated.keys():
+            if self.is_source(package, label[len(head) :]):
+                yield label
+        yield self.build_label(package)
+
+    def modules(self, packages: Iterable[str]) -> list[Path]:
+        """Returns the .bzl files that packages load, themselves or through others."""
+        builds = [self._base.build_file(name) for name in packages]
+        order = self._base.needs.load_order(builds)
+        return [path for path in order if path.endswith(".bzl")]
+
+    def file_label(self, path: Path) -> str:
+        """Returns the label of a file, in the package that it belongs to."""
+        package = self._base.needs.nearest(Path(path.rpartition("/")[0])) or ""
+        return f"//{package}:{path[len(package) + 1 :] if package else path}"
