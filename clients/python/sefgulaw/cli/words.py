@@ -89,9 +89,7 @@ def parser() -> argparse.ArgumentParser:
     return top
 
 
-def _add_graph_commands(
-    commands: argparse._SubParsersAction[_Parser], common: _Parser
-) -> None:
+def _add_graph_commands(commands: argparse._SubParsersAction[_Parser], common: _Parser) -> None:
     """Adds the commands that see targets as a graph."""
     words = "print the targets that an expression of Bazel's query language stands for"
     query = commands.add_parser("query", parents=[common], help=words, description=words)
