@@ -14,7 +14,7 @@ from sefgulaw.bench import Bench
 from sefgulaw.faults import cycle_message, fault_message, known_message, note_message
 from sefgulaw.guilty import note_of
 from sefgulaw.messages import Message
-from sefgulaw.names import Path, is_build, is_source, parent
+from sefgulaw.names import Path, is_build, is_source, parent, real
 from sefgulaw.places import MOST_FAULTS, AnyFault, all_faults, read_fault
 from sefgulaw.store import Cyclic, cut, name_of
 from sefgulaw.telling import told_text
@@ -22,6 +22,8 @@ from sefgulaw.wire import MOST_NAMES, Load, Stopped
 
 MOST_SECONDS = 5.0
 FEW = 100
+MANY = 10
+"""With more faulty packages than these, the fault of a module is looked for once."""
 
 
 class Overlay:
@@ -87,12 +89,19 @@ class Overlay:
         until = time.monotonic() + MOST_SECONDS
         most = MOST_FAULTS if len(faults) <= FEW else 1
         found: dict[str, Sequence[Message]] = {name: [] for name in wanted}
+        of_modules: dict[AnyFault, Sequence[Message]] = {}
         for name, fault in faults.items():
             found[name] = [self._plain(fault)]
-            if time.monotonic() < until and not isinstance(fault, Message):
-                path = self._base.build_file(name)
+            if isinstance(fault, Message):
+                continue
+            path = self._base.build_file(name)
+            if fault in of_modules:
+                found[name] = of_modules[fault]
+            elif time.monotonic() < until:
                 located = all_faults(bench, path, most, lambda it: known_message(self._base, it))
                 found[name] = list(located) or found[name]
+                if len(faults) > MANY and found[name][0].file != real(path):
+                    of_modules[fault] = found[name][:1]
         return found
 
     def _filled(self) -> Bench:

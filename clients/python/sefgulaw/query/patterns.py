@@ -34,6 +34,8 @@ class Wanted(NamedTuple):
 
 def read(text: str, at: str, is_package: Callable[[str], bool]) -> Wanted | BadLabel:
     """Reads a pattern that is written with real names in the (encoded) directory `at`."""
+    if text.startswith("-"):
+        return BadLabel(text, "a pattern of a query has no minus in front")
     where, colon, name = text.partition(":")
     below = where == "..." or where.endswith("/...")
     if below or name in (ALL, *FILES_TOO):
@@ -55,10 +57,12 @@ def read(text: str, at: str, is_package: Callable[[str], bool]) -> Wanted | BadL
 def _relative(text: str, at: str, is_package: Callable[[str], bool]) -> Wanted | BadLabel:
     """Reads a path that names a target of the nearest package above it, or the package's own."""
     head, _, last = text.rpartition("/")
-    if last in ("", ".", "..") or text.startswith(("/", "-")):
+    if last in ("", ".", "..") or text.startswith("/"):
         whole = Pattern.read(text, at)
         if isinstance(whole, BadLabel):
             return whole
+        if not whole.package:
+            return BadLabel(text, "a label has the name of a target")
         return Wanted(whole.package, False, Path(basename(whole.package)))
     above = Pattern.read(head or ".", at)
     if isinstance(above, BadLabel):
