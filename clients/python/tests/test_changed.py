@@ -165,7 +165,7 @@ def compare(seed: int, count: int, tree: Make, run: Runner, loader: str, folder:
 
 
 def test_random_commits(tree: Make, run: Runner, loader: str, tmp_path: Path) -> None:
-    compare(1, 10, tree, run, loader, tmp_path / "sides")
+    compare(1, 4, tree, run, loader, tmp_path / "sides")
 
 
 @pytest.mark.long

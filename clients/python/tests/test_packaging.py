@@ -23,7 +23,12 @@ from sefgulaw.settings import Settings, read_settings
 
 PAGES = REPOSITORY / "packaging" / "man"
 PACKAGE = REPOSITORY / "clients" / "python" / "sefgulaw"
-OPTIONAL = {"tqdm": "python3-tqdm", "argcomplete": "python3-argcomplete"}
+OPTIONAL = {
+    "tqdm": "python3-tqdm",
+    "argcomplete": "python3-argcomplete",
+    "pylsp_jsonrpc": "python3-pylsp-jsonrpc",
+}
+NEEDED = {"lark": "python3-lark"}
 
 
 def page(name: str) -> str:
@@ -110,12 +115,14 @@ def test_what_the_package_imports_is_declared() -> None:
             elif isinstance(node, ast.ImportFrom) and node.module and not node.level:
                 modules.add(node.module.split(".")[0])
     others = modules - set(sys.stdlib_module_names) - {"sefgulaw"}
-    assert others <= set(OPTIONAL)
+    assert others <= {*OPTIONAL, *NEEDED}
     control = (REPOSITORY / "packaging" / "debian" / "control").read_text()
     needed = (REPOSITORY / "tools" / "install-packages").read_text()
     for module in others:
-        assert re.search(rf"(Recommends|Suggests):.*{OPTIONAL[module]}", control)
-        assert re.search(rf"^run +{OPTIONAL[module]} +module:{module}$", needed, re.M)
+        package = OPTIONAL.get(module) or NEEDED[module]
+        where = "Depends:(?:\n .*)*" if module in NEEDED else "(?:Recommends|Suggests):.*"
+        assert re.search(rf"{where}{package}", control)
+        assert re.search(rf"^run +{package} +module:{module}$", needed, re.M)
 
 
 def staged(*words: str) -> subprocess.CompletedProcess[str]:
