@@ -86,7 +86,7 @@ def test_neovim(tree: Make, run: Runner, tmp_path: Path) -> None:
 def test_emacs(tree: Make, run: Runner, tmp_path: Path) -> None:
     root = tree(FILES)
     (tmp_path / "init.el").write_text(shown("elisp"))
-    words = ["emacs", "-Q", "--batch", "--eval", "(package-initialize)"]
+    words = ["emacs", "--batch", "--eval", "(package-initialize)"]
     words += ["-l", str(tmp_path / "init.el"), "-l", str(EDITORS / "drive.el")]
     done = subprocess.run(
         words,
@@ -98,8 +98,9 @@ def test_emacs(tree: Make, run: Runner, tmp_path: Path) -> None:
         timeout=280,
     )
     assert done.stdout.splitlines() == [
-        'one ("4:name is not bound: filegrup")',
-        'two ("4:name is not bound: filegrup" "5:syntax error: \'[\' was never closed")',
+        'one ("4:sefgulaw [4]: name is not bound: filegrup")',
+        'two ("4:sefgulaw [4]: name is not bound: filegrup"'
+        " \"5:sefgulaw [3]: syntax error: '[' was never closed\")",
         "definition lib/BUILD:1",
         "three nil",
     ], done.stderr
