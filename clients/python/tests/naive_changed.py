@@ -94,8 +94,8 @@ def compare(loader: str, before: Path, after: Path) -> dict[str, list[str]]:
     for label in affected - whole:
         if label in new:
             named = needs(new[label])
-            found = {it for it in affected if it != label and named & ({it} | outs[it])}
-            reasons[label] = reasons[label] + [f"needs {it}" for it in sorted(found)]
+            needed = {it for it in affected if it != label and named & ({it} | outs[it])}
+            reasons[label] = reasons[label] + [f"needs {it}" for it in sorted(needed)]
     return {label: reasons[label] for label in affected}
 
 

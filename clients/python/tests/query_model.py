@@ -185,8 +185,7 @@ class Expressions:
             return f"allrdeps({text}{limit})", found
         if kind == 3:
             other, ends = self.one(depth)
-            within = model.after(roots)
-            found = model.before(within, ends)
+            found = model.before(model.after(roots), ends)
             return f"allpaths({text}, {other})", found
         packages = {it.partition(":")[0] for it in roots}
         beside = {it for name in packages for it in model.named(name[2:])}

@@ -22,10 +22,15 @@ Direct = Callable[..., Done]
 FILES = {
     ".gitignore": "ignored\n",
     ".sefgulaw.toml": "",
-    "app/BUILD": 'filegroup(name = "core", srcs = ["a.c"])\nfilegroup(name = "bin", srcs = [":core"])\n',
+    "app/BUILD": (
+        'filegroup(name = "core", srcs = ["a.c"])\n' 'filegroup(name = "bin", srcs = [":core"])\n'
+    ),
     "app/a.c": "",
     "old/BUILD": 'filegroup(name = "tool")\n',
-    "top/BUILD": 'genrule(name = "g", srcs = ["//app:bin"], outs = ["o"], cmd = "c")\nalias(name = "al", actual = ":o")\n',
+    "top/BUILD": (
+        'genrule(name = "g", srcs = ["//app:bin"], outs = ["o"], cmd = "c")\n'
+        'alias(name = "al", actual = ":o")\n'
+    ),
 }
 
 

@@ -16,6 +16,7 @@ from pathlib import Path
 
 import pytest
 from conftest import CHECKOUT, Done, Root, Runner
+from git_trees import commit
 from sefgulaw import __version__
 from sefgulaw.messages import FAULTS, REFUSALS
 
@@ -163,24 +164,121 @@ def test_the_members_of_json_are_those_of_the_page(tree: Make, direct: Direct) -
     assert "one object with `attrs`, `kind` and `label`" in targets and '"exact": false' in targets
 
 
-def test_the_recipes_for_ci_run(tree: Make, run: Runner, tmp_path: Path) -> None:
+def recipes_of(title: str) -> list[str]:
+    """Returns the recipes of one section of docs/TOOLS.md."""
     page = (CHECKOUT / "docs" / "TOOLS.md").read_text()
-    recipes = re.findall(r"^```sh\n(.*?)^```$", page.split("## Recipes for CI")[1], re.M | re.S)
-    tagged = 'filegroup(name = "one", tags = ["manual"])\nfilegroup(name = "two")\n'
-    files = {"a/BUILD": tagged, "old/b/BUILD": tagged, "new/b/BUILD": tagged + "x = 1\n"}
-    root = tree(files)
-    script = tmp_path / "sefgulaw"
+    section = page.split(f"\n## {title}\n")[1].split("\n## ")[0]
+    return re.findall(r"^```sh\n(.*?)^```$", section, re.M | re.S)
+
+
+def with_command(run: Runner, folder: Path) -> dict[str, str]:
+    """Returns the variables with which a shell finds the command."""
+    script = folder / "sefgulaw"
     script.write_text(f'#!/bin/sh\nexec {" ".join(run.words())} "$@"\n')
     script.chmod(0o755)
     environment = run.environment()
-    environment["PATH"] = f"{tmp_path}:{environment['PATH']}"
+    environment["PATH"] = f"{folder}:{environment['PATH']}"
+    return environment
+
+
+GRAPH = {
+    ".sefgulaw.toml": "",
+    "app/BUILD": (
+        'load("//lib:g0.bzl", "unit")\n'
+        'filegroup(name = "bin", srcs = [":core", ":u_a"])\n'
+        'filegroup(name = "core", srcs = ["//lib:base", "gone.c"])\n'
+        'unit("u")\n'
+    ),
+    "lib/BUILD": 'filegroup(name = "base")\n',
+    "lib/g0.bzl": 'def unit(n):\n    native.filegroup(name = n + "_a", srcs = ["//lib:base"])\n',
+}
+RECIPES = {
+    "Recipes for build tools": [
+        "app/BUILD:2:1: filegroup rule //app:bin\n"
+        "app/BUILD:3:1: filegroup rule //app:core\n"
+        "missing //app:gone.c\n"
+        "app/BUILD:4:1: filegroup rule //app:u_a\n"
+        "lib/BUILD:1:1: filegroup rule //lib:base\n",
+        '["//app:bin",["//app:core","//app:u_a"]]\n'
+        '["//app:core",["//lib:base","//app:gone.c"]]\n'
+        '["//app:u_a",["//lib:base"]]\n'
+        '["//lib:base",[]]\n',
+        "//app:gone.c\n",
+    ],
+    "Recipes for editors": [""],
+    "Recipes for code search": ["app/BUILD:4 //app:u_a\n", "//app:BUILD\n"],
+    "Recipes for somebody who asks why": [
+        "//app:bin\n//app:core\n//lib:base\n",
+        "app/BUILD:2:1: filegroup rule //app:bin\n"
+        "app/BUILD:3:1: filegroup rule //app:core\n"
+        "app/BUILD:4:1: filegroup rule //app:u_a\n"
+        "lib/BUILD:1:1: filegroup rule //lib:base\n",
+        "needs //app:core\nneeds //app:u_a\n",
+    ],
+}
+
+
+def test_the_other_recipes_run(tree: Make, run: Runner, tmp_path: Path) -> None:
+    root = tree(GRAPH)
+    commit(root)
+    root.write("lib/BUILD", 'filegroup(name = "base", tags = ["x"])\n')
+    environment = with_command(run, tmp_path)
+    for title, expected in RECIPES.items():
+        printed = []
+        for recipe in recipes_of(title):
+            words = ["sh", "-ec", recipe]
+            done = subprocess.run(
+                words, cwd=root.path, env=environment, capture_output=True, text=True
+            )
+            assert done.returncode == 0, (recipe, done.stderr)
+            printed.append(done.stdout)
+        assert printed == expected, title
+    assert (root.path / "graph.dot").read_text().count(" -> ") == 4
+
+
+def test_the_queries_and_changes_that_the_page_shows(tree: Make, direct: Direct) -> None:
+    page = (CHECKOUT / "docs" / "TOOLS.md").read_text()
+    core = 'filegroup(name = "core", srcs = ["//lib:base"])\n'
+    files = {
+        ".sefgulaw.toml": "",
+        "app/BUILD": 'filegroup(name = "bin", srcs = [":core"])\n' + core,
+        "lib/BUILD": 'filegroup(name = "base", srcs = ["b.c"])\n',
+        "lib/b.c": "",
+        "old/BUILD": 'filegroup(name = "tool")\n',
+    }
+    root = tree(files)
+    commit(root)
+    section = page.split("### Queries")[1]
+    words = 'kind("filegroup", rdeps(//..., //lib:base)) except //lib/...'
+    done = direct("query", words, "--output", "location", cwd=root)
+    assert done.lines == shown(section, f"sefgulaw query '{words}' --output location")
+    words = "somepath(//app:bin, //lib:base)"
+    assert direct("query", words, cwd=root).lines == shown(section, f"sefgulaw query '{words}'")
+    root.write("app/BUILD", files["app/BUILD"].replace('base"])', 'base"], tags = ["t"])'))
+    root.write("old/BUILD", files["old/BUILD"] + "x = [\n")
+    root.write("lib/b.c", "int b;\n")
+    done = direct("changed", "HEAD", ".", cwd=root)
+    assert done.status == 1
+    expected = shown(page, "sefgulaw changed HEAD .")
+    assert done.lines == expected
+
+
+def test_the_recipes_for_ci_run(tree: Make, run: Runner, tmp_path: Path) -> None:
+    recipes = recipes_of("Recipes for CI")
+    tagged = 'filegroup(name = "one", tags = ["manual"])\nfilegroup(name = "two")\n'
+    files = {"a/BUILD": tagged, "old/b/BUILD": tagged, "new/b/BUILD": tagged + "x = 1\n"}
+    root = tree({**files, "a/BUILD": 'filegroup(name = "one")\n'})
+    commit(root)
+    root.write("a/BUILD", tagged)
+    environment = with_command(run, tmp_path)
     printed = []
     for recipe in recipes:
         words = ["sh", "-ec", recipe]
         done = subprocess.run(words, cwd=root.path, env=environment, capture_output=True, text=True)
         assert done.returncode == 0, (recipe, done.stderr)
         printed.append(done.stdout)
-    assert printed == ["", "", "", "//a:one\n//new/b:one\n//old/b:one\n"]
+    assert printed[:3] == ["", "", ""] and len(printed) == 5
+    assert printed[3:] == ["//a:one\n//new/b:one\n//old/b:one\n", "//a:one\n//a:two\n"]
     assert (root.path / "faults.jsonl").read_text() == ""
     root.write("a/BUILD", "x = y\n")
     again = [
