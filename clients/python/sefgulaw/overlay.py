@@ -11,12 +11,15 @@ from collections.abc import Iterable, Sequence
 
 from sefgulaw.base import Base
 from sefgulaw.bench import Bench
+from sefgulaw.bridge.messages import fault_in
+from sefgulaw.bridge.tree import BRIDGED_FAULTS
+from sefgulaw.bridge.trials import Trials
 from sefgulaw.faults import cycle_message, fault_message, known_message, note_message
 from sefgulaw.guilty import note_of
 from sefgulaw.messages import Message
 from sefgulaw.names import Path, is_build, is_source, parent, real
 from sefgulaw.places import MOST_FAULTS, AnyFault, all_faults, read_fault
-from sefgulaw.store import Cyclic, cut, name_of
+from sefgulaw.store import Cyclic, Fault, cut, name_of
 from sefgulaw.telling import told_text
 from sefgulaw.wire import MOST_NAMES, Load, Stopped
 
@@ -32,6 +35,7 @@ class Overlay:
     def __init__(self, base: Base) -> None:
         self._base = base
         self._texts: dict[Path, str] = {}
+        self._own: dict[Path, str] = {}
         self._bench: Bench | None = None
         self._version = -1
 
@@ -44,7 +48,9 @@ class Overlay:
         if text is None:
             self._texts.pop(path, None)
         else:
-            self._texts[path] = told_text(text.encode("utf-8", "surrogateescape"))
+            content = text.encode("utf-8", "surrogateescape")
+            self._texts[path] = told_text(content)
+            self._own[path] = content.decode("latin-1")
         if self._bench is not None:
             self._bench.overlay = self._present()
             self._bench.refresh()
@@ -95,7 +101,10 @@ class Overlay:
             if isinstance(fault, Message):
                 continue
             path = self._base.build_file(name)
-            if fault in of_modules:
+            bridged = self._bridged(bench, name, path, fault, most)
+            if bridged is not None:
+                found[name] = bridged
+            elif fault in of_modules:
                 found[name] = of_modules[fault]
             elif time.monotonic() < until:
                 located = all_faults(bench, path, most, lambda it: known_message(self._base, it))
@@ -103,6 +112,31 @@ class Overlay:
                 if len(faults) > MANY and found[name][0].file != real(path):
                     of_modules[fault] = found[name][:1]
         return found
+
+    def _bridged(
+        self, bench: Bench, name: str, path: Path, fault: AnyFault, most: int
+    ) -> Sequence[Message] | None:
+        """Returns the messages about a package that is told rewritten; None for any other one."""
+        bridge = self._base.bridge
+        is_own = path in self._texts
+        if not bridge.is_on or not (is_own or bridge.is_bridged(name)):
+            return None
+        if is_own and not (isinstance(fault, Fault) and fault.code in BRIDGED_FAULTS):
+            return None
+        text = self._own[path] if is_own else self._base.content(path).decode("latin-1")
+        state = bridge.state_of_text(name, path, text) if is_own else bridge.states[name]
+        rules = self._base.options.rules
+        if state.rewritten is None:
+            if state.cannot is not None and state.cannot.is_syntax:
+                return list(all_faults(bench, path, 1, lambda it: known_message(self._base, it)))
+            return [fault_in(state, text, Fault(0, 1, path), rules)]
+        bench.overlay[path] = state.rewritten.text
+        faults = Trials(bench).faults(name, path, state.rewritten.text, most)
+        own = [
+            it._replace(line=state.rewritten.own_line(it.line)) if it.path == path else it
+            for it in faults
+        ]
+        return [fault_in(state, text, it, rules) for it in own]
 
     def _filled(self) -> Bench:
         base = self._base

@@ -58,8 +58,8 @@ def own_reasons(label: str, old: Targets, new: Targets, paths: set[str]) -> list
         reasons += [f"attributes {' '.join(differing)}"] if differing else []
     made = {f"//{package_of(it)}:{out}" for it in new for out in new[it]["attrs"].get("outs", ())}
     for path in sorted(paths):
-        names = {it for it in needs(new[label]) if path == it[2:].replace(":", "/", 1).strip("/")}
-        reasons += [f"source {path}" for it in names if it not in new and it not in made]
+        named = {it for it in needs(new[label]) if path == it[2:].replace(":", "/", 1).strip("/")}
+        reasons += [f"source {path}" for it in named if it not in new and it not in made]
     return reasons
 
 

@@ -178,3 +178,26 @@ def test_unknown_requests_and_an_editor_that_goes_away(editor: Editor) -> None:
     assert editor.ask("workspace/symbol", query="nothing") == []
     assert editor.at("hover", "a/x.c", 0, 0) is None
     assert editor.stop() == 0
+
+
+def test_unsaved_texts_in_a_tree_for_bazel(tree: Make, run: Runner) -> None:
+    good = (
+        'load("@rules//:d.bzl", "thing")\nthing(name = "t")\n'
+        'cc_library(\n    name = "l",\n    srcs = glob(["*.c"]),\n)\n'
+    )
+    root = tree({"WORKSPACE": "", "a/BUILD": good, "a/x.c": "", "b/BUILD": ""})
+    editor = Editor(run, root)
+    editor.start()
+    assert editor.open("a/BUILD") == []
+    assert editor.edit("a/BUILD", good + 'cc_binary(name = "b", deps = [":l"])\n') == []
+    found = editor.edit("a/BUILD", good.replace("cc_library", "cc_libary") + "x = y\n")
+    assert places(found) == [
+        (3, 1, "name is not bound: cc_libary"),
+        (7, 5, "name is not bound: y"),
+    ]
+    found = editor.edit("a/BUILD", good + "cc_test(\n")
+    assert places(found) == [(7, 8, "syntax error: '(' was never closed")]
+    assert editor.edit("a/BUILD", good) == []
+    assert editor.open("b/BUILD") == []
+    assert editor.edit("b/BUILD", 'cc_library(name = "x")\n') == []
+    editor.kill()

@@ -10,6 +10,7 @@ import json
 from collections.abc import Collection, Iterable, Iterator, Mapping, Sequence
 from typing import Protocol
 
+from sefgulaw.bench import Bench
 from sefgulaw.bridge.decoding import decode
 from sefgulaw.bridge.labels import main_label
 from sefgulaw.bridge.modules import Modules
@@ -64,7 +65,7 @@ class Bridge:
         self._odd: dict[str, set[str]] | None = None
         self._stand_ins: Mapping[Path, str] = {}
         self._modules = Modules(base.start_loader, base.mirror, base.needs)
-        self._trials = Trials(base.start_loader, base.mirror, base.needs)
+        self._trials = Trials(Bench(base.start_loader, base.mirror.told, base.needs))
 
     def close(self) -> None:
         """Ends the loaders of its own."""
@@ -251,8 +252,21 @@ class Bridge:
         state = self.states[name]
         if state.rewritten is None:
             return []
-        told = self._trials.faults(name, state, most)
+        told = self._trials.faults(name, state.path, self._base.mirror.told[state.path], most)
         return [it._replace(line=self.own_line(it.path, it.line)) for it in told]
+
+    def state_of_text(self, name: str, path: Path, text: str) -> State:
+        """Returns how a package would be told with another text in its BUILD file.
+
+        The characters of the text are its bytes. Nothing is told for it.
+        """
+        state = State(path)
+        self._modules.forget()
+        try:
+            state.rewritten = rewrite(text, self._known(name, state))
+        except CannotRewrite as cannot:
+            state.cannot = cannot
+        return state
 
 
 def _bad(name: str, code: int, line: int, path: Path) -> bytes:

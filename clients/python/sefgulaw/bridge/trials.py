@@ -6,17 +6,12 @@ taken out by an empty line in its place.
 
 from __future__ import annotations
 
-from collections.abc import Callable
-
 from sefgulaw.bench import Bench
 from sefgulaw.bridge.labels import DEFS_FILE
-from sefgulaw.bridge.state import State
-from sefgulaw.mirror import Mirror
 from sefgulaw.names import Path
-from sefgulaw.needs import Needs
 from sefgulaw.store import Bad, Fault, cut, read_item
 from sefgulaw.text import names_bound
-from sefgulaw.wire import Load, Loader, Stopped
+from sefgulaw.wire import Load, Stopped
 
 UNBOUND = 4
 
@@ -30,11 +25,10 @@ def fault_of(item: bytes) -> Fault | None:
 
 
 class Trials:
-    """Tries texts on a bench of its own."""
+    """Tries texts on a bench."""
 
-    def __init__(self, start: Callable[[], Loader], mirror: Mirror, needs: Needs) -> None:
-        self._mirror = mirror
-        self._bench = Bench(start, mirror.told, needs)
+    def __init__(self, bench: Bench) -> None:
+        self._bench = bench
 
     def close(self) -> None:
         """Ends the bench's loader."""
@@ -53,30 +47,30 @@ class Trials:
             low, high = (low, middle) if same else (middle, high)
         return high
 
-    def faults(self, name: str, state: State, most: int) -> list[Fault]:
-        """Returns the faults of a package, those of its BUILD file with the told line.
+    def faults(self, name: str, path: Path, text: str, most: int) -> list[Fault]:
+        """Returns the faults of a package with a told text, those in this text with the told line.
 
         The statement of each fault is taken out, and the rest is asked again. A name that such a
         statement would have bound is not missed.
         """
-        lines = self._mirror.told[state.path].splitlines(True)
+        lines = text.splitlines(True)
         found: list[Fault] = []
         lost: set[str] = set()
         self._bench.refresh()
         try:
             while len(found) < most:
-                fault = fault_of(self._answer(name, state.path, lines))
+                fault = fault_of(self._answer(name, path, lines))
                 if fault is None:
                     break
                 line = fault.line
-                if fault.path != state.path:
-                    line = self.line_of(name, state.path, lines, fault)
+                if fault.path != path:
+                    line = self.line_of(name, path, lines, fault)
                 if not 0 < line <= len(lines) or lines[line - 1] == "\n":
                     break
                 statement, lines[line - 1] = lines[line - 1], "\n"
                 if fault.code != UNBOUND or not any(it in statement for it in lost):
-                    is_own = fault.path in (state.path, DEFS_FILE)
-                    found.append(Fault(fault.code, line, state.path) if is_own else fault)
+                    is_own = fault.path in (path, DEFS_FILE)
+                    found.append(Fault(fault.code, line, path) if is_own else fault)
                 lost |= names_bound(statement)
         except Stopped:
             pass
