@@ -85,6 +85,8 @@ class Documents:
         package = real(self._package(path))
         known = {(it.file, it.span.line, it.text) for it in messages}
         for warning in text_warnings(path, text, [package]):
+            if base.bridge.is_on:
+                break
             if (warning.file, warning.span.line, warning.text) not in known:
                 messages.append(warning)
         if overlay is None:

@@ -1,7 +1,8 @@
 """Names that nothing binds, in functions that nothing calls: what the loader cannot see.
 
 The loader evaluates what is called. So a name that is not bound is a fault of the package where a
-call comes to it, and nobody is told of it in a function that no BUILD file calls yet.
+call comes to it, and nobody is told of it in a function that no BUILD file calls yet. In a tree for
+Bazel nothing is said, since Bazel binds names that are not known here.
 """
 
 from __future__ import annotations
@@ -68,6 +69,8 @@ def warnings(tree: Tree, question: Question, checked: Answer) -> Answer:
     """Adds to an answer of `check` the warnings about the files that its packages read."""
     base = tree.base
     names, messages = tree.loaded(question)
+    if base.bridge.is_on:
+        return checked
     shown = {(it.file, it.span.line, it.text) for it in messages}
     builds = [base.build_file(name) for name in names]
     found: list[Message] = []

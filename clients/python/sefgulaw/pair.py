@@ -123,16 +123,14 @@ class Pair:
         self._sides = Sides(root)
         base = Base(root, options, self._sides, progress, self._sides.read)
         self.tree = Tree(base)
-        self._sides.go(self.old_state)
-        base.refresh()
-        base.load(base.names())
-        untold = base.untold_packages()
-        self.before: dict[str, bytes] = {}
-        for name in base.names():
-            raw = base.store.raw(name)
-            if raw is not None:
-                self.before[name] = raw
-        self.untold_before = frozenset(untold)
+        try:
+            self.go(self.old_state)
+        except BaseException:
+            self.close()
+            raise
+        raws = ((name, base.store.raw(name)) for name in base.names())
+        self.before = {name: raw for name, raw in raws if raw is not None}
+        self.untold_before = frozenset(base.untold_packages())
 
     @property
     def base(self) -> Base:

@@ -12,6 +12,7 @@ from sefgulaw.cli.output import NO_ANSWER, Failure, Output
 from sefgulaw.daemon.client import Client, Lost, connect
 from sefgulaw.daemon.place import Place
 from sefgulaw.daemon.protocol import Params
+from sefgulaw.gitrev import NoRevision, git
 
 _ZSH = """#compdef sefgulaw
 _sefgulaw() {
@@ -67,6 +68,19 @@ def _set_completer(parser: argparse.ArgumentParser) -> None:
                 _set_completer(command)
         elif action.dest == "patterns":
             setattr(action, "completer", _patterns)
+        elif action.dest in ("old", "new"):
+            setattr(action, "completer", _revisions)
+
+
+def _revisions(prefix: str, parsed_args: argparse.Namespace, **_: object) -> list[str]:
+    """Returns the branches and tags that begin so."""
+    try:
+        words = ["for-each-ref", "--format=%(refname:short)", f"refs/heads/{prefix}*"]
+        found = git(where(parsed_args).root, *words, f"refs/tags/{prefix}*")
+    except (Failure, NoRevision):
+        return []
+    names = ["HEAD", *found.decode("utf-8", "replace").split()]
+    return [name for name in names if name.startswith(prefix)]
 
 
 def _patterns(prefix: str, parsed_args: argparse.Namespace, **_: object) -> list[str]:
