@@ -16,11 +16,15 @@ from sefgulaw.wire import Loader, Stopped
 
 
 class Placed(NamedTuple):
-    """The statement that declares a target, and whether it calls the target's rule itself."""
+    """The statement that declares a target, and whether it calls the target's rule itself.
+
+    It is not sure where the statement was not found in time.
+    """
 
     file: Path
     span: Span
     is_rule: bool
+    is_sure: bool = True
 
 
 class Placer:
@@ -53,10 +57,12 @@ class Placer:
         if raw is None or text is None:
             return {}
         kept = self._kept.get(package)
-        if kept is None or kept[0] != text or kept[1] is not raw:
-            kept = (text, raw, self._found(package, path, text))
-            self._kept[package] = kept
-        return kept[2]
+        if kept is not None and kept[0] == text and kept[1] is raw:
+            return kept[2]
+        found = self._found(package, path, text)
+        if all(placed.is_sure for placed in found.values()):
+            self._kept[package] = (text, raw, found)
+        return found
 
     def _found(self, package: str, path: Path, text: str) -> Mapping[str, Placed]:
         if self._version != self._base.version:
@@ -74,7 +80,7 @@ class Placer:
         for target in targets:
             span = own.get(target.name, first)
             is_rule = target.name in own and _calls(source, span, target.kind, target.name)
-            found[target.name] = Placed(path, span, is_rule)
+            found[target.name] = Placed(path, span, is_rule, target.name in own)
         return found
 
     def _own_spans(self, package: str, path: Path, spans: Mapping[str, Span]) -> Mapping[str, Span]:
