@@ -13,6 +13,7 @@ import pytest
 from conftest import Root, Runner
 from sefgulaw.cli.completion import script_of
 from sefgulaw.cli.progress import Bar
+from git_trees import commit, git
 from trees import SMALL, SMALL_TARGETS
 
 Make = Callable[..., Root]
@@ -80,7 +81,7 @@ def completed(run: Runner, folder: Path, root: Root, line: str) -> list[str]:
 
 def test_bash_completes_words_and_patterns(tree: Make, run: Runner, tmp_path: Path) -> None:
     root = tree({**SMALL, ".sefgulaw.toml": "", "a/b/x": "", ".dot/x": ""})
-    assert completed(run, tmp_path, root, "sefgulaw ch") == ["check"]
+    assert completed(run, tmp_path, root, "sefgulaw ch") == ["check", "changed"]
     assert completed(run, tmp_path, root, "sefgulaw daemon st") == ["start", "stop", "status"]
     assert completed(run, tmp_path, root, "sefgulaw targets --out") == ["--output"]
     found = completed(run, tmp_path, root, "sefgulaw targets //")
@@ -90,6 +91,17 @@ def test_bash_completes_words_and_patterns(tree: Make, run: Runner, tmp_path: Pa
     assert completed(run, tmp_path, root, "sefgulaw targets //a:") == []
     assert run("targets", cwd=root).lines == SMALL_TARGETS
     assert completed(run, tmp_path, root, "sefgulaw targets //a:") == ["l"]
+
+
+def test_bash_completes_revisions(tree: Make, run: Runner, tmp_path: Path) -> None:
+    root = tree(SMALL)
+    assert completed(run, tmp_path, root, "sefgulaw changed HE") == []
+    commit(root)
+    git(root.path, "branch", "topic/one")
+    git(root.path, "tag", "tall")
+    assert completed(run, tmp_path, root, "sefgulaw changed t") == ["topic/one", "tall"]
+    assert completed(run, tmp_path, root, "sefgulaw changed HEAD to") == ["topic/one"]
+    assert completed(run, tmp_path, root, "sefgulaw changed HE") == ["HEAD"]
 
 
 def test_scripts_of_the_other_shells() -> None:

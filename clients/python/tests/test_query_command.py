@@ -83,7 +83,7 @@ def test_dot_reads_the_graph(root: Root, direct: Direct) -> None:
         done = subprocess.run(["dot", "-Tplain"], input=graph, capture_output=True)
         assert (done.returncode, done.stderr) == (0, b"")
         nodes = [it for it in done.stdout.splitlines() if it.startswith(b"node ")]
-        assert len(nodes) == (13 if "deps" in expression else 0)
+        assert len(nodes) == (11 if "deps" in expression else 0)
 
 
 def test_the_order_of_a_path_and_missing_labels(root: Root, direct: Direct) -> None:

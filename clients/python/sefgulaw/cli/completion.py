@@ -75,8 +75,8 @@ def _set_completer(parser: argparse.ArgumentParser) -> None:
 def _revisions(prefix: str, parsed_args: argparse.Namespace, **_: object) -> list[str]:
     """Returns the branches and tags that begin so."""
     try:
-        words = ["for-each-ref", "--format=%(refname:short)", f"refs/heads/{prefix}*"]
-        found = git(where(parsed_args).root, *words, f"refs/tags/{prefix}*")
+        words = ["for-each-ref", "--format=%(refname:short)", "refs/heads", "refs/tags"]
+        found = git(where(parsed_args).root, *words)
     except (Failure, NoRevision):
         return []
     names = ["HEAD", *found.decode("utf-8", "replace").split()]
