@@ -33,7 +33,7 @@ measures: build
 # The program that tries the shelf, built as `measures` is. Compares what readers find, and prints times.
 shelf-trials: build
 	@python3 bench/build_measures.py shelf_trials
-	@for word in rows threads loads; do bench/out/shelf_trials $$word || exit 1; done | diff bench/shelf_trials/stdout -
+	@for word in rows threads loads requests; do bench/out/shelf_trials $$word || exit 1; done | diff bench/shelf_trials/stdout -
 	@python3 tests/shelf_allocations.py
 	@for names in 1000 100000; do bench/out/shelf_trials times $$names || exit 1; done
 
@@ -97,7 +97,7 @@ limits: build
 	python3 tests/limits.py
 
 # Each allocation of the program fails in turn, over examples and scripts, each of the parser over two files, and each
-# of a script of values, of one of edits and look-ups, and of one of a list of choices. Needs cc.
+# of a script of values, of one of edits and look-ups, of one of a list of choices, and of two of sessions. Needs cc.
 allocations: build measures
 	python3 tests/allocations.py
 	python3 tests/parse_allocations.py

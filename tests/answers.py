@@ -2,7 +2,8 @@
 """Compares what the built program tells of its runs, its words, its devices and texts that were cut. Run it by `make
 answers`, or with `--program PATH` for another program.
 
-    stored      the lines that the gate runs the program on (crates/cli/stdin), by 2, 3 and 16 workers
+    stored      the lines that the gate runs the program on (crates/cli/stdin), by 1, 2, 3 and 16 workers
+    many        256 packages by one line, and each module of a circle of 256, by 1, 2, 3 and 16 workers
     journal     what `--runs` says of the lines of answers/journal.jsonl, by 1, 2, 3 and 16 workers
     words       the status, the bytes and the kind of message for the words of answers/words.txt
     devices     input in pieces, input that ends or fails at each byte, output that fails at each byte
@@ -30,6 +31,7 @@ HERE = os.path.dirname(os.path.abspath(__file__))
 CRATES = os.path.join(HERE, "../crates")
 # The most seconds that one run may take: some thousand times what it takes.
 PATIENCE = 60
+NUMBERS = [1, 2, 3, 16]
 FIND = b'{"op":"find","name":"x"}\n'
 NO_PACKAGE = b'{"build":null}\n'
 BAD_LINE = b'{"refused":1}\n'
@@ -98,7 +100,7 @@ def stored(name):
 
 
 def tell_stored(program):
-    given, wanted, numbers = stored("stdin"), stored("stdout").splitlines(), [2, 3, 16]
+    given, wanted = stored("stdin"), stored("stdout").splitlines()
 
     def check(count):
         status, written, said = run(program, workers(count), given)
@@ -107,8 +109,59 @@ def tell_stored(program):
         return differs(f"--workers {count}: status, what it said, and the first answer that differs", (status, said, at),
                        (*WELL, len(wanted) + 1)) or differs("the number of answers", len(got), len(wanted))
 
-    wrong = compared([lambda count=count: check(count) for count in numbers])[1]
-    return f"{len(wanted)} answers with 2, 3 and 16 workers", len(wanted), wrong
+    wrong = compared([lambda count=count: check(count) for count in NUMBERS])[1]
+    return f"{len(wanted)} answers with 1, 2, 3 and 16 workers", len(wanted), wrong
+
+
+# Many packages by one line, and a circle of many modules.
+
+MANY = 256
+
+
+def line_of(**members):
+    return json.dumps(members, separators=(",", ":")).encode() + b"\n"
+
+
+def rows_of_packages():
+    """Lines that put as many packages and load all of them, with their answers."""
+    names = [f"p{number}" for number in range(MANY)]
+    for version, name in enumerate(names, 1):
+        yield line_of(op="put", path=f"{name}/BUILD", text='filegroup(name = "l")\n'), line_of(ok=version)
+    targets = [{"attrs": {}, "kind": "filegroup", "name": "l"}]
+    yield line_of(op="load", names=names), line_of(packages=[{"name": name, "targets": targets} for name in names])
+
+
+def rows_of_modules():
+    """Lines that ask for each module of a circle, and once more behind an edit of one, with their answers.
+
+    Whichever module is asked for, the circle is told from its least label on.
+    """
+    texts = [f'load(":m{(number + 1) % MANY}.bzl", "X")\n' for number in range(MANY)]
+    circle = line_of(fault={"code": 19, "cycle": [f"//s:m{number}.bzl" for number in range(MANY)]})
+    yield line_of(op="put", path="s/BUILD", text=""), line_of(ok=1)
+    for number, text in enumerate(texts):
+        yield line_of(op="put", path=f"s/m{number}.bzl", text=text), line_of(ok=number + 2)
+    asked = [(line_of(op="module", label=f"//s:m{number}.bzl"), circle) for number in range(MANY)]
+    yield from asked
+    yield line_of(op="put", path="s/m9.bzl", text=texts[9] + "# c\n"), line_of(ok=MANY + 2)
+    yield from reversed(asked)
+
+
+def tell_many(program):
+    parts = {"packages": list(rows_of_packages()), "modules": list(rows_of_modules())}
+
+    def check(name, count):
+        given, wanted = (b"".join(part) for part in zip(*parts[name]))
+        status, written, said = run(program, workers(count), given)
+        pairs = enumerate(zip(written.splitlines(), wanted.splitlines()), 1)
+        at, (got, right) = next(((at, pair) for at, pair in pairs if pair[0] != pair[1]), (0, (b"", b"")))
+        return (differs(f"{name}, --workers {count}: status and what it said", (status, said), WELL)
+                or differs(f"{name}, --workers {count}: answer {at}", got, right)
+                or differs(f"{name}, --workers {count}: the number of bytes", len(written), len(wanted)))
+
+    wrong = compared([lambda name=name, count=count: check(name, count) for name in parts for count in NUMBERS])[1]
+    number = sum(map(len, parts.values()))
+    return f"{number} answers with 1, 2, 3 and 16 workers", number, wrong
 
 
 # The journal.
@@ -162,7 +215,7 @@ def journal_differs(name, told, wanted, alone):
 
 
 def tell_journal(program):
-    lines, wanted, numbers = read_lines("journal.jsonl"), read_lines("journal.txt"), [1, 2, 3, 16]
+    lines, wanted = read_lines("journal.jsonl"), read_lines("journal.txt")
     given = b"".join(lines)
     answers = run(program, workers(1), given)
 
@@ -176,7 +229,7 @@ def tell_journal(program):
     wrong = [differs("one worker without --runs: status, number of answers and what it said",
                      (answers[0], answers[1].count(b"\n"), answers[2]), (0, len(lines), b""))]
     wrong += [f"journal.txt itself: {line!r} before those that it asked" for line in [out_of_order(wanted)] if line]
-    wrong += compared([lambda count=count: check(count) for count in numbers])[1]
+    wrong += compared([lambda count=count: check(count) for count in NUMBERS])[1]
     wrong = [text for text in wrong if text]
     return f"{len(wanted)} lines to {len(lines)} commands with 1, 2, 3 and 16 workers", len(wanted), wrong
 
@@ -445,7 +498,7 @@ def tell_cuts(program):
     return f"{len(cuts)} cuts with 1 and 16 workers, {compared_answers} answers", compared_answers, wrong
 
 
-PARTS = {"stored": tell_stored, "journal": tell_journal, "words": tell_words, "devices": tell_devices, "cuts": tell_cuts}
+PARTS = {"stored": tell_stored, "many": tell_many, "journal": tell_journal, "words": tell_words, "devices": tell_devices, "cuts": tell_cuts}
 
 
 def main():

@@ -9,6 +9,8 @@
 - Programs beside the gate (`.rattle`, `.proof`): no sentence of over 40 words in a comment.
 - Crates: no line of a clause of over 100 columns, no module that is imported from twice, no number or flag without a
   name in a variant, no definition that is imported for nothing.
+- Crates: the error of an allocation that failed is made from an error of the standard library alone, and by its makers in
+  the files of `MAKERS`; nowhere else does `AllocError` stand as a value.
 - Files and types of sources: no past participle as a name, but for those of `PARTICIPLES` that the public surface fixes.
 - Crates: the layout of `rt fmt`, which the prover asks for too, but only when it comes to the crate.
 
@@ -33,6 +35,23 @@ IRREGULAR = {
     "built", "bound", "gone", "done", "taken", "fed", "led", "met", "ran", "went", "frozen", "broken", "chosen",
 }
 PARTICIPLES = {"Refused", "Suspended", "Turned", "turned", "Held", "Made", "Left", "Told", "Replayed", "Frozen", "frozen"}
+
+# Variants whose fields the public surface fixes without names.
+UNNAMED = {"Glob", "At", "RefusedAt"}
+
+# The files that may call each maker of `texts::Memory`: those that know its reason.
+MAKERS = {
+    "no_number_left": {
+        "crates/freezing/src/laying.rt", "crates/heap/src/heap.rt", "crates/heap/src/objects.rt",
+        "crates/numbered/src/flat.rt", "crates/numbered/src/table.rt", "crates/shelf/src/keeper/publishing.rt",
+    },
+    "over_the_heap_limit": {"crates/heap/src/heap.rt"},
+    "object_not_there": {"crates/heap/src/heap_object.rt", "crates/heap/src/objects.rt"},
+    "told_by_library": {
+        "crates/commands/src/reading.rt", "crates/pool/src/crew.rt", "crates/shelf/src/history.rt",
+        "crates/shelf/src/keeper/sending.rt",
+    },
+}
 
 # Words and phrases that say less than plain ones.
 BANNED = [
@@ -193,9 +212,9 @@ def double_imports(path, text):
 def unnamed_fields(path, text):
     found = []
     for body in re.findall(r"^(?:pub )?enum \w+[^{]*\{\n(.*?)^\}", text, re.M | re.S):
-        for fields in re.findall(r"^    \w+\(([^)]*)\),", body, re.M):
+        for name, fields in re.findall(r"^    (\w+)\(([^)]*)\),", body, re.M):
             kinds = [at.strip() for at in fields.split(",") if at.strip()]
-            if len(kinds) > 1 and {"usize", "u8", "u32", "u64", "i64", "bool"} & set(kinds):
+            if name not in UNNAMED and len(kinds) > 1 and {"usize", "u8", "u32", "u64", "i64", "bool"} & set(kinds):
                 found.append(fields)
     return found
 
@@ -214,11 +233,23 @@ def idle_imports(path, text):
     return found
 
 
+def made_errors(path, text):
+    """Errors of an allocation that failed which a source makes where none was told."""
+    # `texts` has the error itself, and `shelf` tells `left_right` of one by the error that this library takes.
+    if path in ("crates/texts/src/memory.rt", "crates/shelf/src/store.rt"):
+        return []
+    code = re.sub(r"//.*", "", text)
+    found = [f"Memory::{name}" for name in re.findall(r"\bMemory::(\w+)\(", code) if name != "from" and path not in MAKERS.get(name, ())]
+    values = re.sub(r"^\s*(ghost )?use .*;$|->[^{;]*|\bFrom<AllocError>|\w+: &?AllocError|IsOkUnless[^}]*|Result<[^=;{]*>", "", code, flags=re.M)
+    return found + re.findall(r"(?<![<\w])AllocError\b(?!>)", values)
+
+
 def check_crate(path, text):
     """What the crates' sources and definitions have to keep."""
     finders = {"a clause of over 100 columns": long_clauses, "a module imported from twice": double_imports}
     if path.endswith(".rt"):
         finders |= {"a field with no name": unnamed_fields, "an idle import": idle_imports}
+        finders |= {"an error of an allocation that nothing told": made_errors}
     else:
         del finders["a clause of over 100 columns"]
     for what, finder in finders.items():

@@ -1,21 +1,21 @@
 -- Hands come back, and what is left of a board.
-use Rattle.std.proofs.Common.{Bool, true, false, ◌≡◌, ℕ, zero, suc, ◌+◌, List, [], ◌∷◌, ◌&&◌, ◌||◌, not, length, get_or, set, sym, refl, ap, ◌∙◌, subst, ⊎_elim, inl, inr, arith, suc-ne-zero}
-use mathlib.Core.Option.{none, some, some-injective, some-ne-none}
+use Rattle.std.proofs.Common.{Bool, true, false, ◌≡◌, ℕ, zero, suc, ◌+◌, List, [], ◌∷◌, ◌&&◌, ◌||◌, not, length, set, sym, refl, ap, ◌∙◌, subst, ⊎_elim, inl, inr, arith, suc-ne-zero}
+use mathlib.Core.Option.{some, some-injective, some-ne-none}
 use mathlib.Core.Logic.{dite}
 use native.Mathlib.Decide.{ℕ_discrete}
 use lib.ListN.{get_elem?}
 use Rattle.std.specs.Prelude.{Option, None}
-use Rattle.atomic_table.specs.Table.{step, keeps, Allows, Joins, Final, Seen}
+use Rattle.atomic_table.specs.Table.{Joins, Final, Seen}
 use Rattle.atomic_table.proofs.Lists.{at_set, set_here, set_else}
 use Rattle.board.specs.declared.view.Entry.{Entry}
 use Rattle.board.specs.declared.view.Stage.{Stage}
 use Rattle.board.specs.declared.view.Stage.TheVariants.{Empty, Ready, Held, Answered}
 use Rattle.board.specs.declared.view.View.{View}
 use Rattle.board.specs.Rule.{bit, weight_at, Cell, IsInside, Lies, job_at, total, IsSeat, IsOrderly}
-use Rattle.board.specs.Plays.{Mine, looked, retired, retires, checked}
+use Rattle.board.specs.Plays.{retired, retires}
 use Rattle.board.specs.Places.{Leaves, IsLeft, weight_in}
 use Rattle.board.proofs.Moves.{below, reseats, total_set, total_join}
-use Rattle.board.proofs.Taking.{S, own, looks, true-ne-false, none_some, there}
+use Rattle.board.proofs.Taking.{S, own, true-ne-false, none_some, there}
 
 only_first : {X : Type 0} (f : X → ℕ) (l : List X) (v : X) → get_elem? l 0 ≡ some v → ((k : ℕ) (u : X) → get_elem? l (suc k) ≡ some u → f u ≡ 0) → total f l ≡ f v
 only_first f [] v e z = absurd (some-ne-none v (sym e))
@@ -81,10 +81,6 @@ module _ {J A : Type 0} (of : A → J) where
   pub retiring : (id : ℕ) (v : View J A) (other : ℕ) (w : View J A) → id ≡ 0 → w.is_host ≡ false → w.live ≡ 1 → w.using ≡ None → Joins (IsOrderly of) id v other w (retires v w) retired
   retiring id v other w is hand live rests = subst (λ (z : ℕ). Joins (IsOrderly of) z v other w (retires v w) retired) (sym is) (retired_at v other w hand live rests)
 
-  pub checks : (n id p : ℕ) (me : Mine J A) → id ≡ 0 → Allows (IsOrderly of) n id me p (λ y. y) (checked (step n p 0 0 none) me)
-  checks n id p me is s r long at _ = let v = me.0 in let y : ℕ = get_or s.words p 0 in let same = own of s r v (ap (get_elem? s.views) (sym is) ∙ at) in
-      (looked v p y, keeps, tt, looks of s r id p y v at, (ap (λ (z : View J A). z.is_host) same ∙ r.hosts.1, refl))
-
   -- with every hand back, no seat has a slot
   at_home : (s : S of) (r : IsOrderly of s) (v : View J A) → get_elem? s.views 0 ≡ some v → v.using ≡ None → v.hands ≡ 0 → (p h : ℕ) (st : Stage J A) → get_elem? r.cells p ≡ some (h, st) → h ≡ 0
   at_home s r v at rests none_out p zero st cell = refl
@@ -125,3 +121,7 @@ module _ {J A : Type 0} (of : A → J) where
             (λ p c x e at_x. let k = inside s r v at rests none_out p c e in turns wt c.1 x (subst (IsInside c.1) (some-injective k.0 x (sym (fin.4 p k.0 k.1) ∙ at_x)) k.2)) in
             let o = r.answered wt in omega (arith, a, b, t, o)),
       )
+
+  -- at the end the seat with the number 0 is the host's
+  pub host_at_end : (ws : List ℕ) (xs : List (Option (Entry J A))) (id : ℕ) (v : View J A) → id ≡ 0 → Final (Seen (IsOrderly of) id v) ws xs → v.is_host ≡ true
+  host_at_end ws xs id v is fin = let r = fin.1.0 in ap (λ (z : View J A). z.is_host) (own of fin.0 r v (ap (get_elem? fin.0.views) (sym is) ∙ fin.1.1)) ∙ r.hosts.1

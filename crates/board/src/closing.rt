@@ -8,7 +8,7 @@ ghost use mathlib.Core.Option.{some};
 ghost use lib.ListN.{get_elem?};
 
 use crate::board::{Board, Hand, Host, Slot};
-use crate::table_rule::{Check, Retire};
+use crate::table_rule::Retire;
 use crate::view::Entry;
 use atomic_table::Closed;
 use keys::{Job, Rules, Turned};
@@ -54,7 +54,6 @@ impl<R: Rules> Board<R> {
             self.table.shared.join_seat::<Retire>(&mut seat, other);
         }
         hands.destroy_empty();
-        self.table.shared.load::<Check>(&mut seat, self.capacity);
         let Board { table, capacity: _ } = self;
         Left {
             closed: table.close_with(seat),

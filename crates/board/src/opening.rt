@@ -2,12 +2,14 @@
 ghost use Rattle.std.specs.Prelude.{◌≡◌, All, length, IfOk, IsErrOf};
 ghost use Rattle.board.specs.declared.opening.OpenError.TheVariants as open_error;
 ghost use Rattle.board.specs.Places.{IsNewHost, IsNewHand, IsOutOfRange, IsInRange};
+ghost use Rattle.texts.specs.Refusals.{memory};
 
 use crate::board::{Board, Hand, Host};
 use crate::table_rule::Enlist;
 use atomic_table::Table;
 use keys::Rules;
 use std::alloc::{AllocError, Global};
+use texts::Memory;
 
 /// Why no board was opened.
 #[derive(Drop)]
@@ -15,17 +17,18 @@ pub enum OpenError {
     /// There are 1 to 64 places, and 1 to 16 hands.
     Range,
     /// A growth was refused.
-    Memory,
+    Memory(Memory),
 }
 
 impl From<AllocError> for OpenError {
     ghost use Rattle.std.specs.Prelude.{◌≡◌};
     ghost use Rattle.board.specs.declared.opening.OpenError.TheVariants.{Memory};
+    ghost use Rattle.texts.specs.Refusals.{memory};
 
-    ghost from_gives = { λ _ e. e ≡ Memory };
+    ghost from_gives = { λ _ e. e ≡ Memory memory };
 
-    fn from(_error: AllocError) -> OpenError {
-        OpenError::Memory
+    fn from(error: AllocError) -> OpenError {
+        OpenError::Memory(Memory::from(error))
     }
 }
 
@@ -38,7 +41,7 @@ impl<R: Rules> Board<R> {
         hands: usize,
     ) -> Result<(Board<R>, Host<R>, Vec<Hand<R>>), OpenError>
         ensures range { IsErrOf result open_error.Range → IsOutOfRange capacity hands }
-        ensures memory { IsErrOf result open_error.Memory → IsInRange capacity hands }
+        ensures memory { IsErrOf result (open_error.Memory memory) → IsInRange capacity hands }
         ensures board { IfOk result (λ made. (made.0.capacity ≡ capacity)
             × IsInRange capacity hands) }
         ensures host { IfOk result (λ made. IsNewHost made.0.table.shared.table_id capacity hands
@@ -58,9 +61,9 @@ impl<R: Rules> Board<R> {
             &(capacity as u64),
         ) {
             Ok(made) => made,
-            Err(_) => {
+            Err(error) => {
                 list.destroy_empty();
-                return Err(OpenError::Memory);
+                return Err(OpenError::from(error));
             }
         };
         for _ in 0..hands {

@@ -85,7 +85,7 @@ module _ (ls : List (List Val)) (n i : ℕ) (tuples : List Val) (s : Store) (all
 
     pub rows_stop : (e : Halt) (u : Store) → Says (makes_tuple r s) (Err e) u → SaysItems all (Err e) u
     rows_stop (Code c) u said = sym (rw said at now)
-    rows_stop Memory u said = tt
+    rows_stop (Memory _) u said = tt
 
 -- with nothing made yet
 pub unmade : (out : Out Store (List Val)) → and_then out (λ ts. gives ([] ++ ts)) ≡ out

@@ -175,7 +175,7 @@ module _ {A : Type 0} (show : A → Does ℕ (List ℕ)) (xs : List A) (i : ℕ)
 
     pub item_halts : (B : Type 0) (p : Option (List ℕ)) (halt : Halt) (t : ℕ) (q q0 : Option (List ℕ)) → Tells {A = B} (show x) s p (Err halt) t q → Tells {A = B} whole s0 o0 (Err halt) t q0
     item_halts B p (Code c) t q q0 said = item_faults c said
-    item_halts B p Memory t q q0 said = tt
+    item_halts B p (Memory _) t q q0 said = tt
 
     pub item_told : (p : Option (List ℕ)) (t : ℕ) (q : Option (List ℕ)) → p ≡ more o (before i) → told (show x) s p ≡ gives q t → told (left_of show (i + 1) (drop (i + 1) xs)) t q ≡ told whole s0 o0
     item_told p t q e said = rw add-one (by_first (show x s) said turned)

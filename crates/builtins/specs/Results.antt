@@ -13,7 +13,7 @@ use Rattle.heap.specs.declared.halt.Halt.TheVariants.{Code, Memory}
 abbrev pub ChecksBytes : ValueOrFault (List ℕ) → Result (Bor (List ℕ)) Halt → Type 0
 ChecksBytes out (Ok bytes) = out ≡ good bytes.now
 ChecksBytes out (Err (Code c)) = out ≡ bad c
-ChecksBytes out (Err Memory) = Unit {0}
+ChecksBytes out (Err (Memory _)) = Unit {0}
 
 abbrev pub lists_of : {A : Type 0} → List (Vec A Global) → List (List A)
 lists_of vs = map (λ v. v.items) vs
@@ -22,7 +22,7 @@ lists_of vs = map (λ v. v.items) vs
 abbrev pub SaysLists : {S A : Type 0} → Out S (List (List A)) → Result (Vec (Vec A Global) Global) Halt → S → Type 0
 SaysLists out (Ok vs) s = out ≡ gives (lists_of vs.items) s
 SaysLists out (Err (Code c)) s = out ≡ faults c
-SaysLists out (Err Memory) s = Unit {0}
+SaysLists out (Err (Memory _)) s = Unit {0}
 
 abbrev pub items_seen : {A : Type 0} → Option (Vec A Global) → Option (List A)
 items_seen None = None
@@ -32,7 +32,7 @@ items_seen (Some v) = Some v.items
 abbrev pub SaysEntries : {S A : Type 0} → Out S Entries → Result A Halt → Entries → S → Type 0
 SaysEntries out (Ok a) es s = out ≡ gives es s
 SaysEntries out (Err (Code c)) es s = out ≡ faults c
-SaysEntries out (Err Memory) es s = Unit {0}
+SaysEntries out (Err (Memory _)) es s = Unit {0}
 
 abbrev pub pairs_of : Entries → List (Val × Val)
 pairs_of entries = map (λ e. (e.1.key, e.1.value)) entries

@@ -25,7 +25,7 @@ told walk steps text = and_then (walk steps) (λ part. gives (more text part))
 abbrev pub Tells : {A : Type 0} → Does ℕ (List ℕ) → ℕ → Option (List ℕ) → Result A Halt → ℕ → Option (List ℕ) → Type 0
 Tells walk steps text (Ok a) left now = told walk steps text ≡ gives now left
 Tells walk steps text (Err (Code c)) left now = walk steps ≡ faults c
-Tells walk steps text (Err Memory) left now = Unit {0}
+Tells walk steps text (Err (Memory _)) left now = Unit {0}
 
 -- what stands before an item, by how many came before it
 abbrev pub before : ℕ → List ℕ

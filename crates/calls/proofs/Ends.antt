@@ -90,11 +90,11 @@ module_ends env here w own defaults s t e f = own_done env here w (gives own s) 
 
 pub own_fails : (env : Env) (here : Here) (w u : World) (s : Store) (halt : Halt) → SaysItems (freeze_names (block_among (names_at here.label w.files)) (names_once [] (top_names env.file.tops)) w.store) (Err halt) s → Ran here.site (frozen_module env here w) (Err halt) u
 own_fails env here w u s (Code c) e = own_done env here w (faults c) e
-own_fails env here w u s Memory e = tt
+own_fails env here w u s (Memory _) e = tt
 
 pub defaults_fail : (env : Env) (here : Here) (w u : World) (own : List Frozen) (s t : Store) (halt : Halt) → freeze_names (block_among (names_at here.label w.files)) (names_once [] (top_names env.file.tops)) w.store ≡ gives own s → SaysItems (freeze_defaults (names_at here.label w.files) (defs env.file.tops) s) (Err halt) t → Ran here.site (frozen_module env here w) (Err halt) u
 defaults_fail env here w u own s t (Code c) e f = own_done env here w (gives own s) e ∙ rest_done env here own (record w { store = s }) (faults c) f
-defaults_fail env here w u own s t Memory e f = tt
+defaults_fail env here w u own s t (Memory _) e f = tt
 
 -- ---- facts under other names of what they are about
 

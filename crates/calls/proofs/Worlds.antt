@@ -96,11 +96,11 @@ body_goes body here w b d ds s t u first second third =
 
 pub own_stops : (body : Body) (here : Here) (w u : World) (b : Block) (s : Store) (halt : Halt) → SaysBlock {A = Unit {0}} (behind [] (thaw_names body.own w.store)) (Err halt) b s → Ran here.site (thaw_body (Some body) here w) (Err halt) u
 own_stops body here w u b s (Code c) e = body_is body here w ∙ ap (λ o. then_runs (at_site here.site w o) (λ own. rest_loaded body here own)) (sym (whole (thaw_names body.own w.store)) ∙ e)
-own_stops body here w u b s Memory e = tt
+own_stops body here w u b s (Memory _) e = tt
 
 pub loaded_stops : (body : Body) (here : Here) (w v : World) (b d : Block) (s t : Store) (halt : Halt) → behind [] (thaw_names body.own w.store) ≡ gives b s → SaysBlock {A = Unit {0}} (behind b (thaw_names body.loaded s)) (Err halt) d t → Ran here.site (thaw_body (Some body) here w) (Err halt) v
 loaded_stops body here w v b d s t (Code c) first e = own_done body here w b s first ∙ loaded_is body here b (record w { store = s }) ∙ ap (λ o. then_runs (at_site here.site (record w { store = s }) o) (λ loaded. rest_defaults body here b loaded)) (behind_stops (thaw_names body.loaded s) b c e)
-loaded_stops body here w v b d s t Memory first e = tt
+loaded_stops body here w v b d s t (Memory _) first e = tt
 
 pub defaults_stop : (body : Body) (here : Here) (w v : World) (b d : Block) (s t u : Store) (halt : Halt) → behind [] (thaw_names body.own w.store) ≡ gives b s → behind b (thaw_names body.loaded s) ≡ gives d t → SaysKept (thaw_defaults body.defaults t) (Err halt) u → Ran here.site (thaw_body (Some body) here w) (Err halt) v
 defaults_stop body here w v b d s t u (Code c) first second e =
@@ -109,7 +109,7 @@ defaults_stop body here w v b d s t u (Code c) first second e =
     ∙ loaded_done body here (record w { store = s }) b split.more t split.out
     ∙ defaults_are body here b split.more (record w { store = t })
     ∙ ap (λ o. then_runs (at_site here.site (record w { store = t }) o) (λ ds. add_names (record { label = body.label; block = b ++ split.more; defaults = ds }))) e
-defaults_stop body here w v b d s t u Memory first second e = tt
+defaults_stop body here w v b d s t u (Memory _) first second e = tt
 
 -- ---- where names are needed
 
@@ -158,7 +158,7 @@ load_first body i items here w =
 
 pub item_stops : (body : Body) (i : It) (items : List It) (here : Here) (w u : World) (halt : Halt) → Ran here.site (load_items body (i ∷ []) here w) (Err halt) u → Ran here.site (load_items body (i ∷ items) here w) (Err halt) u
 item_stops body i items here w u (Code c) h = load_first body i items here w ∙ ap (λ o. then_runs o (λ _. load_items body items here)) h
-item_stops body i items here w u Memory h = tt
+item_stops body i items here w u (Memory _) h = tt
 
 bound : (body : Body) (i : It) (here : Here) (w : World) (f : Fz) (x : Val) (s : Store) → exported i.exported body ≡ Some f → thaw f w.store ≡ gives x s → load_items body (i ∷ []) here w ≡ then_runs (bind i.local x here (record w { store = s })) (λ _. pure tt)
 bound body i here w f x s e g =
@@ -169,4 +169,4 @@ bound body i here w f x s e g =
 pub item_ends : (body : Body) (i : It) (here : Here) (w u : World) (f : Fz) (x : Val) (s : Store) (r : Result (Unit {0}) Halt) → exported i.exported body ≡ Some f → thaw f w.store ≡ gives x s → Ran here.site (bind i.local x here (record w { store = s })) r u → Ran here.site (load_items body (i ∷ []) here w) r u
 item_ends body i here w u f x s (Ok a) e g h = bound body i here w f x s e g ∙ ap (λ o. then_runs o (λ _. pure tt)) h
 item_ends body i here w u f x s (Err (Code c)) e g h = bound body i here w f x s e g ∙ ap (λ o. then_runs o (λ _. pure tt)) h
-item_ends body i here w u f x s (Err Memory) e g h = tt
+item_ends body i here w u f x s (Err (Memory _)) e g h = tt

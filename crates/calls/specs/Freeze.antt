@@ -53,11 +53,11 @@ slot_names slots = map (λ s. s.name) slots
 abbrev pub SaysFrozen : Out Store Fzs → Result (Vec FrozenValue Global) Halt → Store → Type 0
 SaysFrozen out (Ok v) s = out ≡ gives (members_of v.items) s
 SaysFrozen out (Err (Code c)) s = out ≡ faults c
-SaysFrozen out (Err Memory) s = Unit {0}
+SaysFrozen out (Err (Memory _)) s = Unit {0}
 
 -- the call gives the values that the definition gives, under the name of their function, with the same state after it, or
 -- its fault; where memory is refused nothing is said
 abbrev pub SaysDefaults : List ℕ → Out Store Fzs → Result Defaults Halt → Store → Type 0
 SaysDefaults name out (Ok d) s = (out ≡ gives d.values s) × (d.name ≡ name)
 SaysDefaults name out (Err (Code c)) s = out ≡ faults c
-SaysDefaults name out (Err Memory) s = Unit {0}
+SaysDefaults name out (Err (Memory _)) s = Unit {0}

@@ -30,10 +30,10 @@ behind b out = and_then out (λ more. pure (b ++ more))
 abbrev pub SaysBlock : {A : Type 0} → Out Store Block → Result A Halt → Block → Store → Type 0
 SaysBlock out (Ok a) b s = out ≡ gives b s
 SaysBlock out (Err (Code c)) b s = out ≡ faults c
-SaysBlock out (Err Memory) b s = Unit {0}
+SaysBlock out (Err (Memory _)) b s = Unit {0}
 
 -- the same, of defaults
 abbrev pub SaysKept : Out Store (List (List ℕ × List Val)) → Result (Vec FunctionDefaults Global) Halt → Store → Type 0
 SaysKept out (Ok v) s = out ≡ gives (map kept_of v.items) s
 SaysKept out (Err (Code c)) s = out ≡ faults c
-SaysKept out (Err Memory) s = Unit {0}
+SaysKept out (Err (Memory _)) s = Unit {0}

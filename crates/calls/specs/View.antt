@@ -17,7 +17,7 @@ use Rattle.calls.specs.declared.functions.Open.{Open}
 abbrev pub Blocks : ValueOrFault Block → Result (Vec Slot Global) Halt → Type 0
 Blocks out (Ok block) = out ≡ good (block_of block)
 Blocks out (Err (Code c)) = out ≡ bad c
-Blocks out (Err Memory) = Unit {0}
+Blocks out (Err (Memory _)) = Unit {0}
 
 -- a block of a call: these are the function's parameters with their values, and the names that its body binds besides
 pub record IsEntered (f : Fn) (out : ValueOrFault Block) (block : m.Block) : Type 0 where
@@ -29,7 +29,7 @@ pub record IsEntered (f : Fn) (out : ValueOrFault Block) (block : m.Block) : Typ
 abbrev pub Enters : Fn → ValueOrFault Block → Result m.Block Halt → Type 0
 Enters f out (Ok block) = IsEntered f out block
 Enters f out (Err (Code c)) = out ≡ bad c
-Enters f out (Err Memory) = Unit {0}
+Enters f out (Err (Memory _)) = Unit {0}
 
 abbrev pub open_of : Open → List ℕ × List ℕ
 open_of o = (o.label, o.name)

@@ -38,7 +38,7 @@ changed_files edit files = all_changed (changes_of edit) files
 abbrev pub TellsRefusal : Option Refusal → EditError → Type 0
 TellsRefusal refusal (Refused n) = refusal ≡ Some (plain n)
 TellsRefusal refusal (RefusedAt at n) = refusal ≡ Some (at_change at n)
-TellsRefusal refusal Memory = Unit {0}
+TellsRefusal refusal (Memory _) = Unit {0}
 
 -- the edit is made of the files; or they stay as they are, and the error tells the first refusal or want of memory
 abbrev pub EditsFiles : {A : Type 0} → Edit → Files → Files → Result A EditError → Type 0

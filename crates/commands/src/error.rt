@@ -1,4 +1,5 @@
 //! Why an edit is not made.
+use texts::Memory;
 use thiserror::Error;
 
 /// Why an edit was not made. Neither the files nor the version have changed.
@@ -11,20 +12,21 @@ pub enum EditError {
     Refused(u64),
     /// The first change of a batch that is refused on the files after those before it, counted from 0, and
     /// the number of its refusal: 2, 3, 4 or 7.
-    #[error("change {at} refused: {number}")]
-    RefusedAt { at: usize, number: u64 },
+    #[error("change {0} refused: {1}")]
+    RefusedAt(usize, u64),
     /// A growth was refused.
     #[error("out of memory")]
-    Memory,
+    Memory(Memory),
 }
 
-impl From<texts::Memory> for EditError {
+impl From<Memory> for EditError {
     ghost use Rattle.std.specs.Prelude.{◌≡◌};
     ghost use Rattle.commands.specs.declared.error.EditError.TheVariants.{Memory};
+    ghost use Rattle.texts.specs.Refusals.{memory};
 
-    ghost from_gives = { λ _ e. e ≡ Memory };
+    ghost from_gives = { λ _ e. e ≡ Memory memory };
 
-    fn from(_error: texts::Memory) -> EditError {
-        EditError::Memory
+    fn from(error: Memory) -> EditError {
+        EditError::Memory(error)
     }
 }

@@ -37,7 +37,7 @@ fn change_one(tree: &mut Tree, change: &Change<'_>) -> Result<(), EditError>
         Err(TreeError::Code3) => Err(EditError::Refused(refusals::IN_THE_WAY)),
         Err(TreeError::Code4) => Err(EditError::Refused(refusals::NO_FILE)),
         Err(TreeError::Code7) => Err(EditError::Refused(refusals::TEXT_TOO_LONG)),
-        Err(TreeError::Memory) => Err(EditError::Memory),
+        Err(TreeError::Memory(error)) => Err(EditError::Memory(error)),
     }
 }
 
@@ -51,8 +51,8 @@ fn change_all(tree: &mut Tree, changes: &[Change<'_>]) -> Result<(), EditError>
     }
     match tree.apply_all(changes) {
         Ok(()) => Ok(()),
-        Err(BatchError::At { at, number: n }) => Err(EditError::RefusedAt { at, number: n }),
-        Err(BatchError::Memory) => Err(EditError::Memory),
+        Err(BatchError::At(at, n)) => Err(EditError::RefusedAt(at, n)),
+        Err(BatchError::Memory(error)) => Err(EditError::Memory(error)),
     }
 }
 
@@ -75,8 +75,9 @@ pub fn refusal_at_limit(tree: &Tree, edit: &Edit<'_>) -> EditError
         (specs.or_version_refusal (specs.files_refusal (edit_seen edit.now) tree.now)
         specs.version_limit) result }
 {
-    let Ok(mut trial) = tree.copy() else {
-        return EditError::Memory;
+    let mut trial = match tree.copy() {
+        Ok(trial) => trial,
+        Err(error) => return EditError::Memory(error),
     };
     match edit_files(&mut trial, edit) {
         Ok(()) => EditError::Refused(refusals::VERSIONS_SPENT),

@@ -24,7 +24,7 @@ pub fn data_of(alloc: Global, line: &[u8]) -> Result<Option<Value>, Memory>
         Ok(value) => Ok(Some(value)),
         Err(error) => {
             if error.is_memory() {
-                Err(Memory)
+                Err(Memory::told_by_library())
             } else {
                 Ok(None)
             }
@@ -250,7 +250,7 @@ pub fn module_label(alloc: Global, text: &str) -> Result<Option<Label>, Memory>
             }
         }
         Err(BadLabel::Code15) => Ok(None),
-        Err(BadLabel::Memory) => Err(Memory),
+        Err(BadLabel::Memory(error)) => Err(error),
     }
 }
 

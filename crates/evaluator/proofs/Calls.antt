@@ -90,9 +90,9 @@ same_body env n ss within stands w u blocks j k place world frames =
 pub goes_stop : (e : Environment) (before : Env → Ends Sig) (path : List ℕ) (line : ℕ) (halt : Halt) (stop : Stop) (m : Machine) (after : Env → Control → Ends Sig) → Stops path line halt stop
     → Under e (λ env. Goes (site_at path line) (before env) (Err halt) (after env)) → Leads e before (Err stop) m
 goes_stop e before path line (Code code) (stops.Fault c p l) m after h g = λ more knows. g more knows ∙ ap (λ d. failed d (site_at path line)) (sym h.0) ∙ ap (λ q. failed c (site_at q line)) (sym h.1) ∙ ap (λ i. failed c (site_at p i)) (sym h.2)
-goes_stop e before path line Memory (stops.Fault c p l) m after h g = absurd h
-goes_stop e before path line (Code code) stops.Memory m after h g = tt
-goes_stop e before path line Memory stops.Memory m after h g = tt
+goes_stop e before path line (Memory _) (stops.Fault c p l) m after h g = absurd h
+goes_stop e before path line (Code code) (stops.Memory _) m after h g = tt
+goes_stop e before path line (Memory _) (stops.Memory _) m after h g = tt
 
 -- what a package call ends with, under more answers
 pub more_ended : {Q : Asks} (a b : Ends Val) (x : Val) (u : World) → Below Q a b → a ≡ ended x u → b ≡ ended x u
@@ -108,10 +108,10 @@ more_failed {Q = Q} (waits ps) b c site p e = absurd cc
 -- a package call that stops, under more answers
 pub package_stops : {Q : Asks} (a b : Ends Val) (halt : Halt) (site : Site) (u : World) (k : Val → Runs Sig) (j : Sig → Runs Sig) (after : Control → Ends Sig) → Below Q a b → EndsAs site a (Err halt) u → Goes site (then_runs (then_runs b k) j) (Err halt) after
 package_stops a b (Code c) site u k j after below e = ap (λ o. then_runs (then_runs o k) j) (more_failed a b c site below e)
-package_stops a b Memory site u k j after below e = tt
+package_stops a b (Memory _) site u k j after below e = tt
 
 -- the names of a file can't be put on the heap
 pub needs_goes : (env : Env) (n : ℕ) (label name : List ℕ) (xs : List Val) (ns : KeywordArguments) (here : Here) (w u : World) (halt : Halt) (k : Val → Runs Sig) (j : Sig → Runs Sig) (after : Control → Ends Sig)
     → Ran {A = Unit {0}} here.site (need_names env label here w) (Err halt) u → Goes here.site (then_runs (then_runs (call env n label name xs ns here w) k) j) (Err halt) after
 needs_goes env n label name xs ns here w u (Code c) k j after e = ap (λ o. then_runs (then_runs o k) j) (needs_stop env n label name xs ns here w c e)
-needs_goes env n label name xs ns here w u Memory k j after e = tt
+needs_goes env n label name xs ns here w u (Memory _) k j after e = tt

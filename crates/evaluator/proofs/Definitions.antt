@@ -29,14 +29,14 @@ module _ (h : Here) (label name : List ℕ) (xs : List Val) (w : World) (t : Sto
 
   pub kept_stops : (halt : Halt) (u : World) (after : Control → Ends Sig) → Ran {A = Unit {0}} h.site (keep_defaults label name xs k) (Err halt) u → Goes h.site whole (Err halt) after
   kept_stops (Code c) u after e = first ∙ ap (λ m. then_runs (then_runs (then_runs m (λ _. bind name made h >>= λ _. pure goes_on)) p) j) e
-  kept_stops Memory u after e = tt
+  kept_stops (Memory _) u after e = tt
 
   second : (v : World) → keep_defaults label name xs k ≡ ended tt v → whole ≡ then_runs (then_runs (then_runs (bind name made h v) (λ _. pure goes_on)) p) j
   second v e = first ∙ ap (λ m. then_runs (then_runs (then_runs m (λ _. bind name made h >>= λ _. pure goes_on)) p) j) e
 
   pub bound_stops : (v : World) (halt : Halt) (u : World) (after : Control → Ends Sig) → keep_defaults label name xs k ≡ ended tt v → Ran {A = Unit {0}} h.site (bind name made h v) (Err halt) u → Goes h.site whole (Err halt) after
   bound_stops v (Code c) u after kept e = second v kept ∙ ap (λ m. then_runs (then_runs (then_runs m (λ _. pure goes_on)) p) j) e
-  bound_stops v Memory u after kept e = tt
+  bound_stops v (Memory _) u after kept e = tt
 
   pub bound : (v u : World) → keep_defaults label name xs k ≡ ended tt v → bind name made h v ≡ ended tt u → whole ≡ j (an_exit goes_on) u
   bound v u kept e = second v kept ∙ ap (λ m. then_runs (then_runs (then_runs m (λ _. pure goes_on)) p) j) e

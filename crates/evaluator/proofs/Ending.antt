@@ -24,13 +24,13 @@ level_of env = record { label = env.label; path = env.path; kind = env.kind; lin
 -- what a part ends with that stops
 abbrev pub Stopped : {A : Type 0} → Ends A → Stop → Type 0
 Stopped out (stops.Fault code path line) = out ≡ failed code (site_at path line)
-Stopped out stops.Memory = Unit {0}
+Stopped out (stops.Memory _) = Unit {0}
 
 pub stopped_by : {A : Type 0} (out : Ends A) (path : List ℕ) (line : ℕ) (halt : Halt) (stop : Stop) (u : World) → Ran (site_at path line) out (Err halt) u → Stops path line halt stop → Stopped out stop
 stopped_by out path line (Code code) (stops.Fault c p i) u e h = e ∙ ap (λ d. failed d (site_at path line)) (sym h.0) ∙ ap (λ q. failed c (site_at q line)) (sym h.1) ∙ ap (λ j. failed c (site_at p j)) (sym h.2)
-stopped_by out path line Memory (stops.Fault c p i) u e h = absurd h
-stopped_by out path line (Code code) stops.Memory u e h = tt
-stopped_by out path line Memory stops.Memory u e h = tt
+stopped_by out path line (Memory _) (stops.Fault c p i) u e h = absurd h
+stopped_by out path line (Code code) (stops.Memory _) u e h = tt
+stopped_by out path line (Memory _) (stops.Memory _) u e h = tt
 
 pub stop_left : (out : Ends l.Outcome) (stop : Stop) (result : Result Outcome t.Memory) → Stopped out stop → Shows stop result → IsLeft out result
 stop_left out (stops.Fault code path line) (Ok (answers.Fault fault)) e h = ap outcome_of e ∙ ap (λ d. a_fault d (site_at path line)) (sym h.0) ∙ ap (λ q. a_fault fault.code (site_at q line)) (sym h.1) ∙ ap (λ j. a_fault fault.code (site_at fault.path j)) (sym h.2)
@@ -38,8 +38,8 @@ stop_left out (stops.Fault code path line) (Ok (answers.Module m)) e h = absurd 
 stop_left out (stops.Fault code path line) (Ok (answers.Package ts)) e h = absurd h
 stop_left out (stops.Fault code path line) (Ok (answers.Need ps s)) e h = absurd h
 stop_left out (stops.Fault code path line) (Err m) e h = absurd h
-stop_left out stops.Memory (Ok r) e h = absurd h
-stop_left out stops.Memory (Err m) e h = tt
+stop_left out (stops.Memory _) (Ok r) e h = absurd h
+stop_left out (stops.Memory _) (Err m) e h = tt
 
 -- the module of a file, and a fault where it is frozen
 pub module_left : (env : Env) (at : Standing) (w u : World) (loaded : ModuleValue) → at ≡ level_of env → frozen_module env (here_of at 0 []) w ≡ ended loaded u → outcome_of (then_runs (frozen_module env (file_level env) w) (λ m. pure (a_module m))) ≡ a_module loaded
@@ -54,4 +54,4 @@ module_fails env at w u halt stop is e h =
   where
     behind : (halt : Halt) → Ran {A = ModuleValue} (site_at at.path 0) (frozen_module env (here_of at 0 []) w) (Err halt) u → Ran {A = l.Outcome} (site_at at.path 0) (then_runs (frozen_module env (here_of at 0 []) w) (λ m. pure (a_module m))) (Err halt) u
     behind (Code c) e = ap (λ o. then_runs o (λ m. pure (a_module m))) e
-    behind Memory e = tt
+    behind (Memory _) e = tt

@@ -1,9 +1,9 @@
 -- The evaluation of a file, where a machine stands in it.
 use Rattle.std.proofs.Common.{◌≡◌, ◌++◌, ℕ, List, [], Result, Ok, Err, refl, ap, sym, subst, ◌∙◌}
+use Rattle.texts.specs.declared.memory.Memory as t
 use Rattle.std.specs.Arc.{arc_value}
 use Rattle.std.specs.declared.alloc.Global.{Global}
 use Rattle.std.specs.declared.sync.Arc.{Arc}
-use Rattle.texts.specs.declared.memory.Memory as t
 use Rattle.tree.specs.declared.def.File.{File}
 use Rattle.tree.specs.Statements.{file_of}
 use Rattle.tree.specs.Tree.{Fi, Tp}
@@ -84,7 +84,7 @@ opens_same e file modules at w r u a b c d h =
 -- what a part that stops shows of a file
 abbrev pub EndsFaulty : Env → Stop → Type 0
 EndsFaulty env (stops.Fault code path line) = evaluate env ≡ a_fault code (site_at path line)
-EndsFaulty env stops.Memory = Unit {0}
+EndsFaulty env (stops.Memory _) = Unit {0}
 
 pub stop_evaluates : (env : Env) (stop : Stop) (result : Result Outcome t.Memory) → EndsFaulty env stop → Shows stop result → Evaluates env result
 stop_evaluates env (stops.Fault code path line) (Ok (answers.Fault fault)) e h = e ∙ ap (λ d. a_fault d (site_at path line)) (sym h.0) ∙ ap (λ q. a_fault fault.code (site_at q line)) (sym h.1) ∙ ap (λ j. a_fault fault.code (site_at fault.path j)) (sym h.2)
@@ -92,13 +92,13 @@ stop_evaluates env (stops.Fault code path line) (Ok (answers.Module m)) e h = ab
 stop_evaluates env (stops.Fault code path line) (Ok (answers.Package ts)) e h = absurd h
 stop_evaluates env (stops.Fault code path line) (Ok (answers.Need ps s)) e h = absurd h
 stop_evaluates env (stops.Fault code path line) (Err m) e h = absurd h
-stop_evaluates env stops.Memory (Ok r) e h = absurd h
-stop_evaluates env stops.Memory (Err m) e h = tt
+stop_evaluates env (stops.Memory _) (Ok r) e h = absurd h
+stop_evaluates env (stops.Memory _) (Err m) e h = tt
 
 -- a file that stops before its statements
 pub opens_faulty : (env : Env) (stop : Stop) (u : World) → Opened (opens env.file env.loads (file_level env) (start all_steps env)) (Err stop) u → EndsFaulty env stop
 opens_faulty env (stops.Fault code path line) u e = opened_outcome env (failed code (site_at path line)) e
-opens_faulty env stops.Memory u e = tt
+opens_faulty env (stops.Memory _) u e = tt
 
 -- what a file leaves is its outcome
 pub left_evaluates : (env : Env) (out : Ends l.Outcome) (result : Result Outcome t.Memory) → evaluate env ≡ outcome_of out → IsLeft out result → Evaluates env result

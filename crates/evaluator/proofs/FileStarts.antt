@@ -24,14 +24,14 @@ tick_goes here w s k e = ap (λ p. then_runs p (λ _. k)) (tick_is here w ∙ ap
 
 pub tick_stops : {A : Type 0} (here : Here) (w u : World) (s : Store) (k : Runs A) (halt : Halt) → Says {A = Unit {0}} (walks (λ objects. o.tick) w.store) (Err halt) s → Ran here.site (then_runs (tick here w) (λ _. k)) (Err halt) u
 tick_stops here w u s k (Code c) e = ap (λ p. then_runs p (λ _. k)) (tick_is here w ∙ ap (λ p. at_site here.site w p) e)
-tick_stops here w u s k Memory e = tt
+tick_stops here w u s k (Memory _) e = tt
 
 -- a stop that shows where a part stopped
 pub opened_stops : (out : Ends (Unit {0})) (path : List ℕ) (line : ℕ) (halt : Halt) (stop : Stop) (w u : World) → Ran {A = Unit {0}} (site_at path line) out (Err halt) w → Stops path line halt stop → Opened out (Err stop) u
 opened_stops out path line (Code code) (stops.Fault c p l) w u e h = e ∙ ap (λ d. failed d (site_at path line)) (sym h.0) ∙ ap (λ q. failed c (site_at q line)) (sym h.1) ∙ ap (λ i. failed c (site_at p i)) (sym h.2)
-opened_stops out path line Memory (stops.Fault c p l) w u e h = absurd h
-opened_stops out path line (Code code) stops.Memory w u e h = tt
-opened_stops out path line Memory stops.Memory w u e h = tt
+opened_stops out path line (Memory _) (stops.Fault c p l) w u e h = absurd h
+opened_stops out path line (Code code) (stops.Memory _) w u e h = tt
+opened_stops out path line (Memory _) (stops.Memory _) w u e h = tt
 
 -- the load that is next, and those behind it
 module _ (i : ℕ) (statements : List LoadStmt) (modules : List ModuleValue) (here : Here) (w : World) (l : LoadStmt) (m : ModuleValue) (is_l : drop i statements ≡ l ∷ drop (i + 1) statements) (is_m : drop i modules ≡ m ∷ drop (i + 1) modules) where
@@ -52,7 +52,7 @@ module _ (i : ℕ) (statements : List LoadStmt) (modules : List ModuleValue) (he
 
   pub load_fails : (out : Ends (Unit {0})) (u : World) (halt : Halt) → here_on ≡ out → Ran {A = Unit {0}} (at_line l.line here).site (load_does m.body (load_of l) here w) (Err halt) u → Ran {A = Unit {0}} (at_line l.line here).site out (Err halt) u
   load_fails out u (Code c) same e = sym same ∙ at_load ∙ ap (λ p. then_runs p (λ _. behind)) e
-  load_fails out u Memory same e = tt
+  load_fails out u (Memory _) same e = tt
 
 -- one of a list, and those behind it
 pub next_of : {A : Type 0} (i : ℕ) (xs : List A) (x d : A) → i < length xs → x ≡ slice_index_or xs i d → drop i xs ≡ x ∷ drop (i + 1) xs

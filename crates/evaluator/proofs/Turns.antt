@@ -27,7 +27,7 @@ leads_on e before next (t.Waits control patterns) m same leads = (same (env_of e
 pub leads_after : (e : Environment) (before next : Env → Ends Sig) (r : Result Progress Stop) (m : Machine) → Under e (λ env. before env ≡ next env) → Leads e next r m → Leads e before r m
 leads_after e before next (Ok turned) m same leads = leads_on e before next turned m same leads
 leads_after e before next (Err (s.Fault code path line)) m same leads = λ more knows. same more knows ∙ leads more knows
-leads_after e before next (Err s.Memory) m same leads = tt
+leads_after e before next (Err (s.Memory _)) m same leads = tt
 
 pub none_left : (turned : Progress) → ((control : Control) → turned ≡ t.Goes control → ⊥) → IsOver turned
 none_left (t.Goes control) h = absurd (h control refl)

@@ -31,7 +31,7 @@ opens file modules here = leading file.leading here >>= λ _. loads file.loads m
 abbrev pub Opened : Ends (Unit {0}) → Result (Unit {0}) Stop → World → Type 0
 Opened out (Ok done) u = out ≡ ended tt u
 Opened out (Err (s.Fault code path line)) u = out ≡ failed code (site_at path line)
-Opened out (Err s.Memory) u = Unit {0}
+Opened out (Err (s.Memory _)) u = Unit {0}
 
 -- the outcome of a file, behind its statements
 abbrev pub left_behind : Env → Ends Sig → Ends Outcome

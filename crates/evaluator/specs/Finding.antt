@@ -48,4 +48,4 @@ IsFound env label name None = function_named name (functions_of env label) ≡ N
 abbrev pub IsFunction : Option Obj → Result FunctionName Halt → Type 0
 IsFunction object (Ok called) = object ≡ Some (function called.label called.name)
 IsFunction object (Err (Code c)) = (c ≡ WRONG_TYPE) × ((call : Call) (xs : List Val) (ns : KeywordArguments) (here : Here) → call_object call object xs ns here ≡ fault WRONG_TYPE here)
-IsFunction object (Err Memory) = Unit {0}
+IsFunction object (Err (Memory _)) = Unit {0}

@@ -56,7 +56,7 @@ Leads e before (Ok (t.Goes control)) m = Under e (λ env. before env ≡ means e
 Leads e before (Ok (t.Ended sig)) m = Under e (λ env. before env ≡ ended (sig_of sig) (world_of m.state))
 Leads e before (Ok (t.Waits control patterns)) m = (before (env_of e) ≡ waits patterns.items) × Under e (λ env. before env ≡ means env m control)
 Leads e before (Err (s.Fault code path line)) m = Under e (λ env. before env ≡ failed code (site_at path line))
-Leads e before (Err s.Memory) m = Unit {0}
+Leads e before (Err (s.Memory _)) m = Unit {0}
 
 -- fewer steps are left, or less is to be done before the next
 abbrev pub Falls : Machine → Control → Machine → Control → Type 0
@@ -79,8 +79,8 @@ StaysLight m control after turned = Unit {0}
 -- why a part stops that stands in a line of a file
 abbrev pub Stops : List ℕ → ℕ → Halt → Stop → Type 0
 Stops path line (Code code) (s.Fault c p l) = (c ≡ code) × (p ≡ path) × (l ≡ line)
-Stops path line Memory (s.Fault c p l) = ⊥
-Stops path line halt s.Memory = Unit {0}
+Stops path line (Memory _) (s.Fault c p l) = ⊥
+Stops path line halt (s.Memory _) = Unit {0}
 
 -- a turn that leads on has paid for a step
 abbrev pub StepsFall : Machine → Machine → Progress → Type 0

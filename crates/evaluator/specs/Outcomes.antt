@@ -30,5 +30,5 @@ Evaluates env (Err memory) = Unit {0}
 -- an outcome that shows why an evaluation stops
 abbrev pub Shows : Stop → Result Outcome Memory → Type 0
 Shows (s.Fault code path line) (Ok (o.Fault fault)) = (fault.code ≡ code) × (fault.path ≡ path) × (fault.line ≡ line)
-Shows s.Memory (Err memory) = Unit {0}
+Shows (s.Memory _) (Err memory) = Unit {0}
 Shows stop result = ⊥

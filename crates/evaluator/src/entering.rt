@@ -16,6 +16,7 @@ ghost use Rattle.frames.specs.declared.frame.Control.TheVariants as c;
 ghost use Rattle.frames.specs.declared.frame.Frame.TheVariants as f;
 ghost use Rattle.evaluator.specs.Machines.{Under, means, here_in};
 ghost use Rattle.evaluator.specs.Finding.{calls_on, body_runs, IsFunction};
+ghost use Rattle.texts.specs.Refusals.{memory};
 
 use crate::finding::find;
 use crate::machine::Machine;
@@ -136,7 +137,7 @@ fn begin_body(
         (valued (body_does (body_runs env m.old.left) f parameters (inside env label f here) here))
         m.old.frames.items (world_of m.old.state) ≡ means env m.new control) }
     ensures stands { OnErr result (m.new.at ≡ m.old.at) }
-    ensures err { IsOkUnless result Memory }
+    ensures err { IsOkUnless result (Memory memory) }
     ensures light { IfOk result (λ control. (m.new.state.heap ≡ m.old.state.heap)
         × (frames_weight m.new.frames.items + control_weight control
         ≡ frames_weight m.old.frames.items + 3)) }
@@ -174,7 +175,7 @@ fn begin_body(
 // Returns the same place of code.
 fn copy_of(at: &Standing) -> Result<Standing, Halt>
     ensures ok { IfOk result (λ copy. copy ≡ at.now) }
-    ensures err { IsOkUnless result Memory }
+    ensures err { IsOkUnless result (Memory memory) }
 {
     Ok(Standing {
         label: at.label.share()?,

@@ -6,6 +6,7 @@ ghost use Rattle.std.specs.Arc.{arc_value};
 ghost use Rattle.language.specs.Environment.{defs, function_named};
 ghost use Rattle.evaluator.specs.Machines.{env_of};
 ghost use Rattle.evaluator.specs.Finding.{IsDef, IsFound};
+ghost use Rattle.texts.specs.Refusals.{memory};
 
 use crate::setting::Setting;
 use calls::reached;
@@ -49,7 +50,7 @@ fn function_in<'a>(m: &'a Module, name: &Bytes) -> Option<&'a Arc<Def, Global>>
 /// Returns the function with a name in the file with a label, if there is one.
 pub fn find(e: &Setting<'_>, label: &Text, name: &Bytes) -> Result<Option<Callee>, Halt>
     ensures ok { IfOk result (IsFound (env_of e.now) label.now name.now) }
-    ensures err { IsOkUnless result Memory }
+    ensures err { IsOkUnless result (Memory memory) }
 {
     let given = e.given();
     let (path, def) = if *label == given.label {

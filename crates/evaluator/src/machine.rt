@@ -7,7 +7,7 @@ use names::{Standing, State};
 use package_calls::Package;
 use std::alloc::Global;
 use std::sync::Arc;
-use texts::Text;
+use texts::{Memory, Text};
 use tree::File;
 
 /// What the evaluation of a file is given.
@@ -49,5 +49,5 @@ pub enum Progress {
 #[derive(Drop)]
 pub enum Stop {
     Fault { code: u64, path: Text, line: usize },
-    Memory,
+    Memory(Memory),
 }

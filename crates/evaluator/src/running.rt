@@ -56,7 +56,8 @@ pub fn first_state(alloc: Global, e: &Environment) -> Result<State, Memory>
 {
     let slots = match file_block(alloc, &e.file) {
         Ok(slots) => slots,
-        Err(_) => return Err(Memory),
+        Err(Halt::Memory(error)) => return Err(error),
+        Err(Halt::Code(_)) => unreachable!(),
     };
     let block = Block::new(slots)?;
     let label = e.label.share()?;
@@ -81,9 +82,9 @@ fn stop_in(at: &Standing, line: usize, halt: Halt) -> Stop
     match halt {
         Halt::Code(code) => match at.path.share() {
             Ok(path) => Stop::Fault { code, path, line },
-            Err(_) => Stop::Memory,
+            Err(error) => Stop::Memory(error),
         },
-        Halt::Memory => Stop::Memory,
+        Halt::Memory(error) => Stop::Memory(error),
     }
 }
 
@@ -148,7 +149,7 @@ pub fn stopped(stop: Stop) -> Result<Outcome, Memory>
 {
     match stop {
         Stop::Fault { code, path, line } => Ok(Outcome::Fault(Fault { code, path, line })),
-        Stop::Memory => Err(Memory),
+        Stop::Memory(error) => Err(error),
     }
 }
 

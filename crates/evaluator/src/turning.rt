@@ -27,9 +27,9 @@ fn stop(m: &Machine, line: usize, halt: Halt) -> Stop
     match halt {
         Halt::Code(code) => match m.at.path.share() {
             Ok(path) => Stop::Fault { code, path, line },
-            Err(_) => Stop::Memory,
+            Err(error) => Stop::Memory(error),
         },
-        Halt::Memory => Stop::Memory,
+        Halt::Memory(error) => Stop::Memory(error),
     }
 }
 
@@ -260,8 +260,8 @@ fn stretches(m: &mut Machine, e: &Setting<'_>, control: Control) -> Result<Progr
     loop {
         match stretch(m, e, control)? {
             Progress::Goes(next) => {
-                if tidy(m, &next).is_err() {
-                    return Err(Stop::Memory);
+                if let Err(error) = tidy(m, &next) {
+                    return Err(Stop::Memory(error));
                 }
                 control = next;
             }
@@ -277,6 +277,6 @@ pub fn go(m: &mut Machine, e: &Environment, control: Control) -> Result<Progress
 {
     match Setting::new(m.state.heap.alloc, e) {
         Ok(setting) => stretches(m, &setting, control),
-        Err(_) => Err(Stop::Memory),
+        Err(error) => Err(Stop::Memory(error)),
     }
 }

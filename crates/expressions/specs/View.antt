@@ -15,7 +15,7 @@ left t = map lex_of t.left.now
 abbrev pub Reads : {A X : Type 0} → (X → A) → Option (Part A) → Result X Stop → List Lex → Type 0
 Reads view expected (Ok x) new = expected ≡ Some (record { value = view x; rest = new })
 Reads view expected (Err stops.Malformed) new = expected ≡ None
-Reads view expected (Err stops.Memory) new = Unit {0}
+Reads view expected (Err (stops.Memory _)) new = Unit {0}
 
 -- it takes the next token, if there is one
 abbrev pub Takes : List Lex → Option Token → List Lex → Type 0

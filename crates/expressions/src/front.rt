@@ -11,7 +11,7 @@ ghost use Rattle.expressions.specs.declared.front.Stop.TheVariants.{Malformed, M
 
 use grammar::Rank;
 use std::alloc::{AllocError, AllocFailed, Global};
-use texts::Text;
+use texts::{Memory, Text};
 use tokens::{Ascii, Lexeme, Symbol, Token};
 use tree::BinaryOp;
 
@@ -21,30 +21,36 @@ pub enum Stop {
     /// The tokens don't begin so.
     Malformed,
     /// A growth was refused.
-    Memory,
+    Memory(Memory),
 }
 
 impl From<AllocError> for Stop {
-    ghost from_gives = { λ _ e. e ≡ Memory };
+    ghost use Rattle.texts.specs.Refusals.{memory};
 
-    fn from(_error: AllocError) -> Stop {
-        Stop::Memory
+    ghost from_gives = { λ _ e. e ≡ Memory memory };
+
+    fn from(error: AllocError) -> Stop {
+        Stop::Memory(Memory::from(error))
     }
 }
 
 impl<T: Drop> From<AllocFailed<T>> for Stop {
-    ghost from_gives = { λ _ e. e ≡ Memory };
+    ghost use Rattle.texts.specs.Refusals.{memory};
 
-    fn from(_error: AllocFailed<T>) -> Stop {
-        Stop::Memory
+    ghost from_gives = { λ _ e. e ≡ Memory memory };
+
+    fn from(error: AllocFailed<T>) -> Stop {
+        Stop::Memory(Memory::from(error))
     }
 }
 
-impl From<texts::Memory> for Stop {
-    ghost from_gives = { λ _ e. e ≡ Memory };
+impl From<Memory> for Stop {
+    ghost use Rattle.texts.specs.Refusals.{memory};
 
-    fn from(_error: texts::Memory) -> Stop {
-        Stop::Memory
+    ghost from_gives = { λ _ e. e ≡ Memory memory };
+
+    fn from(error: Memory) -> Stop {
+        Stop::Memory(error)
     }
 }
 

@@ -12,6 +12,7 @@ ghost use Rattle.expressions.specs.View.{left, Reads};
 ghost use Rattle.tree.specs.View.{tree_of, trees_of, clause_trees};
 ghost use Rattle.expressions.specs.declared.front.Stop.TheVariants.{Memory};
 ghost use Rattle.std.specs.Arc.{arc_value};
+ghost use Rattle.texts.specs.Refusals.{memory};
 
 use crate::front::Stop;
 use std::alloc::Global;
@@ -36,7 +37,7 @@ pub(crate) struct ArgumentsSoFar {
 /// Makes an expression shared.
 pub(crate) fn shared(alloc: Global, value: Expr) -> Result<Arc<Expr, Global>, Stop>
     ensures ok { IfOk result (λ a. arc_value a ≡ value) }
-    ensures err { IsOkUnless result Memory }
+    ensures err { IsOkUnless result (Memory memory) }
 {
     Ok(Arc::new(alloc, value)?)
 }
@@ -58,7 +59,7 @@ pub(crate) fn operation(
 /// Makes a list of one expression.
 pub(crate) fn alone(alloc: Global, item: Expr) -> Result<Vec<Expr>, Stop>
     ensures ok { IfOk result (λ v. v.items ≡ item ∷ []) }
-    ensures err { IsOkUnless result Memory }
+    ensures err { IsOkUnless result (Memory memory) }
 {
     let mut found = Vec::new(alloc);
     found.push(item)?;
@@ -69,7 +70,7 @@ pub(crate) fn alone(alloc: Global, item: Expr) -> Result<Vec<Expr>, Stop>
 pub(crate) fn one_entry(alloc: Global, entry: (Expr, Expr)) -> Result<EntriesSoFar, Stop>
     ensures ok { IfOk result
         (λ e. pairs_of e ≡ record { keys = tree_of entry.0 ∷ []; values = tree_of entry.1 ∷ [] }) }
-    ensures err { IsOkUnless result Memory }
+    ensures err { IsOkUnless result (Memory memory) }
 {
     let (key, value) = entry;
     let (value, keys) = beside(value, alone(alloc, key))?;
@@ -81,7 +82,7 @@ pub(crate) fn one_entry(alloc: Global, entry: (Expr, Expr)) -> Result<EntriesSoF
 pub(crate) fn dict(alloc: Global, entries: EntriesSoFar) -> Result<Expr, Stop>
     ensures ok { IfOk result (λ e. tree_of e ≡ tree.dict (trees_of entries.keys.items)
         (trees_of entries.values.items)) }
-    ensures err { IsOkUnless result Memory }
+    ensures err { IsOkUnless result (Memory memory) }
 {
     let EntriesSoFar { keys, values } = entries;
     Ok(Expr::dict(alloc, keys, values)?)
@@ -95,7 +96,7 @@ pub(crate) fn dict_by_clauses(
 ) -> Result<Expr, Stop>
     ensures ok { IfOk result (λ e. tree_of e ≡ tree.dict_of (tree_of entry.0) (tree_of entry.1)
         (clause_trees clauses.items)) }
-    ensures err { IsOkUnless result Memory }
+    ensures err { IsOkUnless result (Memory memory) }
 {
     let (key, value) = entry;
     Ok(Expr::dict_of(alloc, key, value, clauses)?)
@@ -109,7 +110,7 @@ pub(crate) fn method(
 ) -> Result<Expr, Stop>
     ensures ok { IfOk result (λ e. tree_of e ≡ tree.method (tree_of receiver.0) receiver.1
         (trees_of found.values.items) found.names.items) }
-    ensures err { IsOkUnless result Memory }
+    ensures err { IsOkUnless result (Memory memory) }
 {
     let (value, name) = receiver;
     let ArgumentsSoFar { values, names } = found;

@@ -4,6 +4,7 @@ use Rattle.std.specs.FinMap as map
 use Rattle.filetree.specs.Files.{Files, put_refusal, del_refusal}
 use Rattle.filetree.specs.declared.error.BatchError.{BatchError}
 use Rattle.filetree.specs.declared.error.BatchError.TheVariants.{At, Memory}
+use Rattle.texts.specs.Refusals.{memory}
 
 -- a text is put at a path, or the file at a path is taken away
 pub data Change : Type 0 where
@@ -46,16 +47,16 @@ changes_refusal cs files = first_refused 0 cs files
 -- the error of a refusal at a change; without one it is want of memory
 abbrev pub error_at : ℕ → Option ℕ → BatchError
 error_at at (Some n) = At at n
-error_at at None = Memory
+error_at at None = (Memory memory)
 
 -- all changes are made; or the first that is refused is told and nothing changes, as where memory is refused
 abbrev pub EditsAll : {A : Type 0} → Result A BatchError → Option (ℕ × ℕ) → Files → Files → Files → Type 0
 EditsAll (Ok _) refusal before change after = (refusal ≡ None) × (after ≡ change)
 EditsAll (Err (At i n)) refusal before change after = (refusal ≡ Some (i, n)) × (after ≡ before)
-EditsAll (Err Memory) refusal before change after = after ≡ before
+EditsAll (Err (Memory _)) refusal before change after = after ≡ before
 
 -- the same, where nothing is said of the files after an error
 abbrev pub MakesAll : {A : Type 0} → Result A BatchError → Option (ℕ × ℕ) → Files → Files → Type 0
 MakesAll (Ok _) refusal change after = (refusal ≡ None) × (after ≡ change)
 MakesAll (Err (At i n)) refusal change after = refusal ≡ Some (i, n)
-MakesAll (Err Memory) refusal change after = Unit {0}
+MakesAll (Err (Memory _)) refusal change after = Unit {0}

@@ -11,7 +11,7 @@ refusal_of Code2 = Some BAD_PATH
 refusal_of Code3 = Some IN_THE_WAY
 refusal_of Code4 = Some NO_FILE
 refusal_of Code7 = Some TEXT_TOO_LONG
-refusal_of Memory = None
+refusal_of (Memory _) = None
 
 -- the change is made, or the refusal is told and nothing changes
 abbrev pub Edits : {A : Type 0} → Result A TreeError → Option ℕ → Files → Files → Files → Type 0

@@ -34,23 +34,11 @@ fn refused_at(at: usize, error: &TreeError) -> BatchError
     ensures { result ≡ specs.error_at at (refusal_of error.now) }
 {
     match error {
-        TreeError::Code2 => BatchError::At {
-            at,
-            number: refusals::BAD_PATH,
-        },
-        TreeError::Code3 => BatchError::At {
-            at,
-            number: refusals::IN_THE_WAY,
-        },
-        TreeError::Code4 => BatchError::At {
-            at,
-            number: refusals::NO_FILE,
-        },
-        TreeError::Code7 => BatchError::At {
-            at,
-            number: refusals::TEXT_TOO_LONG,
-        },
-        TreeError::Memory => BatchError::Memory,
+        TreeError::Code2 => BatchError::At(at, refusals::BAD_PATH),
+        TreeError::Code3 => BatchError::At(at, refusals::IN_THE_WAY),
+        TreeError::Code4 => BatchError::At(at, refusals::NO_FILE),
+        TreeError::Code7 => BatchError::At(at, refusals::TEXT_TOO_LONG),
+        TreeError::Memory(error) => BatchError::Memory(*error),
     }
 }
 

@@ -1,6 +1,7 @@
 //! Why an edit is refused.
 
 use std::alloc::{AllocError, AllocFailed};
+use texts::Memory;
 use thiserror::Error;
 
 /// Why an edit is refused. The numbers are those of the answers to a client.
@@ -20,60 +21,64 @@ pub enum TreeError {
     Code7,
     /// A growth was refused.
     #[error("out of memory")]
-    Memory,
+    Memory(Memory),
 }
 
 /// Why none of several changes was made.
 #[derive(Debug, Drop, Error)]
 pub enum BatchError {
     /// The first change that is refused on the files after those before it, counted from 0, and the number of its refusal.
-    #[error("change {at} refused: {number}")]
-    At { at: usize, number: u64 },
+    #[error("change {0} refused: {1}")]
+    At(usize, u64),
     /// A growth was refused.
     #[error("out of memory")]
-    Memory,
+    Memory(Memory),
 }
 
-impl From<texts::Memory> for BatchError {
+impl From<Memory> for BatchError {
     ghost use Rattle.std.specs.Prelude.{◌≡◌};
     ghost use Rattle.filetree.specs.declared.error.BatchError.TheVariants.{Memory};
+    ghost use Rattle.texts.specs.Refusals.{memory};
 
-    ghost from_gives = { λ _ e. e ≡ Memory };
+    ghost from_gives = { λ _ e. e ≡ Memory memory };
 
-    fn from(_error: texts::Memory) -> BatchError {
-        BatchError::Memory
+    fn from(error: Memory) -> BatchError {
+        BatchError::Memory(error)
     }
 }
 
-impl From<texts::Memory> for TreeError {
+impl From<Memory> for TreeError {
     ghost use Rattle.std.specs.Prelude.{◌≡◌};
     ghost use Rattle.filetree.specs.declared.error.TreeError.TheVariants.{Memory};
+    ghost use Rattle.texts.specs.Refusals.{memory};
 
-    ghost from_gives = { λ _ e. e ≡ Memory };
+    ghost from_gives = { λ _ e. e ≡ Memory memory };
 
-    fn from(_error: texts::Memory) -> TreeError {
-        TreeError::Memory
+    fn from(error: Memory) -> TreeError {
+        TreeError::Memory(error)
     }
 }
 
 impl From<AllocError> for TreeError {
     ghost use Rattle.std.specs.Prelude.{◌≡◌};
     ghost use Rattle.filetree.specs.declared.error.TreeError.TheVariants.{Memory};
+    ghost use Rattle.texts.specs.Refusals.{memory};
 
-    ghost from_gives = { λ _ e. e ≡ Memory };
+    ghost from_gives = { λ _ e. e ≡ Memory memory };
 
-    fn from(_error: AllocError) -> TreeError {
-        TreeError::Memory
+    fn from(error: AllocError) -> TreeError {
+        TreeError::Memory(Memory::from(error))
     }
 }
 
 impl<T: Drop> From<AllocFailed<T>> for TreeError {
     ghost use Rattle.std.specs.Prelude.{◌≡◌};
     ghost use Rattle.filetree.specs.declared.error.TreeError.TheVariants.{Memory};
+    ghost use Rattle.texts.specs.Refusals.{memory};
 
-    ghost from_gives = { λ _ e. e ≡ Memory };
+    ghost from_gives = { λ _ e. e ≡ Memory memory };
 
-    fn from(_error: AllocFailed<T>) -> TreeError {
-        TreeError::Memory
+    fn from(error: AllocFailed<T>) -> TreeError {
+        TreeError::Memory(Memory::from(error))
     }
 }

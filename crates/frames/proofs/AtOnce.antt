@@ -26,6 +26,7 @@ use Rattle.frames.specs.declared.frame.Ahead.TheVariants as far
 use Rattle.frames.specs.Weight.{Lighter}
 use Rattle.names.specs.declared.state.State.{State}
 use Rattle.frames.specs.Ahead.{OnceDoes, LeadsTo, StopsAs, LeadCosts, left_weight, exited_as}
+use Rattle.texts.specs.Refusals.{memory}
 
 -- a piece, its rest, and what waits for it
 pub past : {A B C D : Type 0} (m : Ends A) (k : A → Runs B) (p : B → Runs C) (wrap : A → D) (fr : D → Runs C) → ((a : A) (u : World) → fr (wrap a) u ≡ then_runs (k a u) p) → then_runs (then_runs m k) p ≡ then_runs (then_runs m (λ a. pure (wrap a))) fr
@@ -62,23 +63,23 @@ module _ (env : Env) (n : ℕ) (here : Here) (w : World) (ss : List Stmt) (st : 
 -- a fault of a piece that was run at once
 pub stopped_as : {E : Type 0} (env : Env) (n : ℕ) (here : Here) (m says : Ends s.Exit) (r : Result Once E) (line : ℕ) (halt : Halt) (u v : World) → IfOk r (StopsAs line halt) → Done (on env n here line).site m (Err halt) u → ((c : ℕ) → m ≡ failed c (on env n here line).site → says ≡ failed c (on env n here line).site) → IfOk r (λ once. OnceDoes env n here says once v)
 stopped_as env n here m says (Ok once) line (Code c) u v is h k = subst (λ (x : Once). OnceDoes env n here says x v) (sym is) (k c h)
-stopped_as env n here m says (Ok once) line Memory u v is h k = absurd is
+stopped_as env n here m says (Ok once) line (Memory _) u v is h k = absurd is
 stopped_as env n here m says (Err e) line halt u v is h k = tt
 
 -- a condition that stops
 pub tested_stops : (site : Site) (does : Runs s.Exit → Runs s.Exit → Runs s.Exit) (m k : Runs s.Exit) (halt : Halt) (w u : World) → Tested site does w (Err halt) u → Done site (does m k w) (Err halt) u
 tested_stops site does m k (Code c) w u h = h m k
-tested_stops site does m k Memory w u h = tt
+tested_stops site does m k (Memory _) w u h = tt
 
 -- a piece that means the same
 pub same_does : {E : Type 0} (env : Env) (n : ℕ) (here : Here) (m k : Ends s.Exit) (r : Result Once E) (u : World) → m ≡ k → IfOk r (λ once. OnceDoes env n here k once u) → IfOk r (λ once. OnceDoes env n here m once u)
 same_does env n here m k r u e h = subst (λ (q : Ends s.Exit). IfOk r (λ once. OnceDoes env n here q once u)) (sym e) h
 
 -- what is left of a suite means the same, or memory ran out
-pub led : (site : Site) (before : Ends Sig) (r : Result Control Halt) (after : Control → Ends Sig) → IfOk r (λ control. before ≡ after control) → IsOkUnless r Memory → Goes site before r after
+pub led : (site : Site) (before : Ends Sig) (r : Result Control Halt) (after : Control → Ends Sig) → IfOk r (λ control. before ≡ after control) → IsOkUnless r (Memory memory) → Goes site before r after
 led site before (Ok control) after h m = h
 led site before (Err (Code c)) after h m = cc
-led site before (Err Memory) after h m = tt
+led site before (Err (Memory _)) after h m = tt
 
 -- an empty list
 pub none_of : {A : Type 0} (xs : List A) → length xs ≡ 0 → xs ≡ []

@@ -32,4 +32,4 @@ changed_other o.Remainder x y h p = refl
 
 pub stops_into : {A B : Type 0} (m : Ends A) (k : A → Runs B) (j : B → Runs Sig) (site : Site) (halt : Halt) (b : A) (u : World) (after : Control → Ends Sig) → RanInto {A = Unit {0}} site m (Err halt) b u → Goes site (then_runs (then_runs m k) j) (Err halt) after
 stops_into m k j site (Code c) b u after e = ap (λ o. then_runs (then_runs o k) j) e
-stops_into m k j site Memory b u after e = tt
+stops_into m k j site (Memory _) b u after e = tt

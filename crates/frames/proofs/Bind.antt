@@ -63,7 +63,7 @@ name_stops env n here line x e w u s (Code c) frames after is ticks h =
     ap (λ (d : Ex). above env n here (valued (ex env n here d line)) frames w) is
     ∙ ap (λ o. then_runs (then_runs (then_runs o (λ _. read x (at_line line here))) (λ v. pure (a_value v))) (stack_does env n here frames)) (tick_ends (at_line line here) w s ticks)
     ∙ ap (λ o. then_runs (then_runs o (λ v. pure (a_value v))) (stack_does env n here frames)) h
-name_stops env n here line x e w u s Memory frames after is ticks h = tt
+name_stops env n here line x e w u s (Memory _) frames after is ticks h = tt
 
 -- behind the step that an expression takes: what it does
 pub stepped : (env : Env) (n : ℕ) (here : Here) (line : ℕ) (e d : Ex) (does : Runs Val) (w : World) (s : Store) (frames : List Frame) (r : Result Control Halt) (after : Control → Ends Sig) → e ≡ d → ex env n here d line w ≡ then_runs (tick (at_line line here) w) (λ _. does) → walks (λ objects. o.tick) w.store ≡ o.gives tt s → Goes (at_line line here).site (above env n here (valued does) frames (record w { store = s })) r after → Goes (at_line line here).site (above env n here (valued (ex env n here e line)) frames w) r after

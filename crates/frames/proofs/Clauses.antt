@@ -22,12 +22,13 @@ use Rattle.frames.specs.declared.frame.Control.{Control}
 use Rattle.frames.specs.declared.frame.Comprehension.{Comprehension}
 use Rattle.frames.specs.Frames.{Sig, a_gathered, Goes, on, ex, aims_at, gathered, item_does, first_does, above, stack_does}
 use Rattle.frames.proofs.Bind.{under}
+use Rattle.texts.specs.Refusals.{memory}
 
 -- how far a call leads that stops for memory alone
-pub went : (r : Result Control Halt) (site : Site) (before : Ends Sig) (after : Control → Ends Sig) (P : Control → Type 0) → ((control : Control) → P control → before ≡ after control) → IfOk r P → IsOkUnless r Memory → Goes site before r after
+pub went : (r : Result Control Halt) (site : Site) (before : Ends Sig) (after : Control → Ends Sig) (P : Control → Type 0) → ((control : Control) → P control → before ≡ after control) → IfOk r P → IsOkUnless r (Memory memory) → Goes site before r after
 went (Ok control) site before after P leads ok err = leads control ok
 went (Err (Code c)) site before after P leads ok err = absurd cc
-went (Err Memory) site before after P leads ok err = tt
+went (Err (Memory _)) site before after P leads ok err = tt
 
 module _ (env : Env) (n : ℕ) (here : Here) (line : ℕ) (frames : List Frame) (w : World) where
   pub first_begins : (c : Clause) (cs : List Clause) (target sequence : Ex) (comp : Comprehension) → clause_of c ≡ t.for_in target sequence → (arc_value comp.clauses).items ≡ c ∷ cs

@@ -86,19 +86,19 @@ exit_leaves env k here says (x.Returns v) u is e = λ rest. ap (λ q. exited_as 
 -- a fault of a statement that would leave its suite
 pub stopped_leaves : {E : Type 0} (env : Env) (k : ℕ) (here : Here) (says : Ends s.Exit) (r : Result Once E) (line : ℕ) (halt : Halt) (u v : World) → IfOk r (StopsAs line halt) → Ran (on env k here line).site says (Err halt) u → IfOk r (λ once. LeavesAs env k here says once v)
 stopped_leaves env k here says (Ok once) line (Code code) u v is h = subst (λ (q : Once). LeavesAs env k here says q v) (sym is) h
-stopped_leaves env k here says (Ok once) line Memory u v is h = absurd is
+stopped_leaves env k here says (Ok once) line (Memory _) u v is h = absurd is
 stopped_leaves env k here says (Err e) line halt u v is h = tt
 
 -- and something was done
 pub stopped_runs : {E : Type 0} (r : Result Once E) (line : ℕ) (halt : Halt) → IfOk r (StopsAs line halt) → IfOk r (λ once. is_run once ≡ true)
 stopped_runs (Ok once) line (Code code) is = ap is_run is
-stopped_runs (Ok once) line Memory is = absurd is
+stopped_runs (Ok once) line (Memory _) is = absurd is
 stopped_runs (Err e) line halt is = tt
 
 -- a fault costs all steps
 pub stopped_costs : {E : Type 0} (r : Result Once E) (line : ℕ) (halt : Halt) (old new : State) → IfOk r (StopsAs line halt) → new.heap.steps ≡ 0 → IfOk r (λ once. OnceCosts once old new)
 stopped_costs (Ok once) line (Code code) old new is h = subst (λ (q : Once). OnceCosts q old new) (sym is) h
-stopped_costs (Ok once) line Memory old new is h = absurd is
+stopped_costs (Ok once) line (Memory _) old new is h = absurd is
 stopped_costs (Err e) line halt old new is h = tt
 
 -- a `return`: what it gives, and that it ends
@@ -107,7 +107,7 @@ returned here w u does v e = sym (then_assoc (tick here w) (λ _. does) (λ y. p
 
 pub return_stops : (here : Here) (w u : World) (does : Runs Val) (halt : Halt) → Ran here.site (then_runs (tick here w) (λ _. does)) (Err halt) u → Ran here.site (then_runs (tick here w) (λ _ z. then_runs (does z) (λ y. pure (s.returns y)))) (Err halt) u
 return_stops here w u does (Code code) e = sym (then_assoc (tick here w) (λ _. does) (λ y. pure (s.returns y))) ∙ ap (λ q. then_runs q (λ y. pure (s.returns y))) e
-return_stops here w u does Memory e = tt
+return_stops here w u does (Memory _) e = tt
 
 -- a suite of which nothing is left changes nothing
 rest_is : (env : Env) (k : ℕ) (here : Here) (ss : Arc (Vec Stmt Global) Global) (i : ℕ) (sig : Sig) (u : World) → drop i (arc_value ss).items ≡ [] → frame_does env k here (f.Rest ss i) sig u ≡ ended sig u

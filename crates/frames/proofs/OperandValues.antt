@@ -26,7 +26,7 @@ use Rattle.frames.specs.Frames.{Sig, a_value, Goes, on, ex, valued, right, entri
 -- a piece that stops, with others behind it
 pub stops : {A B : Type 0} (m : Ends A) (k : A → Runs B) (j : B → Runs Sig) (site : Site) (halt : Halt) (u : World) (after : Control → Ends Sig) → Ran site m (Err halt) u → Goes site (then_runs (then_runs m k) j) (Err halt) after
 stops m k j site (Code c) u after e = ap (λ o. then_runs (then_runs o k) j) e
-stops m k j site Memory u after e = tt
+stops m k j site (Memory _) u after e = tt
 
 -- what has taken a step is lighter
 pub spent : (r : Result Control Halt) (s w s' : ℕ) (f : Control → ℕ) → IfOk r (λ _. s' < s) → IfOk r (λ control. Lighter s w s' (f control))

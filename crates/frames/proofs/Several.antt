@@ -31,7 +31,7 @@ first_item (waits ps) rest done k p j = refl
 -- items that stop
 pub items_stop : (m : Ends (List Val)) (k : List Val → Runs Val) (p : Val → Runs Sig) (j : Sig → Runs Sig) (site : Site) (halt : Halt) (u : World) (after : Control → Ends Sig) → RanItems site m (Err halt) u → Goes site (then_runs (then_runs (then_runs m k) p) j) (Err halt) after
 items_stop m k p j site (Code c) u after h = ap (λ q. then_runs (then_runs (then_runs q k) p) j) h
-items_stop m k p j site Memory u after h = tt
+items_stop m k p j site (Memory _) u after h = tt
 
 module _ (env : Env) (n : ℕ) (here : Here) (line : ℕ) (p : Purpose) (frames : List Frame) (w : World) where
   pub item_first : (e : Expr) (rest : List Expr) (done : List Val) → above env n here (valued (items_from env n here p (trees_of (e ∷ rest)) done line)) frames w ≡ then_runs (ex env n here (tree_of e) line w) (λ v. above env n here (valued (items_from env n here p (trees_of rest) (done ++ v ∷ []) line)) frames)

@@ -28,7 +28,7 @@ module _ (env : Env) (n : ℕ) (here : Here) (frames : List Frame) (w : World) w
 -- a turn that does not begin
 pub turn_stops : {A B C D : Type 0} (o : Out Store (Unit {0})) (site : Site) (w u : World) (s : Store) (halt : Halt) (m : Unit {0} → Runs A) (k : A → Runs B) (l : B → Runs C) (p : C → Runs D) (j : D → Runs Sig) (after : Control → Ends Sig) → Says o (Err halt) s → Goes site (then_runs (then_runs (then_runs (then_runs (then_runs (at_site site w o) m) k) l) p) j) (Err halt) after
 turn_stops o site w u s (Code c) m k l p j after e = ap (λ q. then_runs (then_runs (then_runs (then_runs (then_runs (at_site site w q) m) k) l) p) j) e
-turn_stops o site w u s Memory m k l p j after e = tt
+turn_stops o site w u s (Memory _) m k l p j after e = tt
 
 -- a turn of any kind
 pub turn_any : {A X : Type 0} (m : Ends A) (sb : A → Runs X) (behind unl : X → Runs X) (p : X → Runs Sig) (j : Sig → Runs Sig)
@@ -40,8 +40,8 @@ turn_any (waits ps) sb behind unl p j = refl
 -- a piece that stops, with more behind it
 pub stops3 : {A B C : Type 0} (m : Ends A) (k : A → Runs B) (p : B → Runs C) (j : C → Runs Sig) (site : Site) (halt : Halt) (u : World) (after : Control → Ends Sig) → Ran site m (Err halt) u → Goes site (then_runs (then_runs (then_runs m k) p) j) (Err halt) after
 stops3 m k p j site (Code c) u after e = ap (λ o. then_runs (then_runs (then_runs o k) p) j) e
-stops3 m k p j site Memory u after e = tt
+stops3 m k p j site (Memory _) u after e = tt
 
 pub stops4 : {A B C D : Type 0} (m : Ends A) (k : A → Runs B) (i : B → Runs C) (p : C → Runs D) (j : D → Runs Sig) (site : Site) (halt : Halt) (u : World) (after : Control → Ends Sig) → Ran site m (Err halt) u → Goes site (then_runs (then_runs (then_runs (then_runs m k) i) p) j) (Err halt) after
 stops4 m k i p j site (Code c) u after e = ap (λ o. then_runs (then_runs (then_runs (then_runs o k) i) p) j) e
-stops4 m k i p j site Memory u after e = tt
+stops4 m k i p j site (Memory _) u after e = tt

@@ -30,7 +30,7 @@ use Rattle.frames.specs.Frames.{Sig, an_exit, on, body, suite_from, control_does
 -- a fault, with its line
 abbrev pub StopsAs : ℕ → Halt → Once → Type 0
 StopsAs line (Code c) once = once ≡ o.Faulty line c
-StopsAs line Memory once = ⊥
+StopsAs line (Memory _) once = ⊥
 
 -- how a suite ends, as a signal
 abbrev pub exited_as : Ends Exit → Ends Sig

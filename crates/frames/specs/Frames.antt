@@ -502,4 +502,4 @@ is_within control = true
 abbrev pub Goes : Site → Ends Sig → Result Control Halt → (Control → Ends Sig) → Type 0
 Goes site before (Ok control) after = before ≡ after control
 Goes site before (Err (Code c)) after = before ≡ failed c site
-Goes site before (Err Memory) after = Unit {0}
+Goes site before (Err (Memory _)) after = Unit {0}

@@ -11,7 +11,7 @@ abbrev pub AtOnce : Site → Ends Val → Result (Option Val) Halt → World →
 AtOnce site says (Ok (Some v)) w = says ≡ ended v w
 AtOnce site says (Ok None) w = Unit {0}
 AtOnce site says (Err (Code c)) w = says ≡ failed c site
-AtOnce site says (Err Memory) w = Unit {0}
+AtOnce site says (Err (Memory _)) w = Unit {0}
 
 -- a value costs a step; where there is none nothing was done
 abbrev pub Costs : Result (Option Val) Halt → State → State → Type 0

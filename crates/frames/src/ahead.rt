@@ -12,6 +12,7 @@ ghost use Rattle.language.specs.World.{World, Here, Ends, then_runs};
 ghost use Rattle.frames.specs.Frames.{body, shared_suite, suite_from, stack_does, machine_does};
 ghost use Rattle.frames.specs.Weight.{frames_weight, control_weight};
 ghost use Rattle.frames.specs.Ahead.{OnceDoes, OnceCosts, SuiteCosts, StopsAs, LeadsTo, LeadCosts, exited_as, left_weight};
+ghost use Rattle.texts.specs.Refusals.{memory};
 
 use crate::frame::{Ahead, Control, Exit, Frame, Once, Signal};
 use crate::leaving::{exit_once, leaves, rest_above};
@@ -32,7 +33,7 @@ pub(crate) fn stopped(state: &mut State, line: usize, halt: Halt) -> Result<Once
     state.heap.steps = 0;
     match halt {
         Halt::Code(code) => Ok(Once::Faulty { line, code }),
-        Halt::Memory => Err(Memory),
+        Halt::Memory(error) => Err(error),
     }
 }
 
@@ -187,7 +188,7 @@ pub fn lead(
         → IfOk result
         (λ control. then_runs (exited_as says) (stack_does env n here frames.old.items)
         ≡ machine_does env n here control frames.new.items u) }
-    ensures err { IsOkUnless result h.Memory }
+    ensures err { IsOkUnless result (h.Memory memory) }
     ensures weight { IfOk result (λ control. frames_weight frames.new.items + control_weight control
         ≡ frames_weight frames.old.items + left_weight ss ahead) }
 {

@@ -10,6 +10,7 @@ ghost use Rattle.frames.specs.declared.frame.Frame.{Frame};
 ghost use Rattle.frames.specs.declared.frame.Frame.TheVariants as f;
 ghost use Rattle.frames.specs.Frames.{Goes, a_value, an_aim, on, frame_does, params_at, above, machine_does};
 ghost use Rattle.frames.specs.Weight.{frames_weight, frame_weight, control_weight};
+ghost use Rattle.texts.specs.Refusals.{memory};
 
 use crate::frame::{Comprehension, Control, Exit, Frame, Gathering, Pairs, Signal, Turns};
 use crate::items::begin_above;
@@ -161,7 +162,7 @@ pub fn default_done(
     ensures ok { IfOk result (λ control. (env : Env) (n : ℕ) (here : Here) (frames : List Frame)
         (w : World) → above env n here (frame_does env n here (f.Default line def next done)
         (a_value x)) frames w ≡ machine_does env n here control frames w) }
-    ensures err { IsOkUnless result Memory }
+    ensures err { IsOkUnless result (Memory memory) }
     ensures light { IfOk result (λ control. control_weight control ≡ length (params_at next def)
         + 7) }
 {
@@ -186,7 +187,7 @@ pub(crate) fn aim_done(
         (w : World) → above env n here
         (frame_does env n here (f.Aims line es done) (an_aim (aim_of aim))) frames w
         ≡ machine_does env n here control frames w) }
-    ensures err { IsOkUnless result Memory }
+    ensures err { IsOkUnless result (Memory memory) }
     ensures light { IfOk result (λ control. control_weight control + 1 ≡ frame_weight
         (f.Aims line es done)) }
 {

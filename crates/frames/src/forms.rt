@@ -13,6 +13,7 @@ ghost use Rattle.names.specs.View.{world_of, here_of};
 ghost use Rattle.frames.specs.Going.{LeadsOn};
 ghost use Rattle.frames.specs.declared.frame.Frame.{Frame};
 ghost use Rattle.frames.specs.Frames.{Goes, on, valued, gathered, item_does, items_from, entries_from, method_does, unary_does, binary_does, choice_does, index_does, slice_does, call_does, list_of_does, dict_of_does, shared_trees, above, machine_does};
+ghost use Rattle.texts.specs.Refusals.{memory};
 
 use crate::frame::{Comprehension, Control, Frame, Item, Purpose, Receiver, Signal};
 use crate::items::begin_arguments;
@@ -50,7 +51,7 @@ pub fn begin_items(
         (w : World) → above env n here
         (valued (items_from env n here purpose (shared_trees es.now) [] line)) frames w
         ≡ machine_does env n here control frames w) }
-    ensures err { IsOkUnless result Memory }
+    ensures err { IsOkUnless result (Memory memory) }
 {
     items_of(alloc, line, Arc::try_clone(es)?, purpose)
 }
@@ -66,7 +67,7 @@ pub fn begin_dict(
         (w : World) → above env n here
         (valued (entries_from env n here (shared_trees ks.now) (shared_trees vs.now) [] line))
         frames w ≡ machine_does env n here control frames w) }
-    ensures err { IsOkUnless result Memory }
+    ensures err { IsOkUnless result (Memory memory) }
 {
     let keys = Arc::try_clone(ks)?;
     entries_of(alloc, line, keys, Arc::try_clone(vs)?)
@@ -260,7 +261,7 @@ pub fn begin_dict_of(
 // Returns the same bound, shared.
 fn share_bound(bound: &Option<Arc<Expr, Global>>) -> Result<Option<Arc<Expr, Global>>, Halt>
     ensures ok { IfOk result (λ b. bound_tree b ≡ bound_tree bound.now) }
-    ensures err { IsOkUnless result Memory }
+    ensures err { IsOkUnless result (Memory memory) }
 {
     match bound {
         Some(e) => Ok(Some(Arc::try_clone(e)?)),

@@ -16,6 +16,7 @@ ghost use Rattle.frames.specs.Frames.{Sig, on, exit_of, frame_does, stack_does};
 ghost use Rattle.frames.specs.Weight.{frames_weight};
 ghost use Rattle.frames.specs.Ahead.{Leaves, LeavesAs, IsExit, OnceCosts, is_call, is_run, leaves, leaves_at_once, rest_weight};
 ghost use Rattle.frames.specs.declared.frame.Frame.TheVariants as f;
+ghost use Rattle.texts.specs.Refusals.{memory};
 
 use crate::ahead::stopped;
 use crate::frame::{Control, Exit, Frame, Once, Signal};
@@ -124,7 +125,7 @@ pub fn rest_above(
         → then_runs (then_runs m (frame_does env n here (f.Rest ss.now next)))
         (stack_does env n here frames.old.items)
         ≡ then_runs m (stack_does env n here frames.new.items)) }
-    ensures err { IsOkUnless result h.Memory }
+    ensures err { IsOkUnless result (h.Memory memory) }
     ensures weight { IfOk result (λ _. frames_weight frames.new.items
         ≡ frames_weight frames.old.items + rest_weight next ss.now) }
 {

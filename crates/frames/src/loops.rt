@@ -40,7 +40,7 @@ pub fn next_stmt(
 {
     let ahead = match ahead(state, at, &ss, next) {
         Ok(ahead) => ahead,
-        Err(_) => return Err(Halt::Memory),
+        Err(error) => return Err(Halt::Memory(error)),
     };
     match ahead {
         Ahead::At(i) => {
@@ -189,6 +189,6 @@ fn run_turn(
             push(frames, Frame::Turns(turns))?;
             lead(frames, body, ahead)
         }
-        Err(_) => Err(Halt::Memory),
+        Err(error) => Err(Halt::Memory(error)),
     }
 }

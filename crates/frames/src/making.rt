@@ -14,6 +14,7 @@ ghost use Rattle.frames.specs.Going.{LeadsOnAnywhere, SpendsFor};
 ghost use Rattle.frames.specs.declared.frame.Frame.{Frame};
 ghost use Rattle.frames.specs.Frames.{on, valued, exited, gathered, shared_trees, shared_suite, body, items_from, entries_from, each_does, above, machine_does};
 ghost use Rattle.frames.specs.Weight.{control_weight};
+ghost use Rattle.texts.specs.Refusals.{memory};
 
 use crate::frame::{Comprehension, Control, Gathering, Pairs, Purpose, Series, Turns};
 use heap::{Halt, Val};
@@ -34,7 +35,7 @@ pub fn items_of(
         (w : World) → above env n here
         (valued (items_from env n here purpose (shared_trees items) [] line)) frames w
         ≡ machine_does env n here control frames w) }
-    ensures err { IsOkUnless result Memory }
+    ensures err { IsOkUnless result (Memory memory) }
     ensures light { IfOk result (λ control. control_weight control ≡ 8) }
 {
     let series = Series {
@@ -59,7 +60,7 @@ pub fn entries_of(
         (w : World) → above env n here
         (valued (entries_from env n here (shared_trees keys) (shared_trees values) [] line)) frames
         w ≡ machine_does env n here control frames w) }
-    ensures err { IsOkUnless result Memory }
+    ensures err { IsOkUnless result (Memory memory) }
     ensures light { IfOk result (λ control. control_weight control ≡ 3) }
 {
     let pairs = Pairs {

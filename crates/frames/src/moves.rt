@@ -8,6 +8,7 @@ ghost use Rattle.frames.specs.Frames.{Goes, on, sig_of, frame_does, frame_line, 
 ghost use Rattle.frames.specs.Weight.{frames_weight, frame_weight, control_weight};
 ghost use Rattle.frames.specs.Ahead.{AsLight};
 ghost use Rattle.frames.specs.declared.frame.Control.TheVariants as c;
+ghost use Rattle.texts.specs.Refusals.{memory};
 
 use crate::frame::{Control, Frame, Signal};
 use crate::handing::deliver;
@@ -62,7 +63,7 @@ fn stepped(
         → let here = here_of at.now at.now.line running in
         IfOk result (λ next. machine_does env n here control frames.old.items (world_of state.old)
         ≡ machine_does env n here next frames.new.items (world_of state.new)) }
-    ensures err { IsOkUnless result Memory }
+    ensures err { IsOkUnless result (Memory memory) }
     ensures lighter { IfOk result
         (λ next. AsLight state.old.heap.steps
         (frames_weight frames.old.items + control_weight control) state.new.heap.steps
@@ -76,7 +77,7 @@ fn stepped(
             frames.clear();
             Ok(Control::Fault { line, code })
         }
-        Err(Halt::Memory) => Err(Halt::Memory),
+        Err(Halt::Memory(error)) => Err(Halt::Memory(error)),
     }
 }
 
@@ -95,7 +96,7 @@ fn handed(
         IfOk result (λ next. machine_does env n here (c.Signal signal)
         (frames.old.items ++ frame ∷ []) (world_of state.old)
         ≡ machine_does env n here next frames.new.items (world_of state.new)) }
-    ensures err { IsOkUnless result Memory }
+    ensures err { IsOkUnless result (Memory memory) }
     ensures lighter { IfOk result
         (λ next. AsLight state.old.heap.steps (frames_weight (frames.old.items ++ frame ∷ []))
         state.new.heap.steps (frames_weight frames.new.items + control_weight next)) }
@@ -108,7 +109,7 @@ fn handed(
             frames.clear();
             Ok(Control::Fault { line, code })
         }
-        Err(Halt::Memory) => Err(Halt::Memory),
+        Err(Halt::Memory(error)) => Err(Halt::Memory(error)),
     }
 }
 
@@ -124,7 +125,7 @@ fn hand_over(
         IfOk result (λ next. machine_does env n here (c.Signal signal) frames.old.items
         (world_of state.old)
         ≡ machine_does env n here next frames.new.items (world_of state.new)) }
-    ensures err { IsOkUnless result Memory }
+    ensures err { IsOkUnless result (Memory memory) }
     ensures lighter { IfOk result
         (λ next. AsLight state.old.heap.steps (frames_weight frames.old.items)
         state.new.heap.steps (frames_weight frames.new.items + control_weight next)) }
@@ -153,7 +154,7 @@ fn move_on(
         → let here = here_of at.now at.now.line running in
         IfOk result (λ next. machine_does env n here control frames.old.items (world_of state.old)
         ≡ machine_does env n here next frames.new.items (world_of state.new)) }
-    ensures err { IsOkUnless result Memory }
+    ensures err { IsOkUnless result (Memory memory) }
     ensures lighter { IfOk result
         (λ next. AsLight state.old.heap.steps
         (frames_weight frames.old.items + control_weight control) state.new.heap.steps
@@ -181,7 +182,7 @@ pub fn onward(
         → let here = here_of at.now at.now.line running in
         IfOk result (λ next. machine_does env n here control frames.old.items (world_of state.old)
         ≡ machine_does env n here next frames.new.items (world_of state.new)) }
-    ensures err { IsOkUnless result Memory }
+    ensures err { IsOkUnless result (Memory memory) }
     ensures lighter { IfOk result
         (λ next. AsLight state.old.heap.steps
         (frames_weight frames.old.items + control_weight control) state.new.heap.steps

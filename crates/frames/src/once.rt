@@ -12,6 +12,7 @@ ghost use Rattle.frames.specs.Immediate.{AtOnce, Costs};
 ghost use Rattle.frames.specs.Frames.{Sig, Goes, a_value, on, ex, valued, items_from, trees_from, frame_does, calls_below, here_below, above, machine_does};
 ghost use Rattle.frames.specs.Weight.{control_weight};
 ghost use Rattle.frames.specs.declared.frame.Frame.{Frame};
+ghost use Rattle.texts.specs.Refusals.{memory};
 
 use crate::frame::{Control, Frame, Series, Signal};
 use crate::items::parts_above;
@@ -48,7 +49,7 @@ pub fn item_done(line: usize, series: Box<Series>, x: Val) -> Result<Control, Ha
         (trees_from (length series.value.done.items + 1) series.value.items)
         (series.value.done.items ++ x ∷ []) line)) frames w ≡ machine_does env n here control frames
         w) }
-    ensures err { IsOkUnless result Memory }
+    ensures err { IsOkUnless result (Memory memory) }
     ensures light { IfOk result (λ control. control_weight control ≡ 8) }
 {
     let mut series = series;

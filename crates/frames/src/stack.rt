@@ -6,6 +6,7 @@ ghost use Rattle.language.specs.Environment.{Env};
 ghost use Rattle.tree.specs.View.{shared_tree};
 ghost use Rattle.frames.specs.Weight.{frame_weight, frames_weight};
 ghost use Rattle.frames.specs.Frames.{Sig, a_value, ex, frame_does, stack_does, calls_below, here_below, above, machine_does};
+ghost use Rattle.texts.specs.Refusals.{memory};
 
 use crate::frame::{Control, Frame};
 use heap::Halt;
@@ -20,7 +21,7 @@ pub fn push(frames: &mut Vec<Frame>, frame: Frame) -> Result<(), Halt>
         → stack_does env n here frames.new.items
         ≡ (λ (sig : Sig) (w : World). then_runs (frame_does env n here frame sig w)
         (stack_does env (calls_below frame n) (here_below frame here) frames.old.items))) }
-    ensures err { IsOkUnless result Memory }
+    ensures err { IsOkUnless result (Memory memory) }
     ensures weight { OnOk result (frames_weight frames.new.items ≡ frames_weight frames.old.items
         + frame_weight frame) }
 {
@@ -40,7 +41,7 @@ pub fn eval_above(
         → then_runs (ex env n here (shared_tree e.now) line w)
         (λ v. above env n here (frame_does env n here frame (a_value v)) frames.old.items)
         ≡ machine_does env n here control frames.new.items w) }
-    ensures err { IsOkUnless result Memory }
+    ensures err { IsOkUnless result (Memory memory) }
 {
     push(frames, frame)?;
     Ok(Control::Eval {

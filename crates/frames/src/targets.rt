@@ -9,6 +9,7 @@ ghost use Rattle.frames.specs.Going.{GetsLighter, LeadsOn};
 ghost use Rattle.frames.specs.Frames.{Goes, on, an_aim, aimed, aims_at, frame_does, calls_below, here_below, above, machine_does};
 ghost use Rattle.frames.specs.Weight.{frames_weight, control_weight, aim_size};
 ghost use Rattle.frames.specs.declared.frame.Control.TheVariants as c;
+ghost use Rattle.texts.specs.Refusals.{memory};
 
 use crate::frame::{Control, Frame, Signal};
 use crate::items::begin_above;
@@ -33,7 +34,7 @@ pub fn aim_above(
         → then_runs (aims_at env n here (shared_tree e.now) line w)
         (λ a. above env n here (frame_does env n here frame (an_aim a)) frames.old.items)
         ≡ machine_does env n here control frames.new.items w) }
-    ensures err { IsOkUnless result Memory }
+    ensures err { IsOkUnless result (Memory memory) }
 {
     push(frames, frame)?;
     Ok(Control::Aim {

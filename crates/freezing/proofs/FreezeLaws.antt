@@ -102,7 +102,7 @@ module _ (fz : Val → Does ℕ Fz) (xs : List Val) (i : ℕ) (s : ℕ) (done : 
 
     pub member_halts : (halt : Halt) (t : ℕ) → SaysFrozen (fz x s) (Err halt) t → SaysMembers all (Err halt) t
     member_halts (Code c) t e = sym member_now ∙ ap (λ out. and_then (and_then out (λ f. λ t. and_then (freeze_members fz (drop (suc i) xs) t) (λ fs. pure (member f fs)))) (λ fs. gives (onto done fs))) e
-    member_halts Memory t e = tt
+    member_halts (Memory _) t e = tt
 
 -- a turn of the loop over entries
 module _ (fz : Val → Does ℕ Fz) (xs : Entries) (i : ℕ) (s : ℕ) (done : List (Fz × Fz)) (all : Out ℕ Pairs) (inv : and_then (freeze_entries fz (drop i xs) s) (λ ps. gives (pairs_onto done ps)) ≡ all) where
@@ -125,4 +125,4 @@ module _ (fz : Val → Does ℕ Fz) (xs : Entries) (i : ℕ) (s : ℕ) (done : L
 
     pub entry_halts : (halt : Halt) (t : ℕ) → SaysEntry (freeze_entry fz x s) (Err halt) t → SaysEntries all (Err halt) t
     entry_halts (Code c) t e = sym entry_now ∙ ap (λ out. and_then (and_then out (λ p. λ t. and_then (freeze_entries fz (drop (suc i) xs) t) (λ ps. pure (pair p.0 p.1 ps)))) (λ ps. gives (pairs_onto done ps))) e
-    entry_halts Memory t e = tt
+    entry_halts (Memory _) t e = tt

@@ -54,25 +54,25 @@ entry_of = fold-FrozenEntry Fz (Fz × Fz) frozen_step entry_step
 abbrev pub SaysFrozen : {S : Type 0} → Out S Fz → Result Frozen Halt → S → Type 0
 SaysFrozen out (Ok f) s = out ≡ gives (frozen_of f) s
 SaysFrozen out (Err (Code c)) s = out ≡ faults c
-SaysFrozen out (Err Memory) s = Unit {0}
+SaysFrozen out (Err (Memory _)) s = Unit {0}
 
 abbrev pub SaysMembers : Out ℕ Fzs → Result (Vec Frozen Global) Halt → ℕ → Type 0
 SaysMembers out (Ok v) s = out ≡ gives (members_of (map frozen_of v.items)) s
 SaysMembers out (Err (Code c)) s = out ≡ faults c
-SaysMembers out (Err Memory) s = Unit {0}
+SaysMembers out (Err (Memory _)) s = Unit {0}
 
 abbrev pub SaysEntry : Out ℕ (Fz × Fz) → Result FrozenEntry Halt → ℕ → Type 0
 SaysEntry out (Ok e) s = out ≡ gives (entry_of e) s
 SaysEntry out (Err (Code c)) s = out ≡ faults c
-SaysEntry out (Err Memory) s = Unit {0}
+SaysEntry out (Err (Memory _)) s = Unit {0}
 
 abbrev pub SaysEntries : Out ℕ Pairs → Result (Vec FrozenEntry Global) Halt → ℕ → Type 0
 SaysEntries out (Ok v) s = out ≡ gives (pairs_of (map entry_of v.items)) s
 SaysEntries out (Err (Code c)) s = out ≡ faults c
-SaysEntries out (Err Memory) s = Unit {0}
+SaysEntries out (Err (Memory _)) s = Unit {0}
 
 -- as for a list, of entries that are set
 abbrev pub SaysSet : {S A : Type 0} → Out S Entries → Result A Halt → Entries → S → Type 0
 SaysSet out (Ok a) es s = out ≡ gives es s
 SaysSet out (Err (Code c)) es s = out ≡ faults c
-SaysSet out (Err Memory) es s = Unit {0}
+SaysSet out (Err (Memory _)) es s = Unit {0}

@@ -86,7 +86,7 @@ pub fn laid_out(alloc: Global, f: &Frozen) -> Result<Option<Arc<Laid, Global>>, 
             let objects = Arc::new(alloc, objects)?;
             Ok(Some(Arc::new(alloc, Laid { root, objects })?))
         }
-        Err(Halt::Memory) => Err(Memory),
+        Err(Halt::Memory(error)) => Err(error),
         Err(Halt::Code(_)) => Ok(None),
     }
 }

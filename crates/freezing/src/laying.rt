@@ -12,13 +12,15 @@ use crate::thawing::frozen_key_of;
 use frozen_objects::{FrozenDict, FrozenObject, FrozenObjects, FrozenPair, FrozenVal};
 use heap::Halt;
 use std::alloc::Global;
+use texts::Memory;
 
 // Adds an object behind the others, and returns the value that names it.
 fn add(objects: &mut FrozenObjects, object: FrozenObject) -> Result<FrozenVal, Halt>
     ensures { Says (makes (frozen_obj object) (over objects.old)) result (over objects.new) }
 {
-    let Ok(place) = u32::try_from(objects.len()) else {
-        return Err(Halt::Memory);
+    let wanted = objects.len() as u128;
+    let Ok(place) = u32::try_from(wanted) else {
+        return Err(Halt::Memory(Memory::no_number_left(wanted)));
     };
     objects.push(object)?;
     Ok(FrozenVal::at(place))

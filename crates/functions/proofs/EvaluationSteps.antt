@@ -8,7 +8,7 @@ use Rattle.language.specs.Environment.{Env}
 use Rattle.language.specs.Laws.{with_answers}
 use Rattle.language.specs.Files.{Outcome, a_module, a_package, a_need, a_fault, evaluate}
 use Rattle.language.proofs.MoreStatements.{needs_asked}
-use Rattle.keys.specs.Keys.{glob_key}
+use Rattle.walks.specs.Globs.{glob_key}
 use Rattle.keys.specs.declared.key.Key.{Key}
 use Rattle.keys.specs.declared.value.Value.{Value}
 use Rattle.functions.specs.Goes.{led}

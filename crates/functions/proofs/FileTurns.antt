@@ -1,11 +1,11 @@
 -- What a file, a module and a package come to behind the answers that they have taken.
 use Rattle.std.proofs.Common.{◌≡◌, ℕ, ◌-◌, ◌≤◌, List, ◌∷◌, ◌++◌, length, take, drop, cond, None, Ok, Result, IfOk, ◌∙◌, ap, sym, subst, arith, length-append}
+use Rattle.texts.specs.declared.memory.Memory.{Memory}
 use Rattle.std.specs.Arc.{arc_value}
 use Rattle.std.specs.declared.sync.Arc.{Arc}
 use Rattle.std.specs.declared.alloc.Global.{Global}
 use Rattle.std.proofs.lemmas.Bool.{le-ltb}
 use Rattle.std.proofs.lemmas.List.{drop-append-le, length-map, take-append-le, take-map}
-use Rattle.texts.specs.declared.memory.Memory.{Memory}
 use Rattle.labels.specs.Labels.{Target}
 use Rattle.tree.specs.Tree.{Fi}
 use Rattle.module_values.specs.Values.{ModuleValue}

@@ -1,7 +1,7 @@
 -- Further answers change nothing that was made of those before them.
 use Rattle.std.proofs.Common.{◌≡◌, ◌≤◌, ◌∙◌, ap, sym, refl, arith, List, [], ◌∷◌, ◌++◌, length, map, ℕ, cond, Some, Result, IfOk}
-use Rattle.std.proofs.lemmas.List.{append-nil}
 use Rattle.texts.specs.declared.memory.Memory.{Memory}
+use Rattle.std.proofs.lemmas.List.{append-nil}
 use Rattle.keys.specs.Keys.{key_eq}
 use Rattle.keys.specs.declared.key.Key.{Key}
 use Rattle.keys.specs.declared.value.Value.{Value}

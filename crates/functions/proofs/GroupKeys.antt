@@ -5,7 +5,8 @@ use Rattle.std.specs.Cmp.{unsigned_Decides}
 use Rattle.std.specs.Cmp.Lexicographic.{pointwise}
 use lib.Pointwise.{pointwise_decides}
 use Rattle.labels.specs.Labels.{Target, label_text}
-use Rattle.keys.specs.Keys.{key_eq, kind, name_of}
+use Rattle.keys.specs.Keys.{key_eq}
+pub use Rattle.keys.proofs.KeyLaws.{one_key, own_key}
 use Rattle.keys.specs.declared.key.Key.{Key}
 use Rattle.keys.specs.declared.key.Key.TheVariants as key
 use Rattle.keys.specs.declared.value.Value.{Value}
@@ -23,30 +24,6 @@ load_of t = key.Module (label_text t)
 abbrev pub module_value : Module → Value
 module_value (Ok m) = value.Module m
 module_value (Err f) = value.Fault f
-
-both : (a b : Bool) → a && b ≡ true → (a ≡ true) × (b ≡ true)
-both true true e = (refl, refl)
-both true false e = absurd (false≢true e)
-both false b e = absurd (false≢true e)
-
-same_kind_name : (j k : Key) → kind j ≡ kind k → name_of j ≡ name_of k → j ≡ k
-same_kind_name (key.File a) (key.File b) e h = ap (λ (x : List ℕ). key.File x) h
-same_kind_name (key.Listing a) (key.Listing b) e h = ap (λ (x : List ℕ). key.Listing x) h
-same_kind_name (key.Lookup a) (key.Lookup b) e h = ap (λ (x : List ℕ). key.Lookup x) h
-same_kind_name (key.Glob a) (key.Glob b) e h = ap (λ (x : List ℕ). key.Glob x) h
-same_kind_name (key.Module a) (key.Module b) e h = ap (λ (x : List ℕ). key.Module x) h
-same_kind_name (key.Package a) (key.Package b) e h = ap (λ (x : List ℕ). key.Package x) h
-same_kind_name (key.Under a) (key.Under b) e h = ap (λ (x : List ℕ). key.Under x) h
-same_kind_name j k e h = absurd (omega (arith, e))
-
--- equal keys are one
-pub one_key : (j k : Key) → key_eq j k ≡ true → j ≡ k
-one_key j k e =
-    let p = both (kind j == kind k) (pointwise ◌==◌ (name_of j) (name_of k)) e in
-    same_kind_name j k ((unsigned_Decides (kind j) (kind k)).0 p.0) ((pointwise_decides unsigned_Decides (name_of j) (name_of k)).0 p.1)
-
-pub own_key : (k : Key) → key_eq k k ≡ true
-own_key k = ap (λ b. b && pointwise ◌==◌ (name_of k) (name_of k)) ((unsigned_Decides (kind k) (kind k)).1 refl) ∙ (pointwise_decides unsigned_Decides (name_of k) (name_of k)).1 refl
 
 pub either_left : (a b : Bool) → a ≡ true → a || b ≡ true
 either_left a b h = ap (λ x. x || b) h

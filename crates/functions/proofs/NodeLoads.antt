@@ -118,7 +118,7 @@ module _ (files : Files) where
   IsOfFiles (key.File path) v = Unit {0}
   IsOfFiles (key.Listing name) v = Unit {0}
   IsOfFiles (key.Lookup name) v = Unit {0}
-  IsOfFiles (key.Glob text) v = Unit {0}
+  IsOfFiles (key.Glob below pattern directories) v = Unit {0}
   IsOfFiles (key.Module text) v = (t : Target) → text ≡ label_text t → IsValid t → (m : Module) × IsModule files t m × (v ≡ module_value m)
   IsOfFiles (key.Package name) v = is_package_name name ≡ true → (p : Package) × IsPackage files name p × (v ≡ package_value p)
   IsOfFiles (key.Under directory) v = Unit {0}

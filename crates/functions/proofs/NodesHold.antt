@@ -24,7 +24,8 @@ use Rattle.language.specs.World.{Here, Ends, ended, failed, waits, then_runs, pu
 use Rattle.language.specs.Files.{Outcome, a_module, a_package, a_need, a_fault, evaluate, frozen_module, leaves, statements, file_level, start, all_steps, outcome_of}
 use Rattle.language.specs.Laws.{AreRight, with_answers, IsFinished}
 use Rattle.language.proofs.MoreStatements.{modules_finish, needs_asked}
-use Rattle.keys.specs.Keys.{key_eq, glob_key}
+use Rattle.keys.specs.Keys.{key_eq}
+use Rattle.walks.specs.Globs.{glob_key}
 use Rattle.keys.specs.declared.key.Key.{Key}
 use Rattle.keys.specs.declared.key.Key.TheVariants as key
 use Rattle.keys.specs.declared.value.BuildName.{BuildName}
@@ -336,7 +337,7 @@ module _ (files : Files) (good : HasPaths files) where
   read_leaf (key.File path) v e = tt
   read_leaf (key.Listing name) v e = tt
   read_leaf (key.Lookup name) v e = tt
-  read_leaf (key.Glob text) v e = tt
+  read_leaf (key.Glob directory pattern directories) v e = tt
   read_leaf (key.Module label) v e = absurd cc
   read_leaf (key.Package name) v e = absurd cc
   read_leaf (key.Under directory) v e = absurd cc
@@ -345,7 +346,7 @@ module _ (files : Files) (good : HasPaths files) where
   ran (key.File path) v n e run = tt
   ran (key.Listing name) v n e run = tt
   ran (key.Lookup name) v n e run = tt
-  ran (key.Glob text) v n e run = tt
+  ran (key.Glob directory pattern directories) v n e run = tt
   ran (key.Module label) v n e run = λ t same valid. module_runs files good t v valid n (subst (λ (l : List ℕ). Runs (IsHeld files) (next (key.Module l)) [] n v) same run)
   ran (key.Package name) v n e run = λ is_name. package_runs files good name is_name v n run
   ran (key.Under directory) v n e run = tt

@@ -5,7 +5,7 @@ use Rattle.evaluation.specs.Value.{Grounded}
 use Rattle.filetree.specs.Files.{Files}
 use Rattle.filetree.specs.Lawful.{HasPaths}
 use Rattle.pattern.specs.Globs.{is_package, answer_below}
-use Rattle.keys.specs.Keys.{glob_key}
+use Rattle.walks.specs.Globs.{glob_key}
 use Rattle.keys.specs.declared.key.Key.TheVariants as key
 use Rattle.keys.specs.declared.value.Value.{Value}
 use Rattle.keys.specs.declared.value.Value.TheVariants as value
@@ -24,4 +24,4 @@ lookup_value files directory v g = looked.lookup_value next (λ d answers. refl)
 
 pub glob_grounded : (files : Files) → HasPaths files → (directory asked : List ℕ) → NoSpace directory
     → Grounded next (read files) (glob_key directory asked) (value.Paths (answer_below (is_package files) (map_of.keys files) directory asked))
-glob_grounded files good directory asked plain = finds.glob_grounded next (λ d answers. refl) (λ text answers. refl) files good directory asked plain
+glob_grounded files good directory asked plain = finds.glob_grounded next (λ d answers. refl) (λ d p w answers. refl) files good directory asked plain

@@ -16,7 +16,7 @@ abbrev pub next : Key → List Value → Reply Key Value
 next (key.File path) answers = Done (value.File None)
 next (key.Listing directory) answers = Done (value.Listing None)
 next (key.Lookup directory) answers = lookup.next directory answers
-next (key.Glob text) answers = glob.next text answers
+next (key.Glob directory pattern directories) answers = glob.step directory directories pattern answers
 next (key.Module label) answers = modules.next label answers
 next (key.Package name) answers = packages.next name answers
 next (key.Under directory) answers = names.next directory answers

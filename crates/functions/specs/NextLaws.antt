@@ -9,7 +9,7 @@ use Rattle.keys.specs.declared.value.Value.{Value}
 use Rattle.keys.specs.declared.value.Value.TheVariants as value
 use Rattle.keys.specs.Turns.{NoCycle}
 use Rattle.walks.specs.LookupLaws.{lookup_differs, lookup_plain}
-use Rattle.walks.specs.GlobLaws.{glob_differs, glob_plain}
+use Rattle.walks.specs.GlobLaws.{step_differs, step_plain}
 use Rattle.walks.specs.TurnLaws.{under_differs, under_plain}
 use Rattle.functions.specs.SourceLaws.{good_module, good_package}
 use Rattle.functions.specs.Next.{next}
@@ -18,7 +18,7 @@ pub groups_differ : (k : Key) (answers : List Value) (group : List Key) → next
 groups_differ (key.File path) answers group e = cc
 groups_differ (key.Listing directory) answers group e = cc
 groups_differ (key.Lookup name) answers group e = lookup_differs name answers group e
-groups_differ (key.Glob text) answers group e = glob_differs text answers group e
+groups_differ (key.Glob directory pattern directories) answers group e = step_differs directory directories pattern answers group e
 groups_differ (key.Module label) answers group e = (good_module label answers).differ group e
 groups_differ (key.Package name) answers group e = (good_package name answers).differ group e
 groups_differ (key.Under directory) answers group e = under_differs directory answers group e
@@ -33,7 +33,7 @@ pub ends_plain : (k : Key) (answers : List Value) (v : Value) → AllByRecursion
 ends_plain (key.File path) answers v p e = plain_at (value.File None) v tt e
 ends_plain (key.Listing directory) answers v p e = plain_at (value.Listing None) v tt e
 ends_plain (key.Lookup name) answers v p e = lookup_plain name answers v e
-ends_plain (key.Glob text) answers v p e = glob_plain text answers v e
+ends_plain (key.Glob directory pattern directories) answers v p e = step_plain directory directories pattern answers v e
 ends_plain (key.Module label) answers v p e = (good_module label answers).plain v e
 ends_plain (key.Package name) answers v p e = (good_package name answers).plain v e
 ends_plain (key.Under directory) answers v p e = under_plain directory answers v e

@@ -8,7 +8,7 @@ use Rattle.filetree.specs.Files.{Files}
 use Rattle.filetree.specs.Lawful.{HasPaths}
 use Rattle.filetree.specs.Listings.{listing}
 use Rattle.pattern.specs.Globs.{is_package, answer_below}
-use Rattle.keys.specs.Keys.{glob_key}
+use Rattle.walks.specs.Globs.{glob_key}
 use Rattle.keys.specs.declared.key.Key.{Key}
 use Rattle.keys.specs.declared.key.Key.TheVariants as key
 use Rattle.keys.specs.declared.value.Value.{Value}

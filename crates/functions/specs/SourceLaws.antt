@@ -16,7 +16,7 @@ use Rattle.grammar.specs.Files.{parse_of}
 use Rattle.module_values.specs.Values.{ModuleValue}
 use Rattle.language.specs.Environment.{Env}
 use Rattle.language.specs.Files.{Outcome, a_module, a_package, a_need, a_fault, evaluate}
-use Rattle.keys.specs.Keys.{key_eq, kind, name_of}
+use Rattle.keys.specs.Keys.{key_eq, kind, name_of, pattern_of, scope}
 use Rattle.keys.specs.declared.key.Key.{Key}
 use Rattle.keys.specs.declared.key.Key.TheVariants as key
 use Rattle.keys.specs.declared.value.BuildName.{BuildName}
@@ -33,7 +33,13 @@ use Rattle.functions.specs.Packages as packages
 -- ---- members once
 
 own_key : (k : Key) → key_eq k k ≡ true
-own_key k = ap (λ b. b && pointwise ◌==◌ (name_of k) (name_of k)) ((unsigned_Decides (kind k) (kind k)).1 refl) ∙ (pointwise_decides unsigned_Decides (name_of k) (name_of k)).1 refl
+own_key k =
+    join ((unsigned_Decides (kind k) (kind k)).1 refl)
+    (join ((pointwise_decides unsigned_Decides (name_of k) (name_of k)).1 refl)
+    (join ((pointwise_decides unsigned_Decides (pattern_of k) (pattern_of k)).1 refl) ((unsigned_Decides (scope k) (scope k)).1 refl)))
+  where
+    join : {p q : Bool} → p ≡ true → q ≡ true → p && q ≡ true
+    join {p} {q} h g = ap (λ x. x && q) h ∙ g
 
 either_left : (a b : Bool) → a ≡ true → a || b ≡ true
 either_left a b h = ap (λ x. x || b) h

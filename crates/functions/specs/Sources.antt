@@ -11,14 +11,13 @@ use Rattle.module_values.specs.Values.{ModuleValue}
 use Rattle.language.specs.Environment.{Env}
 use Rattle.language.specs.Laws.{with_answers}
 use Rattle.language.specs.Files.{Outcome, a_module, a_package, a_need, a_fault, evaluate}
-use Rattle.keys.specs.Keys.{glob_key}
+use Rattle.walks.specs.Globs.{glob_key, paths_of}
 use Rattle.keys.specs.declared.key.Key.{Key}
 use Rattle.keys.specs.declared.key.Key.TheVariants as key
 use Rattle.keys.specs.declared.value.Fault.{Fault}
 use Rattle.keys.specs.declared.value.Value.{Value}
 use Rattle.keys.specs.declared.value.Value.TheVariants as value
 use Rattle.functions.specs.declared.file_node.Source.{Source}
-use Rattle.walks.specs.Globs.{paths_of}
 use Rattle.functions.specs.Once.{once, answer_at, answer_in}
 
 -- ---- faults

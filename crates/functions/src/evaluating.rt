@@ -22,6 +22,7 @@ use std::collections::BTreeMap;
 use std::sync::Arc;
 use syntax::File;
 use texts::{Memory, Text};
+use walks::glob_key;
 
 // How far the answers lead an evaluation.
 #[derive(Drop)]
@@ -38,8 +39,7 @@ fn glob_keys(alloc: Global, package_name: &Text, patterns: &[Text]) -> Result<Ve
 {
     let mut keys = Vec::new(alloc);
     for pattern in patterns {
-        let key = Key::glob_of(alloc, package_name.as_str(), pattern.as_str())?;
-        keys.push(key)?;
+        keys.push(glob_key(alloc, package_name, pattern.as_str())?)?;
     }
     Ok(keys)
 }

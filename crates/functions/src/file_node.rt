@@ -58,7 +58,7 @@ pub fn read_tree(alloc: Global, source: &Source, text: &Text) -> Result<Result<F
     match parse(alloc, text.as_str().as_bytes(), source.kind) {
         Ok(file) => Ok(Ok(file)),
         Err(Refused::Syntax { code, line }) => Ok(Err(fault_at(code, &source.path, line)?)),
-        Err(Refused::Memory) => Err(Memory),
+        Err(Refused::Memory(error)) => Err(error),
     }
 }
 
@@ -75,7 +75,7 @@ fn load_key(alloc: Global, source: &Source, load: &LoadStmt) -> Result<Result<Ke
             }
         }
         Err(BadLabel::Code15) => Ok(Err(fault_at(faults::BAD_LABEL, &source.path, load.line)?)),
-        Err(BadLabel::Memory) => Err(Memory),
+        Err(BadLabel::Memory(error)) => Err(error),
     }
 }
 
@@ -360,7 +360,7 @@ pub fn of_module(alloc: Global, label: &Text, answers: &[Arc<Value>]) -> Result<
     match Label::read(alloc, label.as_str(), "") {
         Ok(label) => by_lookups(alloc, &label, answers),
         Err(BadLabel::Code15) => faulty(faults::BAD_LABEL, label, 0),
-        Err(BadLabel::Memory) => Err(Memory),
+        Err(BadLabel::Memory(error)) => Err(error),
     }
 }
 

@@ -1,4 +1,5 @@
-//! The node functions of the loader: what each kind of node asks and what value it ends with.
+//! The node functions of the loader: what each kind of node asks and what value it ends with, and how a leaf is read,
+//! which is `read_leaf` of `keys`.
 //!
 //! * `File(path)` is a leaf: its value is the text of that file, or none.
 //! * `Listing(directory)` is a leaf: its value is the names of the files and of the subdirectories in that directory, or
@@ -41,6 +42,7 @@ pub use file_laws::{
     files_determine_what_nodes_hold, modules_are_those_of_the_files, one_cycle_is_shown,
     packages_are_those_of_the_files, texts_are_read_by_the_grammar,
 };
+pub use keys::read_leaf;
 pub use loading::{LoadRules, Loading};
 
 /// States the law of the leaves and the look-ups, at each state of the files. A file's node holds its text or none, and

@@ -16,7 +16,7 @@ use keys::{Key, Rules, Turn, Value};
 use std::alloc::Global;
 use std::sync::Arc;
 use texts::Memory;
-use walks::{glob, lookup, package_names};
+use walks::{Search, glob, lookup, package_names};
 
 /// Rules whose turns are the table of this crate, `specs/Next`.
 pub trait LoadRules: Rules {
@@ -59,7 +59,14 @@ fn from_start(alloc: Global, key: &Key, answers: &[Arc<Value>]) -> Result<Reply,
         Key::File(_) => Ok(Reply::Done(Value::File(None))),
         Key::Listing(_) => Ok(Reply::Done(Value::Listing(None))),
         Key::Lookup(directory) => Ok(plain(lookup(alloc, directory, answers)?)),
-        Key::Glob(text) => Ok(plain(glob(alloc, text, answers)?)),
+        Key::Glob(directory, pattern, directories) => {
+            let search = Search {
+                directory: directory.as_str(),
+                directories: *directories,
+                pattern: pattern.as_str(),
+            };
+            Ok(plain(glob(alloc, search, answers)?))
+        }
         Key::Module(label) => of_module(alloc, label, answers),
         Key::Package(name) => of_package(alloc, name, answers),
         Key::Under(directory) => Ok(plain(package_names(alloc, directory, answers)?)),

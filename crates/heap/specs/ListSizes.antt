@@ -11,10 +11,10 @@ use Rattle.heap.specs.declared.halt.Halt.TheVariants.{Code, Memory}
 abbrev pub SizedAs : {A : Type 0} → List A → Result (Vec A Global) Halt → Type 0
 SizedAs xs (Ok v) = (v.items ≡ xs) × (is_sized (length xs) ≡ true)
 SizedAs xs (Err (Code c)) = (c ≡ TOO_LARGE) × (is_sized (length xs) ≡ false)
-SizedAs xs (Err Memory) = Unit {0}
+SizedAs xs (Err (Memory _)) = Unit {0}
 
 -- the part, or fault 5 where there is none
 abbrev pub CutAs : {A : Type 0} → Option (List A) → Result (Vec A Global) Halt → Type 0
 CutAs part (Ok v) = part ≡ Some v.items
 CutAs part (Err (Code c)) = (c ≡ WRONG_TYPE) × (part ≡ None)
-CutAs part (Err Memory) = Unit {0}
+CutAs part (Err (Memory _)) = Unit {0}

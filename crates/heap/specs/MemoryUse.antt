@@ -36,5 +36,5 @@ place_bytes place s = found_bytes (at place s)
 -- so many bytes are counted, where all that is held stays within the limit; else nothing is counted
 abbrev pub Counted : {A : Type 0} → ℕ → ℕ → Result A Halt → ℕ → Type 0
 Counted bytes before (Ok _) after = (after ≡ before + bytes) × (after ≤ most_held)
-Counted bytes before (Err Memory) after = (most_held < before + bytes) × (after ≡ before)
+Counted bytes before (Err (Memory _)) after = (most_held < before + bytes) × (after ≡ before)
 Counted bytes before (Err (Code _)) after = ⊥

@@ -26,21 +26,21 @@ lends objects s = record s { heap = s.heap ++ map (moved (length s.heap)) object
 abbrev pub Says : {S A : Type 0} → Out S A → Result A Halt → S → Type 0
 Says out (Ok a) s = out ≡ gives a s
 Says out (Err (Code c)) s = out ≡ faults c
-Says out (Err Memory) s = Unit {0}
+Says out (Err (Memory _)) s = Unit {0}
 
 -- the same, of a list
 abbrev pub SaysItems : {S A : Type 0} → Out S (List A) → Result (Vec A Global) Halt → S → Type 0
 SaysItems out (Ok v) s = out ≡ gives v.items s
 SaysItems out (Err (Code c)) s = out ≡ faults c
-SaysItems out (Err Memory) s = Unit {0}
+SaysItems out (Err (Memory _)) s = Unit {0}
 
 -- the same, where there is no state
 abbrev pub Checks : {A : Type 0} → ValueOrFault A → Result A Halt → Type 0
 Checks out (Ok a) = out ≡ good a
 Checks out (Err (Code c)) = out ≡ bad c
-Checks out (Err Memory) = Unit {0}
+Checks out (Err (Memory _)) = Unit {0}
 
 abbrev pub ChecksItems : {A : Type 0} → ValueOrFault (List A) → Result (Vec A Global) Halt → Type 0
 ChecksItems out (Ok v) = out ≡ good v.items
 ChecksItems out (Err (Code c)) = out ≡ bad c
-ChecksItems out (Err Memory) = Unit {0}
+ChecksItems out (Err (Memory _)) = Unit {0}

@@ -14,29 +14,35 @@ pub enum Halt {
     Code(u64),
     /// A growth was refused.
     #[error("out of memory")]
-    Memory,
+    Memory(Memory),
 }
 
 impl From<AllocError> for Halt {
-    ghost from_gives = { λ _ e. e ≡ Memory };
+    ghost use Rattle.texts.specs.Refusals.{memory};
 
-    fn from(_error: AllocError) -> Halt {
-        Halt::Memory
+    ghost from_gives = { λ _ e. e ≡ Memory memory };
+
+    fn from(error: AllocError) -> Halt {
+        Halt::Memory(Memory::from(error))
     }
 }
 
 impl<T: Drop> From<AllocFailed<T>> for Halt {
-    ghost from_gives = { λ _ e. e ≡ Memory };
+    ghost use Rattle.texts.specs.Refusals.{memory};
 
-    fn from(_error: AllocFailed<T>) -> Halt {
-        Halt::Memory
+    ghost from_gives = { λ _ e. e ≡ Memory memory };
+
+    fn from(error: AllocFailed<T>) -> Halt {
+        Halt::Memory(Memory::from(error))
     }
 }
 
 impl From<Memory> for Halt {
-    ghost from_gives = { λ _ e. e ≡ Memory };
+    ghost use Rattle.texts.specs.Refusals.{memory};
 
-    fn from(_error: Memory) -> Halt {
-        Halt::Memory
+    ghost from_gives = { λ _ e. e ≡ Memory memory };
+
+    fn from(error: Memory) -> Halt {
+        Halt::Memory(error)
     }
 }

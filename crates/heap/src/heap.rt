@@ -114,7 +114,7 @@ impl Heap {
     {
         let all = (self.held as u128).saturating_add(bytes);
         if all > MOST_HELD as u128 {
-            return Err(Halt::Memory);
+            return Err(Halt::Memory(Memory::over_the_heap_limit(all)));
         }
         self.held = all as u64;
         Ok(())
@@ -217,8 +217,9 @@ impl Heap {
         ensures same { OnErr result (store_of self.new ≡ store_of self.old) }
         ensures held { self.new.held ≡ self.old.held }
     {
-        let Ok(first) = u32::try_from(self.objects.len()) else {
-            return Err(Memory);
+        let wanted = self.objects.len() as u128;
+        let Ok(first) = u32::try_from(wanted) else {
+            return Err(Memory::no_number_left(wanted));
         };
         self.objects.lend(objects)?;
         Ok(first)

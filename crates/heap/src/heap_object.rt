@@ -51,7 +51,7 @@ impl HeapObject {
     {
         match &self.object {
             Some(object) => Ok(object),
-            None => Err(Memory),
+            None => Err(Memory::object_not_there()),
         }
     }
 
@@ -64,7 +64,10 @@ impl HeapObject {
         ensures same { written_object self.new ≡ written_object self.old }
         ensures gone { OnErr result (self.old.object ≡ None) }
     {
-        self.object.take().ok_or(Memory)
+        match self.object.take() {
+            Some(object) => Ok(object),
+            None => Err(Memory::object_not_there()),
+        }
     }
 
     /// Writes another object in the place of this one.

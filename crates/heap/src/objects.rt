@@ -213,7 +213,7 @@ impl Objects {
             Spot::Lent {
                 object: Some(_object),
                 base: _base,
-            } => Err(Memory),
+            } => Err(Memory::object_not_there()),
             Spot::Lent {
                 object: None,
                 base: _base,
@@ -240,7 +240,7 @@ impl Objects {
                 base: _base,
             } => {
                 drop(object);
-                Err(Memory)
+                Err(Memory::object_not_there())
             }
             Spot::Lent {
                 object: None,
@@ -384,12 +384,11 @@ fn range_behind(
     ensures objects { IfOk result (λ r. arc_value r.objects ≡ arc_value objects.now) }
 {
     let start = own + lent as usize;
-    let Some(end) = start.checked_add(objects.len()) else {
-        return Err(Memory);
+    let wanted = start as u128 + objects.len() as u128;
+    let Ok(last) = u32::try_from(wanted) else {
+        return Err(Memory::no_number_left(wanted));
     };
-    let (Ok(first), Ok(last)) = (u32::try_from(start), u32::try_from(end)) else {
-        return Err(Memory);
-    };
+    let first = start as u32;
     let through = lent + (last - first);
     Ok(Range {
         start: first,

@@ -12,13 +12,13 @@ labels_injective : (j k : Key) (t : List ℕ) → label_of j ≡ Some t → labe
 labels_injective (File p) k t e f = cc
 labels_injective (Listing p) k t e f = cc
 labels_injective (Lookup p) k t e f = cc
-labels_injective (Glob p) k t e f = cc
+labels_injective (Glob p q w) k t e f = cc
 labels_injective (Package p) k t e f = cc
 labels_injective (Under p) k t e f = cc
 labels_injective (Module p) (File q) t e f = cc
 labels_injective (Module p) (Listing q) t e f = cc
 labels_injective (Module p) (Lookup q) t e f = cc
-labels_injective (Module p) (Glob q) t e f = cc
+labels_injective (Module p) (Glob q r w) t e f = cc
 labels_injective (Module p) (Module q) t e f = cc
 labels_injective (Module p) (Package q) t e f = cc
 labels_injective (Module p) (Under q) t e f = cc

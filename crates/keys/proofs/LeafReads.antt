@@ -29,7 +29,7 @@ pub leaf_stays : (files later : Files) (k : Key) (v : Value) → read files k �
 leaf_stays files later (key.File path) v e = (value.File (map_of.get later path), refl)
 leaf_stays files later (key.Listing directory) v e = (value.Listing (option_map listed_of (listing later directory)), refl)
 leaf_stays files later (key.Lookup directory) v e = cc
-leaf_stays files later (key.Glob text) v e = cc
+leaf_stays files later (key.Glob directory pattern directories) v e = cc
 leaf_stays files later (key.Module label) v e = cc
 leaf_stays files later (key.Package name) v e = cc
 leaf_stays files later (key.Under directory) v e = cc
@@ -133,7 +133,7 @@ put_reads files path text (key.Listing d) n =
     ap (λ o. Some (value.Listing (option_map listed_of o))) (listing_stays files (map_of.insert files path text) path
     (λ q a. ap is_some (map_of.get-insert nat_list_cmp_total files path text q ∙ ap (λ b. cond b (Some text) (map_of.get files q)) a)) d n)
 put_reads files path text (key.Lookup directory) n = refl
-put_reads files path text (key.Glob walk) n = refl
+put_reads files path text (key.Glob below pattern directories) n = refl
 put_reads files path text (key.Module label) n = refl
 put_reads files path text (key.Package name) n = refl
 put_reads files path text (key.Under directory) n = refl
@@ -145,7 +145,7 @@ del_reads files path (key.Listing d) n =
     ap (λ o. Some (value.Listing (option_map listed_of o))) (listing_stays files (map_of.remove files path) path
     (λ q a. ap is_some (map_of.get-remove nat_list_cmp_total files path q ∙ ap (λ b. cond b None (map_of.get files q)) a)) d n)
 del_reads files path (key.Lookup directory) n = refl
-del_reads files path (key.Glob walk) n = refl
+del_reads files path (key.Glob below pattern directories) n = refl
 del_reads files path (key.Module label) n = refl
 del_reads files path (key.Package name) n = refl
 del_reads files path (key.Under directory) n = refl

@@ -1,3 +1,4 @@
 pub mod KeyLaws
+pub mod KeyTexts
 pub mod CycleLaws
 pub mod LeafReads

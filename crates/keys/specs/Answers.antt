@@ -11,11 +11,11 @@ use Rattle.keys.specs.declared.turned.Answer.TheVariants.{Made, Refused, NotBegu
 -- how the turn ended
 abbrev pub ending_of : {S : Type 0} → Answer S → job.Ending
 ending_of (Made turn) = job.Made
-ending_of Refused = job.Refused
-ending_of NotBegun = job.NotBegun
+ending_of (Refused error) = job.Refused
+ending_of (NotBegun error) = job.NotBegun
 
 -- a turn that was made is the key's turn from these answers
 abbrev pub IsAnswer : {S : Type 0} → (S → Key → List Value → Type 0) → (Key → List Value → Reply Key Value) → Key → List Value → Answer S → Type 0
 IsAnswer fits next key answers (Made turn) = IsTurn fits next key answers turn
-IsAnswer fits next key answers Refused = ⊤
-IsAnswer fits next key answers NotBegun = ⊤
+IsAnswer fits next key answers (Refused error) = ⊤
+IsAnswer fits next key answers (NotBegun error) = ⊤

@@ -11,7 +11,7 @@ abbrev pub label_of : Key → Option (List ℕ)
 label_of (File path) = None
 label_of (Listing directory) = None
 label_of (Lookup name) = None
-label_of (Glob text) = None
+label_of (Glob directory pattern directories) = None
 label_of (Module label) = Some label
 label_of (Package name) = None
 label_of (Under directory) = None

@@ -14,7 +14,7 @@ abbrev pub is_leaf : Key → Bool
 is_leaf (key.File path) = true
 is_leaf (key.Listing directory) = true
 is_leaf (key.Lookup directory) = false
-is_leaf (key.Glob text) = false
+is_leaf (key.Glob directory pattern directories) = false
 is_leaf (key.Module label) = false
 is_leaf (key.Package name) = false
 is_leaf (key.Under directory) = false
@@ -28,7 +28,7 @@ abbrev pub read : Files → Key → Option Value
 read files (key.File path) = Some (value.File (map.get files path))
 read files (key.Listing directory) = Some (value.Listing (option_map listed_of (listing files directory)))
 read files (key.Lookup directory) = None
-read files (key.Glob text) = None
+read files (key.Glob directory pattern directories) = None
 read files (key.Module label) = None
 read files (key.Package name) = None
 read files (key.Under directory) = None

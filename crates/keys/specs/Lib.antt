@@ -1,4 +1,5 @@
 pub mod Keys
+pub mod KeyTexts
 pub mod Directories
 pub mod Values
 pub mod ValueLaws

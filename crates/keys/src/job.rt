@@ -90,12 +90,12 @@ impl<R: Rules> Job<R> {
             Some(state) => state,
             None => match rules.begin(&key) {
                 Ok(state) => state,
-                Err(_) => return Turned::new(key, answers, Answer::NotBegun),
+                Err(error) => return Turned::new(key, answers, Answer::NotBegun(error)),
             },
         };
         match rules.turn(state, answers.as_slice()) {
             Ok(turn) => Turned::new(key, answers, Answer::Made(turn)),
-            Err(_) => Turned::new(key, answers, Answer::Refused),
+            Err(error) => Turned::new(key, answers, Answer::Refused(error)),
         }
     }
 }

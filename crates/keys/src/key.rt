@@ -1,19 +1,21 @@
 //! What names a node.
-ghost use Rattle.std.specs.Prelude.{◌≡◌, ◌++◌, IfOk, refl};
+ghost use Rattle.std.specs.Prelude.{◌≡◌, ◌++◌, IfOk, OnOk, refl};
 ghost use Rattle.std.proofs.Common.{rules};
 ghost use Rattle.std.specs.Hash as fed;
 ghost use Rattle.std.specs.String.{string_bytes};
 ghost use Rattle.std.specs.Cmp.{partial_order_from_own_ties};
 ghost use Rattle.std.specs.Cmp.Rules.{comparing, hashing};
-ghost use Rattle.std.specs.Ordering.{as_partial_cmp};
-ghost use Rattle.keys.specs.Keys.{key_cmp, key_eq, kind, name_of, prefix, key_text, glob_key};
+ghost use Rattle.std.specs.Cmp.Lexicographic.{slice_cmp};
+ghost use Rattle.std.specs.Ordering.{as_partial_cmp, nat_cmp, on, then_cmp};
+ghost use Rattle.keys.specs.Keys.{key_cmp, key_eq, kind, name_of, pattern_of, scope, prefix, key_name, key_text};
 
 use std::alloc::Global;
 use std::cmp::Ordering;
 use std::hash::{Hash, Hasher};
 use texts::{Memory, Text};
 
-/// What names a node. Keys are ordered by kind, as they stand here, and then by the bytes of the text.
+/// What names a node. Keys are ordered by kind, as they stand here, and then by the bytes of their texts, which is the
+/// order of their fields.
 pub enum Key {
     /// A file, by its path. It is a leaf: its value is read from the files.
     File(Text),
@@ -21,9 +23,9 @@ pub enum Key {
     Listing(Text),
     /// Which BUILD file a package has, by the package's name, which is empty for the root.
     Lookup(Text),
-    /// What a pattern finds below a directory: the directory's name, a space and the pattern, and behind them a space and
-    /// `dirs` where it finds directories too.
-    Glob(Text),
+    /// What a pattern finds below a directory: the directory's name, which is empty for the root, the pattern, and whether
+    /// it finds directories too.
+    Glob(Text, Text, bool),
     /// What the evaluation of a .bzl file leaves, by the text of its label.
     Module(Text),
     /// The targets of a package, by its name, which is empty for the root.
@@ -38,7 +40,7 @@ impl Drop for Key {
             Key::File(_) => {}
             Key::Listing(_) => {}
             Key::Lookup(_) => {}
-            Key::Glob(_) => {}
+            Key::Glob(_, _, _) => {}
             Key::Module(_) => {}
             Key::Package(_) => {}
             Key::Under(_) => {}
@@ -47,16 +49,6 @@ impl Drop for Key {
 }
 
 impl Key {
-    /// Makes the key of what a pattern finds below a directory. The pattern may have ` dirs` behind it.
-    pub fn glob_of(alloc: Global, directory: &str, pattern: &str) -> Result<Key, Memory>
-        ensures { IfOk result (λ k. k ≡ glob_key directory.now pattern.now) }
-    {
-        let mut text = String::from_str(alloc, directory)?;
-        text.push_str(" ")?;
-        text.push_str(pattern)?;
-        Ok(Key::Glob(Text::from_string(alloc, text)?))
-    }
-
     /// Returns the same key, its text shared.
     pub fn share(&self) -> Result<Key, Memory>
         ensures { IfOk result (λ k. k ≡ self.now) }
@@ -65,7 +57,9 @@ impl Key {
             Key::File(path) => Ok(Key::File(path.share()?)),
             Key::Listing(directory) => Ok(Key::Listing(directory.share()?)),
             Key::Lookup(package) => Ok(Key::Lookup(package.share()?)),
-            Key::Glob(text) => Ok(Key::Glob(text.share()?)),
+            Key::Glob(directory, pattern, directories) => {
+                Ok(Key::Glob(directory.share()?, pattern.share()?, *directories))
+            }
             Key::Module(label) => Ok(Key::Module(label.share()?)),
             Key::Package(package) => Ok(Key::Package(package.share()?)),
             Key::Under(directory) => Ok(Key::Under(directory.share()?)),
@@ -80,7 +74,7 @@ impl Key {
             Key::File(_) => 0,
             Key::Listing(_) => 1,
             Key::Lookup(_) => 2,
-            Key::Glob(_) => 3,
+            Key::Glob(_, _, _) => 3,
             Key::Module(_) => 4,
             Key::Package(_) => 5,
             Key::Under(_) => 6,
@@ -95,15 +89,14 @@ impl Key {
             Key::File(_) => "file ",
             Key::Listing(_) => "listing //",
             Key::Lookup(_) => "lookup //",
-            Key::Glob(_) => "glob //",
+            Key::Glob(_, _, _) => "glob //",
             Key::Module(_) => "module ",
             Key::Package(_) => "package //",
             Key::Under(_) => "under //",
         }
     }
 
-    /// Returns the path, or the name of the directory or the package. For a glob it is the directory's name, a space
-    /// and the pattern, perhaps with ` dirs`; for a module it is the label.
+    /// Returns the path, or the name of the directory or the package. For a module it is the label.
     pub fn name(&self) -> &Text
         ensures { result.now ≡ name_of self.now }
     {
@@ -111,11 +104,46 @@ impl Key {
             Key::File(path) => path,
             Key::Listing(directory) => directory,
             Key::Lookup(package) => package,
-            Key::Glob(text) => text,
+            Key::Glob(directory, _, _) => directory,
             Key::Module(label) => label,
             Key::Package(package) => package,
             Key::Under(directory) => directory,
         }
+    }
+
+    /// Returns the pattern of a glob, and an empty text for other keys.
+    pub fn pattern(&self) -> &str
+        ensures { result.now ≡ pattern_of self.now }
+    {
+        match self {
+            Key::Glob(_, pattern, _) => pattern.as_str(),
+            _ => "",
+        }
+    }
+
+    // Returns 1 for a glob that finds directories too, and else 0.
+    fn scope(&self) -> u8
+        ensures { result ≡ scope self.now }
+    {
+        match self {
+            Key::Glob(_, _, true) => 1,
+            _ => 0,
+        }
+    }
+
+    // Adds to a text what stands after the kind's word.
+    fn write_name(&self, text: &mut String) -> Result<(), Memory>
+        ensures { OnOk result (string_bytes text.new ≡ string_bytes text.old ++ key_name self.now) }
+    {
+        text.push_str(self.name().as_str())?;
+        if let Key::Glob(_, pattern, directories) = self {
+            text.push_str(" ")?;
+            text.push_str(pattern.as_str())?;
+            if *directories {
+                text.push_str(" dirs")?;
+            }
+        }
+        Ok(())
     }
 
     /// Returns the key as it is written: `file PATH`, `listing //DIRECTORY`, `lookup //PACKAGE`, `glob //DIRECTORY
@@ -124,29 +152,52 @@ impl Key {
         ensures { IfOk result (λ t. string_bytes t ≡ key_text self.now) }
     {
         let mut text = String::from_str(alloc, self.prefix())?;
-        text.push_str(self.name().as_str())?;
+        self.write_name(&mut text)?;
         Ok(text)
+    }
+}
+
+// Compares the patterns of two keys, and then what they find.
+fn compare_patterns(a: &Key, b: &Key) -> Ordering
+    ensures { result ≡ then_cmp (on pattern_of (slice_cmp nat_cmp)) (on scope nat_cmp) a.now b.now }
+{
+    match a.pattern().cmp(b.pattern()) {
+        Ordering::Equal => a.scope().cmp(&b.scope()),
+        apart => apart,
+    }
+}
+
+// Compares two keys by all but their kinds.
+fn compare_names(a: &Key, b: &Key) -> Ordering
+    ensures { result ≡ then_cmp (on name_of (slice_cmp nat_cmp))
+        (then_cmp (on pattern_of (slice_cmp nat_cmp)) (on scope nat_cmp)) a.now b.now }
+{
+    match a.name().cmp(b.name()) {
+        Ordering::Equal => compare_patterns(a, b),
+        apart => apart,
     }
 }
 
 impl PartialEq for Key {
     ghost eq = { key_eq };
 
-    ghost laws = { Prim.search (comparing, rules) };
+    ghost laws = { Prim.search (comparing, rules) depth 12 };
 
     fn eq(&self, other: &Key) -> bool {
-        self.kind() == other.kind() && self.name() == other.name()
+        self.kind() == other.kind()
+            && (self.name() == other.name()
+                && (self.pattern() == other.pattern() && self.scope() == other.scope()))
     }
 }
 
 impl Eq for Key {
-    ghost laws = { Prim.search (comparing, rules) };
+    ghost laws = { Prim.search (comparing, rules) depth 12 };
 }
 
 impl PartialOrd for Key {
     ghost partial_cmp = { as_partial_cmp key_cmp };
 
-    ghost laws = { partial_order_from_own_ties (Prim.search (comparing, rules)) (Prim.search (comparing, rules)) };
+    ghost laws = { partial_order_from_own_ties (Prim.search (comparing, rules) depth 12) (Prim.search (comparing, rules) depth 12) };
 
     fn partial_cmp(&self, other: &Key) -> Option<Ordering> {
         Some(self.cmp(other))
@@ -156,27 +207,29 @@ impl PartialOrd for Key {
 impl Ord for Key {
     ghost cmp = { key_cmp };
 
-    ghost total = { Prim.search (comparing, rules) };
+    ghost total = { Prim.search (comparing, rules) depth 12 };
 
     ghost matches_partial_cmp = { λ x y. refl };
 
-    ghost matches_eq = { Prim.search (comparing, rules) };
+    ghost matches_eq = { Prim.search (comparing, rules) depth 12 };
 
     fn cmp(&self, other: &Key) -> Ordering {
         match self.kind().cmp(&other.kind()) {
-            Ordering::Equal => self.name().cmp(other.name()),
+            Ordering::Equal => compare_names(self, other),
             apart => apart,
         }
     }
 }
 
 impl Hash for Key {
-    ghost hash_input = { λ k. fed.u8 (kind k) ++ fed.str (name_of k) };
+    ghost hash_input = { λ k. fed.u8 (kind k) ++ fed.str (name_of k) ++ fed.str (pattern_of k) ++ fed.u8 (scope k) };
 
-    ghost respects_eq = { Prim.search (hashing, rules) };
+    ghost respects_eq = { Prim.search (hashing, rules) depth 12 };
 
     fn hash<H: Hasher>(&self, state: &mut H) {
         self.kind().hash(state);
         self.name().hash(state);
+        self.pattern().hash(state);
+        self.scope().hash(state);
     }
 }

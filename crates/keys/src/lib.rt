@@ -9,6 +9,7 @@
 
 mod job;
 mod key;
+mod laws;
 mod leaf;
 mod rules;
 mod turned;
@@ -17,6 +18,7 @@ mod waiting;
 
 pub use job::Job;
 pub use key::Key;
+pub use laws::{keys_are_in_the_order_of_their_texts, texts_tell_keys_apart};
 pub use leaf::{is_leaf, read_leaf};
 pub use rules::{Rules, Turn};
 pub use turned::{Step, Turned};

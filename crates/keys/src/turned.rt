@@ -20,9 +20,9 @@ pub(crate) enum Answer<S: Drop> {
     // It was made.
     Made(Turn<S>),
     // It was refused for memory.
-    Refused,
+    Refused(Memory),
     // It was not begun, since no state could be made for want of memory.
-    NotBegun,
+    NotBegun(Memory),
 }
 
 /// A turn that was made, or that was refused for memory. A contract sees its job and how it ended.
@@ -95,8 +95,29 @@ impl<R: Rules> Turned<R> {
     {
         match self.answer {
             Answer::Made(_) => true,
-            Answer::Refused => false,
-            Answer::NotBegun => false,
+            Answer::Refused(_) => false,
+            Answer::NotBegun(_) => false,
+        }
+    }
+
+    /// Returns the turn if it was made, and else why it was not.
+    pub fn made(self) -> Result<Turned<R>, Memory>
+        ensures same { IfOk result (λ turned. turned ≡ self) }
+        ensures made { IsOk result ↔ (self.ending ≡ Made) }
+    {
+        let Turned {
+            key,
+            answers,
+            answer,
+        } = self;
+        match answer {
+            Answer::Made(turn) => Ok(Turned {
+                key,
+                answers,
+                answer: Answer::Made(turn),
+            }),
+            Answer::Refused(error) => Err(error),
+            Answer::NotBegun(error) => Err(error),
         }
     }
 
@@ -115,8 +136,8 @@ impl<R: Rules> Turned<R> {
                 key, state, answers, group,
             ))),
             Answer::Made(Turn::Done(value)) => Ok(Step::End(key, value)),
-            Answer::Refused => Err(Memory),
-            Answer::NotBegun => Err(Memory),
+            Answer::Refused(error) => Err(error),
+            Answer::NotBegun(error) => Err(error),
         }
     }
 }

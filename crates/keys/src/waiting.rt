@@ -1,5 +1,5 @@
 //! A node that waits for a group.
-ghost use Rattle.std.specs.Prelude.{◌≡◌, ◌++◌, IfOk};
+ghost use Rattle.std.specs.Prelude.{◌≡◌, ◌++◌, OnOk, OnErr};
 ghost use Rattle.keys.specs.Turns.{values, FitsFrom};
 
 use crate::job::Job;
@@ -70,19 +70,28 @@ impl<R: Rules> Waiting<R> {
         self.group.as_slice()
     }
 
-    /// Returns the next job, with the answers to the group. Returns `Memory` if an allocation fails; the node is then
-    /// given up.
-    pub fn resume(self, mut found: Vec<Arc<Value>>) -> Result<Job<R>, Memory>
-        ensures key { IfOk result (λ job. job.key ≡ self.key) }
-        ensures answers { IfOk result (λ job. job.answers ≡ self.answers ++ values found.items) }
+    /// Takes the answers to the group behind those that it has. Returns `Memory` if an allocation fails; the node then
+    /// waits as before.
+    pub fn answer(&mut self, mut found: Vec<Arc<Value>>) -> Result<(), Memory>
+        ensures answered { OnOk result
+            (self.new ≡ record self.old { answers = self.old.answers ++ values found.items }) }
+        ensures refused { OnErr result (self.new ≡ self.old) }
+    {
+        self.answers.append(&mut found)?;
+        Ok(())
+    }
+
+    /// Returns the next job, with the answers that it has.
+    pub fn into_job(self) -> Job<R>
+        ensures key { result.key ≡ self.key }
+        ensures answers { result.answers ≡ self.answers }
     {
         let Waiting {
             key,
             state,
-            mut answers,
+            answers,
             group: _,
         } = self;
-        answers.append(&mut found)?;
-        Ok(Job::from_state(key, state, answers))
+        Job::from_state(key, state, answers)
     }
 }

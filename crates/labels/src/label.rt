@@ -18,28 +18,30 @@ pub enum BadLabel {
     Code15,
     /// A growth was refused.
     #[error("out of memory")]
-    Memory,
+    Memory(Memory),
 }
 
 impl From<Memory> for BadLabel {
     ghost use Rattle.std.specs.Prelude.{◌≡◌};
     ghost use Rattle.labels.specs.declared.label.BadLabel.TheVariants.{Memory};
+    ghost use Rattle.texts.specs.Refusals.{memory};
 
-    ghost from_gives = { λ _ e. e ≡ Memory };
+    ghost from_gives = { λ _ e. e ≡ Memory memory };
 
-    fn from(_error: Memory) -> BadLabel {
-        BadLabel::Memory
+    fn from(error: Memory) -> BadLabel {
+        BadLabel::Memory(error)
     }
 }
 
 impl From<AllocError> for BadLabel {
     ghost use Rattle.std.specs.Prelude.{◌≡◌};
     ghost use Rattle.labels.specs.declared.label.BadLabel.TheVariants.{Memory};
+    ghost use Rattle.texts.specs.Refusals.{memory};
 
-    ghost from_gives = { λ _ e. e ≡ Memory };
+    ghost from_gives = { λ _ e. e ≡ Memory memory };
 
-    fn from(_error: AllocError) -> BadLabel {
-        BadLabel::Memory
+    fn from(error: AllocError) -> BadLabel {
+        BadLabel::Memory(Memory::from(error))
     }
 }
 

@@ -48,17 +48,18 @@ pub enum BadPath {
     Code2,
     /// A growth was refused.
     #[error("out of memory")]
-    Memory,
+    Memory(Memory),
 }
 
 impl From<Memory> for BadPath {
     ghost use Rattle.std.specs.Prelude.{◌≡◌};
     ghost use Rattle.labels.specs.declared.path.BadPath.TheVariants.{Memory};
+    ghost use Rattle.texts.specs.Refusals.{memory};
 
-    ghost from_gives = { λ _ e. e ≡ Memory };
+    ghost from_gives = { λ _ e. e ≡ Memory memory };
 
-    fn from(_error: Memory) -> BadPath {
-        BadPath::Memory
+    fn from(error: Memory) -> BadPath {
+        BadPath::Memory(error)
     }
 }
 

@@ -24,7 +24,7 @@ is_reached old now paths keys listed e l r =
 first_refusal : (r : Option Refusal) (version : ℕ) (e : EditError) → TellsRefusal r e → TellsRefusal (or_version_refusal r version) e
 first_refusal r version (Refused n) t = ap (λ x. or_version_refusal x version) t
 first_refusal r version (RefusedAt at n) t = ap (λ x. or_version_refusal x version) t
-first_refusal r version Memory t = tt
+first_refusal r version (Memory _) t = tt
 
 pub refused_by_files : (edit : Edit) (h : SessionView) (tree : Files) (e : EditError) → tree ≡ files_of h → TellsRefusal (files_refusal edit tree) e → TellsRefusal (refusal_of edit (state_of h)) e
 refused_by_files edit h tree e is t = first_refusal (files_refusal edit (files_of h)) h.graph.version e (subst (λ (f : Files). TellsRefusal (files_refusal edit f) e) is t)

@@ -17,9 +17,9 @@ use Rattle.node.proofs.Lists.{some_is, none_some, true_false}
 use Rattle.open_nodes.specs.Truths.{Past, IsRunOf}
 use Rattle.open_nodes.specs.declared.run.Run.{Run}
 use Rattle.round.specs.Call.{IsCall}
-use Rattle.loader.specs.Journal.{Evaluation, leaves, IsSettledBy, IsLastSettled, by_newest, by_earlier, MayRun, first_run, run_again, MayBeRead, first_read, read_again, IsItemOf, MissesNone, AreInOrder, AreItemsOf}
+use Rattle.loader.specs.Journal.{Evaluation, leaves, IsSettledBy, IsLastSettled, by_newest, by_earlier, MayRun, first_run, run_again, MayBeRead, first_read, read_again, TakesTurns, IsItemOf, MissesNone, AreInOrder, AreItemsOf}
 use Rattle.loader.specs.GraphLinks.{Stays, IsLinked}
-use Rattle.loader.proofs.Groups.{asked_recorded, recorded_asked, asks_some}
+use Rattle.loader.proofs.Groups.{asked_recorded, recorded_asked}
 use Rattle.loader.proofs.Linking.{same_at, stays_now, read_plain}
 
 -- a key with a clean record is settled
@@ -72,9 +72,9 @@ module _ (files : ℕ → Files) (paths : ℕ → List (List ℕ)) where
       record { a = p.0; b = q.0; a_within = (p.1, p.2); b_within = (q.1, q.2); v = d.v; w = d.w; at_a = p.3; at_b = q.3; apart = d.apart }
 
   -- a key that was last settled at a version was settled by a request of it
-  last_request : {k : Key} {u : ℕ} {earlier : List Evaluation} → IsLastSettled files paths k u earlier → (q : Evaluation) × In q earlier × (q.version ≡ u)
-  last_request (by_newest {evaluation = q} s e) = (q, first, e)
-  last_request (by_earlier n l) = let r = last_request l in (r.0, after r.1, r.2)
+  last_request : {k : Key} {u : ℕ} {earlier : List Evaluation} → IsLastSettled files paths k u earlier → (q : Evaluation) × In q earlier × (q.version ≡ u) × IsSettledBy files paths k q
+  last_request (by_newest {evaluation = q} s e) = (q, first, e, s)
+  last_request (by_earlier n l) = let r = last_request l in (r.0, after r.1, r.2, r.3)
 
   module _ (old new : GraphView) (roots : List Key) (earlier : List Evaluation) (linked : IsLinked files paths old earlier) (runs : List Run)
       (call : IsCall next (at old.version) (past_of old roots) new runs) where
@@ -220,15 +220,15 @@ module _ (files : ℕ → Files) (paths : ℕ → List (List ℕ)) where
           | inr n ↦ (n.5, (n.0, n.1, n.3))
         ]
 
-    -- what is no leaf has a turn
-    some_turn : {run : Run} (p : IsRunOf next (at old.version) (past_of old roots) new run) → at old.version run.key ≡ None
-        → (Grounded next (at old.version) run.key p.of_key.value × (run.turns ≡ suc (length p.of_key.groups))) ⊎ (IsUngrounded next (at old.version) run.key × (run.turns ≡ length p.of_key.groups)) → 0 < run.turns
-    some_turn p n (inl g) = let t = g.1 in omega arith
-    some_turn {run = run} p n (inr u) =
-        let s = subst (λ (m : ℕ). Settles next (at m) cycle run.key p.of_key.groups p.of_key.value) version ((law.each run.key p.of_key p.recorded).clean p.clean) in
-        let h = asks_some next cycle (at old.version) s n u.0 in
-        let t = u.1 in
-        omega arith
+    -- what is no leaf has the turns of its groups
+    turns_taken : {run : Run} (p : IsRunOf next (at old.version) (past_of old roots) new run)
+        → (Grounded next (at old.version) run.key p.of_key.value × (run.turns ≡ suc (length p.of_key.groups))) ⊎ (IsUngrounded next (at old.version) run.key × (run.turns ≡ length p.of_key.groups)) → TakesTurns files paths old.version run
+    turns_taken {run = run} p number = record {
+      groups = p.of_key.groups;
+      value = p.of_key.value;
+      settles = subst (λ (m : ℕ). Settles next (at m) cycle run.key p.of_key.groups p.of_key.value) version ((law.each run.key p.of_key p.recorded).clean p.clean);
+      number = number;
+    }
 
     pub item_of : (run : Run) → In run runs → IsItemOf files paths earlier request run
     item_of run i =
@@ -238,7 +238,7 @@ module _ (files : ℕ → Files) (paths : ℕ → List (List ℕ)) where
           settled = (item_now run i).0;
           justified = elim p.item [
             | inl l ↦ inl (p.of_key.value, l.0, l.1, may_read run.key p.of_key.value l.0 (record_at old run.key) refl l.2)
-            | inr n ↦ inr (n.0, some_turn p n.0 n.2, may_run run.key (record_at old run.key) refl n.1)
+            | inr n ↦ inr (n.0, turns_taken p n.2, may_run run.key (record_at old run.key) refl n.1)
           ];
         }
 
@@ -262,6 +262,12 @@ module _ (files : ℕ → Files) (paths : ℕ → List (List ℕ)) where
               | inr ungrounded ↦ absurd (ungrounded v g)
             ]
           ];
+      reread = λ k u w x leaf s l lo hi t.
+          let q = last_request l in
+          let r = linked.there q.0 k q.1 q.3 in
+          let st = linked.last k u r.0 l r.1 in
+          let early : r.0.settled_at < w = let h = st.early in omega arith in
+          call.reads k x r.0 leaf r.1 (linked.lawful.leaf_clean k r.0 x r.1 leaf w early hi t) s;
     }
       where
         grounded_is : (k : Key) (v x : Value) (gs : List (List Key)) → Grounded next (at old.version) k v → Settles next (at old.version) cycle k gs x → v ≡ x

@@ -96,7 +96,7 @@ read_plain files (key.Listing directory) v e = plain e tt
     plain : {u : Value} → Some u ≡ Some v → NoCycle u → NoCycle v
     plain e h = subst NoCycle (some_is e) h
 read_plain files (key.Lookup directory) v e = absurd (none_some e)
-read_plain files (key.Glob text) v e = absurd (none_some e)
+read_plain files (key.Glob below pattern directories) v e = absurd (none_some e)
 read_plain files (key.Module label) v e = absurd (none_some e)
 read_plain files (key.Package name) v e = absurd (none_some e)
 read_plain files (key.Under directory) v e = absurd (none_some e)

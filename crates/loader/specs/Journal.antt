@@ -1,10 +1,10 @@
 -- What a journal tells, by the requests and the history of the files alone: `files u` are the files at version u, and `paths u` are the paths of
 -- the edit to version u.
 use Rattle.std.specs.declared.cmp.Ordering.TheVariants.{Less}
-use Rattle.std.specs.Prelude.{◌≡◌, ◌≢◌, ◌⊎◌, ℕ, ◌<◌, ◌≤◌, List, [], ◌∷◌, ◌++◌, map, Option, Some, None}
+use Rattle.std.specs.Prelude.{◌≡◌, ◌≢◌, ◌⊎◌, ℕ, suc, ◌<◌, ◌≤◌, List, [], ◌∷◌, ◌++◌, length, map, Option, Some, None}
 use Rattle.evaluation.specs.Graph.{Differs}
 use Rattle.evaluation.specs.Reachability.{AsksGroup, Reached}
-use Rattle.evaluation.specs.Value.{AllDiffer, Grounded, IsUngrounded, HasValue, In}
+use Rattle.evaluation.specs.Value.{AllDiffer, Grounded, IsUngrounded, HasValue, In, Settles}
 use Rattle.filetree.specs.Files.{Files}
 use Rattle.functions.specs.Next.{next}
 use Rattle.keys.specs.Leaves.{read}
@@ -67,6 +67,14 @@ module _ (files : ℕ → Files) (paths : ℕ → List (List ℕ)) where
     pub closed : (before rest : List Run) (run : Run) → runs ≡ before ++ run ∷ rest → IsUngrounded next (leaves evaluation.version) run.key
         → (later : Run) → In later rest → IsUngrounded next (leaves evaluation.version) later.key × (key_cmp run.key later.key ≡ Less)
 
+  -- What is no leaf is settled with the groups that it asks at the files of the version, up to the first with a member that
+  -- is not grounded. Each group takes a turn, and a grounded key ends with one more.
+  pub record TakesTurns (u : ℕ) (run : Run) : Type 0 where
+    pub groups : List (List Key)
+    pub value : Value
+    pub settles : Settles next (leaves u) cycle run.key groups value
+    pub number : (Grounded next (leaves u) run.key value × (run.turns ≡ suc (length groups))) ⊎ (IsUngrounded next (leaves u) run.key × (run.turns ≡ length groups))
+
   module _ (earlier : List Evaluation) where
     -- k may run at version v: it was never settled before, or it was, and a key that it recorded when it was last settled has had two values since
     pub data MayRun (k : Key) (v : ℕ) : Type 0 where
@@ -78,17 +86,20 @@ module _ (files : ℕ → Files) (paths : ℕ → List (List ℕ)) where
       first_read : IsNeverSettled k earlier → MayBeRead k v
       read_again : IsSettledOnce k earlier → ((u : ℕ) → IsLastSettled k u earlier → (w : ℕ) × (u < w) × (w ≤ v) × IsTouched (paths w) k) → MayBeRead k v
 
-    -- the item of an evaluation is of a key that the evaluation settles, and justified: a leaf with no turns may be read, another key with turns may run
+    -- the item of an evaluation is of a key that the evaluation settles, and justified: a leaf with no turns may be read, and another
+    -- key with the turns of its groups may run
     pub record IsItemOf (evaluation : Evaluation) (run : Run) : Type 0 where
       pub version : run.version ≡ evaluation.version
       pub settled : IsSettledBy run.key evaluation
       pub justified : ((x : Value) × (leaves evaluation.version run.key ≡ Some x) × (run.turns ≡ 0) × MayBeRead run.key evaluation.version)
-          ⊎ ((leaves evaluation.version run.key ≡ None) × (0 < run.turns) × MayRun run.key evaluation.version)
+          ⊎ ((leaves evaluation.version run.key ≡ None) × TakesTurns evaluation.version run × MayRun run.key evaluation.version)
 
-    -- the items of an evaluation miss no key that it settles for the first time, and no grounded one whose value is another than when it was last settled
+    -- the items of an evaluation miss no key that it settles for the first time, no grounded one whose value is another than when it was last settled,
+    -- and no leaf that an edit has touched since it was last settled, though its value be equal
     pub record MissesNone (evaluation : Evaluation) (runs : List Run) : Type 0 where
       pub new : (k : Key) → IsSettledBy k evaluation → IsNeverSettled k earlier → In k (keys_of runs)
       pub changed : (k : Key) (u : ℕ) (v w : Value) → IsSettledBy k evaluation → IsLastSettled k u earlier → Grounded next (leaves evaluation.version) k v → HasValue next (leaves u) cycle k w → v ≢ w → In k (keys_of runs)
+      pub reread : (k : Key) (u w : ℕ) (x : Value) → leaves evaluation.version k ≡ Some x → IsSettledBy k evaluation → IsLastSettled k u earlier → u < w → w ≤ evaluation.version → IsTouched (paths w) k → In k (keys_of runs)
 
     pub record AreItemsOf (evaluation : Evaluation) (runs : List Run) : Type 0 where
       pub each : (run : Run) → In run runs → IsItemOf evaluation run

@@ -38,17 +38,18 @@ pub enum ServeStop {
     Budget,
     /// A growth was refused.
     #[error("memory")]
-    Memory,
+    Memory(Memory),
 }
 
 impl From<AllocError> for ServeStop {
     ghost use Rattle.std.specs.Prelude.{◌≡◌};
     ghost use Rattle.loader.specs.declared.serving.ServeStop.TheVariants.{Memory};
+    ghost use Rattle.texts.specs.Refusals.{memory};
 
-    ghost from_gives = { λ _ e. e ≡ Memory };
+    ghost from_gives = { λ _ e. e ≡ Memory memory };
 
-    fn from(_error: AllocError) -> ServeStop {
-        ServeStop::Memory
+    fn from(error: AllocError) -> ServeStop {
+        ServeStop::Memory(Memory::from(error))
     }
 }
 
@@ -56,13 +57,14 @@ impl From<Stop> for ServeStop {
     ghost use Rattle.std.specs.Prelude.{◌≡◌};
     ghost use Rattle.round.specs.declared.stop.Stop.TheVariants as stops;
     ghost use Rattle.loader.specs.declared.serving.ServeStop.TheVariants.{Budget, Memory};
+    ghost use Rattle.texts.specs.Refusals.{memory};
 
-    ghost from_gives = { λ e f. (e ≡ stops.Budget → f ≡ Budget) × (e ≡ stops.Memory → f ≡ Memory) };
+    ghost from_gives = { λ e f. (e ≡ stops.Budget → f ≡ Budget) × (e ≡ stops.Memory memory → f ≡ Memory memory) };
 
     fn from(error: Stop) -> ServeStop {
         match error {
             Stop::Budget => ServeStop::Budget,
-            Stop::Memory => ServeStop::Memory,
+            Stop::Memory(error) => ServeStop::Memory(error),
         }
     }
 }
@@ -71,13 +73,14 @@ impl From<ReadStop> for ServeStop {
     ghost use Rattle.std.specs.Prelude.{◌≡◌};
     ghost use Rattle.lines.specs.declared.pending.ReadStop.TheVariants as stops;
     ghost use Rattle.loader.specs.declared.serving.ServeStop.TheVariants.{Read, Memory};
+    ghost use Rattle.texts.specs.Refusals.{memory};
 
-    ghost from_gives = { λ e f. (e ≡ stops.Read → f ≡ Read) × (e ≡ stops.Memory → f ≡ Memory) };
+    ghost from_gives = { λ e f. (e ≡ stops.Read → f ≡ Read) × (e ≡ stops.Memory memory → f ≡ Memory memory) };
 
     fn from(error: ReadStop) -> ServeStop {
         match error {
             ReadStop::Read => ServeStop::Read,
-            ReadStop::Memory => ServeStop::Memory,
+            ReadStop::Memory(error) => ServeStop::Memory(error),
         }
     }
 }
@@ -527,10 +530,10 @@ fn serve_and_tell<T: Threads + Wait + Sync, R: Input, W: Output, E: Write>(
     let mut journal: Vec<Run> = Vec::new(alloc);
     match serve_lines(runtime, alloc, count, reader, writer, &mut journal) {
         Ok(()) => {
-            if tell_runs(alloc, errors, journal.as_slice()).is_err() {
-                return tell_stop(errors, &ServeStop::Memory);
+            match tell_runs(alloc, errors, journal.as_slice()) {
+                Ok(()) => 0,
+                Err(error) => tell_stop(errors, &ServeStop::Memory(error)),
             }
-            0
         }
         Err(stop) => tell_stop(errors, &stop),
     }

@@ -428,8 +428,8 @@ fn edit_answer(alloc: Global, session: &mut Session, edit: &Edit<'_>) -> Result<
     match session.apply(edit) {
         Ok(version) => accepted(alloc, version),
         Err(EditError::Refused(n)) => refused(alloc, n),
-        Err(EditError::RefusedAt { at, number: n }) => refused_at(alloc, at, n),
-        Err(EditError::Memory) => Err(Memory),
+        Err(EditError::RefusedAt(at, n)) => refused_at(alloc, at, n),
+        Err(EditError::Memory(error)) => Err(error),
     }
 }
 

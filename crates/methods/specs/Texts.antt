@@ -13,7 +13,7 @@ use Rattle.heap.specs.declared.halt.Halt.TheVariants.{Code, Memory}
 abbrev pub Grows : List ℕ → List ℕ → Result (Unit {0}) Halt → List ℕ → Type 0
 Grows old more (Ok u) new = (new ≡ old ++ more) × (is_sized (length new) ≡ true)
 Grows old more (Err (Code c)) new = (c ≡ TOO_LARGE) × (is_sized (length (old ++ more)) ≡ false)
-Grows old more (Err Memory) new = Unit {0}
+Grows old more (Err (Memory _)) new = Unit {0}
 
 -- the bytes of texts that are lent
 abbrev pub shown : List (Bor (List ℕ)) → List (List ℕ)
@@ -23,16 +23,16 @@ shown = map (λ t. t.now)
 abbrev pub ChecksText : ValueOrFault (List ℕ) → Result (Bor (List ℕ)) Halt → Type 0
 ChecksText out (Ok t) = out ≡ good t.now
 ChecksText out (Err (Code c)) = out ≡ bad c
-ChecksText out (Err Memory) = Unit {0}
+ChecksText out (Err (Memory _)) = Unit {0}
 
 -- as `Says`, of a text that is lent
 abbrev pub SaysText : {S : Type 0} → Out S (List ℕ) → Result (Bor (List ℕ)) Halt → S → Type 0
 SaysText out (Ok t) s = out ≡ gives t.now s
 SaysText out (Err (Code c)) s = out ≡ faults c
-SaysText out (Err Memory) s = Unit {0}
+SaysText out (Err (Memory _)) s = Unit {0}
 
 -- as `Says`, of texts that are lent
 abbrev pub SaysTexts : {S : Type 0} → Out S (List (List ℕ)) → Result (Vec (Bor (List ℕ)) Global) Halt → S → Type 0
 SaysTexts out (Ok v) s = out ≡ gives (shown v.items) s
 SaysTexts out (Err (Code c)) s = out ≡ faults c
-SaysTexts out (Err Memory) s = Unit {0}
+SaysTexts out (Err (Memory _)) s = Unit {0}

@@ -29,8 +29,8 @@ each_goes as' n v here w xs e says = counted as' n v here w e ∙ ap (λ o. then
 
 pub each_stops : (as' : List t.Aim) (n : ℕ) (v : Val) (here : Here) (w u : World) (halt : Halt) → n ≡ length as' → SaysItems (unpack n v w.store) (Err halt) w.store → Ran here.site (store (to_each (aims_of as')) v here w) (Err halt) u
 each_stops as' n v here w u (Code c) e says = counted as' n v here w e ∙ ap (λ o. then_runs (at_site here.site w o) (λ xs. store_each (aims_of as') xs here)) says
-each_stops as' n v here w u Memory e says = tt
+each_stops as' n v here w u (Memory _) e says = tt
 
 pub one_stops : (a : t.Aim) (more : Aims) (x : Val) (xs : List Val) (here : Here) (w u : World) (halt : Halt) → Ran here.site (store a x here w) (Err halt) u → Ran here.site (store_each (aim_at a more) (x ∷ xs) here w) (Err halt) u
 one_stops a more x xs here w u (Code c) h = ap (λ o. then_runs o (λ _. store_each more xs here)) h
-one_stops a more x xs here w u Memory h = tt
+one_stops a more x xs here w u (Memory _) h = tt

@@ -39,13 +39,13 @@ gathered_of g = record { members = g.members.items; entries = g.entries.entries 
 abbrev pub RanInto : {A B : Type 0} → Site → Ends B → Result A Halt → B → World → Type 0
 RanInto site out (Ok a) b u = out ≡ ended b u
 RanInto site out (Err (Code c)) b u = out ≡ failed c site
-RanInto site out (Err Memory) b u = Unit {0}
+RanInto site out (Err (Memory _)) b u = Unit {0}
 
 -- the same, of what works on the heap alone
 abbrev pub SaysInto : {S A B : Type 0} → Out S B → Result A Halt → B → S → Type 0
 SaysInto out (Ok a) b s = out ≡ gives b s
 SaysInto out (Err (Code c)) b s = out ≡ faults c
-SaysInto out (Err Memory) b s = Unit {0}
+SaysInto out (Err (Memory _)) b s = Unit {0}
 
 -- an entry of a dictionary expression, behind the others: fault 25 for a key that is there
 abbrev pub set_fresh : Val → Val → Entries → Does Store Entries

@@ -62,10 +62,10 @@ here_of s line running = record { label = s.label; kind = s.kind; site = record 
 abbrev pub Ran : {A : Type 0} → Site → Ends A → Result A Halt → World → Type 0
 Ran site out (Ok a) u = out ≡ ended a u
 Ran site out (Err (Code c)) u = out ≡ failed c site
-Ran site out (Err Memory) u = Unit {0}
+Ran site out (Err (Memory _)) u = Unit {0}
 
 -- the same, of a list
 abbrev pub RanItems : {A : Type 0} → Site → Ends (List A) → Result (Vec A Global) Halt → World → Type 0
 RanItems site out (Ok v) u = out ≡ ended v.items u
 RanItems site out (Err (Code c)) u = out ≡ failed c site
-RanItems site out (Err Memory) u = Unit {0}
+RanItems site out (Err (Memory _)) u = Unit {0}

@@ -6,6 +6,7 @@ ghost use Rattle.meaning.specs.Functions as m;
 ghost use Rattle.meaning.specs.Methods as mm;
 ghost use Rattle.language.specs.Arguments.{plain_part, named_part};
 ghost use Rattle.language.specs.Statements.{added};
+ghost use Rattle.texts.specs.Refusals.{memory};
 
 use heap::{Builtin, Halt, Heap, Val};
 use std::alloc::Global;
@@ -14,7 +15,7 @@ use texts::Text;
 // Returns the last arguments, with their names.
 fn named(alloc: Global, xs: &[Val], names: &[Text]) -> Result<Vec<(Text, Val)>, Halt>
     ensures ok { IfOk result (λ v. v.items ≡ named_part xs.now names.now) }
-    ensures err { IsOkUnless result Memory }
+    ensures err { IsOkUnless result (Memory memory) }
 {
     let rest = &xs[xs.len().saturating_sub(names.len())..];
     let mut named = Vec::new(alloc);

@@ -27,7 +27,7 @@ or_right : (a b : Bool) → b ≡ true → a || b ≡ true
 or_right true b e = refl
 or_right false b e = e
 
-itself : (k : Key) → is_at (key_cmp k) k ≡ true
+pub itself : (k : Key) → is_at (key_cmp k) k ≡ true
 itself k = ap is_eq (tied_itself keys_total k)
 
 -- a set has the keys of its list

@@ -16,3 +16,4 @@ pub mod Counting
 pub mod Batching
 pub mod BatchResults
 pub mod Comparing
+pub mod Lending

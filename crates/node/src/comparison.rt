@@ -4,12 +4,11 @@ ghost use Rattle.numbered.specs.Tables.{AreDistinct};
 ghost use Rattle.numbered.specs.Flats.{groups_in, members_in};
 ghost use Rattle.node.specs.Comparisons.{any_changed, unsettled, ComparesGroup, ComparesNext};
 ghost use Rattle.node.specs.Graphs.{seen};
-ghost use Rattle.node.specs.Records.{items_of};
 
 use crate::marks::keys_with;
 use crate::records::{NodeRecord, Records};
 use keys::Key;
-use numbered::{Flat, Number};
+use numbered::Number;
 use std::alloc::Global;
 use texts::Memory;
 
@@ -104,16 +103,4 @@ pub fn compare_next(
         kept.settled_at,
         passed + 1,
     )
-}
-
-/// Returns groups by the keys of their members.
-pub fn groups_with(alloc: Global, records: &Records, groups: &Flat) -> Result<Vec<Vec<Key>>, Memory>
-    requires { All (All (λ n. n < length records.now)) groups.now }
-    ensures { IfOk result (λ all. items_of all.items ≡ groups_in records.now groups.now) }
-{
-    let mut all = Vec::with_capacity(alloc, groups.len())?;
-    for i in 0..groups.len() {
-        all.push(keys_with(alloc, records, groups.group(i))?)?;
-    }
-    Ok(all)
 }

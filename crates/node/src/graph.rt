@@ -16,9 +16,10 @@ ghost use Rattle.node.specs.Writes.{HasReadyMembers, stored, is_ready_group, are
 ghost use Rattle.node.specs.Graphs.{record_at, present, IsTouched, paths_seen, AreReached, HasCleanMembers, Sets};
 
 use crate::batch::store_all;
-use crate::comparison::{Comparison, compare_next, groups_with};
+use crate::comparison::{Comparison, compare_next};
 use crate::counts::{Counts, edges};
 use crate::entry::Entry;
+use crate::groups::Groups;
 use crate::marks::{keys_with, mark_from, set_all, touched, unmark_all};
 use crate::records::{NodeRecord, Records};
 use crate::settling::{settle, store};
@@ -104,15 +105,13 @@ impl Graph {
         }
     }
 
-    /// Returns the groups of a key's record, dirty or not, or `None` without one. Returns `Memory` if an allocation
-    /// fails.
-    pub fn groups(&self, alloc: Global, key: &Key) -> Result<Option<Vec<Vec<Key>>>, Memory>
-        ensures { IfOk result (λ found. option_map (λ groups. items_of groups.items) found
-            ≡ option_map (λ r. r.groups) (record_at self.now key.now)) }
+    /// Lends the groups of a key's record, dirty or not, or `None` without one.
+    pub fn groups(&self, key: &Key) -> Option<Groups<'_>>
+        ensures { result ≡ option_map (λ r. r.groups) (record_at self.now key.now) }
     {
         match self.records.get(key) {
-            None => Ok(None),
-            Some(kept) => Ok(Some(groups_with(alloc, &self.records, &kept.groups)?)),
+            None => None,
+            Some(kept) => Some(Groups::new(&self.records, &kept.groups)),
         }
     }
 

@@ -35,11 +35,9 @@ fn push_ends(words: &mut Vec<Number>, groups: &[Vec<Key>]) -> Result<u32, Memory
 {
     let mut end: u32 = 0;
     for group in groups {
-        let Ok(size) = u32::try_from(group.len()) else {
-            return Err(Memory);
-        };
-        let Some(next) = end.checked_add(size) else {
-            return Err(Memory);
+        let wanted = end as u128 + group.len() as u128;
+        let Ok(next) = u32::try_from(wanted) else {
+            return Err(Memory::no_number_left(wanted));
         };
         words.push(Number::at(next))?;
         end = next;
@@ -97,8 +95,9 @@ impl Flat {
         if groups.is_empty() {
             return Ok(Flat { words });
         }
-        let Ok(count) = u32::try_from(groups.len()) else {
-            return Err(Memory);
+        let wanted = groups.len() as u128;
+        let Ok(count) = u32::try_from(wanted) else {
+            return Err(Memory::no_number_left(wanted));
         };
         words.push(Number::at(count))?;
         let all = push_ends(&mut words, groups)?;

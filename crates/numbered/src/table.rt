@@ -141,7 +141,7 @@ impl<V> Table<V> {
     {
         let place = self.entries.len();
         if place == MOST {
-            return Err(Memory);
+            return Err(Memory::no_number_left(place as u128 + 1));
         }
         self.entries.insert(key, value)?;
         Ok(Number::at(place as u32))

@@ -4,3 +4,4 @@ pub mod Wholes
 pub mod Settlings
 pub mod Counting
 pub mod Orders
+pub mod Grouping

@@ -187,16 +187,17 @@ module _ (next : Key → List Value → Reply Key Value) (read : Key → Option 
     behind_still : AreBehind next read past new runs
     behind_still before rest x e w f j m i apart = t.behind before rest x e w (same_record x (at_place before rest x e) w f) j m i apart
 
-    -- without a run: its value is that of the entry, or that of a cycle
-    pub settles_quietly : (s : Record Key Value) → record_at past.entry k ≡ Some s → (r.value ≡ s.value) ⊎ IsUngrounded next read k → IsTrueOf next read past ds new left runs
-    settles_quietly s e same = record {
+    -- without a run: it is no leaf, and its value is that of the entry, or that of a cycle
+    pub settles_quietly : (s : Record Key Value) → record_at past.entry k ≡ Some s → (r.value ≡ s.value) ⊎ IsUngrounded next read k → read k ≡ None → IsTrueOf next read past ds new left runs
+    settles_quietly s e same no_leaf = record {
       before = t.before;
       after = settled_after;
       opened = left_nodes;
       ran = λ x i. run_stays x (t.ran x i);
       differ = t.differ;
       told = λ j w f. elim (decide_key k j) [
-        | inl q ↦ subst (λ (y : Key). IsTold next read past runs y w) q (inr (s, e, subst (λ (z : Record Key Value). (z.value ≡ s.value) ⊎ IsUngrounded next read k) (some_is (sym sets.there ∙ ap (record_at new) q ∙ f)) same))
+        | inl q ↦ subst (λ (y : Key). IsTold next read past runs y w) q
+            (inr (s, e, subst (λ (z : Record Key Value). (z.value ≡ s.value) ⊎ IsUngrounded next read k) (some_is (sym sets.there ∙ ap (record_at new) q ∙ f)) same, λ v l. absurd (none_some (sym no_leaf ∙ l))))
         | inr n ↦ t.told j w (sym (sets.others j n) ∙ f)
       ];
       behind = behind_still;

@@ -1,4 +1,5 @@
 pub mod Nodes
+pub mod Members
 pub mod Truths
 pub mod Steps
 pub mod TurnCounts

@@ -183,9 +183,10 @@ module _ (next : Key → List Value → Reply Key Value) (read : Key → Option 
   abbrev pub run_keys : List Run → List Key
   run_keys runs = map (λ run. run.key) runs
 
-  -- a key whose record is new, or has another grounded value than at the entry, has a run
+  -- a key has a run, if its record is new, or has another grounded value than at the entry, or is of a leaf that was marked and is no more
   abbrev pub IsTold : List Run → Key → Record Key Value → Type 0
-  IsTold runs k r = In k (run_keys runs) ⊎ ((s : Record Key Value) × (record_at past.entry k ≡ Some s) × ((r.value ≡ s.value) ⊎ IsUngrounded next read k))
+  IsTold runs k r = In k (run_keys runs)
+      ⊎ ((s : Record Key Value) × (record_at past.entry k ≡ Some s) × ((r.value ≡ s.value) ⊎ IsUngrounded next read k) × ((v : Value) → read k ≡ Some v → s.dirty ≡ true → r.dirty ≡ true))
 
   -- each run stands behind the runs of those members that its node's record has, unless neither of the two nodes is grounded
   abbrev pub AreBehind : GraphView → List Run → Type 0

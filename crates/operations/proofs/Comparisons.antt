@@ -60,7 +60,7 @@ drop_past (y ∷ ys) (suc i) h = drop_past ys i h
 -- what is known of a turn of a loop, where `all` is what the whole loop gives
 pub fault_stays : {A : Type 0} → (out : Out ℕ Bool) (k : Bool → Does ℕ A) (all : Out ℕ A) (e : Halt) (t : ℕ) → and_then out k ≡ all → Says out (Err e) t → Says all (Err e) t
 fault_stays out k all (Code c) t h said = sym h ∙ ap (λ o. and_then o k) said
-fault_stays out k all Memory t h said = tt
+fault_stays out k all (Memory _) t h said = tt
 
 module _ (eq : Val → Val → Does ℕ Bool) (xs ys : List Val) (i : ℕ) (s : ℕ) (all : Out ℕ Bool) (x y : Val) (inv : equal_members eq (drop i xs) (drop i ys) s ≡ all) (h : Some x ≡ slice_get xs i) (g : Some y ≡ slice_get ys i) where
   members_now : and_then (eq x y s) (λ same. if same then equal_members eq (drop (i + 1) xs) (drop (i + 1) ys) else pure false) ≡ all
@@ -117,7 +117,7 @@ module _ (heap : List Obj) (s : ℕ) (xs ys : List Val) where
 
 fault_parts : (out : Out ℕ Bool) (k : Bool → Does ℕ Parting) (all : Out ℕ Parting) (e : Halt) (t : ℕ) → and_then out k ≡ all → Says out (Err e) t → SaysParting all (Err e) t
 fault_parts out k all (Code c) t h said = sym h ∙ ap (λ o. and_then o k) said
-fault_parts out k all Memory t h said = tt
+fault_parts out k all (Memory _) t h said = tt
 
 past_all : (xs : List Val) → None ≡ slice_get xs (length xs)
 past_all [] = refl

@@ -35,7 +35,7 @@ module _ (hash : Val → Does ℕ (List Part)) (xs : List Val) (i s : ℕ) (acc 
 
   pub along_fault : (e : Halt) (t u : ℕ) → SaysItems (hash x s) (Err e) t → SaysItems all (Err e) u
   along_fault (Code c) t u said = sym along_now ∙ ap (λ o. and_then (and_then o (λ ps. along hash (drop (i + 1) xs) >>= λ qs. pure (ps ++ qs))) (λ ps. gives (acc ++ ps))) said
-  along_fault Memory t u said = tt
+  along_fault (Memory _) t u said = tt
 
   along_joined : (ps : List Part) (o : Out ℕ (List Part)) → and_then o (λ qs. gives (acc ++ ps ++ qs)) ≡ and_then (and_then o (λ qs. pure (ps ++ qs))) (λ r. gives (acc ++ r))
   along_joined ps (gives qs u) = ap (λ l. gives l u) (append_assoc acc ps qs)

@@ -37,4 +37,4 @@ parting_seen (t.Unequal x y) = e.unequal x y
 abbrev pub SaysParting : Out ℕ e.Parting → Result Parting Halt → ℕ → Type 0
 SaysParting out (Ok p) s = out ≡ gives (parting_seen p) s
 SaysParting out (Err (Code c)) s = out ≡ faults c
-SaysParting out (Err Memory) s = Unit {0}
+SaysParting out (Err (Memory _)) s = Unit {0}

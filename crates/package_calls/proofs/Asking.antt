@@ -26,7 +26,7 @@ module _ (answers : Answers) (xs : List Val) (ns : KeywordArguments) (here : Her
 
   pub reads_not : (halt : Halt) (u : World) → ChecksAs asked_of (read_call xs ns s) (Err halt) → EndsAs here.site (glob answers xs ns here w) (Err halt) u
   reads_not (Code c) u h = ends (bad c) h
-  reads_not Memory u h = tt
+  reads_not (Memory _) u h = tt
 
   -- the patterns in memory, and what they are read from
   module _ (g : Glob) (reads : read_call xs ns s ≡ good g) (patterns asked : List (List ℕ)) (are : patterns ≡ unanswered answers [] asked) (from : asked ≡ questions g) where
@@ -56,7 +56,7 @@ module _ (answers : Answers) (xs : List Val) (ns : KeywordArguments) (here : Her
 
       pub gives_none : (halt : Halt) (t : Store) (u : World) → Says (makes_paths g.allow_empty paths s) (Err halt) t → EndsAs here.site (glob answers xs ns here w) (Err halt) u
       gives_none (Code c) t u h = found_all ∙ ap (at_site here.site w) h
-      gives_none Memory t u h = tt
+      gives_none (Memory _) t u h = tt
 
 -- steps
 

@@ -39,7 +39,7 @@ module _ (f : Builtin) (name : List ℕ) (xs : List Val) (ns : KeywordArguments)
 
   pub no_target : (halt : Halt) (u : World) → ChecksAs view.target_of (target_of f name xs ns w.store) (Err halt) → Ran here.site (rule f name xs ns here w) (Err halt) u
   no_target (Code c) u e = fails_with c e
-  no_target Memory u e = tt
+  no_target (Memory _) u e = tt
 
   module _ (t : Target) (is : target_of f name xs ns w.store ≡ good t) where
     goes_on : rule f name xs ns here w ≡ adds_target t here w

@@ -45,4 +45,4 @@ in_build env name answers f xs xs' ns ns' here w e n a x y =
 -- a rule that fails is a call that fails
 pub fails_too : (site : Site) (out : Ends Val) (halt : Halt) (u : World) → Ran site out (Err halt) u → EndsAs site out (Err halt) u
 fails_too site out (Code c) u h = h
-fails_too site out Memory u h = tt
+fails_too site out (Memory _) u h = tt

@@ -30,7 +30,7 @@ abbrev pub EndsAs : Site → Ends Val → Result CallOutcome Halt → World → 
 EndsAs site out (Ok (Value x)) u = out ≡ ended x u
 EndsAs site out (Ok (Waits patterns)) u = out ≡ waits patterns.items
 EndsAs site out (Err (Code c)) u = out ≡ failed c site
-EndsAs site out (Err Memory) u = Unit {0}
+EndsAs site out (Err (Memory _)) u = Unit {0}
 
 -- a fact of a call that waits
 abbrev pub IfWaits : Result CallOutcome Halt → Type 0 → Type 0
@@ -41,4 +41,4 @@ IfWaits r fact = Unit {0}
 abbrev pub ChecksAs : {A B : Type 0} → (B → A) → ValueOrFault A → Result B Halt → Type 0
 ChecksAs view out (Ok b) = out ≡ good (view b)
 ChecksAs view out (Err (Code c)) = out ≡ bad c
-ChecksAs view out (Err Memory) = Unit {0}
+ChecksAs view out (Err (Memory _)) = Unit {0}

@@ -34,7 +34,7 @@ pub fn label_in(alloc: Global, package_name: &Text, bytes: &[u8]) -> Result<Byte
     match label_text(alloc, text, package_name.as_str()) {
         Ok(text) => Ok(Bytes::of_text(text)),
         Err(BadLabel::Code15) => Err(Halt::Code(faults::BAD_LABEL)),
-        Err(BadLabel::Memory) => Err(Halt::Memory),
+        Err(BadLabel::Memory(error)) => Err(Halt::Memory(error)),
     }
 }
 
@@ -48,6 +48,6 @@ pub fn pattern_of(alloc: Global, bytes: &[u8]) -> Result<Pattern, Halt>
     match Pattern::read(alloc, text) {
         Ok(pattern) => Ok(pattern),
         Err(BadPattern::Code21) => Err(Halt::Code(faults::BAD_PATTERN)),
-        Err(BadPattern::Memory) => Err(Halt::Memory),
+        Err(BadPattern::Memory(error)) => Err(Halt::Memory(error)),
     }
 }

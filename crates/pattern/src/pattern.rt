@@ -18,17 +18,18 @@ pub enum BadPattern {
     Code21,
     /// A growth was refused.
     #[error("out of memory")]
-    Memory,
+    Memory(Memory),
 }
 
 impl From<Memory> for BadPattern {
     ghost use Rattle.std.specs.Prelude.{◌≡◌};
     ghost use Rattle.pattern.specs.declared.pattern.BadPattern.TheVariants.{Memory};
+    ghost use Rattle.texts.specs.Refusals.{memory};
 
-    ghost from_gives = { λ _ e. e ≡ Memory };
+    ghost from_gives = { λ _ e. e ≡ Memory memory };
 
-    fn from(_error: Memory) -> BadPattern {
-        BadPattern::Memory
+    fn from(error: Memory) -> BadPattern {
+        BadPattern::Memory(error)
     }
 }
 

@@ -95,7 +95,7 @@ module _ (R S : RattleType) (g : Ghosts R.Denot S.Denot) (s : IsSend S) where
   turn_send = variants_send (Turn.enum S) ((as_row_send (row_field S) s, (Vec-send _ KeySends.the_send, tt)), ((value_send, tt), tt))
 
   answer_send : IsSend (Answer.the_row S)
-  answer_send = variants_send (Answer.enum S) ((turn_send, tt), (tt, (tt, tt)))
+  answer_send = variants_send (Answer.enum S) ((turn_send, tt), ((search (crosses, sendable) depth 60 fits 20000, tt), ((search (crosses, sendable) depth 60 fits 20000, tt), tt)))
 
   turned_parts_send : IsSend (Turned.TheInside.the_row R S g)
   turned_parts_send = declared_send (Turned.TheInside.the_type R S g) (KeySends.the_send, (Vec-send _ (Arc-send _ value_send value_sync), (answer_send, tt)))

@@ -10,17 +10,19 @@ use Rattle.node.specs.Graphs.{GraphView}
 use Rattle.pool.specs.Serving.{made_in}
 use Rattle.round.specs.declared.stop.Stop.{Stop}
 use Rattle.round.specs.declared.stop.Stop.TheVariants as stop
+use Rattle.texts.specs.Refusals.{memory}
+use Rattle.texts.specs.declared.memory.Memory.{Memory}
 
 -- the stop of what ended with one
 abbrev stop_of : {T : Type 0} → Result T Stop → Stop
-stop_of (Ok x) = stop.Memory
+stop_of (Ok x) = stop.Memory memory
 stop_of (Err e) = e
 
-differ : stop.Memory ≡ stop.Budget → ⊥
-differ e = cc
+differ : (m : Memory) → stop.Memory m ≡ stop.Budget → ⊥
+differ m e = cc
 
-pub memory_is_not_budget : {T : Type 0} → IsErrOf {T = T} (Err stop.Memory) stop.Budget → ⊥
-memory_is_not_budget e = differ (ap stop_of e)
+pub memory_is_not_budget : {T : Type 0} {m : Memory} → IsErrOf {T = T} (Err (stop.Memory m)) stop.Budget → ⊥
+memory_is_not_budget {m = m} e = differ m (ap stop_of e)
 
 pub same_stop : {T U : Type 0} (e s : Stop) → IsErrOf {T = T} (Err e) s → IsErrOf {T = U} (Err e) s
 same_stop e s p = ap Err (ap stop_of p)

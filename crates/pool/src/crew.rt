@@ -72,7 +72,7 @@ pub(crate) fn hire<'s, E, R: Rules + Send + Drop + 's, T: Wait + Sync>(
             let Back { rules, hand } = (refused.value)();
             crew.rules.push_reserved(rules);
             crew.hands.push_reserved(hand);
-            Err(Memory)
+            Err(Memory::told_by_library())
         }
     }
 }

@@ -77,13 +77,13 @@ fn run<'s, E, R: Rules + Send + Drop + 's, T: Threads + Wait + Sync>(
 {
     let workers = match with_room(alloc, rules.len()) {
         Ok(workers) => workers,
-        Err(_) => {
+        Err(error) => {
             return ScopeResult {
                 graph,
                 host,
                 rules,
                 hands,
-                ended: Err(Stop::Memory),
+                ended: Err(Stop::Memory(error)),
             };
         }
     };
@@ -190,7 +190,7 @@ fn by_workers<R: Rules + Send + Drop, T: Threads + Wait + Sync>(
 {
     let (board, host, seats) = match Board::open(alloc, CAPACITY, hands.len()) {
         Ok(made) => made,
-        Err(OpenError::Memory) => return Err(Stop::Memory),
+        Err(OpenError::Memory(error)) => return Err(Stop::Memory(error)),
         Err(OpenError::Range) => unreachable!(),
     };
     let bells = Bells::new();

@@ -27,11 +27,11 @@ use Rattle.quiet.specs.Quiet.{quiet, quiets}
 -- a piece that stops, and what would stand behind it
 pub stops : {A B : Type 0} (m : Ends A) (k : A → Runs B) (site : Site) (halt : Halt) (u v : World) → Ran site m (Err halt) u → Ran site (then_runs m k) (Err halt) v
 stops m k site (Code c) u v h = ap (λ q. then_runs q k) h
-stops m k site Memory u v h = tt
+stops m k site (Memory _) u v h = tt
 
 pub items_stop : {A B : Type 0} (m : Ends (List A)) (k : List A → Runs B) (site : Site) (halt : Halt) (u v : World) → RanItems site m (Err halt) u → Ran site (then_runs m k) (Err halt) v
 items_stop m k site (Code c) u v h = ap (λ q. then_runs q k) h
-items_stop m k site Memory u v h = tt
+items_stop m k site (Memory _) u v h = tt
 
 -- a piece that goes on
 pub behind : {A B : Type 0} (m : Ends A) (k : A → Runs B) (site : Site) (a : A) (u : World) (r : Result B Halt) (v : World) → m ≡ ended a u → Ran site (k a u) r v → Ran site (then_runs m k) r v
@@ -41,7 +41,7 @@ behind m k site a u r v e h = subst (λ q. Ran site (then_runs q k) r v) (sym e)
 pub heaped : {A : Type 0} (does : o.Does Store A) (here : Here) (w : World) (r : Result A Halt) (s : Store) → Says (does w.store) r s → Ran here.site (on_heap here does w) r (record w { store = s })
 heaped does here w (Ok a) s h = ap (at_site here.site w) h
 heaped does here w (Err (Code c)) s h = ap (at_site here.site w) h
-heaped does here w (Err Memory) s h = tt
+heaped does here w (Err (Memory _)) s h = tt
 
 -- one of two pieces, by the truth of a value
 pub truly : {A : Type 0} (x : Val) (m k : Runs A) (w : World) (b : Bool) (site : Site) (r : Result A Halt) (v : World) → b ≡ is_true x w.store → Ran site ((if b then m else k) w) r v → Ran site (by_truth x m k w) r v
@@ -101,7 +101,7 @@ ticked k here w s e = ap (λ q. then_runs (at_site here.site w q) (λ _. k)) e
 pub no_step : {A : Type 0} (k : Runs A) (here : Here) (w : World) (halt : Halt) (s : Store) (v : World) → Says (walks (λ objects. o.tick) w.store) (Err halt) s → Ran here.site (then_runs (tick here w) (λ _. k)) (Err halt) v
 unfolding tick
 no_step k here w (Code c) s v h = ap (λ q. then_runs (at_site here.site w q) (λ _. k)) h
-no_step k here w Memory s v h = tt
+no_step k here w (Memory _) s v h = tt
 
 -- an expression: the step that its node takes, and what it does behind that
 pub node : (env : Env) (call : Call) (e d : Ex) (does : Runs Val) (here : Here) (w : World) (s : Store) (r : Result Val Halt) (v : World) → e ≡ d → value env call d here ≡ (λ u. then_runs (tick here u) (λ _. does)) → walks (λ objects. o.tick) w.store ≡ o.gives tt s → Ran here.site (does (record w { store = s })) r v → Ran here.site (value env call e here w) r v
@@ -171,23 +171,23 @@ module _ (env : Env) (call : Call) (here : Here) where
       sym h
       ∙ ap (λ l. then_runs (values env call (trees_of l) here w) (λ xs. pure (done ++ xs))) is
       ∙ ap (λ q. then_runs (then_runs q (λ y. values env call (trees_of es) here >>= λ xs. pure (y ∷ xs))) (λ xs. pure (done ++ xs))) says
-  gathers_none e es all done w u v o Memory is says h = tt
+  gathers_none e es all done w u v o (Memory _) is says h = tt
 
 -- a fault of a statement that is run at once
 pub done_ran : (m : Ends Exit) (site : Site) (halt : Halt) (u : World) → Ran site m (Err halt) u → Done site m (Err halt) u
 done_ran m site (Code c) u h = h
-done_ran m site Memory u h = tt
+done_ran m site (Memory _) u h = tt
 
 -- a condition that is tested at once
 module _ (here : Here) (m : Runs Val) (w : World) where
   pub tested_none : (halt : Halt) (s : Store) (u : World) → Says (walks (λ objects. o.tick) w.store) (Err halt) s → Tested here.site (λ k j. tick here >>= λ _. m >>= λ x. by_truth x k j) w (Err halt) u
   unfolding tick
   tested_none (Code c) s u h = λ k j. ap (λ q. then_runs (at_site here.site w q) (λ _. m >>= λ x. by_truth x k j)) h
-  tested_none Memory s u h = tt
+  tested_none (Memory _) s u h = tt
 
   pub tested_stops : (s : Store) (halt : Halt) (v u : World) → walks (λ objects. o.tick) w.store ≡ o.gives tt s → Ran here.site (m (record w { store = s })) (Err halt) v → Tested here.site (λ k j. tick here >>= λ _. m >>= λ x. by_truth x k j) w (Err halt) u
   tested_stops s (Code c) v u ticks h = λ k j. ticked (m >>= λ x. by_truth x k j) here w s ticks ∙ ap (λ q. then_runs q (λ x. by_truth x k j)) h
-  tested_stops s Memory v u ticks h = tt
+  tested_stops s (Memory _) v u ticks h = tt
 
   pub tested : (s : Store) (x : Val) (b : Bool) (u : World) → walks (λ objects. o.tick) w.store ≡ o.gives tt s → m (record w { store = s }) ≡ ended x u → b ≡ is_true x u.store → Tested here.site (λ k j. tick here >>= λ _. m >>= λ x. by_truth x k j) w (Ok (Some b)) u
   tested s x b u ticks says e = λ k j. ticked (m >>= λ x. by_truth x k j) here w s ticks ∙ ap (λ q. then_runs q (λ x. by_truth x k j)) says ∙ ap (λ c. (if c then k else j) u) (sym e)

@@ -32,7 +32,7 @@ abbrev pub Done : Site → Ends Exit → Result Bool Halt → World → Type 0
 Done site says (Ok true) w = says ≡ ended goes_on w
 Done site says (Ok false) w = Unit {0}
 Done site says (Err (Code c)) w = says ≡ failed c site
-Done site says (Err Memory) w = Unit {0}
+Done site says (Err (Memory _)) w = Unit {0}
 
 -- a statement that is done costs a step; where it is not, nothing was done
 abbrev pub Costs : Result Bool Halt → State → State → Type 0
@@ -60,7 +60,7 @@ abbrev pub Tested : Site → (Runs Exit → Runs Exit → Runs Exit) → World �
 Tested site does w (Ok (Some b)) u = (m n : Runs Exit) → does m n w ≡ (if b then m else n) u
 Tested site does w (Ok None) u = Unit {0}
 Tested site does w (Err (Code c)) u = (m n : Runs Exit) → does m n w ≡ failed c site
-Tested site does w (Err Memory) u = Unit {0}
+Tested site does w (Err (Memory _)) u = Unit {0}
 
 abbrev pub TestCosts : Result (Option Bool) Halt → State → State → Type 0
 TestCosts (Ok (Some b)) old new = new.heap.steps < old.heap.steps

@@ -1,5 +1,5 @@
 -- A check goes on to the next group, or gives up.
-use Rattle.std.proofs.Common.{◌≡◌, ◌≢◌, ◌⊎◌, inl, inr, ℕ, ◌+◌, ◌<◌, ◌≤◌, zero, suc, true, false, nat_lt, List, [], ◌∷◌, ◌++◌, length, take, drop, Option, Some, refl, sym, ◌∙◌, ap, subst, arith, slice_index_or, add-one}
+use Rattle.std.proofs.Common.{◌≡◌, ◌≢◌, inl, inr, ℕ, ◌+◌, ◌<◌, ◌≤◌, zero, suc, true, false, nat_lt, List, [], ◌∷◌, ◌++◌, length, take, Option, Some, refl, sym, ◌∙◌, ap, subst, arith, add-one}
 use Rattle.indexmap.specs.IndexMap.{Updates}
 use Rattle.std.specs.declared.alloc.Global.{Global}
 use Rattle.std.specs.declared.vec.Vec.{Vec}
@@ -16,7 +16,6 @@ use Rattle.keys.specs.Keys.{key_eq}
 use Rattle.keys.specs.declared.key.Key.{Key}
 use Rattle.keys.specs.declared.value.Value.{Value}
 use Rattle.node.specs.Graphs.{GraphView, record_at, IsTouched}
-use Rattle.node.specs.Records.{items_of}
 use Rattle.node.proofs.Lists.{some_is, decide_key, in_left, in_right}
 use Rattle.open_nodes.proofs.Lookups.{other_key}
 use Rattle.open_nodes.specs.Nodes.{node_at, groups_of, pending, IsClean, IsStill, IsCurrent, Stands, IsWhole, AreOut}
@@ -35,11 +34,11 @@ use Rattle.open_nodes.proofs.Settlings.{truth_changes}
 use Rattle.node.specs.Comparisons.{has_changed, Compares}
 use Rattle.node.specs.declared.comparison.Comparison.{Comparison}
 use Rattle.node.specs.declared.comparison.Comparison.TheVariants as compared
-use Rattle.round.specs.Members.{IsMissing}
+use Rattle.open_nodes.specs.Members.{IsMissing}
 use Rattle.round.proofs.Comparing.{IsNextGroup, HasChanged, HasNotChanged, over_is, waits_is, differs_is, passes_is}
 use Rattle.round.specs.Moves.{KeepsWanted}
 use Rattle.round.specs.Looks.{IsAwaiting, IsChecking, HasPassed}
-use Rattle.round.proofs.Grouping.{split_at, snoc_in, items_taken}
+use Rattle.open_nodes.proofs.Grouping.{snoc_in}
 use Rattle.round.proofs.Wanting.{StaysTrue, wanted_set}
 use Rattle.round.proofs.Confirming.{standing}
 use Rattle.round.proofs.Reaching.{rest_is, current_wants}

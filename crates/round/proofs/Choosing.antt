@@ -1,37 +1,33 @@
 -- Which keys are ready tells exactly whose next turn the choices allow to be handed out.
 use Rattle.std.proofs.Common.{◌≡◌, ◌≢◌, ◌⊎◌, inl, inr, ℕ, suc, ◌≤◌, true, false, List, [], ◌∷◌, ◌++◌, length, map, take, Option, Some, None, refl, sym, ◌∙◌, ap, subst, arith, append-nil, length-append}
-use Rattle.std.specs.Prelude.{◌↔◌}
 use Rattle.evaluation.specs.Reply.{Reply, Ask, Done}
 use Rattle.evaluation.specs.Value.{Grounded, AllGrounded, In, first, after, IsMember}
 use Rattle.evaluation.specs.Value as value
 use Rattle.evaluation.specs.Graph.{Record}
 use Rattle.evaluation.specs.Choices.{Choice, Backs, IsOut, Comes, stay, asks, Changed, member, by_turn, Runs, Settled, CanHand}
 use Rattle.evaluation.specs.Choices as choices
-use Rattle.evaluation.specs.States.{HasBacks}
 use Rattle.evaluation.proofs.Deciding.{fewer, at_most, two_splits, in_middle, length_snoc, along, not_past, same_end, come_grounded, come_on, never_both}
 use Rattle.evaluation.proofs.Least.{Keeping, least_runs, least_settled}
 use Rattle.keys.specs.Cycles.{cycle}
 use Rattle.keys.proofs.CycleLaws.{turned}
-use Rattle.keys.specs.Turns.{NoCycle}
 use Rattle.keys.specs.Jobs.{JobView}
 use Rattle.keys.specs.declared.key.Key.{Key}
 use Rattle.keys.specs.declared.value.Value.{Value}
 use Rattle.node.specs.Graphs.{GraphView, record_at}
 use Rattle.node.proofs.Lists.{some_is, none_some, true_false, in_left, in_right}
-use Rattle.open_nodes.specs.Nodes.{node_at, groups_of, pending, IsOpen, IsUnsettled, IsClean, IsPlain, IsCurrent, IsBlocked, Stands, KeepsBack}
+use Rattle.open_nodes.specs.Nodes.{node_at, groups_of, IsClean, IsPlain, IsCurrent, IsBlocked, Stands, KeepsBack}
 use Rattle.open_nodes.specs.Truths.{IsNext, Past, IsWantedBy, AreUnchanged, HasStopped, HasBegun, IsRun, IsCheck, IsDoing, TellOut, IsOpenTruly, IsRunToEnd, HasEnded, by_read, by_check, by_turns, IsTrueOf}
 use Rattle.open_nodes.specs.declared.table.Node.{Node}
 use Rattle.open_nodes.specs.declared.table.Phase.{Phase}
 use Rattle.open_nodes.specs.declared.table.Phase.TheVariants as phase
-use Rattle.open_nodes.specs.declared.table.Table.{Table}
-use Rattle.open_nodes.proofs.Settlings.{plain_grounded, cycle_ungrounded, same_since}
+use Rattle.open_nodes.proofs.Settlings.{plain_grounded, cycle_ungrounded}
 use Rattle.open_nodes.proofs.Wholes.{unsettled_not_clean}
 use Rattle.round.specs.Moves.{IsWanted}
 use Rattle.round.specs.Choosing.{IsJobOut}
-use Rattle.round.specs.Members.{plain_value, all_values, AreAnswers}
+use Rattle.open_nodes.specs.Members.{plain_value, all_values, AreAnswers}
 use Rattle.round.specs.Rounds.{IsBeside, IsOfJobOut, Standing}
 use Rattle.round.proofs.Ending.{asks_come, plain_values}
-use Rattle.round.proofs.Grouping.{snoc_in, plain_has}
+use Rattle.open_nodes.proofs.Grouping.{snoc_in, plain_has}
 use Rattle.round.proofs.NextTurns.{asks_comes}
 use Rattle.round.proofs.Reaching.{asks_last}
 use Rattle.round.proofs.Seeking.{settled_by}

@@ -20,7 +20,7 @@ use Rattle.node.specs.Records.{items_of}
 use Rattle.node.specs.Laws.{IsLawfulFor, BatchKeepsLawful}
 use Rattle.node.specs.Writes.{stored}
 use Rattle.node.specs.declared.entry.Entry.{Entry}
-use Rattle.node.proofs.Lists.{some_is, true_false, in_split, in_left, in_right}
+use Rattle.node.proofs.Lists.{some_is, none_some, true_false, in_split, in_left, in_right}
 use Rattle.open_nodes.specs.Nodes.{Records, node_at, groups_of, IsOpen, IsUnsettled, IsPlain, Stands}
 use Rattle.open_nodes.specs.Truths.{IsNext, Past, IsSince, IsAfter, IsDoing, IsOpenTruly, IsRunOf, run_keys, IsTold, AreBehind, AreClosedLast, IsTrueOf, IsTrueAtEnd}
 use Rattle.open_nodes.specs.declared.run.Run.{Run}
@@ -33,13 +33,13 @@ use Rattle.open_nodes.proofs.Orders.{split_join}
 use Rattle.open_nodes.proofs.Settlings.{now_is, clean_settles, member_clean, plain_grounded, cycle_ungrounded, in_map}
 use Rattle.open_nodes.proofs.Wholes.{unsettled_not_clean}
 use Rattle.round.specs.Closing.{HasTurnedBy, HasTurned, stop_at, HasTaken, IsIdle}
-use Rattle.round.specs.Members.{plain_value}
+use Rattle.open_nodes.specs.Members.{plain_value}
 use Rattle.round.specs.Moves.{IsWholeNow}
 use Rattle.round.specs.Showing.{Chain, Ends, Shows, IsStall, AreEntries}
 use Rattle.round.specs.Showing as showing
 use Rattle.round.specs.declared.closing.Closing.{Closing}
 use Rattle.round.specs.declared.closing.Stall.{Stall}
-use Rattle.round.proofs.Grouping.{clean_cycle, items_length}
+use Rattle.open_nodes.proofs.Grouping.{clean_cycle, items_length}
 use Rattle.round.proofs.Reaching.{AsksAfter, asks_last, check_asks}
 use Rattle.round.proofs.Stalls.{ComesBy, IsStopped, stop_among, stopped, all_closed, has_stop, is_stall}
 use Rattle.round.proofs.Walking.{chain_end}
@@ -319,7 +319,7 @@ module _ (old : GraphView) (start later : Table) (stall : Stall) (w : IsWholeNow
             (subst (λ k. In k (run_keys next read past t.added)) (sym (key_is e i)) (t.added_all (closing_of e i) (closing_in e i) n (stopped_of (closing_of e i) (closing_in e i)).there q))))
 
         go : (p : Phase) → n.phase ≡ p → Stands records e.key (groups_of n) p → IsTold next read past all_runs e.key r
-        go (phase.Checking at) q s = inr (s.0, sym (truly e i).same ∙ s.1, inr ungrounded_entry)
+        go (phase.Checking at) q s = inr (s.0, sym (truly e i).same ∙ s.1, inr ungrounded_entry, λ v l. absurd (none_some (sym (truly e i).no_leaf ∙ l)))
         go phase.Running q s = has_run (subst (λ p. HasTurnedBy p true) (sym q) refl)
         go phase.Out q s = has_run (subst (λ p. HasTurnedBy p true) (sym q) refl)
 

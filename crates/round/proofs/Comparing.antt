@@ -1,5 +1,5 @@
 -- What a check finds in the next group, member by member.
-use Rattle.std.proofs.Common.{◌≡◌, ◌≢◌, ◌⊎◌, inl, inr, ℕ, ◌+◌, ◌<◌, ◌≤◌, zero, suc, ◌||◌, not, Bool, true, false, cond, List, [], ◌∷◌, ◌++◌, length, take, Option, Some, None, refl, sym, ◌∙◌, ap, subst, arith}
+use Rattle.std.proofs.Common.{◌≡◌, ◌≢◌, ◌⊎◌, inl, inr, ℕ, ◌+◌, ◌≤◌, zero, suc, ◌||◌, not, Bool, true, false, cond, List, [], ◌∷◌, ◌++◌, length, take, Option, Some, None, refl, sym, ◌∙◌, ap, subst, arith}
 use Rattle.std.specs.Prelude.{filter, slice_get}
 use Rattle.std.specs.List.{list_any}
 use Rattle.std.specs.declared.alloc.Global.{Global}
@@ -8,13 +8,13 @@ use Rattle.evaluation.specs.Graph.{Record}
 use Rattle.evaluation.specs.Value.{In, first, after}
 use Rattle.keys.specs.declared.key.Key.{Key}
 use Rattle.keys.specs.declared.value.Value.{Value}
-use Rattle.node.specs.Comparisons.{unsettled, any_changed, has_changed, ComparesGroup, ComparesNext, Compares}
+use Rattle.node.specs.Comparisons.{unsettled, has_changed, ComparesGroup, ComparesNext, Compares}
 use Rattle.node.specs.Writes.{is_clean}
 use Rattle.node.specs.declared.comparison.Comparison.{Comparison}
 use Rattle.node.specs.declared.comparison.Comparison.TheVariants as compared
 use Rattle.node.proofs.Lists.{some_is, none_some, true_false}
 use Rattle.open_nodes.specs.Nodes.{Records, IsClean}
-use Rattle.round.specs.Members.{IsMissing}
+use Rattle.open_nodes.specs.Members.{IsMissing}
 
 -- the group after the first ones of a record
 abbrev pub IsNextGroup : Record Key Value → ℕ → List Key → Type 0

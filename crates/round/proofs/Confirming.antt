@@ -126,7 +126,7 @@ module _ (graph : GraphView) (table : Table) (k : Key) (p : HasPassed graph tabl
         (confirm_holds next cycle turned past.reads (record_at graph) (λ u j. IsTouched (past.edits u) j) graph.version law (plain next read laws past) k r e
         (none_now ∙ sym (never_leaf past graph.version r.settled_at none_now))
         (λ j m x f. let y = all_still r e j m in let same : y.0 ≡ x = some_is (sym y.1 ∙ f) in (ap (λ (z : Record Key Value). z.dirty) (sym same) ∙ y.2, subst (λ (z : Record Key Value). z.changed_at ≤ r.settled_at) same y.3))))
-        left.gone others_stay (λ clean_still. truly next laws past cs t clean_still) r (sym o.same ∙ e) (inl refl))
+        left.gone others_stay (λ clean_still. truly next laws past cs t clean_still) r (sym o.same ∙ e) (inl refl) o.no_leaf)
       where
         truly : (next : Key → List Value → Reply Key Value) (laws : IsNext next) (past : Past read) (cs : List (Choice Key)) (t : IsTrueOf next read past cs graph table.nodes table.runs.items)
             → ((j : Key) → IsClean (record_at graph) j → IsClean (record_at new) j) → IsSettledTruly next read past cs new k

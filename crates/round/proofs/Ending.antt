@@ -30,12 +30,12 @@ use Rattle.open_nodes.specs.TurnCounts.{turns_of, asked_by, MakesMore}
 use Rattle.open_nodes.proofs.Counting.{counts, turns_snoc}
 use Rattle.open_nodes.proofs.Followings.{Grows, grows_one, begun_on}
 use Rattle.open_nodes.proofs.Settlings.{now_is, plain_grounded, settles_by_run}
-use Rattle.round.specs.Members.{plain_value, all_values, AreAnswers}
+use Rattle.open_nodes.specs.Members.{plain_value, all_values, AreAnswers}
 use Rattle.round.specs.Turning.{IsOutWith}
 use Rattle.round.specs.Moves.{KeepsWanted}
 use Rattle.round.proofs.Wanting.{wanted_leaves}
 use Rattle.round.proofs.Seeking.{stored_change}
-use Rattle.round.proofs.Grouping.{plain_is, items_length}
+use Rattle.open_nodes.proofs.Grouping.{plain_is, items_length}
 
 -- a list of values, cut where a list before it ends
 split_some : {X : Type 0} (p q : List (Option X)) (xs : List X) → p ++ q ≡ map (λ x. Some x) xs → (ys : List X) × (zs : List X) × (xs ≡ ys ++ zs) × (p ≡ map (λ x. Some x) ys) × (q ≡ map (λ x. Some x) zs)

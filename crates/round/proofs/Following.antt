@@ -1,20 +1,19 @@
 -- A round follows the choices: the states that it keeps, and the jobs that are out.
-use Rattle.std.proofs.Common.{◌≡◌, ◌≢◌, ◌⊎◌, inl, inr, ℕ, zero, suc, false, true, List, [], ◌∷◌, Option, Some, None, refl, sym, ◌∙◌, ap, subst}
+use Rattle.std.proofs.Common.{◌≡◌, ◌≢◌, inl, inr, ℕ, true, List, [], ◌∷◌, Option, Some, None, refl, sym, ◌∙◌, ap, subst}
 use Rattle.std.specs.Bool.{Decides}
 use Rattle.indexmap.specs.IndexMap.{get, Updates}
 use Rattle.evaluation.specs.Reply.{Reply}
 use Rattle.evaluation.specs.Value.{In}
-use Rattle.evaluation.specs.Graph.{Record}
-use Rattle.evaluation.specs.Choices.{Choice, Hand, Back, Drop, Backs, nothing, back, other, IsOut, handed, still, Keeps, taken, kept, Settled, CanHand, IsStall}
+use Rattle.evaluation.specs.Choices.{Choice, Hand, Back, Drop, Backs, nothing, back, other, IsOut, handed, still, Keeps, taken, kept, Settled, IsStall}
 use Rattle.evaluation.proofs.Moves.{TellsAlike}
 use Rattle.keys.specs.Cycles.{cycle}
-use Rattle.keys.specs.Jobs.{JobView, Waits}
+use Rattle.keys.specs.Jobs.{Waits}
 use Rattle.keys.specs.Keys.{key_eq}
 use Rattle.keys.specs.declared.key.Key.{Key}
 use Rattle.keys.specs.declared.value.Value.{Value}
 use Rattle.node.specs.Edges.{IsAdded, IsRemoved}
 use Rattle.node.specs.Graphs.{GraphView, record_at}
-use Rattle.node.proofs.Lists.{some_is, none_some, decide_key}
+use Rattle.node.proofs.Lists.{none_some, decide_key}
 use Rattle.open_nodes.proofs.Followings.{grows_one, opened_on, settled_still, untold_on}
 use Rattle.open_nodes.proofs.Lookups.{other_key, same_or_key}
 use Rattle.open_nodes.proofs.Wholes.{unsettled_not_clean}
@@ -24,13 +23,13 @@ use Rattle.open_nodes.specs.Truths.{IsNext, Past, IsTrueOf}
 use Rattle.open_nodes.specs.declared.run.Run.{Run}
 use Rattle.open_nodes.specs.declared.table.Node.{Node}
 use Rattle.open_nodes.specs.declared.table.Phase.TheVariants as phase
-use Rattle.open_nodes.specs.declared.table.Table.{Table}
-use Rattle.round.specs.Choosing.{Follows, FollowsHand, IsPossibleAfter}
+use Rattle.round.specs.Choosing.{Follows, IsPossibleAfter}
 use Rattle.round.specs.Frames.{KeepsSettled}
 use Rattle.round.specs.Moves.{IsWholeNow}
-use Rattle.round.specs.NodeStates.{NodeStates, ArePaused, HasState, DropsState, PutsState, TakesState}
+use Rattle.round.specs.NodeStates.{NodeStates, ArePaused, HasState, PutsState, TakesOut}
 use Rattle.round.specs.Rounds.{Standing, IsBeside, IsStalled, CanDrop}
 use Rattle.round.proofs.Choosing.{settled_clean, ready_can, can_ready, out_at}
+use Rattle.round.proofs.Resting.{root_open}
 
 -- what the choices say of a kept state
 keeps_back : {K : Type 0} {k : K} {cs : List (Choice K)} → Keeps k cs → Backs k 1 cs
@@ -76,22 +75,22 @@ follows_none s states e o = record {
     empty k = rw e refl
 
 -- a job is handed out
-pub follows_hand : (before later : Standing) (old new : NodeStates) (k : Key) (n : Node) → node_at before.table.nodes k ≡ Some n → HasPhase before.table.nodes later.table.nodes k phase.Out → Updates key_eq old new k None → IsAdded before.out later.out k
+pub follows_hand : (before later : Standing) (old new : NodeStates) (k : Key) (n : Node) → node_at before.table.nodes k ≡ Some n → HasPhase before.table.nodes later.table.nodes k phase.Out → TakesOut old new k → IsAdded before.out later.out k
     → (cs : List (Choice Key)) → Follows cs before old → Follows (Hand k ∷ cs) later new
 follows_hand before later old new k n there h u added cs f = record {
-  states = λ j s. elim (same_or_key old new k None u j) [
-    | inl q ↦ absurd (none_some (sym u.1 ∙ ap (get key_eq new) q ∙ s.1))
-    | inr p ↦ kept (λ e. absurd (gone j s (cc))) (λ e. cc) (f.states j (s.0, sym p ∙ s.1))
+  states = λ j s. elim (decide_key k j) [
+    | inl q ↦ absurd (gone j s q)
+    | inr d ↦ kept (λ e. absurd (gone j s (cc))) (λ e. cc) (f.states j (s.0, sym (u.1 j d) ∙ s.1))
   ];
   all_states = λ j x o. let y = not_of_hand x in
       let was : IsOpen before.table.nodes j = (o.0, sym (other_key before.table.nodes later.table.nodes k _ (h n there) j y.1) ∙ o.1) in
       let z = f.all_states j y.0 was in
-      elim (same_or_key old new k None u j) [ inl q ↦ absurd (y.1 q) | inr p ↦ (z.0, p ∙ z.1) ];
+      (z.0, u.1 j y.1 ∙ z.1);
   out = λ j i. elim (added.from j i) [ inl a ↦ out_hand (f.out j a) | inr q ↦ subst (λ x. IsOut x (Hand k ∷ cs)) q handed ];
 }
   where
     gone : (j : Key) → HasState new j → k ≡ j → ⊥
-    gone j s q = none_some (sym u.1 ∙ ap (get key_eq new) q ∙ s.1)
+    gone j s q = none_some (sym u.0 ∙ ap (get key_eq new) q ∙ s.1)
 
 -- no job was handed out
 pub follows_still : (before later : Standing) (old new : NodeStates) → later ≡ before → ((k : Key) → get key_eq new k ≡ get key_eq old k) → (cs : List (Choice Key)) → Follows cs before old → Follows cs later new
@@ -203,6 +202,25 @@ module _ (next : Key → List Value → Reply Key Value) (read : Key → Option 
     none_in s.table.ready.keys (λ k i. x.0 k (ready_can next read laws past cs graph s b roots t k i)),
     none_in s.out (λ k i. x.1 k (out k i)),
   )
+
+  -- where all roots are settled, no turn can be handed out and none is out
+  pub settled_stalls : ((k : Key) → In k s.out → IsOut k cs) → ((k : Key) → In k s.roots → IsOpen s.table.nodes k → ⊥) → IsStalled s
+  settled_stalls out closed = (
+    none_in s.table.ready.keys (λ k i. let n = b.whole.ready_now k i in none_open k (n.0, n.1)),
+    none_in s.out (λ k i. let n = out_at next read laws past cs graph s b roots t k (out k i) in none_open k (n.0, n.1)),
+  )
+    where
+      none_open : (k : Key) → IsOpen s.table.nodes k → ⊥
+      none_open k o =
+          let r = root_open next read laws past cs graph s.table b.whole t k o in
+          let i = subst (In r.0) roots r.1 in
+          elim (b.wanted r.0 i) [ inl x ↦ closed r.0 i x | inr c ↦ unsettled_not_clean (record_at graph r.0) c.0 r.2 c.1 c.2 ]
+
+  -- where a node is open, the choices leave a root that is not settled
+  pub lacks_root : (k : Key) → IsOpen s.table.nodes k → (r : Key) × In r past.roots × (Settled next cycle read (record_at past.entry) past.roots cs r → ⊥)
+  lacks_root k o =
+      let r = root_open next read laws past cs graph s.table b.whole t k o in
+      (r.0, r.1, λ x. let c = settled_clean next read laws past cs graph s b roots t r.0 x in unsettled_not_clean (record_at graph r.0) c.0 r.2 c.1 c.2)
 
   pub drops_where_possible : (states : NodeStates) (k : Key) (r : _) → ArePaused graph s.table states → Follows cs s states → Decides r (CanDrop s states k) → Decides r (IsPossibleAfter next read past cs (Drop k))
   drops_where_possible states k r paused f d = (to, λ h. d.1 (from h))

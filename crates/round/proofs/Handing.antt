@@ -1,6 +1,6 @@
 -- A turn is handed out, and a turn that asks comes back.
 use Rattle.std.proofs.Common.{◌≡◌, ◌≢◌, inl, inr, List, [], ◌∷◌, ◌++◌, Option, Some, None, refl, sym, ◌∙◌, ap, subst, ◌+◌, length, arith, length-append}
-use Rattle.indexmap.specs.IndexMap.{Updates}
+use Rattle.indexmap.specs.IndexMap.{get, Updates}
 use Rattle.std.specs.declared.alloc.Global.{Global}
 use Rattle.evaluation.specs.Reply.{Reply, Ask}
 use Rattle.evaluation.specs.Value.{In, first, after, IsMember}
@@ -30,9 +30,10 @@ use Rattle.open_nodes.specs.TurnCounts.{turns_of, asked_by, MakesNone, MakesMore
 use Rattle.open_nodes.proofs.Counting.{counts, same_asked}
 use Rattle.open_nodes.proofs.Followings.{Grows, grows_one}
 use Rattle.open_nodes.proofs.Settlings.{truth_changes}
-use Rattle.round.specs.Members.{AreAnswers, Answers}
+use Rattle.open_nodes.specs.Members.{AreAnswers, Answers}
+use Rattle.round.specs.NodeStates.{NodeStates, NeedsValues, kept_answers}
 use Rattle.round.specs.Turning.{IsOutWith}
-use Rattle.round.proofs.Grouping.{never_none, items_length}
+use Rattle.open_nodes.proofs.Grouping.{never_none, items_length}
 use Rattle.round.specs.Moves.{StaysTrueBy, KeepsWanted}
 use Rattle.round.proofs.Wanting.{wanted_set}
 use Rattle.round.proofs.Ending.{asks_more, plain_values}
@@ -51,6 +52,11 @@ module _ (graph : GraphView) (before later : Table) (k : Key) (w : IsWhole (reco
   -- it has answers
   pub has_answers : (slice : List (List Key)) → ((m : Node) → node_at before.nodes k ≡ Some m → slice ≡ groups_of m) → Answers (record_at graph) slice None → ⊥
   has_answers slice e a = never_none (record_at graph) (groups_of n) all_plain (subst (λ gs. Answers (record_at graph) gs None) (e n there) a)
+
+  -- without a kept state it needs all of them
+  pub needs_all : (kept : NodeStates) → get key_eq kept k ≡ None → (slice : List (List Key)) → ((m : Node) → node_at before.nodes k ≡ Some m → slice ≡ groups_of m) → (found : Option (List Value)) → Answers (record_at graph) slice found → NeedsValues graph before kept k found
+  needs_all kept e slice q (Some found) a = (ready, λ m x. subst (λ o. AreAnswers (record_at graph) (groups_of m) (kept_answers o ++ found)) (sym e) (subst (λ gs. AreAnswers (record_at graph) gs found) (q m x) a))
+  needs_all kept e slice q None a = λ i. has_answers slice q a
 
   module _ (h : HasPhase before.nodes later.nodes k phase.Out) (removed : IsRemoved before.ready.keys later.ready.keys k) (pends : pending later ≡ pending before) where
     abbrev m : Node

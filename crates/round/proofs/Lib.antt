@@ -1,4 +1,3 @@
-pub mod Grouping
 pub mod Wanting
 pub mod Looking
 pub mod Confirming
@@ -22,3 +21,7 @@ pub mod NoOpenNodes
 pub mod NextTurns
 pub mod Choosing
 pub mod Following
+pub mod PlayedSteps
+pub mod PlayedTurns
+pub mod PlayedChoices
+pub mod Budgets

@@ -27,8 +27,8 @@ use Rattle.open_nodes.specs.TurnCounts.{turns_of, MakesNone}
 use Rattle.open_nodes.proofs.Counting.{counts_same, same_asked}
 use Rattle.open_nodes.proofs.Followings.{grows_none}
 use Rattle.open_nodes.proofs.Settlings.{truth_changes}
-use Rattle.round.specs.Members.{IsMissing, plain_value}
-use Rattle.round.proofs.Grouping.{clean_cycle}
+use Rattle.open_nodes.specs.Members.{IsMissing, plain_value}
+use Rattle.open_nodes.proofs.Grouping.{clean_cycle}
 use Rattle.round.specs.Moves.{Wants, IsWanted, KeepsWanted}
 use Rattle.round.specs.Looks.{IsAwaiting, IsLastGroup, IsRunningAt, IsNextKey}
 use Rattle.round.proofs.Wanting.{StaysTrue, wanted_set}

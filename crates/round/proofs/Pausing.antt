@@ -9,7 +9,7 @@ use Rattle.std.specs.declared.alloc.Global.{Global}
 use Rattle.std.specs.declared.vec.Vec.{Vec}
 use Rattle.evaluation.specs.Graph.{Record}
 use Rattle.evaluation.specs.Value.{In, after, IsMember}
-use Rattle.keys.specs.Jobs.{JobView, Waits}
+use Rattle.keys.specs.Jobs.{Waits}
 use Rattle.keys.specs.Keys.{key_eq}
 use Rattle.keys.specs.declared.key.Key.{Key}
 use Rattle.keys.specs.declared.value.Value.{Value}
@@ -23,11 +23,11 @@ use Rattle.open_nodes.specs.declared.table.Node.{Node}
 use Rattle.open_nodes.specs.declared.table.Phase.TheVariants as phase
 use Rattle.open_nodes.specs.declared.table.Table.{Table}
 use Rattle.round.specs.Frames.{KeepsSettled, KeepsRunning, KeepsFrameBut}
-use Rattle.round.specs.Members.{no_cycle, plain_value, all_values, AreAnswers, Answers}
+use Rattle.open_nodes.specs.Members.{no_cycle, plain_value, all_values, AreAnswers, Answers}
 use Rattle.round.specs.Moves.{IsWholeNow}
-use Rattle.round.specs.NodeStates.{IsPaused, NodeStates, ArePaused, FewerKept, HasState, DropsState, PutsState, TakesState, Keeps}
-use Rattle.round.specs.Turning.{IsOutWith, IsOutAt, NextJob}
-use Rattle.round.proofs.Grouping.{never_none}
+use Rattle.round.specs.NodeStates.{IsPaused, NodeStates, ArePaused, FewerKept, HasState, DropsState, PutsState, SameStates, TakesOut, NeedsValues, kept_answers, Keeps}
+use Rattle.round.specs.Turning.{IsOutWith, IsOutAt}
+use Rattle.open_nodes.proofs.Grouping.{never_none}
 use Rattle.round.proofs.Wanting.{some_there, none_there}
 
 -- each of these is there
@@ -170,6 +170,10 @@ module _ (graph : GraphView) (table : Table) (k : Key) (w : Waits) (p : IsPaused
       plain : (j : Key) → IsMember j (p.group ∷ []) → IsPlain (record_at graph) j
       plain j m = (whole.ready_now k ready).3 j (subst (IsMember j) (sym (same_node n (whole.ready_now k ready).1)) (in_last p.passed j m))
 
+  pub needs_kept : (kept : NodeStates) → get key_eq kept k ≡ Some w → (found : Option (List Value)) → Answers (record_at graph) (p.group ∷ []) found → NeedsValues graph table kept k found
+  needs_kept kept e (Some found) a = (ready, λ n q. subst (λ o. AreAnswers (record_at graph) (groups_of n) (kept_answers o ++ found)) (sym e) (all_answers found (w.answers ++ found) a refl n q))
+  needs_kept kept e None a = λ i. never_missing a
+
 -- the last group of a list of groups
 pub last_one : (gs : List (Vec Key Global)) (passed : List (List Key)) (group : List Key) (n : ℕ) → items_of gs ≡ passed ++ group ∷ [] → n ≡ length gs - 1 → items_of (take (length gs - n) (drop n gs)) ≡ group ∷ []
 last_one gs passed group n e q =
@@ -193,10 +197,30 @@ pub keeps_of : (old new : NodeStates) (key : Key) (paused : Option Waits) → Pu
 keeps_of old new key (Some w) u = one_kept old new key w u
 keeps_of old new key None e = none_kept old new key e
 
--- the state goes with the job; a key that is ready has one
-pub takes_of : (graph : GraphView) (table : Table) (old new : NodeStates) (key : Key) → In key table.ready.keys → Updates key_eq old new key None → (job : Option JobView) → NextJob graph key table job → TakesState old new key job
-takes_of graph table old new key i u (Some job) n = u
-takes_of graph table old new key i u None n = absurd (n i)
+-- the state of a key was taken out
+pub out_fewer : (old new : NodeStates) (key : Key) → TakesOut old new key → FewerKept old new
+out_fewer old new key t k w e = elim (decide_key key k) [
+  | inl q ↦ absurd (none_some (sym t.0 ∙ ap (get key_eq new) q ∙ e))
+  | inr d ↦ sym (t.1 k d) ∙ e
+]
+
+pub same_fewer : (old new : NodeStates) → SameStates old new → FewerKept old new
+same_fewer old new same k w e = sym (same k) ∙ e
+
+-- a state was written over by itself
+pub same_again : (old new : NodeStates) (key : Key) (w : Waits) → get key_eq old key ≡ Some w → Updates key_eq old new key (Some w) → SameStates old new
+same_again old new key w e u k = elim (same_or_key old new key (Some w) u k) [
+  | inl q ↦ ap (get key_eq new) (sym q) ∙ u.1 ∙ sym e ∙ ap (get key_eq old) q
+  | inr p ↦ p
+]
+
+-- nothing was kept of the key
+pub none_out : (old : NodeStates) (key : Key) → get key_eq old key ≡ None → TakesOut old old key
+none_out old key e = (e, λ k d. refl)
+
+-- a state was written over and taken out
+pub written_out : (old middle new : NodeStates) (key : Key) (o : Option Waits) → Updates key_eq old middle key o → Updates key_eq middle new key None → TakesOut old new key
+written_out old middle new key o u v = (v.1, λ k d. other_key middle new key None v k d ∙ other_key old middle key o u k d)
 
 -- and one less
 pub one_fewer : (old new : NodeStates) (key : Key) → Updates key_eq old new key None → FewerKept old new

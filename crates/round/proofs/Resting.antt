@@ -11,7 +11,7 @@ use Rattle.keys.specs.Cycles.{cycle}
 use Rattle.keys.specs.declared.key.Key.{Key}
 use Rattle.keys.specs.declared.value.Value.{Value}
 use Rattle.node.specs.Graphs.{GraphView, record_at, present}
-use Rattle.node.proofs.Lists.{none_some, true_false}
+use Rattle.node.proofs.Lists.{none_some, some_is, true_false}
 use Rattle.node.specs.Laws.{IsLawfulFor}
 use Rattle.open_nodes.specs.Nodes.{Records, node_at, IsOpen, IsUnsettled, IsClean, AreOut}
 use Rattle.open_nodes.specs.TurnCounts.{turns_of, HasMade}
@@ -53,7 +53,7 @@ module _ (graph : GraphView) (table : Table) (f : IsFresh table) where
     opened = λ k n e. absurd (none_open k (n, e));
     ran = λ x i. elim (subst (In x) f.no_runs i) [ ];
     differ = subst (λ xs. AllDiffer (run_keys next read past xs)) (sym f.no_runs) tt;
-    told = λ k r e. inr (r, ap (λ g. record_at g k) h.at_entry ∙ e, inl refl);
+    told = λ k r e. inr (r, ap (λ g. record_at g k) h.at_entry ∙ e, inl refl, λ v l d. d);
     behind = λ before rest x e. absurd (none_stands table.runs.items f.no_runs before rest x e);
     grounded = λ x i. elim (subst (In x) f.no_runs i) [ ];
     settled = λ k u c. absurd (unsettled_not_clean (record_at past.entry k) c.0 u (ap (λ g. record_at g k) h.at_entry ∙ c.1) c.2);
@@ -121,16 +121,21 @@ module _ (next : Key → List Value → Reply Key Value) (read : Key → Option 
   pub call_ends : (roots : List Key) → past.roots ≡ roots → ((k : Key) → In k roots → IsWanted graph table k) → IsTrueAtEnd next read past graph table.runs.items → IsCall next read past graph table.runs.items
   call_ends roots e wanted t = record {
     after = t.after;
-    answered = λ k i. elim (wanted k (subst (In k) e i)) [
-      | inl o ↦ absurd (none_some (sym (none k) ∙ o.1))
-      | inr c ↦ (c.0, c.1, c.2, (c.0.groups, clean_settles next read laws past graph t.after k c.0 c.1 c.2))
-    ];
+    answered = λ k i. let c = root_clean k i in (c.0, c.1, c.2, (c.0.groups, clean_settles next read laws past graph t.after k c.0 c.1 c.2));
     ran = t.ran;
     differ = t.differ;
     told = t.told;
+    reads = λ k v r l f d m. let c = all_settled next read laws past graph t.after root_clean k m in elim (t.told k c.0 c.1) [
+      | inl i ↦ i
+      | inr o ↦ absurd (true_false (o.3 v l (ap (λ (x : Record Key Value). x.dirty) (some_is (sym o.1 ∙ f)) ∙ d)) c.2)
+    ];
     behind = t.behind;
     closed = t.closed;
+    over = λ k x. let c = all_settled next read laws past graph t.after root_clean k x.reached in unsettled_not_clean (record_at graph k) c.0 x.unsettled c.1 c.2;
   }
+    where
+      root_clean : (k : Key) → In k past.roots → IsClean (record_at graph) k
+      root_clean k i = elim (wanted k (subst (In k) e i)) [ inl o ↦ absurd (none_some (sym (none k) ∙ o.1)) | inr c ↦ c ]
 
 pub ends_made : (table : Table) (made : ℕ) → ((k : Key) → node_at table.nodes k ≡ None) → HasMade table made → made ≡ turns_of table.runs.items
 ends_made table made none h = all_made table made (λ k o. none_some (sym (none k) ∙ o.1)) h

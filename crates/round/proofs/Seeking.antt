@@ -1,5 +1,5 @@
 -- What the choices say of keys, told by the graph and the open nodes.
-use Rattle.std.proofs.Common.{◌≡◌, ◌≢◌, ◌⊎◌, inl, inr, ℕ, ◌<◌, ◌≤◌, true, false, nat_lt, List, [], ◌∷◌, ◌++◌, length, map, Option, Some, None, refl, sym, ◌∙◌, ap, subst, arith}
+use Rattle.std.proofs.Common.{◌≡◌, ◌≢◌, ◌⊎◌, inl, inr, ℕ, ◌<◌, true, false, nat_lt, List, [], ◌∷◌, ◌++◌, Option, Some, refl, sym, ◌∙◌, ap, subst, arith}
 use Rattle.evaluation.specs.Reply.{Reply}
 use Rattle.evaluation.specs.Value.{HasValue, IsMember}
 use Rattle.evaluation.specs.Graph.{Record}
@@ -8,9 +8,9 @@ use Rattle.evaluation.proofs.Justification.{changed_test, unchanged_test}
 use Rattle.keys.specs.Cycles.{cycle}
 use Rattle.keys.specs.declared.key.Key.{Key}
 use Rattle.keys.specs.declared.value.Value.{Value}
-use Rattle.node.specs.Graphs.{GraphView, record_at, present, IsTouched}
+use Rattle.node.specs.Graphs.{GraphView, record_at, IsTouched}
 use Rattle.node.specs.Writes.{change_of, stored}
-use Rattle.node.proofs.Lists.{some_is, none_some, true_false, in_left}
+use Rattle.node.proofs.Lists.{some_is}
 use Rattle.node.proofs.Lawfulness.{is_change}
 use Rattle.open_nodes.specs.Nodes.{Nodes, IsUnsettled, IsClean, IsStill}
 use Rattle.open_nodes.specs.Truths.{IsNext, Past, IsWantedBy, IsTrueOf, TellsChange}

@@ -1,5 +1,5 @@
 -- Nodes are taken out of those that are open.
-use Rattle.std.proofs.Common.{◌≡◌, ◌≢◌, inl, inr, ℕ, ◌+◌, ◌<◌, ◌≤◌, Bool, true, false, List, [], ◌∷◌, ◌++◌, length, map, take, Option, Some, None, refl, sym, ◌∙◌, ap, subst, arith, slice_index_or, length-append}
+use Rattle.std.proofs.Common.{◌≡◌, ◌≢◌, inl, inr, ℕ, ◌+◌, Bool, true, false, List, [], ◌∷◌, ◌++◌, length, map, Option, Some, None, refl, sym, ◌∙◌, ap, subst, arith}
 use Rattle.std.specs.declared.alloc.Global.{Global}
 use Rattle.std.specs.declared.vec.Vec.{Vec}
 use Rattle.std.specs.BTreeMap.{BTreeMap, get, is_at}
@@ -29,8 +29,7 @@ use Rattle.open_nodes.proofs.Settlings.{differ_snoc, map_snoc, in_map, map_in}
 use Rattle.round.specs.Closing.{ClosesBy, ClosesWith, HasTurnedBy, HasTurned, StopsIn, stop_at, PutsStop, closing_keys, IsClosed, IsLeast, IsRunOfClosed, AreAscending, HasTaken}
 use Rattle.round.specs.declared.closing.Closing.{Closing}
 use Rattle.round.specs.declared.closing.Stall.{Stall}
-use Rattle.round.proofs.Grouping.{taken_next, items_length, snoc_in, items_taken}
-use Rattle.round.proofs.Confirming.{take_whole}
+use Rattle.open_nodes.proofs.Grouping.{items_length, snoc_in}
 
 items_snoc : (xs : List (Vec Key Global)) (x : Vec Key Global) → items_of (xs ++ x ∷ []) ≡ items_of xs ++ x.items ∷ []
 items_snoc [] x = refl

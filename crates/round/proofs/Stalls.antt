@@ -20,12 +20,12 @@ use Rattle.open_nodes.proofs.Settlings.{in_map}
 use Rattle.open_nodes.proofs.Wholes.{unsettled_not_clean}
 use Rattle.round.specs.Closing.{ClosesBy, ClosesWith, Stops, stop_at, closing_keys, IsClosed, HasTaken, IsIdle}
 use Rattle.round.specs.Looks.{IsLastGroup}
-use Rattle.round.specs.Members.{IsStop}
+use Rattle.open_nodes.specs.Members.{IsStop}
 use Rattle.round.specs.Moves.{IsWholeNow, IsWanted, KeepsWanted}
 use Rattle.round.specs.Showing.{IsStall, AreEntries}
 use Rattle.round.specs.declared.closing.Closing.{Closing}
 use Rattle.round.specs.declared.closing.Stall.{Stall}
-use Rattle.round.proofs.Grouping.{snoc_in}
+use Rattle.open_nodes.proofs.Grouping.{snoc_in}
 use Rattle.round.proofs.Checking.{next_taken}
 use Rattle.round.proofs.Looking.{last_same}
 

@@ -26,7 +26,7 @@ use Rattle.round.specs.declared.closing.Closing.{Closing}
 use Rattle.round.specs.Showing.{Chain, stay, step, Shows, IsStall, CycleValues, shown_at, IsShowing, HasWalked, IsFrom, value_in, EndsWith, ShowsAll, AreEntries}
 use Rattle.round.proofs.Stalling.{empty_has}
 use Rattle.round.proofs.Confirming.{take_whole}
-use Rattle.round.proofs.Grouping.{taken_next, snoc_in, rest_at}
+use Rattle.open_nodes.proofs.Grouping.{taken_next, snoc_in, rest_at}
 
 module _ (stops : Key → Option Key) where
   pub chain_snoc : {k j i : Key} {path : List Key} → Chain stops k path j → stops j ≡ Some i → Chain stops k (path ++ j ∷ []) i

@@ -276,7 +276,7 @@ pub no_leaf : (files : Files) (k : Key) → leaves.is_leaf k ≡ false → leave
 no_leaf files (key.File path) e = absurd (true_false refl e)
 no_leaf files (key.Listing directory) e = absurd (true_false refl e)
 no_leaf files (key.Lookup directory) e = refl
-no_leaf files (key.Glob text) e = refl
+no_leaf files (key.Glob below pattern directories) e = refl
 no_leaf files (key.Module label) e = refl
 no_leaf files (key.Package name) e = refl
 no_leaf files (key.Under directory) e = refl

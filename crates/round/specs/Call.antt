@@ -1,5 +1,5 @@
 -- What a call of an evaluation promises, for every history of the files for which the graph was lawful at its entry.
-use Rattle.std.specs.Prelude.{◌≡◌, List, [], Option, Some, None, false, Result, Ok, Err}
+use Rattle.std.specs.Prelude.{◌≡◌, List, [], Option, Some, None, true, false, Result, Ok, Err}
 use Rattle.evaluation.specs.Reply.{Reply}
 use Rattle.evaluation.specs.Value.{In, IsMember, AllDiffer, HasValue}
 use Rattle.evaluation.specs.Graph.{Record}
@@ -20,6 +20,18 @@ module _ (next : Key → List Value → Reply Key Value) (read : Key → Option 
   abbrev pub IsAnswered : GraphView → Key → Type 0
   IsAnswered graph k = (r : Record Key Value) × (record_at graph k ≡ Some r) × (r.dirty ≡ false) × HasValue next read cycle k r.value
 
+  -- the next turn of a key is to be made: the roots reach it, it is not settled, and it may make turns; these asked the groups, whose members
+  -- are settled, each with a grounded value
+  pub record WantsTurn (past : Past read) (graph : GraphView) (k : Key) : Type 0 where
+    pub no_leaf : read k ≡ None
+    pub reached : IsReached next read past k
+    pub unsettled : IsUnsettled (record_at graph) k
+    pub justified : RunIsJustified next cycle past.reads (λ u j. IsTouched (past.edits u) j) past.entry.version (record_at past.entry k)
+    pub groups : List (List Key)
+    pub answers : List Value
+    pub comes : Comes next cycle read k [] groups answers
+    pub settled : (j : Key) → IsMember j groups → IsClean (record_at graph) j
+
   -- the law of a call that ended well
   pub record IsCall (past : Past read) (graph : GraphView) (runs : List Run) : Type 0 where
     -- the graph is lawful for the same history, and each record is that of the entry, or settled in this call
@@ -30,12 +42,16 @@ module _ (next : Key → List Value → Reply Key Value) (read : Key → Option 
     pub ran : (run : Run) → In run runs → IsRunOf next read past graph run
     -- no key has two
     pub differ : AllDiffer (run_keys next read past runs)
-    -- a key whose record is new, or has another grounded value than at the entry, has a run
+    -- a key has a run, if its record is new, or has another grounded value than at the entry
     pub told : (k : Key) (r : Record Key Value) → record_at graph k ≡ Some r → IsTold next read past runs k r
+    -- a leaf that was marked at the entry and that the roots reach was read again, and has a run though its value be equal
+    pub reads : (k : Key) (v : Value) (r : Record Key Value) → read k ≡ Some v → record_at past.entry k ≡ Some r → r.dirty ≡ true → IsReached next read past k → In k (run_keys next read past runs)
     -- a run stands behind those of its node's recorded members; only two nodes that a stall closed may stand otherwise
     pub behind : AreBehind next read past graph runs
     -- the nodes that a stall closed stand last, in the order of their keys
     pub closed : AreClosedLast next read past runs
+    -- no turn is to be made any more
+    pub over : (k : Key) → WantsTurn past graph k → ⊥
 
   -- a history for which the graph is lawful, and these roots
   pub record IsHistory (past : Past read) (roots : List Key) (graph : GraphView) : Type 0 where
@@ -50,18 +66,6 @@ module _ (next : Key → List Value → Reply Key Value) (read : Key → Option 
   -- a root is not settled, whatever the history is
   abbrev pub HasOpenRoot : List Key → GraphView → GraphView → Type 0
   HasOpenRoot roots old new = (past : Past read) → IsHistory past roots old → (k : Key) × In k roots × IsUnsettled (record_at new) k
-
-  -- the next turn of a key is to be made: the roots reach it, it is not settled, and it may make turns; these asked the groups, whose members
-  -- are settled, each with a grounded value
-  pub record WantsTurn (past : Past read) (graph : GraphView) (k : Key) : Type 0 where
-    pub no_leaf : read k ≡ None
-    pub reached : IsReached next read past k
-    pub unsettled : IsUnsettled (record_at graph) k
-    pub justified : RunIsJustified next cycle past.reads (λ u j. IsTouched (past.edits u) j) past.entry.version (record_at past.entry k)
-    pub groups : List (List Key)
-    pub answers : List Value
-    pub comes : Comes next cycle read k [] groups answers
-    pub settled : (j : Key) → IsMember j groups → IsClean (record_at graph) j
 
   -- some key's next turn is to be made, whatever the history is
   abbrev pub HasTurnToMake : List Key → GraphView → GraphView → Type 0

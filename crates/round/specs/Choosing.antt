@@ -1,7 +1,7 @@
 -- What the choices of a round allow, told from its answers.
 use Rattle.std.specs.Prelude.{◌≡◌, List, [], ◌∷◌, length, Option, Some, None, ⊤}
 use Rattle.evaluation.specs.Reply.{Reply}
-use Rattle.evaluation.specs.Choices.{Choice, Hand, Keeps, IsOut, Comes, IsPossible}
+use Rattle.evaluation.specs.Choices.{Choice, Hand, Back, Keeps, IsOut, Comes, IsPossible}
 use Rattle.evaluation.specs.States.{HasBacks}
 use Rattle.keys.specs.Cycles.{cycle}
 use Rattle.keys.specs.Jobs.{JobView}
@@ -44,7 +44,7 @@ TakesJobOut read graph s job = ForChoices read graph s (λ next past cs. IsJobOu
 
 abbrev pub StrangerWhereNotOut : {R S : Type 0} → (Key → Option Value) → GraphView → Standing → JobView → TakeBackError R S → Type 0
 StrangerWhereNotOut read graph s job (not_taken.Stranger t) = ForChoices read graph s (λ next past cs. ¬ IsJobOut next read past cs job)
-StrangerWhereNotOut read graph s job not_taken.Memory = ⊤
+StrangerWhereNotOut read graph s job (not_taken.Memory _) = ⊤
 
 -- a state is kept exactly of the open nodes whose last turn was taken back, if it was neither dropped nor resumed since; and what is out is so by the choices
 pub record Follows (cs : List (Choice Key)) (s : Standing) (kept : NodeStates) : Type 0 where
@@ -60,3 +60,7 @@ FollowsHand k before old later new None = (cs : List (Choice Key)) → Follows c
 -- the same of a round
 abbrev pub IsFollowing : {R S : Type 0} → List (Choice Key) → Round R S → Type 0
 IsFollowing cs round = Follows cs (standing round) round.kept
+
+-- a round that followed the choices follows them and the turn that was taken back
+abbrev pub FollowsBack : {R S : Type 0} → (Key → Option Value) → GraphView → Key → Round R S → Round R S → Type 0
+FollowsBack read graph k before after = ForChoices read graph (standing before) (λ next past cs. IsFollowing cs before → IsFollowing (Back k ∷ cs) after)

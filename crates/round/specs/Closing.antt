@@ -17,7 +17,7 @@ use Rattle.open_nodes.specs.declared.table.Phase.{Phase}
 use Rattle.open_nodes.specs.declared.table.Phase.TheVariants as phase
 use Rattle.open_nodes.specs.declared.table.Table.{Table}
 use Rattle.round.specs.Looks.{IsLastGroup}
-use Rattle.round.specs.Members.{IsStop}
+use Rattle.open_nodes.specs.Members.{IsStop}
 use Rattle.round.specs.declared.closing.Closing.{Closing}
 use Rattle.round.specs.declared.closing.Stall.{Stall}
 

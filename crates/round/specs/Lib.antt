@@ -1,4 +1,3 @@
-pub mod Members
 pub mod Moves
 pub mod Looks
 pub mod Turning
@@ -11,3 +10,5 @@ pub mod Rounds
 pub mod Choosing
 pub mod Frames
 pub mod NodeStates
+pub mod Playing
+pub mod Replays

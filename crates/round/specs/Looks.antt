@@ -8,7 +8,7 @@ use Rattle.node.specs.Graphs.{GraphView, record_at}
 use Rattle.open_nodes.specs.Nodes.{node_at, groups_of, pending, IsCurrent}
 use Rattle.open_nodes.specs.declared.table.Node.{Node}
 use Rattle.open_nodes.specs.declared.table.Table.{Table}
-use Rattle.round.specs.Members.{IsMissing}
+use Rattle.open_nodes.specs.Members.{IsMissing}
 
 -- an open node, and the members of its group that are not settled
 pub record IsAwaiting (graph : GraphView) (table : Table) (k : Key) (missing : List Key) : Type 0 where

@@ -1,15 +1,17 @@
 -- The states of node functions that a round keeps between turns.
-use Rattle.std.specs.Prelude.{◌≡◌, ◌⊎◌, List, [], ◌∷◌, ◌++◌, Bool, true, false, Option, Some, None}
+use Rattle.std.specs.Prelude.{◌≡◌, ◌≢◌, ◌⊎◌, List, [], ◌∷◌, ◌++◌, Bool, true, false, Option, Some, None}
 use Rattle.indexmap.specs.IndexMap.{get, Updates}
-use Rattle.keys.specs.Jobs.{JobView, Waits}
+use Rattle.evaluation.specs.Value.{In}
+use Rattle.keys.specs.Jobs.{Waits}
 use Rattle.keys.specs.Keys.{key_eq}
 use Rattle.keys.specs.declared.key.Key.{Key}
+use Rattle.keys.specs.declared.value.Value.{Value}
 use Rattle.node.specs.Graphs.{GraphView, record_at}
 use Rattle.open_nodes.specs.Nodes.{ByKey, node_at, groups_of}
 use Rattle.open_nodes.specs.declared.table.Node.{Node}
 use Rattle.open_nodes.specs.declared.table.Phase.TheVariants as phase
 use Rattle.open_nodes.specs.declared.table.Table.{Table}
-use Rattle.round.specs.Members.{AreAnswers}
+use Rattle.open_nodes.specs.Members.{AreAnswers}
 
 -- a state of a node that makes turns, after the answers to all groups that it asked but the last
 pub record IsPaused (graph : GraphView) (table : Table) (k : Key) (w : Waits) : Type 0 where
@@ -36,20 +38,33 @@ FewerKept old new = (k : Key) (w : Waits) → get key_eq new k ≡ Some w → ge
 abbrev pub HasState : NodeStates → Key → Type 0
 HasState kept key = (w : Waits) × (get key_eq kept key ≡ Some w)
 
+-- all states stay
+abbrev pub SameStates : NodeStates → NodeStates → Type 0
+SameStates old new = (k : Key) → get key_eq new k ≡ get key_eq old k
+
 -- the state of the key was given up and the others stay; or all stay
 abbrev pub DropsState : NodeStates → NodeStates → Key → Bool → Type 0
 DropsState old new key true = Updates key_eq old new key None
-DropsState old new key false = (k : Key) → get key_eq new k ≡ get key_eq old k
+DropsState old new key false = SameStates old new
 
 -- the state was put in, if there is one, and nothing else
 abbrev pub PutsState : NodeStates → NodeStates → Key → Option Waits → Type 0
 PutsState old new key (Some w) = Updates key_eq old new key (Some w)
 PutsState old new key None = new ≡ old
 
--- the state of the key was taken out with its job; without a job all states stay
-abbrev pub TakesState : NodeStates → NodeStates → Key → Option JobView → Type 0
-TakesState old new key (Some job) = Updates key_eq old new key None
-TakesState old new key None = (k : Key) → get key_eq new k ≡ get key_eq old k
+-- the state of the key is kept no more, and the others stay
+abbrev pub TakesOut : NodeStates → NodeStates → Key → Type 0
+TakesOut old new key = (get key_eq new key ≡ None) × ((k : Key) → key ≢ k → get key_eq new k ≡ get key_eq old k)
+
+-- the answers that a state has
+abbrev pub kept_answers : Option Waits → List Value
+kept_answers None = []
+kept_answers (Some w) = w.answers
+
+-- a key that is ready has all answers so far, those that its state has and these behind them; a key that is not ready has none
+abbrev pub NeedsValues : GraphView → Table → NodeStates → Key → Option (List Value) → Type 0
+NeedsValues graph table kept k (Some found) = In k table.ready.keys × ((n : Node) → node_at table.nodes k ≡ Some n → AreAnswers (record_at graph) (groups_of n) (kept_answers (get key_eq kept k) ++ found))
+NeedsValues graph table kept k None = In k table.ready.keys → ⊥
 
 -- the state came in, if there is one, and the others stay
 abbrev pub Keeps : NodeStates → NodeStates → Key → Option Waits → Type 0

@@ -1,7 +1,10 @@
 -- What a contract sees of a round, and how it stands beside the graph that it is lent.
-use Rattle.std.specs.Prelude.{◌≡◌, ◌≢◌, List, [], Option, Some, None, Result, Ok, Err, ⊤}
+use Rattle.std.specs.Prelude.{◌≡◌, ◌≢◌, Bool, true, false, List, [], Option, Some, None, Result, Ok, Err, ⊤}
+use Rattle.std.specs.BTreeMap.{is_at}
+use Rattle.std.specs.Set.{remove_key}
 use Rattle.evaluation.specs.Value.{In}
 use Rattle.keys.specs.Jobs.{JobView, Outcome}
+use Rattle.keys.specs.Keys.{key_cmp}
 use Rattle.keys.specs.declared.key.Key.{Key}
 use Rattle.node.specs.Edges.{IsAdded, IsRemoved}
 use Rattle.node.specs.Graphs.{GraphView}
@@ -10,7 +13,7 @@ use Rattle.open_nodes.specs.Nodes.{IsOpen, node_at, pending, AreOut}
 use Rattle.open_nodes.specs.declared.run.Run.{Run}
 use Rattle.open_nodes.specs.declared.table.Table.{Table}
 use Rattle.round.specs.Moves.{IsWanted, IsWholeNow}
-use Rattle.round.specs.NodeStates.{NodeStates, ArePaused, HasState}
+use Rattle.round.specs.NodeStates.{NodeStates, ArePaused, HasState, SameStates}
 use Rattle.round.specs.Turning.{IsOutWith}
 use Rattle.round.specs.declared.rounds.Round.{Round}
 use Rattle.round.specs.declared.rounds.TakeBackError.{TakeBackError}
@@ -35,6 +38,15 @@ pub record IsBeside (graph : GraphView) (s : Standing) : Type 0 where
 -- and the states that it keeps may be resumed
 abbrev pub StandsBeside : {R S : Type 0} → GraphView → Round R S → Type 0
 StandsBeside graph round = IsBeside graph (standing round) × ArePaused graph round.table round.kept
+
+-- nothing that a contract sees of the round has changed: neither its standing nor a state that it keeps
+abbrev pub IsAsBefore : {R S : Type 0} → Round R S → Round R S → Type 0
+IsAsBefore before after = (standing after ≡ standing before) × SameStates before.kept after.kept
+
+-- the keys without this one, if it was added to them
+abbrev pub keys_without : Bool → Key → List Key → List Key
+keys_without true k keys = remove_key (is_at (key_cmp k)) keys
+keys_without false k keys = keys
 
 -- no turn can be handed out, and no job is out
 abbrev pub IsStalled : Standing → Type 0
@@ -70,9 +82,9 @@ EndsWith s (Ok runs) = (runs ≡ s.table.runs.items) × ((k : Key) → In k s.ro
 EndsWith s (Err round) = (round ≡ s) × (k : Key) × In k s.roots × IsOpen s.table.nodes k
 
 -- the turn was of no job that is out and comes back, and nothing has changed; want of memory tells nothing
-abbrev pub Refuses : {R S : Type 0} → GraphView → GraphView → Standing → Standing → Outcome → TakeBackError R S → Type 0
-Refuses old new before after turned (not_taken.Stranger t) = (t ≡ turned) × (IsOfJobOut old before turned.asked → ⊥) × (new ≡ old) × (after ≡ before)
-Refuses old new before after turned not_taken.Memory = ⊤
+abbrev pub Refuses : {R S : Type 0} → GraphView → GraphView → Round R S → Round R S → Outcome → TakeBackError R S → Type 0
+Refuses old new before after turned (not_taken.Stranger t) = (t ≡ turned) × (IsOfJobOut old (standing before) turned.asked → ⊥) × (new ≡ old) × (after ≡ before)
+Refuses old new before after turned (not_taken.Memory _) = ⊤
 
 -- the turn of a job that was out was taken back: its job is out no more, and one turn more was made
 abbrev pub TakesBack : Standing → Standing → Key → Type 0

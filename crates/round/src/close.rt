@@ -1,5 +1,5 @@
 //! Closing of stalls.
-ghost use Rattle.std.specs.Prelude.{◌≡◌, OnOk, None, Option};
+ghost use Rattle.std.specs.Prelude.{◌≡◌, OnOk, OnErr, None, Option};
 ghost use Rattle.keys.specs.declared.key.Key.{Key};
 ghost use Rattle.keys.specs.declared.value.Value.{Value};
 ghost use Rattle.open_nodes.specs.TurnCounts.{MakesNone};
@@ -24,6 +24,7 @@ pub fn close_cycles(alloc: Global, graph: &mut Graph, table: &mut Table) -> Resu
     ensures turns { OnOk result (MakesNone table.old table.new) }
     ensures truth { (read : Key → Option Value) → Ends read graph.old graph.new table.old table.new
         result }
+    ensures refused { OnErr result (graph.new ≡ graph.old) }
 {
     let stall = close_all(alloc, graph, table)?;
     let entries = entries_of(alloc, graph, stall)?;

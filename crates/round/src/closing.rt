@@ -14,10 +14,9 @@ ghost use Rattle.open_nodes.specs.declared.table.Table.{Table};
 ghost use Rattle.round.specs.Looks.{IsLastGroup};
 ghost use Rattle.round.specs.Closing.{ClosesWith, StopsIn, PutsStop, HasTurned, Descends, IsLeast, HasTaken};
 
-use crate::members::first_stop;
 use keys::Key;
-use node::Graph;
-use open_nodes::{Node, Nodes, Phase, Table, note};
+use node::{Graph, Group};
+use open_nodes::{Node, Nodes, Phase, Table, first_stop, note};
 use std::alloc::Global;
 use std::collections::BTreeMap;
 use texts::Memory;
@@ -40,19 +39,33 @@ pub struct Stall {
     pub stops: BTreeMap<Key, Key>,
 }
 
+// Returns shared copies of a group's members.
+fn share_group(alloc: Global, group: &Group) -> Result<Vec<Key>, Memory>
+    ensures { IfOk result (λ shared. shared.items ≡ group.now) }
+{
+    let mut shared = Vec::with_capacity(alloc, group.len())?;
+    for i in 0..group.len() {
+        shared.push(group.member(i).share()?)?;
+    }
+    Ok(shared)
+}
+
 // Returns the groups of a key's record, up to the one at a place.
 fn groups_up_to(alloc: Global, graph: &Graph, key: &Key, at: usize) -> Result<Vec<Vec<Key>>, Memory>
     ensures { IfOk result (λ groups. (r : Record Key Value) → record_at graph.now key.now ≡ Some r
         → items_of groups.items ≡ take (at + 1) r.groups) }
 {
-    let Some(mut groups) = graph.groups(alloc, key)? else {
-        return Ok(Vec::new(alloc));
+    let mut shared = Vec::new(alloc);
+    let Some(groups) = graph.groups(key) else {
+        return Ok(shared);
     };
-    if at >= groups.len() {
-        return Ok(groups);
+    for i in 0..groups.len() {
+        if i > at {
+            return Ok(shared);
+        }
+        shared.push(share_group(alloc, &groups.group(i))?)?;
     }
-    groups.truncate(at + 1);
-    Ok(groups)
+    Ok(shared)
 }
 
 // Returns the groups of a node up to the one that it waits for, and whether its turns asked them.

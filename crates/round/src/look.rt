@@ -19,13 +19,12 @@ ghost use Rattle.round.specs.Looks.{IsAwaiting, IsChecking, IsLastGroup, IsRunni
 ghost use Rattle.round.specs.Moves.{KeepsTrue, IsWholeBut, IsWholeNow, KeepsOut, KeepsWanted, KeepsTrueOf, Wants, IsWanted};
 ghost use Rattle.round.specs.Turning.{IsOutWith, ComesBack};
 
-use crate::members::{first_stop, is_settled, last_unsettled, unsettled};
 use filetree::Tree;
 use keys::{Key, Value, is_leaf, read_leaf};
 use node::{Comparison, Graph};
 use open_nodes::{
-    Nodes, Phase, Table, begin_check, begin_run, leave, look_again, note, pass, put_ready,
-    run_anew, watch,
+    Nodes, Phase, Table, begin_check, begin_run, first_stop, is_settled, last_unsettled, leave,
+    look_again, note, pass, put_ready, run_anew, unsettled, watch,
 };
 use std::alloc::Global;
 use std::sync::Arc;

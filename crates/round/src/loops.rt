@@ -62,7 +62,7 @@ fn label(key: &Key) -> Option<&Text>
         Key::File(_) => None,
         Key::Listing(_) => None,
         Key::Lookup(_) => None,
-        Key::Glob(_) => None,
+        Key::Glob(_, _, _) => None,
         Key::Module(label) => Some(label),
         Key::Package(_) => None,
         Key::Under(_) => None,

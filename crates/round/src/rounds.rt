@@ -18,10 +18,10 @@ ghost use Rattle.node.specs.Edges.{IsAdded, IsRemoved};
 ghost use Rattle.open_nodes.specs.TurnCounts.{HasMade, MakesNone, turns_of};
 ghost use Rattle.open_nodes.specs.Nodes.{IsOpen};
 ghost use Rattle.open_nodes.specs.Truths.{LeadsBy};
-ghost use Rattle.round.specs.Choosing.{IsPossibleAfter, ForChoices, HandsWherePossible, TakesJobOut, StrangerWhereNotOut, Follows, FollowsHand};
+ghost use Rattle.round.specs.Choosing.{IsPossibleAfter, ForChoices, HandsWherePossible, TakesJobOut, StrangerWhereNotOut, Follows, FollowsHand, FollowsBack, IsFollowing};
 ghost use Rattle.round.specs.Since.{IsTrueSince, IsAfterSince};
 ghost use Rattle.round.specs.Moves.{StaysTrueBy, Ends, IsWanted};
-ghost use Rattle.round.specs.Rounds.{standing, StandsBeside, IsStalled, CanDrop, HandsOut, IsOfJobOut, NoneOpen, EndsWith, Refuses, TakesBack, KeepsJobs, KeepsAllJobs};
+ghost use Rattle.round.specs.Rounds.{standing, StandsBeside, IsStalled, CanDrop, HandsOut, IsAsBefore, IsOfJobOut, NoneOpen, EndsWith, Refuses, TakesBack, KeepsJobs, KeepsAllJobs, keys_without};
 ghost use Rattle.round.specs.Turning.{IsOutAt};
 ghost use Rattle.round.specs.Call.{Calls, HasOpenRoot, HasTurnToMake};
 ghost use Rattle.round.specs.Here.{TurnsOnce, Finishes};
@@ -29,14 +29,13 @@ ghost use Rattle.round.specs.declared.stop.Stop.{Stop};
 
 use crate::close::close_cycles;
 use crate::look::{is_open, look_at_all, want_all};
-use crate::members::share_all;
 use crate::stop::Stop;
-use crate::turns::{is_out_with, next_job, take};
+use crate::turns::{is_out_with, take, take_job, values_needed};
 use filetree::Tree;
 use indexmap::IndexMap;
 use keys::{Job, Key, Rules, Turned, Waiting};
 use node::Graph;
-use open_nodes::{Nodes, Run, Table, set_out};
+use open_nodes::{Nodes, Run, Table, set_out, share_all};
 use std::alloc::Global;
 use std::collections::BTreeSet;
 use texts::Memory;
@@ -59,27 +58,38 @@ pub enum TakeBackError<R: Rules> {
     /// It is of no job that is out; the turn comes back, and nothing has changed.
     Stranger(Turned<R>),
     /// A growth was refused, in the turn or now. The round can only be given up.
-    Memory,
+    Memory(Memory),
 }
 
 impl<R: Rules> From<Memory> for TakeBackError<R> {
     ghost use Rattle.std.specs.Prelude.{◌≡◌};
     ghost use Rattle.round.specs.declared.rounds.TakeBackError.TheVariants as not_taken;
+    ghost use Rattle.texts.specs.Refusals.{memory};
 
-    ghost from_gives = { λ _ e. e ≡ not_taken.Memory };
+    ghost from_gives = { λ _ e. e ≡ not_taken.Memory memory };
 
-    fn from(_error: Memory) -> TakeBackError<R> {
-        TakeBackError::Memory
+    fn from(error: Memory) -> TakeBackError<R> {
+        TakeBackError::Memory(error)
     }
 }
 
-// Adds the key to those whose jobs are out.
-fn put_out(out: &mut BTreeSet<Key>, key: Key) -> Result<(), Memory>
+// Adds the key to those whose jobs are out. Returns whether it was none of them.
+fn put_out(out: &mut BTreeSet<Key>, key: Key) -> Result<bool, Memory>
     ensures added { OnOk result (IsAdded out.old.keys out.new.keys key) }
+    ensures undone { IfOk result (λ added. keys_without added key out.new.keys ≡ out.old.keys) }
     ensures refused { OnErr result (out.new.keys ≡ out.old.keys) }
 {
-    out.insert(key)?;
-    Ok(())
+    let added = out.insert(key)?;
+    Ok(added)
+}
+
+// Takes the key out of those whose jobs are out, if it was added.
+fn undo_out(out: &mut BTreeSet<Key>, key: &Key, added: bool)
+    ensures { out.new.keys ≡ keys_without added key.now out.old.keys }
+{
+    if added {
+        let _was_there = out.remove(key);
+    }
 }
 
 // Takes the key from those whose jobs are out.
@@ -178,7 +188,7 @@ impl<R: Rules> Round<R> {
 
     /// Hands out the next turn of a key, with all answers so far. Returns `None` exactly if the key is not ready. It
     /// then does not run, or is settled, or its job is out, or the last group that it asked is not settled with values.
-    /// Returns `Memory` if an allocation fails. Nothing has then changed, but that a kept state may be given up.
+    /// Returns `Memory` if an allocation fails; the round is then as before.
     pub fn hand_out(&mut self, graph: &Graph, key: &Key) -> Result<Option<Job<R>>, Memory>
         requires { StandsBeside graph.now self.old }
         ensures beside { StandsBeside graph.now self.new }
@@ -192,17 +202,26 @@ impl<R: Rules> Round<R> {
             (standing self.new) self.new.kept) }
         ensures possible { (read : Key → Option Value)
             → IfOk result (HandsWherePossible read graph.now (standing self.old) key.now) }
-        ensures refused { OnErr result (standing self.new ≡ standing self.old) }
+        ensures refused { OnErr result (IsAsBefore self.old self.new) }
         ensures others { OnOk result
             (KeepsAllJobs graph.now (standing self.old) (standing self.new)) }
     {
-        let name = key.share()?;
-        let Some(job) = next_job(self.alloc, graph, &self.table, &mut self.kept, key)? else {
+        let needed = values_needed(self.alloc, graph, &self.table, &self.kept, key)?;
+        let Some(found) = needed else {
             return Ok(None);
         };
-        put_out(&mut self.out, name)?;
-        set_out(&mut self.table, key);
-        Ok(Some(job))
+        let name = key.share()?;
+        let added = put_out(&mut self.out, key.share()?)?;
+        match take_job(&mut self.kept, name, found) {
+            Ok(job) => {
+                set_out(&mut self.table, key);
+                Ok(Some(job))
+            }
+            Err(error) => {
+                undo_out(&mut self.out, key, added);
+                Err(error)
+            }
+        }
     }
 
     /// Takes a turn back: its node is settled, or asks its next group. Then each node that needs no turn is settled.
@@ -227,8 +246,9 @@ impl<R: Rules> Round<R> {
             → OnOk result (TakesJobOut read graph.old (standing self.old) turned.asked) }
         ensures strange { (read : Key → Option Value)
             → IfErr result (StrangerWhereNotOut read graph.old (standing self.old) turned.asked) }
-        ensures refused { IfErr result (Refuses graph.old graph.new (standing self.old)
-            (standing self.new) turned) }
+        ensures follows { (read : Key → Option Value)
+            → OnOk result (FollowsBack read graph.old turned.asked.key self.old self.new) }
+        ensures refused { IfErr result (Refuses graph.old graph.new self.old self.new turned) }
     {
         if !is_out_with(self.alloc, graph, &self.table, &turned)? {
             return Err(TakeBackError::Stranger(turned));
@@ -253,9 +273,7 @@ impl<R: Rules> Round<R> {
             (TakesBack (standing self.old) (standing self.new) turned.asked.key) }
         ensures made { OnOk result (turned.ending ≡ Made) }
         ensures follows { (read : Key → Option Value)
-            → OnOk result (ForChoices read graph.old (standing self.old)
-            (λ next past cs. Follows cs (standing self.old) self.old.kept
-            → Follows (Back turned.asked.key ∷ cs) (standing self.new) self.new.kept)) }
+            → OnOk result (FollowsBack read graph.old turned.asked.key self.old self.new) }
         ensures others { OnOk result (KeepsJobs turned.asked.key graph.old graph.new
             (standing self.old) (standing self.new)) }
         ensures truth { LeadsBy (Back turned.asked.key ∷ []) R.next (leaves.read tree.now) graph.old
@@ -315,17 +333,22 @@ impl<R: Rules> Round<R> {
         ensures turns { OnOk result (MakesNone self.old.table self.new.table) }
         ensures truth { (read : Key → Option Value) → Ends read graph.old graph.new self.old.table
             self.new.table result }
+        ensures refused { OnErr result (graph.new ≡ graph.old) }
     {
         close_cycles(self.alloc, graph, &mut self.table)?;
         self.kept = IndexMap::new(self.alloc);
         Ok(())
     }
 
-    /// Returns the runs in the order of settling if no root is open any more, and the round again if one is. It takes
-    /// no memory.
+    /// Returns the runs in the order of settling if no root is open any more, and the round again if one is. Where no
+    /// root is open, no turn can be handed out and no job is out. It takes no memory.
     pub fn finish(self) -> Result<Vec<Run>, Round<R>>
         ensures done { IfOk result (λ runs. EndsWith (standing self) (Ok runs.items)) }
         ensures open { IfErr result (λ round. EndsWith (standing self) (Err (standing round))) }
+        ensures same { IfErr result (λ round. round ≡ self) }
+        ensures stalled { (read : Key → Option Value) (graph : GraphView) → StandsBeside graph self
+            → ForChoices read graph (standing self) (λ next past cs. IsFollowing cs self
+            → IfOk result (λ runs. IsStalled (standing self))) }
     {
         if any_open(&self.table.nodes, self.roots.as_slice()) {
             return Err(self);

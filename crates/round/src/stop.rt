@@ -1,5 +1,6 @@
 //! Why an evaluation ended early.
 use std::alloc::{AllocError, AllocFailed};
+use texts::Memory;
 use thiserror::Error;
 
 /// Why an evaluation ended early.
@@ -10,16 +11,17 @@ pub enum Stop {
     Budget,
     /// A growth was refused.
     #[error("out of memory")]
-    Memory,
+    Memory(Memory),
 }
 
-impl From<texts::Memory> for Stop {
+impl From<Memory> for Stop {
     ghost use Rattle.std.specs.Prelude.{◌≡◌};
     ghost use Rattle.round.specs.declared.stop.Stop.TheVariants.{Memory};
+    ghost use Rattle.texts.specs.Refusals.{memory};
 
-    ghost from_gives = { λ _ e. e ≡ Memory };
+    ghost from_gives = { λ _ e. e ≡ Memory memory };
 
-    fn from(_error: texts::Memory) -> Stop {
-        Stop::Memory
+    fn from(error: Memory) -> Stop {
+        Stop::Memory(error)
     }
 }

@@ -1,11 +1,10 @@
 //! Turns handed out and taken back.
-ghost use Rattle.std.specs.Prelude.{◌≡◌, ◌++◌, ◌∷◌, [], List, IfOk, IfSome, IfNone, OnOk, Option, Some, None, IsTrue};
-ghost use Rattle.indexmap.specs.IndexMap.{get};
+ghost use Rattle.std.specs.Prelude.{◌≡◌, ◌++◌, ◌∷◌, [], List, IfOk, IfSome, IfNone, OnOk, OnErr, Option, Some, None, IsTrue};
+ghost use Rattle.indexmap.specs.IndexMap.{get, Updates};
 ghost use Rattle.std.specs.Option.{option_map};
-ghost use Rattle.evaluation.specs.Value.{In};
 ghost use Rattle.node.specs.Graphs.{record_at};
-ghost use Rattle.round.specs.Members.{Answers};
-ghost use Rattle.round.specs.NodeStates.{IsPaused, ArePaused, FewerKept, TakesState};
+ghost use Rattle.open_nodes.specs.Members.{Answers};
+ghost use Rattle.round.specs.NodeStates.{IsPaused, ArePaused, NeedsValues, SameStates, TakesOut, kept_answers};
 ghost use Rattle.std.specs.Bool.{Decides};
 ghost use Rattle.keys.specs.Turns.{values};
 ghost use Rattle.std.specs.BTreeSet.{contains};
@@ -13,7 +12,7 @@ ghost use Rattle.keys.specs.Keys.{key_cmp, key_eq};
 ghost use Rattle.keys.specs.Leaves as leaves;
 ghost use Rattle.keys.specs.declared.key.Key.{Key};
 ghost use Rattle.keys.specs.declared.value.Value.{Value};
-ghost use Rattle.keys.specs.Jobs.{Made};
+ghost use Rattle.keys.specs.Jobs.{Made, Waits};
 ghost use Rattle.node.specs.Records.{items_of};
 ghost use Rattle.open_nodes.specs.Nodes.{node_at, groups_of, IsClean};
 ghost use Rattle.open_nodes.specs.Truths.{LeadsBy};
@@ -22,14 +21,13 @@ ghost use Rattle.open_nodes.specs.declared.table.Node.{Node};
 ghost use Rattle.open_nodes.specs.declared.table.Phase.TheVariants as phase;
 ghost use Rattle.round.specs.Frames.{KeepsFrameBut};
 ghost use Rattle.round.specs.Moves.{KeepsWanted, IsWholeNow};
-ghost use Rattle.round.specs.Turning.{IsOutWith, ComesBack, NextJob};
+ghost use Rattle.round.specs.Turning.{IsOutWith, ComesBack};
 
 use crate::look::end;
-use crate::members::{answers_to, share_all};
 use indexmap::IndexMap;
 use keys::{Job, Key, Rules, Step, Turned, Value, Waiting};
 use node::Graph;
-use open_nodes::{Nodes, Phase, Table, ask};
+use open_nodes::{Nodes, Phase, Table, answers_to, ask, share_all};
 use std::alloc::Global;
 use std::collections::BTreeSet;
 use std::sync::Arc;
@@ -52,25 +50,6 @@ fn is_among(set: &BTreeSet<Key>, key: &Key) -> bool
     set.contains(key)
 }
 
-/// Returns the next turn of a node if it is ready, with all answers so far.
-pub fn job_of<R: Rules>(
-    alloc: Global,
-    graph: &Graph,
-    table: &Table,
-    key: &Key,
-) -> Result<Option<Job<R>>, Memory>
-    requires whole { IsWholeNow graph.now table.now }
-    ensures { IfOk result (NextJob graph.now key.now table.now) }
-{
-    if !is_among(&table.ready, key) {
-        return Ok(None);
-    }
-    match answers_to(alloc, graph, asked_groups(&table.nodes, key))? {
-        None => Ok(None),
-        Some(answers) => Ok(Some(Job::new(key.share()?, answers))),
-    }
-}
-
 // Returns the values of the members of the last group that a node asked.
 fn last_answers(
     alloc: Global,
@@ -88,47 +67,66 @@ fn last_answers(
     Ok(found)
 }
 
-// Returns the next job of a node that is ready, from a state of it.
-fn resumed<R: Rules>(
+/// Returns the values that the next turn of a node needs beside its kept state, if it is ready: those of its last group,
+/// or of all its groups if no state is kept.
+pub fn values_needed<R: Rules>(
     alloc: Global,
     graph: &Graph,
     table: &Table,
-    waiting: Waiting<R>,
+    kept: &IndexMap<Key, Waiting<R>>,
     key: &Key,
-) -> Result<Option<Job<R>>, Memory>
+) -> Result<Option<Vec<Arc<Value>>>, Memory>
     requires whole { IsWholeNow graph.now table.now }
-    requires ready { In key.now table.now.ready.keys }
-    requires paused { IsPaused graph.now table.now key.now waiting }
-    ensures { IfOk result (NextJob graph.now key.now table.now) }
-{
-    match last_answers(alloc, graph, table, key)? {
-        None => Ok(None),
-        Some(found) => Ok(Some(waiting.resume(found)?)),
-    }
-}
-
-/// Returns the next turn of a node if it is ready, from its kept state or anew, with all answers so far.
-pub fn next_job<R: Rules>(
-    alloc: Global,
-    graph: &Graph,
-    table: &Table,
-    kept: &mut IndexMap<Key, Waiting<R>>,
-    key: &Key,
-) -> Result<Option<Job<R>>, Memory>
-    requires whole { IsWholeNow graph.now table.now }
-    requires paused { ArePaused graph.now table.now kept.old }
-    ensures job { IfOk result (NextJob graph.now key.now table.now) }
-    ensures gone { IfOk result (λ job. IfSome job (λ j. get key_eq kept.new key.now ≡ None)) }
-    ensures taken { IfOk result (TakesState kept.old kept.new key.now) }
-    ensures fewer { FewerKept kept.old kept.new }
+    requires paused { ArePaused graph.now table.now kept.now }
+    ensures { IfOk result (λ found. NeedsValues graph.now table.now kept.now key.now
+        (option_map (λ v. values v.items) found)) }
 {
     if !is_among(&table.ready, key) {
         return Ok(None);
     }
-    match kept.swap_remove(key) {
-        None => Ok(job_of(alloc, graph, table, key)?),
-        Some(waiting) => Ok(resumed(alloc, graph, table, waiting, key)?),
+    if kept.contains_key(key) {
+        return Ok(last_answers(alloc, graph, table, key)?);
     }
+    Ok(answers_to(alloc, graph, asked_groups(&table.nodes, key))?)
+}
+
+// Puts the values behind the answers that the kept state of a key has.
+fn answer_kept<R: Rules>(
+    kept: &mut IndexMap<Key, Waiting<R>>,
+    key: &Key,
+    found: Vec<Arc<Value>>,
+) -> Result<(), Memory>
+    ensures answered { OnOk result ((w : Waits) → get key_eq kept.old key.now ≡ Some w
+        → Updates key_eq kept.old kept.new key.now
+        (Some (record w { answers = w.answers ++ values found.items }))) }
+    ensures refused { OnErr result (SameStates kept.old kept.new) }
+{
+    if let Some(waiting) = kept.get_mut(key) {
+        waiting.answer(found)?;
+    }
+    Ok(())
+}
+
+/// Returns the job of the next turn of a key, from its kept state or anew, with these values behind the answers that
+/// the state has. The state is kept no more then. Returns `Memory` if an allocation fails; all states stay then.
+pub fn take_job<R: Rules>(
+    kept: &mut IndexMap<Key, Waiting<R>>,
+    key: Key,
+    found: Vec<Arc<Value>>,
+) -> Result<Job<R>, Memory>
+    requires { (w : Waits) → get key_eq kept.old key ≡ Some w → w.key ≡ key }
+    ensures key { IfOk result (λ job. job.key ≡ key) }
+    ensures answers { IfOk result (λ job. job.answers
+        ≡ kept_answers (get key_eq kept.old key) ++ values found.items) }
+    ensures taken { OnOk result (TakesOut kept.old kept.new key) }
+    ensures refused { OnErr result (SameStates kept.old kept.new) }
+{
+    if !kept.contains_key(&key) {
+        return Ok(Job::new(key, found));
+    }
+    answer_kept(kept, &key, found)?;
+    let waiting = kept.swap_remove(&key).unwrap();
+    Ok(waiting.into_job())
 }
 
 // Returns whether the values are the same, one by one.

@@ -11,7 +11,7 @@ use Rattle.syntax.specs.Answers.{Gives, Parses}
 
 refused_by : (kind : FileKind) (bytes : List ℕ) (e : Refused) → Gives (parse_of kind bytes) (Err e) → Parses kind bytes (Err e)
 refused_by kind bytes (r.Syntax code line) h = parse_refused kind bytes (record { code = code; line = line }) h
-refused_by kind bytes r.Memory h = tt
+refused_by kind bytes (r.Memory _) h = tt
 
 pub is_parsed : (kind : FileKind) (bytes : List ℕ) (found : Result File Refused) → Gives (parse_of kind bytes) found → Parses kind bytes found
 is_parsed kind bytes (Ok f) h = parse_tree kind bytes (file_of f) h

@@ -13,7 +13,7 @@ use Rattle.grammar.specs.Texts.{IsTree, IsRefused}
 abbrev pub Parses : FileKind → List ℕ → Result File Refused → Type 0
 Parses kind bytes (Ok f) = IsTree kind bytes (file_of f)
 Parses kind bytes (Err (r.Syntax code line)) = IsRefused kind bytes (record { code = code; line = line })
-Parses kind bytes (Err r.Memory) = Unit {0}
+Parses kind bytes (Err (r.Memory _)) = Unit {0}
 
 -- what a function returned is what the definition gives, unless memory ran out
 abbrev pub Gives : Result Fi Fault → Result File Refused → Type 0

@@ -538,7 +538,7 @@ fn parsed(alloc: Global, text: &[u8], kind: FileKind) -> Result<File, Refused>
                     code: faults::SYNTAX,
                     line: 0,
                 }),
-                Err(Stop::Memory) => Err(Refused::Memory),
+                Err(Stop::Memory(error)) => Err(Refused::Memory(error)),
             }
         }
         Err(refused) => Err(refused),

@@ -51,7 +51,7 @@ ends_badly front s (b ∷ bs) whole lt is w = sym w ∙ ap (before front) (no_pi
 pub step_stops : (front : List Lex) (s new : State) (left : List ℕ) (p : Piece) (whole : Option (List Lex)) (stop : Stop) → 0 < length left → Some p ≡ piece_at left → Goes {A = Unit {0}} (after s p) new (Err stop) → before front (scan s 0 left) ≡ whole → Scans whole (Err stop)
 step_stops front s new [] p whole stop lt is goes w = absurd (omega arith)
 step_stops front s new (b ∷ bs) p whole Malformed lt is goes w = sym w ∙ ap (before front) (no_state s b bs p (sym is) goes)
-step_stops front s new (b ∷ bs) p whole Memory lt is goes w = tt
+step_stops front s new (b ∷ bs) p whole (Memory _) lt is goes w = tt
 
 at_end : (s : State) (left : List ℕ) → length left ≡ 0 → scan s 0 left ≡ ending s
 unfolding scan
@@ -60,7 +60,7 @@ at_end s (b ∷ bs) e = absurd (omega arith)
 
 pub end_stops : (front new : List Lex) (s : State) (left : List ℕ) (whole : Option (List Lex)) (stop : Stop) → length left ≡ 0 → Ends {A = Unit {0}} (ending s) front new (Err stop) → before front (scan s 0 left) ≡ whole → Scans whole (Err stop)
 end_stops front new s left whole Malformed e ends w = sym w ∙ ap (before front) (at_end s left e ∙ ends)
-end_stops front new s left whole Memory e ends w = tt
+end_stops front new s left whole (Memory _) e ends w = tt
 
 pub ends_well : (front new : List Lex) (s : State) (left : List ℕ) (whole : Option (List Lex)) → length left ≡ 0 → before front (ending s) ≡ Some new → before front (scan s 0 left) ≡ whole → whole ≡ Some new
 ends_well front new s left whole e ends w = sym w ∙ ap (before front) (at_end s left e) ∙ ends

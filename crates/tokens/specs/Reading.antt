@@ -37,7 +37,7 @@ tokens_of bytes = of_ascii (foreign 1 bytes) bytes
 -- What a function returned is what the definition gives, unless memory ran out.
 abbrev pub Refuses : {A : Type 0} → Result A Fault → Refused → Type 0
 Refuses expected (r.Syntax code line) = expected ≡ fault code line
-Refuses expected r.Memory = Unit {0}
+Refuses expected (r.Memory _) = Unit {0}
 
 abbrev pub Reads : Result (List Lex) Fault → Result (Vec Lexeme Global) Refused → Type 0
 Reads expected (Ok found) = expected ≡ Ok (map lex_of found.items)

@@ -33,15 +33,15 @@ said_by x = map lex_of x.out.items
 abbrev pub Goes : {A : Type 0} → Option State → State → Result A Stop → Type 0
 Goes expected new (Ok _) = expected ≡ Some new
 Goes expected new (Err stops.Malformed) = expected ≡ None
-Goes expected new (Err stops.Memory) = Unit {0}
+Goes expected new (Err (stops.Memory _)) = Unit {0}
 
 -- where a definition gives the tokens of a text's end or none
 abbrev pub Ends : {A : Type 0} → Option (List Lex) → List Lex → List Lex → Result A Stop → Type 0
 Ends expected old new (Ok _) = before old expected ≡ Some new
 Ends expected old new (Err stops.Malformed) = expected ≡ None
-Ends expected old new (Err stops.Memory) = Unit {0}
+Ends expected old new (Err (stops.Memory _)) = Unit {0}
 
 abbrev pub Scans : Option (List Lex) → Result (Vec Lexeme Global) Stop → Type 0
 Scans expected (Ok found) = expected ≡ Some (map lex_of found.items)
 Scans expected (Err stops.Malformed) = expected ≡ None
-Scans expected (Err stops.Memory) = Unit {0}
+Scans expected (Err (stops.Memory _)) = Unit {0}

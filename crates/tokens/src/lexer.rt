@@ -99,12 +99,12 @@ pub fn read_tokens(alloc: Global, text: &[u8]) -> Result<Vec<Lexeme<'_>>, Refuse
                 line: 0,
             }),
             Ok(false) => Ok(found),
-            Err(_) => Err(Refused::Memory),
+            Err(error) => Err(Refused::from(error)),
         },
         Err(Stop::Malformed) => Err(Refused::Syntax {
             code: faults::SYNTAX,
             line: 0,
         }),
-        Err(Stop::Memory) => Err(Refused::Memory),
+        Err(Stop::Memory(error)) => Err(Refused::Memory(error)),
     }
 }

@@ -3,6 +3,7 @@ ghost use Rattle.tokens.specs.declared.refusal.Refused.TheVariants.{Memory};
 ghost use Rattle.std.specs.Prelude.{◌≡◌};
 
 use std::alloc::{AllocError, AllocFailed};
+use texts::Memory;
 use thiserror::Error;
 
 /// Why a file is refused.
@@ -14,29 +15,35 @@ pub enum Refused {
     Syntax { code: u64, line: usize },
     /// A growth was refused.
     #[error("out of memory")]
-    Memory,
+    Memory(Memory),
 }
 
 impl From<AllocError> for Refused {
-    ghost from_gives = { λ _ e. e ≡ Memory };
+    ghost use Rattle.texts.specs.Refusals.{memory};
 
-    fn from(_error: AllocError) -> Refused {
-        Refused::Memory
+    ghost from_gives = { λ _ e. e ≡ Memory memory };
+
+    fn from(error: AllocError) -> Refused {
+        Refused::Memory(Memory::from(error))
     }
 }
 
 impl<T: Drop> From<AllocFailed<T>> for Refused {
-    ghost from_gives = { λ _ e. e ≡ Memory };
+    ghost use Rattle.texts.specs.Refusals.{memory};
 
-    fn from(_error: AllocFailed<T>) -> Refused {
-        Refused::Memory
+    ghost from_gives = { λ _ e. e ≡ Memory memory };
+
+    fn from(error: AllocFailed<T>) -> Refused {
+        Refused::Memory(Memory::from(error))
     }
 }
 
-impl From<texts::Memory> for Refused {
-    ghost from_gives = { λ _ e. e ≡ Memory };
+impl From<Memory> for Refused {
+    ghost use Rattle.texts.specs.Refusals.{memory};
 
-    fn from(_error: texts::Memory) -> Refused {
-        Refused::Memory
+    ghost from_gives = { λ _ e. e ≡ Memory memory };
+
+    fn from(error: Memory) -> Refused {
+        Refused::Memory(error)
     }
 }

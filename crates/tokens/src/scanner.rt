@@ -5,11 +5,13 @@ ghost use Rattle.tokens.specs.Token.{tok_of, symbol};
 ghost use Rattle.tokens.specs.View.{part_of, piece_of, state_of, said_by, Goes, Ends};
 ghost use Rattle.tokens.specs.declared.scanner.Stop.TheVariants.{Memory};
 ghost use Rattle.tokens.specs.declared.scanner.Place.TheVariants.{Between, Within};
+ghost use Rattle.texts.specs.Refusals.{memory};
 
 use crate::piece::{Part, Piece};
 use crate::symbol::Symbol;
 use crate::token::{Lexeme, Token};
 use std::alloc::{AllocError, AllocFailed, Global};
+use texts::Memory;
 
 /// Where in the file a piece stands.
 #[derive(Clone, Copy, Drop)]
@@ -33,22 +35,26 @@ pub(crate) enum Bracket {
 #[derive(Clone, Copy, Drop)]
 pub(crate) enum Stop {
     Malformed,
-    Memory,
+    Memory(Memory),
 }
 
 impl From<AllocError> for Stop {
-    ghost from_gives = { λ _ e. e ≡ Memory };
+    ghost use Rattle.texts.specs.Refusals.{memory};
 
-    fn from(_error: AllocError) -> Stop {
-        Stop::Memory
+    ghost from_gives = { λ _ e. e ≡ Memory memory };
+
+    fn from(error: AllocError) -> Stop {
+        Stop::Memory(Memory::from(error))
     }
 }
 
 impl<T: Drop> From<AllocFailed<T>> for Stop {
-    ghost from_gives = { λ _ e. e ≡ Memory };
+    ghost use Rattle.texts.specs.Refusals.{memory};
 
-    fn from(_error: AllocFailed<T>) -> Stop {
-        Stop::Memory
+    ghost from_gives = { λ _ e. e ≡ Memory memory };
+
+    fn from(error: AllocFailed<T>) -> Stop {
+        Stop::Memory(Memory::from(error))
     }
 }
 
@@ -85,7 +91,7 @@ impl<'a> Scanner<'a> {
         ensures state { state_of self.new ≡ state_of self.old }
         ensures said { OnOk result (said_by self.new ≡ said_by self.old ++ lex (tok_of token.entry)
             self.old.line ∷ []) }
-        ensures err { IsOkUnless result Memory }
+        ensures err { IsOkUnless result (Stop.Memory memory) }
     {
         self.out.push(Lexeme {
             token,
@@ -124,7 +130,7 @@ impl<'a> Scanner<'a> {
             { levels = kept spaces (state_of self.old).levels }) }
         ensures said { OnOk result (said_by self.new ≡ said_by self.old ++ dedents self.old.line
             spaces (state_of self.old).levels) }
-        ensures err { IsOkUnless result Memory }
+        ensures err { IsOkUnless result (Stop.Memory memory) }
     {
         'levels: while spaces < self.top() {
             self.pop_level();
@@ -165,7 +171,7 @@ impl<'a> Scanner<'a> {
             (state_of self.new ≡ record (state_of self.old)
             { place = Within; levels = self.old.spaces ∷ (state_of self.old).levels }) }
         ensures said { said_by self.new ≡ said_by self.old }
-        ensures err { IsOkUnless result Memory }
+        ensures err { IsOkUnless result (Stop.Memory memory) }
     {
         self.place = Place::Within;
         self.levels.push(self.spaces)?;
@@ -222,7 +228,7 @@ impl<'a> Scanner<'a> {
             (state_of self.new ≡ record (state_of self.old)
             { brackets = bracket ∷ (state_of self.old).brackets }) }
         ensures said { said_by self.new ≡ said_by self.old }
-        ensures err { IsOkUnless result Memory }
+        ensures err { IsOkUnless result (Stop.Memory memory) }
     {
         self.brackets.push(bracket)?;
         Ok(())
@@ -309,7 +315,7 @@ impl<'a> Scanner<'a> {
         ensures state { state_of self.new ≡ state_of self.old }
         ensures said { OnOk result (said_by self.new ≡ said_by self.old ++ end_token self.old.place
             [] self.old.line) }
-        ensures err { IsOkUnless result Memory }
+        ensures err { IsOkUnless result (Stop.Memory memory) }
     {
         match self.place {
             Place::Within => {
@@ -328,7 +334,7 @@ impl<'a> Scanner<'a> {
             (state_of self.old)) }
         ensures said { OnOk result (said_by self.new ≡ said_by self.old ++ end_token self.old.place
             (state_of self.old).brackets self.old.line) }
-        ensures err { IsOkUnless result Memory }
+        ensures err { IsOkUnless result (Stop.Memory memory) }
     {
         if !self.brackets.is_empty() {
             return Ok(());

@@ -15,14 +15,13 @@ use Rattle.filetree.specs.Lawful.{HasPaths}
 use Rattle.filetree.specs.Listings.{Names, sorted_names, rest_below, names_in, listing}
 use Rattle.pattern.specs.Patterns.{is_double_star, segment_matches, path_matches}
 use Rattle.pattern.specs.Rest.{rest_segments}
-use Rattle.pattern.specs.Globs.{path_in, is_package, sought, found_below, is_last, step_files, goes_into, walk_step, question, pattern_in, asks_directories, answer_below}
+use Rattle.pattern.specs.Globs.{path_in, is_package, sought, found_below, is_last, step_files, goes_into, walk_step, pattern_in, asks_directories, answer_below}
 use Rattle.pattern.proofs.Members.{In, own_bytes, in_all, in_filter, filter_in, in_append, append_left, append_right, in_flat_map, flat_map_in, or_left, or_right}
 use Rattle.pattern.proofs.NameOrder.{sorted_same, in_sorted, sorted_in}
 use Rattle.pattern.proofs.Paths.{HasName, has_name, some_segment}
 use Rattle.pattern.proofs.WalkFinds.{directories_to, found_by_walk}
 use Rattle.pattern.proofs.Directories.{held_with_directories}
-use Rattle.pattern.proofs.Questions.{NoSpace, question_back, before_has_none}
-use Rattle.keys.specs.Keys.{glob_key}
+use Rattle.pattern.proofs.Questions.{NoSpace, before_has_none}
 use Rattle.keys.specs.declared.key.Key.{Key}
 use Rattle.keys.specs.declared.key.Key.TheVariants as key
 use Rattle.keys.specs.declared.value.Value.{Value}
@@ -35,7 +34,7 @@ use Rattle.keys.specs.Leaves.{read, listed_of}
 use Rattle.walks.proofs.Builds.{built_there}
 use Rattle.walks.proofs.LookupValue.{lookup_grounded}
 use Rattle.walks.proofs.NamesInOrder.{none_sorted}
-use Rattle.walks.proofs.GlobTexts.{path_no_space, name_no_space, front_no_space, others_no_space, below_no_space, directory_back, asked_back, cut_pattern, shorter, ends_match}
+use Rattle.walks.proofs.GlobTexts.{path_no_space, name_no_space, front_no_space, others_no_space, below_no_space, cut_pattern, shorter, ends_match}
 use Rattle.walks.proofs.GlobTurns.{glob_turns}
 
 abbrev names_or_none : Option Names → Names
@@ -115,7 +114,7 @@ or_none false h = h
 -- ---- what is found
 
 module _ (next : Key → List Value → Reply Key Value) (by_lookup : (d : List ℕ) (answers : List Value) → next (key.Lookup d) answers ≡ lookup.next d answers)
-    (by_glob : (text : List ℕ) (answers : List Value) → next (key.Glob text) answers ≡ glob.next text answers) (files : Files) (good : HasPaths files) where
+    (by_glob : (d p : List ℕ) (w : Bool) (answers : List Value) → next (key.Glob d p w) answers ≡ glob.step d w p answers) (files : Files) (good : HasPaths files) where
   -- the paths among which a glob looks
   abbrev among : Bool → List (List ℕ)
   among directories = sought directories (is_package files) (map_of.keys files)
@@ -201,12 +200,12 @@ module _ (next : Key → List Value → Reply Key Value) (by_lookup : (d : List 
     founds names = cond (glob.asks_here p) (here ∷ map below names) (map below names)
 
     abbrev Below : List ℕ → Type 0
-    Below name = Grounded next (read files) (glob_key (path_in d name) (question w (glob.pattern_below p))) (below name)
+    Below name = Grounded next (read files) (key.Glob (path_in d name) (glob.pattern_below p) w) (below name)
 
     abbrev Here : Type 0
-    Here = Grounded next (read files) (glob_key d (question w (glob.text_or_none others))) here
+    Here = Grounded next (read files) (key.Glob d (glob.text_or_none others) w) here
 
-    all_below : (names : List (List ℕ)) → ((name : List ℕ) → In name names → Below name) → AllGrounded next (read files) (glob.globs_below d (question w (glob.pattern_below p)) names) (map below names)
+    all_below : (names : List (List ℕ)) → ((name : List ℕ) → In name names → Below name) → AllGrounded next (read files) (glob.globs_below d w (glob.pattern_below p) names) (map below names)
     all_below [] each = none
     all_below (name ∷ names) each =
         one (each name (or_left (bytes_eq name name) (list_any (bytes_eq name) names) (own_bytes name)))
@@ -216,7 +215,7 @@ module _ (next : Key → List Value → Reply Key Value) (by_lookup : (d : List 
     all_founds names own each = go (glob.asks_here p) own
       where
         go : (t : Bool) → (t ≡ true → Here)
-            → AllGrounded next (read files) (cond t (glob_key d (question w (glob.text_or_none others)) ∷ glob.globs_below d (question w (glob.pattern_below p)) names) (glob.globs_below d (question w (glob.pattern_below p)) names)) (cond t (here ∷ map below names) (map below names))
+            → AllGrounded next (read files) (cond t (key.Glob d (glob.text_or_none others) w ∷ glob.globs_below d w (glob.pattern_below p) names) (glob.globs_below d w (glob.pattern_below p) names)) (cond t (here ∷ map below names) (map below names))
         go true own = one (own refl) (all_below names each)
         go false own = all_below names each
 
@@ -450,16 +449,6 @@ module _ (next : Key → List Value → Reply Key Value) (by_lookup : (d : List 
       go true (Some rest) h e = h rest refl
       go false o h e = absurd (false≢true e)
 
-  -- a glob goes by its directory and its question, whatever the text of the question
-  by_question : (d asked : List ℕ) → NoSpace d → (answers : List Value) → next (glob_key d asked) answers ≡ glob.step d (asks_directories asked) (pattern_in asked) answers
-  by_question d asked plain answers =
-      by_glob (d ++ 32 ∷ asked) answers ∙ (λ i. glob.step (directory_back d asked plain i) (asks_directories (asked_back d asked plain i)) (pattern_in (asked_back d asked plain i)) answers)
-
-  by_pattern : (d : List ℕ) (w : Bool) (p : List ℕ) → NoSpace d → NoSpace p → (answers : List Value) → next (glob_key d (question w p)) answers ≡ glob.step d w p answers
-  by_pattern d w p plain even answers =
-      let back = question_back w p even in
-      by_question d (question w p) plain answers ∙ (λ i. glob.step d (back.1 i) (back.0 i) answers)
-
   value_of : (n : ℕ) (k : Key) (w : Bool) (d p : List ℕ) → read files k ≡ None → ((answers : List Value) → next k answers ≡ glob.step d w p answers) → NoSpace d → NoSpace p
       → (256 - length d) + length p < n → Grounded next (read files) k (value.Paths (found w d (segments p)))
   value_of zero k w d p unread same plain even h = absurd (omega (arith, h))
@@ -467,11 +456,11 @@ module _ (next : Key → List Value → Reply Key Value) (by_lookup : (d : List 
       let listed : Grounded next (read files) (key.Listing d) (held d) = is_leaf refl in
       let each : (name : List ℕ) → In name (names w d p w) → Below w d p name =
       λ name i. let at = sub_path w d p name (names_to w d p w name i).0 in
-      value_of n (glob_key (path_in d name) (question w (glob.pattern_below p))) w (path_in d name) (glob.pattern_below p) refl
-      (by_pattern (path_in d name) w (glob.pattern_below p) at.0 (below_no_space p even)) at.0 (below_no_space p even) (omega (arith, h, at.1, at.2, no_longer p)) in
+      value_of n (key.Glob (path_in d name) (glob.pattern_below p) w) w (path_in d name) (glob.pattern_below p) refl
+      (by_glob (path_in d name) (glob.pattern_below p) w) at.0 (below_no_space p even) (omega (arith, h, at.1, at.2, no_longer p)) in
       let own_here : glob.asks_here p ≡ true → Here w d p =
-      λ e. value_of n (glob_key d (question w (glob.text_or_none (glob.other_segments p)))) w d (glob.text_or_none (glob.other_segments p)) refl
-      (by_pattern d w (glob.text_or_none (glob.other_segments p)) plain (others_no_space p even)) plain (others_no_space p even) (omega (arith, h, some_others p e)) in
+      λ e. value_of n (key.Glob d (glob.text_or_none (glob.other_segments p)) w) w d (glob.text_or_none (glob.other_segments p)) refl
+      (by_glob d (glob.text_or_none (glob.other_segments p)) w) plain (others_no_space p even) (omega (arith, h, some_others p e)) in
       let dirs : glob.directories_in (held d) ≡ (names_at d).directories = directories_held (listing files d) in
       let looks = map (look d) (glob.asked_names w p (glob.directories_in (held d))) in
       let free_are : glob.open_names (glob.asked_names w p (glob.directories_in (held d))) looks ≡ free w d p w =
@@ -483,9 +472,9 @@ module _ (next : Key → List Value → Reply Key Value) (by_lookup : (d : List 
       (λ i. sorted_names (glob.own_found w p (files_held (listing files d) i) (free_are i) ++ glob.found_by p (glob.entered w p (free_are i)) (founds w d p (names w d p w)))) ∙ whole w d p in
       subst (λ xs. Grounded next (read files) k (value.Paths xs)) end (has_run {groups = run.0} unread run.1)
 
-  pub glob_grounded : (d asked : List ℕ) → NoSpace d → Grounded next (read files) (glob_key d asked) (value.Paths (answer_below (is_package files) (map_of.keys files) d asked))
+  pub glob_grounded : (d asked : List ℕ) → NoSpace d → Grounded next (read files) (glob.glob_key d asked) (value.Paths (answer_below (is_package files) (map_of.keys files) d asked))
   glob_grounded d asked plain =
-      value_of ((256 - length d) + length (pattern_in asked) + 1) (glob_key d asked) (asks_directories asked) d (pattern_in asked) refl (by_question d asked plain) plain (before_has_none asked) (omega arith)
+      value_of ((256 - length d) + length (pattern_in asked) + 1) (glob.glob_key d asked) (asks_directories asked) d (pattern_in asked) refl (by_glob d (pattern_in asked) (asks_directories asked)) plain (before_has_none asked) (omega arith)
 
 -- a glob holds this and no other value
 pub glob_held : GlobsHold

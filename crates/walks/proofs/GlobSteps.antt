@@ -10,7 +10,7 @@ use Rattle.std.proofs.lemmas.Bool.{le-ltb}
 use Rattle.evaluation.specs.Reply.{Reply, Ask}
 use Rattle.keys.specs.declared.key.Key.{Key}
 use Rattle.pattern.specs.Globs.{pattern_in, asks_directories}
-use Rattle.walks.specs.Globs.{directory_of, question_of, files_in, directories_in, asked_names, lookups, has_build, open_names, paths_of, found_below, by_open, after_listing, next}
+use Rattle.walks.specs.Globs.{files_in, directories_in, asked_names, lookups, has_build, open_names, paths_of, found_below, by_open, after_listing, step}
 use Rattle.walks.proofs.NamesInOrder.{drop_item}
 
 module _ (names : List (List ℕ)) (answers : List (Arc Value Global)) (i : ℕ) (name : List ℕ) (answer : Arc Value Global)
@@ -56,10 +56,8 @@ by_open_is directory directories pattern files names free answers h e =
     (le-ltb (length (values answers)) (length names) (omega (arith, h, length-map answers (λ (x : Arc Value Global). arc_value x)))))
 
 -- and what comes after the listing
-pub after_listing_is : (text directory : List ℕ) (directories : Bool) (pattern : List ℕ) (files names : List (List ℕ)) (answers rest : List (Arc Value Global)) (listing : Arc Value Global)
-    → directory ≡ directory_of text → directories ≡ asks_directories (question_of text) → pattern ≡ pattern_in (question_of text)
+pub after_listing_is : (directory : List ℕ) (directories : Bool) (pattern : List ℕ) (files names : List (List ℕ)) (answers rest : List (Arc Value Global)) (listing : Arc Value Global)
     → files ≡ files_in (arc_value listing) → names ≡ asked_names directories pattern (directories_in (arc_value listing)) → answers ≡ listing ∷ rest
-    → after_listing directory directories pattern files names (values rest) ≡ next text (values answers)
-after_listing_is text directory directories pattern files names answers rest listing d w p f n e =
-    let n' : names ≡ asked_names (asks_directories (question_of text)) (pattern_in (question_of text)) (directories_in (arc_value listing)) = n ∙ (λ i. asked_names (w i) (p i) (directories_in (arc_value listing))) in
-    (λ i. after_listing (d i) (w i) (p i) (f i) (n' i) (values rest)) ∙ sym (ap (λ xs. next text (values xs)) e)
+    → after_listing directory directories pattern files names (values rest) ≡ step directory directories pattern (values answers)
+after_listing_is directory directories pattern files names answers rest listing f n e =
+    (λ i. after_listing directory directories pattern (f i) (n i) (values rest)) ∙ sym (ap (λ xs. step directory directories pattern (values xs)) e)

@@ -11,7 +11,7 @@ use Rattle.pattern.specs.Patterns.{is_double_star, path_matches}
 use Rattle.pattern.proofs.FirstSegment.{one_segment, more_segments}
 use Rattle.pattern.specs.Globs.{is_space}
 use Rattle.pattern.proofs.Questions.{NoSpace, no_space_between, space_at}
-use Rattle.walks.specs.Globs.{directory_of, question_of, first_segment, other_segments, text_or_none, is_deep, pattern_below, ends_here}
+use Rattle.walks.specs.Globs.{first_segment, other_segments, text_or_none, is_deep, pattern_below, ends_here}
 
 -- ---- no space stands in a path
 
@@ -34,16 +34,6 @@ front_no_space [] back h = refl
 front_no_space (b ∷ front) back h =
     let both = and_parts (not (is_space b)) (list_all (λ b. not (is_space b)) (front ++ back)) h in
     and_from (not (is_space b)) (list_all (λ b. not (is_space b)) front) both.0 (front_no_space front back both.1)
-
--- ---- the parts of the key's text
-
-pub directory_back : (directory asked : List ℕ) → NoSpace directory → directory_of (directory ++ 32 ∷ asked) ≡ directory
-directory_back directory asked h = ap (λ n. take n (directory ++ 32 ∷ asked)) (space_at directory asked h) ∙ take_at directory (32 ∷ asked) (length directory) refl
-
-pub asked_back : (directory asked : List ℕ) → NoSpace directory → question_of (directory ++ 32 ∷ asked) ≡ asked
-asked_back directory asked h =
-    ap (λ n. drop (n + 1) (directory ++ 32 ∷ asked)) (space_at directory asked h)
-    ∙ ap (drop (length directory + 1)) (sym (append_assoc directory (32 ∷ []) asked)) ∙ drop_at (directory ++ 32 ∷ []) asked (length directory + 1) (length-append directory (32 ∷ []))
 
 -- ---- a pattern by its first segment
 

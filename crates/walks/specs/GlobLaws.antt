@@ -1,5 +1,5 @@
 -- The groups of a glob have no key twice, and a glob ends with paths.
-use Rattle.std.proofs.Common.{◌≡◌, ◌≢◌, T, ℕ, ◌+◌, ◌<◌, ◌≤◌, List, [], ◌∷◌, ◌++◌, drop, length, map, Bool, true, false, cond, codes, ◌&&◌, ◌||◌, Some, None, refl, ap, sym, subst, ◌∙◌, arith, length-append}
+use Rattle.std.proofs.Common.{◌≡◌, ◌≢◌, T, ℕ, ◌+◌, ◌<◌, ◌≤◌, List, [], ◌∷◌, ◌++◌, drop, length, map, Bool, true, false, cond, ◌&&◌, ◌||◌, Some, None, refl, ap, sym, subst, ◌∙◌, arith, length-append}
 use Rattle.std.specs.Prelude.{filter, is_some, nat_lt}
 use Rattle.std.specs.List.{AllByRecursion, position_or_len, after_first}
 use Rattle.std.specs.FinMap as finite
@@ -7,20 +7,19 @@ use Rattle.std.specs.FinMap.Entries.{below_all, is_sorted}
 use Rattle.std.specs.Ordering.{nat_cmp, is_lt}
 use Rattle.std.specs.Cmp.{tied_itself}
 use Rattle.std.specs.Cmp.Lexicographic.{slice_cmp, nat_list_cmp_total}
-use Rattle.std.proofs.lemmas.List.{append_cancel_left, append_cancel_right, length-drop}
+use Rattle.std.proofs.lemmas.List.{append_cancel_left, length-drop}
 use Rattle.std.proofs.lemmas.Bool.{ltb-true}
 use Rattle.evaluation.specs.Reply.{Reply, Ask, Done}
 use Rattle.evaluation.specs.Value.{AllDiffer}
 use Rattle.labels.specs.Labels.{is_slash}
 use Rattle.filetree.specs.Listings.{alone, sorted_names}
-use Rattle.pattern.specs.Globs.{path_in, question, pattern_in, asks_directories}
-use Rattle.keys.specs.Keys.{glob_key}
+use Rattle.pattern.specs.Globs.{path_in}
 use Rattle.keys.specs.declared.key.Key.{Key}
 use Rattle.keys.specs.declared.key.Key.TheVariants as key
 use Rattle.keys.specs.declared.value.Value.{Value}
 use Rattle.keys.specs.declared.value.Value.TheVariants as value
 use Rattle.keys.specs.Turns.{NoCycle}
-use Rattle.walks.specs.Globs.{is_deep, takes, files_in, directories_in, has_build, own_found, enters, asked_names, entered, lookups, open_names, text_or_none, globs_below, globs, found_by, by_open, step, directory_of, question_of, next}
+use Rattle.walks.specs.Globs.{is_deep, takes, files_in, directories_in, has_build, own_found, enters, asked_names, entered, lookups, open_names, text_or_none, globs_below, globs, found_by, by_open, step}
 
 -- ---- names in byte order differ
 
@@ -63,10 +62,8 @@ same_name (b ∷ directory) x y e = let h : 47 ∷ x ≡ 47 ∷ y = append_cance
 same_lookup : (directory x y : List ℕ) → key.Lookup (path_in directory x) ≡ key.Lookup (path_in directory y) → x ≡ y
 same_lookup directory x y e = same_name directory x y (cc)
 
-same_glob : (directory asked x y : List ℕ) → glob_key (path_in directory x) asked ≡ glob_key (path_in directory y) asked → x ≡ y
-same_glob directory asked x y e =
-    let h : path_in directory x ++ 32 ∷ asked ≡ path_in directory y ++ 32 ∷ asked = cc in
-    same_name directory x y (append_cancel_right (path_in directory x) (path_in directory y) (32 ∷ asked) h)
+same_glob : (directory : List ℕ) (directories : Bool) (pattern x y : List ℕ) → key.Glob (path_in directory x) pattern directories ≡ key.Glob (path_in directory y) pattern directories → x ≡ y
+same_glob directory directories pattern x y e = same_name directory x y (cc)
 
 pub lookups_differ : (directory : List ℕ) (names : List (List ℕ)) → AllDiffer names → AllDiffer (lookups directory names)
 lookups_differ directory names h = each_differ (λ name. key.Lookup (path_in directory name)) (same_lookup directory) names h
@@ -109,42 +106,32 @@ entered_differ : (directories : Bool) (pattern : List ℕ) (free : List (List �
 entered_differ true pattern free h = filter_differ (enters pattern) free h
 entered_differ false pattern free h = h
 
--- a pattern is longer than that of its segments behind the first, and so are the questions
-longer_path : (directory name : List ℕ) → length directory ≤ length (path_in directory name)
-longer_path [] name = omega arith
-longer_path (b ∷ directory) name = omega (arith, length-append (b ∷ directory) (47 ∷ name))
-
+-- a pattern is longer than that of its segments behind the first
 shorter_rest : (pattern : List ℕ) → nat_lt (position_or_len is_slash pattern) (length pattern) ≡ true → length (after_first is_slash pattern) < length pattern
 shorter_rest pattern h = omega (arith, ltb-true (position_or_len is_slash pattern) (length pattern) h, length-drop (position_or_len is_slash pattern + 1) pattern)
 
-shorter_question : (directories : Bool) (rest pattern : List ℕ) → length rest < length pattern → length (question directories rest) < length (question directories pattern)
-shorter_question true rest pattern h = omega (arith, h, length-append rest (codes " dirs"), length-append pattern (codes " dirs"))
-shorter_question false rest pattern h = h
+here_differs : (directory : List ℕ) (directories : Bool) (pattern rest : List ℕ) → length rest < length pattern → (name : List ℕ) → key.Glob directory rest directories ≢ key.Glob (path_in directory name) pattern directories
+here_differs directory directories pattern rest h name e = let same : rest ≡ pattern = cc in omega (arith, h, ap length same)
 
-here_differs : (directory asked rest : List ℕ) → length rest < length asked → (name : List ℕ) → glob_key directory rest ≢ glob_key (path_in directory name) asked
-here_differs directory asked rest h name e =
-    let same : directory ++ 32 ∷ rest ≡ path_in directory name ++ 32 ∷ asked = cc in
-    omega (arith, h, ap length same, longer_path directory name, length-append directory (32 ∷ rest), length-append (path_in directory name) (32 ∷ asked))
-
-below_differ : (directory asked : List ℕ) (names : List (List ℕ)) → AllDiffer names → AllDiffer (globs_below directory asked names)
-below_differ directory asked names h = each_differ (λ name. glob_key (path_in directory name) asked) (same_glob directory asked) names h
+below_differ : (directory : List ℕ) (directories : Bool) (pattern : List ℕ) (names : List (List ℕ)) → AllDiffer names → AllDiffer (globs_below directory directories pattern names)
+below_differ directory directories pattern names h = each_differ (λ name. key.Glob (path_in directory name) pattern directories) (same_glob directory directories pattern) names h
 
 pub globs_differ : (directory : List ℕ) (directories : Bool) (pattern : List ℕ) (names : List (List ℕ)) → AllDiffer names → AllDiffer (globs directory directories pattern names)
 globs_differ directory directories pattern names h = go (is_deep pattern) (nat_lt (position_or_len is_slash pattern) (length pattern)) refl
   where
     go : (d t : Bool) → nat_lt (position_or_len is_slash pattern) (length pattern) ≡ t
         → AllDiffer (cond (d && is_some (cond t (Some (after_first is_slash pattern)) None))
-        (glob_key directory (question directories (text_or_none (cond t (Some (after_first is_slash pattern)) None)))
-        ∷ globs_below directory (question directories (cond d pattern (text_or_none (cond t (Some (after_first is_slash pattern)) None)))) names)
-        (globs_below directory (question directories (cond d pattern (text_or_none (cond t (Some (after_first is_slash pattern)) None)))) names))
+        (key.Glob directory (text_or_none (cond t (Some (after_first is_slash pattern)) None)) directories
+        ∷ globs_below directory directories (cond d pattern (text_or_none (cond t (Some (after_first is_slash pattern)) None))) names)
+        (globs_below directory directories (cond d pattern (text_or_none (cond t (Some (after_first is_slash pattern)) None))) names))
     go true true e = (
-      each_passes (λ name. glob_key (path_in directory name) (question directories pattern)) (λ k. glob_key directory (question directories (after_first is_slash pattern)) ≢ k)
-          (here_differs directory (question directories pattern) (question directories (after_first is_slash pattern)) (shorter_question directories (after_first is_slash pattern) pattern (shorter_rest pattern e))) names,
-      below_differ directory (question directories pattern) names h,
+      each_passes (λ name. key.Glob (path_in directory name) pattern directories) (λ k. key.Glob directory (after_first is_slash pattern) directories ≢ k)
+          (here_differs directory directories pattern (after_first is_slash pattern) (shorter_rest pattern e)) names,
+      below_differ directory directories pattern names h,
     )
-    go true false e = below_differ directory (question directories pattern) names h
-    go false true e = below_differ directory (question directories (after_first is_slash pattern)) names h
-    go false false e = below_differ directory (question directories []) names h
+    go true false e = below_differ directory directories pattern names h
+    go false true e = below_differ directory directories (after_first is_slash pattern) names h
+    go false false e = below_differ directory directories [] names h
 
 -- ---- the turns
 
@@ -209,11 +196,3 @@ step_plain directory directories pattern (listing ∷ answers) v e =
     first_plain (nat_lt (length answers) (length asked)) (lookups directory asked) (by_open directory directories pattern (files_in listing) free rest) v
     (last_plain (nat_lt (length rest) (length (globs directory directories pattern names))) (globs directory directories pattern names)
     (value.Paths (sorted_names (own_found directories pattern (files_in listing) free ++ found_by pattern names rest))) v tt) e
-
--- ---- by the key's text
-
-pub glob_differs : (text : List ℕ) (answers : List Value) (group : List Key) → next text answers ≡ Ask group → AllDiffer group
-glob_differs text answers group e = step_differs (directory_of text) (asks_directories (question_of text)) (pattern_in (question_of text)) answers group e
-
-pub glob_plain : (text : List ℕ) (answers : List Value) (v : Value) → next text answers ≡ Done v → NoCycle v
-glob_plain text answers v e = step_plain (directory_of text) (asks_directories (question_of text)) (pattern_in (question_of text)) answers v e

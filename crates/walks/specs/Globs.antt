@@ -6,8 +6,7 @@ use Rattle.labels.specs.Labels.{is_slash}
 use Rattle.labels.specs.Paths.{segments}
 use Rattle.filetree.specs.Listings.{sorted_names}
 use Rattle.pattern.specs.Patterns.{is_double_star, segment_matches}
-use Rattle.pattern.specs.Globs.{path_in, is_space, question, pattern_in, asks_directories}
-use Rattle.keys.specs.Keys.{glob_key}
+use Rattle.pattern.specs.Globs.{path_in, pattern_in, asks_directories}
 use Rattle.keys.specs.declared.key.Key.{Key}
 use Rattle.keys.specs.declared.key.Key.TheVariants as key
 use Rattle.keys.specs.declared.value.Value.{Value}
@@ -15,13 +14,9 @@ use Rattle.keys.specs.declared.value.Value.TheVariants as value
 
 -- ---- the key
 
--- What stands before the first space of the key's text, and behind it. What stands behind it is the question: the
--- pattern, and with directories a space and `dirs`.
-abbrev pub directory_of : List ℕ → List ℕ
-directory_of text = before_first is_space text
-
-abbrev pub question_of : List ℕ → List ℕ
-question_of text = after_first is_space text
+-- the key by which a question is asked below a directory: its pattern, and whether directories are wanted
+abbrev pub glob_key : List ℕ → List ℕ → Key
+glob_key directory asked = key.Glob directory (pattern_in asked) (asks_directories asked)
 
 -- the first segment of a pattern, and the pattern of the others, if there are others
 abbrev pub first_segment : List ℕ → List ℕ
@@ -131,14 +126,14 @@ pattern_below pattern = if is_deep pattern then pattern else text_or_none (other
 abbrev pub asks_here : List ℕ → Bool
 asks_here pattern = is_deep pattern && is_some (other_segments pattern)
 
-abbrev pub globs_below : List ℕ → List ℕ → List (List ℕ) → List Key
-globs_below directory asked names = map (λ name. glob_key (path_in directory name) asked) names
+abbrev pub globs_below : List ℕ → Bool → List ℕ → List (List ℕ) → List Key
+globs_below directory directories pattern names = map (λ name. key.Glob (path_in directory name) pattern directories) names
 
 abbrev pub globs : List ℕ → Bool → List ℕ → List (List ℕ) → List Key
 globs directory directories pattern names =
     if asks_here pattern
-    then glob_key directory (question directories (text_or_none (other_segments pattern))) ∷ globs_below directory (question directories (pattern_below pattern)) names
-    else globs_below directory (question directories (pattern_below pattern)) names
+    then key.Glob directory (text_or_none (other_segments pattern)) directories ∷ globs_below directory directories (pattern_below pattern) names
+    else globs_below directory directories (pattern_below pattern) names
 
 -- ---- what is found
 
@@ -178,6 +173,3 @@ after_listing directory directories pattern files names answers =
 abbrev pub step : List ℕ → Bool → List ℕ → List Value → Reply Key Value
 step directory directories pattern [] = Ask (key.Listing directory ∷ [])
 step directory directories pattern (listing ∷ answers) = after_listing directory directories pattern (files_in listing) (asked_names directories pattern (directories_in listing)) answers
-
-abbrev pub next : List ℕ → List Value → Reply Key Value
-next text answers = step (directory_of text) (asks_directories (question_of text)) (pattern_in (question_of text)) answers

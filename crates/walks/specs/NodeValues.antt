@@ -1,5 +1,5 @@
 -- What look-ups and globs hold at the files, for any node functions whose look-ups and globs are those of this crate.
-use Rattle.std.specs.Prelude.{◌≡◌, ℕ, List, true}
+use Rattle.std.specs.Prelude.{◌≡◌, ℕ, List, Bool, true}
 use Rattle.std.specs.FinMap as map
 use Rattle.evaluation.specs.Reply.{Reply}
 use Rattle.evaluation.specs.Value.{Grounded}
@@ -7,7 +7,6 @@ use Rattle.labels.specs.Paths.{is_package_name}
 use Rattle.filetree.specs.Files.{Files}
 use Rattle.filetree.specs.Lawful.{HasPaths}
 use Rattle.pattern.specs.Globs.{is_package, answer_below}
-use Rattle.keys.specs.Keys.{glob_key}
 use Rattle.keys.specs.declared.key.Key.{Key}
 use Rattle.keys.specs.declared.key.Key.TheVariants as key
 use Rattle.keys.specs.declared.value.Value.{Value}
@@ -24,7 +23,7 @@ abbrev pub HasLookups : Table → Type 0
 HasLookups next = (directory : List ℕ) (answers : List Value) → next (key.Lookup directory) answers ≡ lookup.next directory answers
 
 abbrev pub HasGlobs : Table → Type 0
-HasGlobs next = (text : List ℕ) (answers : List Value) → next (key.Glob text) answers ≡ glob.next text answers
+HasGlobs next = (directory pattern : List ℕ) (directories : Bool) (answers : List Value) → next (key.Glob directory pattern directories) answers ≡ glob.step directory directories pattern answers
 
 -- the key has this value at the files, and no other
 abbrev pub Holds : Table → Files → Key → Value → Type 0
@@ -38,4 +37,4 @@ LookupsHold = (next : Table) → HasLookups next → (files : Files) (directory 
 -- with directories among those of the directories too that are no packages.
 abbrev pub GlobsHold : Type 0
 GlobsHold = (next : Table) → HasLookups next → HasGlobs next → (files : Files) (directory asked : List ℕ) → HasPaths files → is_package_name directory ≡ true
-    → Holds next files (glob_key directory asked) (value.Paths (answer_below (is_package files) (map.keys files) directory asked))
+    → Holds next files (glob.glob_key directory asked) (value.Paths (answer_below (is_package files) (map.keys files) directory asked))

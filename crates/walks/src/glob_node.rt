@@ -9,7 +9,7 @@ use crate::glob_pattern::{
 };
 use crate::ordering::in_order;
 use crate::reply::Reply;
-use crate::search::{Search, question_of, search_of};
+use crate::search::Search;
 use keys::{Key, Paths, Value};
 use std::alloc::Global;
 use std::sync::Arc;
@@ -83,20 +83,20 @@ fn open_names(alloc: Global, names: &[Text], answers: &[Arc<Value>]) -> Result<V
     Ok(all)
 }
 
-// Adds the globs of a question below subdirectories to a group.
+// Adds what a pattern finds below subdirectories to a group.
 fn add_globs(
     alloc: Global,
     group: &mut Vec<Key>,
-    directory: &str,
-    question: &str,
+    search: Search<'_>,
+    pattern: &Text,
     names: &[Text],
 ) -> Result<(), Memory>
-    ensures { OnOk result (group.new.items ≡ group.old.items ++ specs.globs_below directory.now
-        question.now names.now) }
+    ensures { OnOk result (group.new.items ≡ group.old.items ++ specs.globs_below
+        search.entry.directory.now search.entry.directories pattern.now names.now) }
 {
     for name in names {
-        let path = path_in(alloc, directory, name.as_str())?;
-        group.push(Key::glob_of(alloc, path.as_str(), question)?)?;
+        let path = Text::from_string(alloc, path_in(alloc, search.directory, name.as_str())?)?;
+        group.push(Key::Glob(path, pattern.share()?, search.directories))?;
     }
     Ok(())
 }
@@ -109,11 +109,12 @@ fn globs(alloc: Global, search: Search<'_>, names: &[Text]) -> Result<Vec<Key>, 
 {
     let mut group = Vec::new(alloc);
     if asks_here(search.pattern) {
-        let others = question_of(alloc, search.directories, others_of(search.pattern))?;
-        group.push(Key::glob_of(alloc, search.directory, others.as_str())?)?;
+        let directory = Text::new(alloc, search.directory)?;
+        let others = Text::new(alloc, others_of(search.pattern))?;
+        group.push(Key::Glob(directory, others, search.directories))?;
     }
-    let below = question_of(alloc, search.directories, pattern_below(search.pattern))?;
-    add_globs(alloc, &mut group, search.directory, below.as_str(), names)?;
+    let below = Text::new(alloc, pattern_below(search.pattern))?;
+    add_globs(alloc, &mut group, search, &below, names)?;
     Ok(group)
 }
 
@@ -240,10 +241,11 @@ fn after_listing(
 }
 
 /// Returns what a glob asks or ends with.
-pub fn glob(alloc: Global, text: &Text, answers: &[Arc<Value>]) -> Result<Reply, Memory>
-    ensures { IfOk result (IsReply (specs.next text.now (values answers.now))) }
+pub fn glob(alloc: Global, search: Search<'_>, answers: &[Arc<Value>]) -> Result<Reply, Memory>
+    ensures { IfOk result
+        (IsReply (specs.step search.entry.directory.now search.entry.directories
+        search.entry.pattern.now (values answers.now))) }
 {
-    let search = search_of(text.as_str());
     match answers.split_first() {
         None => {
             let listing = Key::Listing(Text::new(alloc, search.directory)?);

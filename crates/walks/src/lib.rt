@@ -35,6 +35,7 @@ pub use lookup_node::lookup;
 pub use names_node::package_names;
 pub use ordering::in_order;
 pub use reply::Reply;
+pub use search::{Search, glob_key};
 
 /// States the law of the look-ups: at each state of the files a look-up's node holds which BUILD file wins, or none. It
 /// holds for any node functions whose look-ups are those of this crate.

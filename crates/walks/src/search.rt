@@ -1,12 +1,11 @@
-//! What the text of a glob's key asks for.
+//! What a glob looks for.
 ghost use Rattle.std.specs.Prelude.{◌≡◌, IfOk};
-ghost use Rattle.std.specs.Cow.{cow_str_bytes};
-ghost use Rattle.pattern.specs.Globs.{question, pattern_in, asks_directories};
+ghost use Rattle.pattern.specs.Globs.{pattern_in, asks_directories};
 ghost use Rattle.walks.specs.Globs as specs;
 
+use keys::Key;
 use std::alloc::Global;
-use std::borrow::CowStr;
-use texts::Memory;
+use texts::{Memory, Text};
 
 /// What a glob looks for: what a pattern finds below a directory, files alone or directories too.
 #[derive(Clone, Copy, Drop)]
@@ -17,17 +16,6 @@ pub struct Search<'a> {
     pub directories: bool,
     /// The pattern.
     pub pattern: &'a str,
-}
-
-// Splits the text of a glob's key into the directory and the question.
-fn split_text(text: &str) -> (&str, &str)
-    ensures directory { result.0.now ≡ specs.directory_of text.now }
-    ensures question { result.1.now ≡ specs.question_of text.now }
-{
-    match text.split_once(' ') {
-        Some((directory, question)) => (directory, question),
-        None => (text, ""),
-    }
 }
 
 // Splits a question into its pattern and whether it asks for directories too.
@@ -41,33 +29,12 @@ fn split_question(question: &str) -> (&str, bool)
     }
 }
 
-/// Reads what the text of a glob's key asks for.
-pub fn search_of(text: &str) -> Search<'_>
-    ensures directory { result.directory.now ≡ specs.directory_of text.now }
-    ensures directories { result.directories ≡ asks_directories (specs.question_of text.now) }
-    ensures pattern { result.pattern.now ≡ pattern_in (specs.question_of text.now) }
+/// Makes the key by which a question is asked below a directory. A question is a pattern, and where directories are
+/// wanted a space and `dirs` stand after it.
+pub fn glob_key(alloc: Global, directory: &Text, question: &str) -> Result<Key, Memory>
+    ensures { IfOk result (λ key. key ≡ specs.glob_key directory.now question.now) }
 {
-    let (directory, question) = split_text(text);
     let (pattern, directories) = split_question(question);
-    Search {
-        directory,
-        directories,
-        pattern,
-    }
-}
-
-/// Returns the question of a pattern. Without directories nothing is copied.
-pub fn question_of<'a>(
-    alloc: Global,
-    directories: bool,
-    pattern: &'a str,
-) -> Result<CowStr<'a, Global>, Memory>
-    ensures { IfOk result (λ q. cow_str_bytes q ≡ question directories pattern.now) }
-{
-    if !directories {
-        return Ok(CowStr::Borrowed(pattern));
-    }
-    let mut text = String::from_str(alloc, pattern)?;
-    text.push_str(" dirs")?;
-    Ok(CowStr::Owned(text))
+    let pattern = Text::new(alloc, pattern)?;
+    Ok(Key::Glob(directory.share()?, pattern, directories))
 }

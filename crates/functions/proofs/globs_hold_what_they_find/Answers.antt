@@ -4,4 +4,4 @@ use Rattle.walks.proofs.GlobFinds.{glob_held}
 use Rattle.functions.proofs.globs_hold_what_they_find.Goals as goal
 
 pub returns : goal.returns
-returns c = glob_held next (λ directory answers. refl) (λ text answers. refl)
+returns c = glob_held next (λ directory answers. refl) (λ directory pattern directories answers. refl)

@@ -8,6 +8,7 @@ ghost use Rattle.shelf.specs.Shelves.{published_by, shown_by, IsUpToDate};
 ghost use Rattle.shelf.specs.declared.keeper.opening.OpenError.TheVariants.{Range};
 
 use super::Keeper;
+use super::seating::{NoPlace, seat};
 use crate::history::Beginning;
 use crate::reader::Reader;
 use crate::rule::{Begins, Publisher, Takes, Twice};
@@ -25,10 +26,10 @@ pub enum OpenError {
     Range,
     /// A growth was refused.
     #[error("out of memory")]
-    Memory,
+    Memory(Memory),
     /// `left_right` had no place for a reader.
     #[error("no place for a reader")]
-    NoPlace,
+    NoPlace(NoPlace),
 }
 
 /// A shelf that is to be opened.
@@ -50,8 +51,9 @@ impl Shelf {
         if !is_number(readers) {
             return Err(OpenError::Range);
         }
-        let Ok(mut keeper) = Keeper::new(alloc, rt, readers) else {
-            return Err(OpenError::Memory);
+        let mut keeper = match Keeper::new(alloc, rt, readers) {
+            Ok(keeper) => keeper,
+            Err(error) => return Err(OpenError::Memory(error)),
         };
         let all = keeper.readers(alloc, readers)?;
         Ok((keeper, all))
@@ -77,10 +79,10 @@ impl<R: Wait + Drop> Keeper<R> {
         let second = Store::new(alloc, list.again());
         let writer = Publisher::new(alloc, first, second, readers)?;
         let (writer, begun) = begin(writer, &rt);
-        let Ok(()) = begun else {
+        if let Err(error) = begun {
             writer.take(&rt);
-            return Err(Memory);
-        };
+            return Err(Memory::from(error));
+        }
         Ok(Keeper {
             writer,
             rt,
@@ -92,12 +94,12 @@ impl<R: Wait + Drop> Keeper<R> {
     }
 
     // Makes a reader that knows what the keeper knows.
-    fn reader(&mut self) -> Result<Reader, AllocError>
+    fn reader(&mut self) -> Result<Reader, NoPlace>
         ensures list { self.new.list ≡ self.old.list }
         ensures shown { shown_by self.new ≡ shown_by self.old }
         ensures reader { IfOk result (λ reader. reader.list ≡ self.old.list) }
     {
-        let mut entrance = self.writer.factory().reader()?;
+        let mut entrance = seat(&self.writer)?;
         entrance.learn::<Takes>(self.writer.tell::<Twice>());
         Ok(Reader {
             entrance,
@@ -113,15 +115,17 @@ impl<R: Wait + Drop> Keeper<R> {
             (λ all. (vec_len all ≡ count) × All (λ reader. reader.list ≡ self.old.list) all.items) }
         ensures range { IsErrOf result Range → ⊥ }
     {
-        let Ok(mut all) = Vec::with_capacity(alloc, count) else {
-            return Err(OpenError::Memory);
+        let mut all = match Vec::with_capacity(alloc, count) {
+            Ok(all) => all,
+            Err(error) => return Err(OpenError::Memory(Memory::from(error))),
         };
         for _ in 0..count {
-            let Ok(reader) = self.reader() else {
-                return Err(OpenError::NoPlace);
+            let reader = match self.reader() {
+                Ok(reader) => reader,
+                Err(refused) => return Err(OpenError::NoPlace(refused)),
             };
-            if all.push(reader).is_err() {
-                return Err(OpenError::Memory);
+            if let Err(error) = all.push(reader) {
+                return Err(OpenError::Memory(Memory::from(error)));
             }
         }
         Ok(all)

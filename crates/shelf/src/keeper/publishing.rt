@@ -1,11 +1,12 @@
 //! What the keeper publishes.
-ghost use Rattle.std.specs.Prelude.{◌≡◌, ◌⊎◌, ◌≤◌, ◌++◌, [], None, IfOk, OnOk, OnErr, drop, fold};
+ghost use Rattle.std.specs.Prelude.{◌≡◌, ◌⊎◌, ◌≤◌, [], IfOk, OnOk, OnErr, drop, fold};
 ghost use Rattle.left_right.specs.Sides.{view};
 ghost use Rattle.shelf.specs.Lists.{version_of, then_published};
-ghost use Rattle.shelf.specs.CopyRule.{after, state_of, id_of, waits, IsReady};
+ghost use Rattle.shelf.specs.CopyRule.{after, state_of, id_of, IsReady};
 ghost use Rattle.shelf.specs.Shelves.{published_by, shown_by, shelf_of, told_in, shelf_told_of};
 
 use super::Keeper;
+use super::sending::send;
 use crate::publish::Batch;
 use crate::reader::Told;
 use crate::rule::{Publisher, Publishes};
@@ -43,14 +44,12 @@ impl<R: Wait + Drop> Keeper<R> {
         ensures hidden { OnErr result (shown_by self.new ≡ shown_by self.old) }
     {
         send(&mut self.writer, &mut self.waiting)?;
-        if self.list.len() >= MOST {
-            return Err(Memory);
+        let wanted = self.list.len();
+        if wanted >= MOST {
+            return Err(Memory::no_number_left(wanted as u128));
         }
         let batch = Batch { version, entries };
-        // Nobody else adds to the list.
-        let Some(list) = self.list.and(&self.end, &batch) else {
-            return Err(Memory);
-        };
+        let list = self.list.and(&self.end, &batch)?;
         self.list = list.again();
         self.version = version;
         self.waiting = Some(Operation { batch, list });
@@ -59,25 +58,6 @@ impl<R: Wait + Drop> Keeper<R> {
         Ok(Told {
             list: self.list.again(),
         })
-    }
-}
-
-// Hands to `left_right` what waits.
-fn send(writer: &mut Publisher, waiting: &mut Option<Operation>) -> Result<(), Memory>
-    ensures desk { writer.new.desk ≡ writer.old.desk }
-    ensures all { drop writer.new.behind writer.new.log.items ++ waits waiting.new
-        ≡ drop writer.old.behind writer.old.log.items ++ waits waiting.old }
-    ensures none { OnOk result (waiting.new ≡ None) }
-{
-    let Some(operation) = waiting.take() else {
-        return Ok(());
-    };
-    match writer.append(operation) {
-        Ok(()) => Ok(()),
-        Err(operation) => {
-            *waiting = Some(operation);
-            Err(Memory)
-        }
     }
 }
 

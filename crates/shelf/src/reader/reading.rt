@@ -6,12 +6,13 @@ ghost use Rattle.shelf.specs.Lists.{entry, NotBefore};
 ghost use Rattle.shelf.specs.Rules.{BookId, book_id, publishes_of};
 ghost use Rattle.shelf.specs.Shelves.{known_to, shelf_read_by, told_in, shelf_told_of};
 
+use super::entering::{NoRead, enter};
 use super::{Reader, Told};
 use crate::history::Beginning;
-use crate::rule::{Entrance, Reads};
+use crate::rule::Entrance;
 use crate::store::Store;
 use core::mem::replace_with;
-use texts::Text;
+use texts::{Memory, Text};
 use thiserror::Error;
 
 /// Why a read gives nothing.
@@ -19,10 +20,10 @@ use thiserror::Error;
 pub enum ReadError {
     /// A growth was refused.
     #[error("out of memory")]
-    Memory,
-    /// `left_right` refused the entry, as where the keeper is gone.
+    Memory(Memory),
+    /// `left_right` refused the entry.
     #[error("no read")]
-    NoRead,
+    NoRead(NoRead),
 }
 
 impl Reader {
@@ -70,12 +71,12 @@ fn look(
     ensures long { IfOk result.1 (λ r. asked.entry.1 ≤ length r.0.known.log) }
 {
     let (name, least) = asked;
-    match entrance.enter_as::<Reads>() {
+    match enter(entrance) {
         Ok(reading) => {
             let found = look_in(reading.get(), name, least);
             (reading.leave(), found)
         }
-        Err(entrance) => (entrance, Err(ReadError::NoRead)),
+        Err((entrance, refused)) => (entrance, Err(ReadError::NoRead(refused))),
     }
 }
 
@@ -91,11 +92,12 @@ fn look_in(
     ensures long { IfOk result (λ r. least ≤ length store.now.list.known.log) }
 {
     // The keeper tells of nothing that readers do not get.
-    if store.list.len() < least {
-        return Err(ReadError::NoRead);
+    let publishes = store.list.len();
+    if publishes < least {
+        return Err(ReadError::NoRead(NoRead::old_copy(publishes, least)));
     }
     match store.find(name) {
         Ok(found) => Ok((store.list.again(), found)),
-        Err(_) => Err(ReadError::Memory),
+        Err(error) => Err(ReadError::Memory(error)),
     }
 }

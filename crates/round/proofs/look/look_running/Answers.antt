@@ -2,7 +2,7 @@ use Rattle.std.proofs.Common.{refl, sym, subst, ap}
 use Rattle.node.specs.Graphs.{record_at}
 use Rattle.open_nodes.specs.TurnCounts.{turns_of}
 use Rattle.open_nodes.proofs.Counting.{counts_same}
-use Rattle.round.specs.Members.{IsMissing}
+use Rattle.open_nodes.specs.Members.{IsMissing}
 use Rattle.round.proofs.Framing.{frame_same}
 use Rattle.round.proofs.Wanting.{wanted_same}
 use Rattle.round.proofs.Looking.{running_awaits, some_missing, none_missing, held_back, now_ready, stop_in}

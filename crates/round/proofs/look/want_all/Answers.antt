@@ -3,7 +3,7 @@ use Rattle.evaluation.specs.Value.{In}
 use Rattle.keys.specs.Leaves as leaves
 use Rattle.keys.specs.declared.key.Key.{Key}
 use Rattle.round.specs.Moves.{IsWanted}
-use Rattle.round.proofs.Grouping.{one_in, taken_next, snoc_all, in_whole}
+use Rattle.open_nodes.proofs.Grouping.{one_in, taken_next, snoc_all, in_whole}
 use Rattle.round.proofs.Wanting.{wants_on, wanted_on, leads_of_err}
 use Rattle.round.proofs.look.want_all.Goals as goal
 

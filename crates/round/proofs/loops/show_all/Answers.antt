@@ -4,7 +4,7 @@ use Rattle.keys.specs.Keys.{key_cmp}
 use Rattle.std.specs.Arc.{arc_value}
 use Rattle.round.specs.Showing.{ShowsAll}
 use Rattle.round.proofs.Confirming.{take_whole}
-use Rattle.round.proofs.Grouping.{taken_next}
+use Rattle.open_nodes.proofs.Grouping.{taken_next}
 use Rattle.round.proofs.Walking.{shows_none, shows_snoc}
 use Rattle.round.proofs.loops.show_all.Goals as goal
 

@@ -5,7 +5,7 @@ use Rattle.node.specs.Graphs.{record_at}
 use Rattle.node.specs.Records.{items_of}
 use Rattle.node.proofs.Lists.{true_false}
 use Rattle.open_nodes.specs.Nodes.{node_at}
-use Rattle.round.specs.Members.{Answers}
+use Rattle.open_nodes.specs.Members.{Answers}
 use Rattle.round.proofs.Rounding.{out_never_none, out_decided}
 use Rattle.round.proofs.turns.is_out_with.Goals as goal
 

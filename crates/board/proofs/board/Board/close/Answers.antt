@@ -4,7 +4,7 @@ use Rattle.board.specs.Rule.{total}
 use Rattle.board.specs.Places.{IsAtRest, IsHandSeat}
 use Rattle.board.proofs.Moves.{total_snoc, total_join}
 use Rattle.board.proofs.Looks.{all_last, all_before, all_snoc, still_host}
-use Rattle.board.proofs.Leaving.{retiring, checks, left_over}
+use Rattle.board.proofs.Leaving.{retiring, left_over, host_at_end}
 use Rattle.board.proofs.board.Board.close.Goals as goal
 
 pub join_seat-requires : goal.join_seat-requires
@@ -26,18 +26,15 @@ loop-hand-preserved g c = let i = c.loop-hand.invariant in let did = c.join_seat
       i.8 h.0 (rw items (all_snoc (λ h. h.seat.me.0.shut ≡ true → c.args.host.seat.me.0.shut ≡ true) _ c.in-Some.hand all (λ saw. sym i.5 ∙ h.1 saw)))),
 )
 
-pub load-requires : goal.load-requires
-load-requires g c = let i = c.loop-hand.invariant in let sized = c.args.self.sized in (i.0.0, omega (arith, sized), checks _ _ _ _ _ i.0.1)
-
 pub returns-clause-left : goal.returns-clause-left
-returns-clause-left g c = let i = c.loop-hand.invariant in let did = c.load.ensures.2.1 in let none : length c.loop-hand.hands.items ≡ 0 = search rules in
-    λ p o e. (left_over _ _ _ _ _ (c.load.ensures.1 ∙ i.0.1) (ap (λ m. m.0.using) did ∙ i.1.0) (ap (λ m. m.0.hands) did ∙ (i.2 ∙ none)) c.close_with.ensures.values.2).0 p o
-    (ap (λ m. get_elem? m.0.out p) did ∙ (ap (λ l. get_elem? l p) i.3 ∙ e))
+returns-clause-left g c = let i = c.loop-hand.invariant in let none : length c.loop-hand.hands.items ≡ 0 = search rules in
+    λ p o e. (left_over _ _ _ _ _ i.0.1 i.1.0 (i.2 ∙ none) c.close_with.ensures.values.2).0 p o (ap (λ l. get_elem? l p) i.3 ∙ e)
 
 pub returns-clause-answers : goal.returns-clause-answers
-returns-clause-answers g c = let i = c.loop-hand.invariant in let did = c.load.ensures.2.1 in let none : length c.loop-hand.hands.items ≡ 0 = search rules in let nil : c.loop-hand.hands.items ≡ [] = search rules in
-    λ wt. let k = (left_over _ _ _ _ _ (c.load.ensures.1 ∙ i.0.1) (ap (λ m. m.0.using) did ∙ i.1.0) (ap (λ m. m.0.hands) did ∙ (i.2 ∙ none)) c.close_with.ensures.values.2).1 wt in
-    let a = ap (λ m. total wt m.0.answers) did in let b = ap (λ m. total wt m.0.collected) did in let t = ap (total (λ h. total wt h.seat.me.0.answers)) nil in let o = i.6 wt in let d = ap (total wt) i.4 in omega (arith, k, a, b, t, o, d)
+returns-clause-answers g c = let i = c.loop-hand.invariant in let none : length c.loop-hand.hands.items ≡ 0 = search rules in let nil : c.loop-hand.hands.items ≡ [] = search rules in
+    λ wt. let k = (left_over _ _ _ _ _ i.0.1 i.1.0 (i.2 ∙ none) c.close_with.ensures.values.2).1 wt in
+    let t = ap (total (λ h. total wt h.seat.me.0.answers)) nil in let o = i.6 wt in let d = ap (total wt) i.4 in omega (arith, k, t, o, d)
 
 pub returns-clause-shut : goal.returns-clause-shut
-returns-clause-shut g c = let i = c.loop-hand.invariant in let nil : c.loop-hand.hands.items ≡ [] = search rules in i.8 c.load.ensures.2.0 (rw nil (λ k d h. absurd (omega arith)))
+returns-clause-shut g c = let i = c.loop-hand.invariant in let nil : c.loop-hand.hands.items ≡ [] = search rules in
+    i.8 (host_at_end _ _ _ _ _ i.0.1 c.close_with.ensures.values.2) (rw nil (λ k d h. absurd (omega arith)))

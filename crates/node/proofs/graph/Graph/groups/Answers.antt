@@ -9,8 +9,8 @@ use Rattle.node.specs.Records.{record_of}
 use Rattle.node.proofs.Linking.{is_seen, seen_is}
 use Rattle.node.proofs.graph.Graph.groups.Goals as goal
 
-pub groups_with-requires : goal.groups_with-requires
-groups_with-requires c = c.self.invariant.asks c.args.key.now c.in-Some.kept.now (sym c.in-Some.ensures.value)
+pub new-requires : goal.new-requires
+new-requires c = c.self.invariant.asks c.args.key.now c.in-Some.kept.now (sym c.in-Some.ensures.value)
 
 pub returns-in-None : goal.returns-in-None
 returns-in-None c =
@@ -18,9 +18,9 @@ returns-in-None c =
     let at = ap (λ (g : GraphView). record_at g c.args.key.now) (sym c.self.view_is) ∙ seen_is records c.self.inside.version c.args.key.now in
     sym (ap (option_map (λ (r : Record Key Value). r.groups)) (at ∙ ap (option_map (record_of (keys_of records))) (sym c.in-None.ensures.value)))
 
-pub returns-in_ok-groups_with-in-Some : goal.returns-in_ok-groups_with-in-Some
-returns-in_ok-groups_with-in-Some c =
+pub returns-in-Some : goal.returns-in-Some
+returns-in-Some c =
     let records = c.self.inside.records in
     let at = ap (λ (g : GraphView). record_at g c.args.key.now) (sym c.self.view_is) ∙ seen_is records c.self.inside.version c.args.key.now in
-    ap (λ (gs : List (List Key)). Some gs) c.in_ok-groups_with-in-Some.ensures
+    ap (λ (gs : List (List Key)). Some gs) c.new.ensures
     ∙ sym (ap (option_map (λ (r : Record Key Value). r.groups)) (at ∙ is_seen records c.args.key.now c.in-Some.kept.now (sym c.in-Some.ensures.value)))

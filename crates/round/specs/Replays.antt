@@ -1,0 +1,100 @@
+-- What a list of choices leads to.
+use Rattle.std.specs.Prelude.{◌≡◌, ℕ, ◌+◌, ◌<◌, List, [], ◌∷◌, ◌++◌, take, drop, Option}
+use Rattle.evaluation.specs.Reply.{Reply}
+use Rattle.evaluation.specs.Value.{In}
+use Rattle.evaluation.specs.Choices.{Legal, IsStall, Settled}
+use Rattle.evaluation.specs.Choices as choices
+use Rattle.keys.specs.Cycles.{cycle}
+use Rattle.keys.specs.declared.key.Key.{Key}
+use Rattle.keys.specs.declared.value.Value.{Value}
+use Rattle.node.specs.Graphs.{GraphView, record_at}
+use Rattle.open_nodes.specs.TurnCounts.{turns_of}
+use Rattle.open_nodes.specs.Nodes.{IsUnsettled}
+use Rattle.open_nodes.specs.Truths.{Past, IsAfter}
+use Rattle.open_nodes.specs.declared.run.Run.{Run}
+use Rattle.round.specs.declared.choice.Choice.{Choice}
+use Rattle.round.specs.declared.choice.Choice.TheVariants as choice
+use Rattle.round.specs.declared.choice.Replayed.{Replayed}
+use Rattle.round.specs.declared.choice.Replayed.TheVariants as replayed
+use Rattle.round.specs.Call.{IsCall, IsHistory}
+use Rattle.round.specs.Choosing.{IsPossibleAfter}
+
+abbrev pub chosen : Choice → choices.Choice Key
+chosen (choice.Hand k) = choices.Hand k
+chosen (choice.Back k) = choices.Back k
+chosen (choice.Drop k) = choices.Drop k
+
+-- the choices, the newest first, behind earlier ones
+abbrev pub newest_after : List (choices.Choice Key) → List Choice → List (choices.Choice Key)
+newest_after earlier [] = earlier
+newest_after earlier (c ∷ more) = newest_after (chosen c ∷ earlier) more
+
+abbrev pub newest : List Choice → List (choices.Choice Key)
+newest made = newest_after [] made
+
+-- how many turns the choices hand out
+abbrev pub hand_of : Choice → ℕ
+hand_of (choice.Hand k) = 1
+hand_of (choice.Back k) = 0
+hand_of (choice.Drop k) = 0
+
+abbrev pub hands : List Choice → ℕ
+hands [] = 0
+hands (c ∷ more) = hand_of c + hands more
+
+-- how many turns the choices that were read hand out
+abbrev pub turns_told : List Choice → Replayed → ℕ
+turns_told made (replayed.Done runs) = turns_of runs.items
+turns_told made replayed.ChoicesEnded = hands made
+turns_told made (replayed.NotLegal n) = hands (take n made)
+
+-- the choice at a place
+abbrev pub IsAt : List Choice → ℕ → Choice → Type 0
+IsAt made n c = made ≡ take n made ++ c ∷ drop (n + 1) made
+
+-- a root is not settled
+abbrev pub HasOpenRoot : List Key → GraphView → Type 0
+HasOpenRoot roots graph = (k : Key) × In k roots × IsUnsettled (record_at graph) k
+
+module _ (next : Key → List Value → Reply Key Value) (read : Key → Option Value) where
+  -- each of the choices was possible after those before it
+  abbrev pub AreLegal : Past read → List Choice → Type 0
+  AreLegal past made = Legal next cycle read (record_at past.entry) past.roots (newest made)
+
+  -- the choices leave a root that is not settled
+  abbrev pub LacksRoot : Past read → List Choice → Type 0
+  LacksRoot past made = (k : Key) × In k past.roots × (Settled next cycle read (record_at past.entry) past.roots (newest made) k → ⊥)
+
+  -- so many choices were read. Each was possible after those before it, the runs have the turns that they handed out, and behind them, as nowhere
+  -- earlier, no turn can be handed out or taken back: the roots are settled, or what is open leads into loops.
+  pub record HasRead (past : Past read) (made : List Choice) (runs : List Run) : Type 0 where
+    pub number : ℕ
+    pub legal : AreLegal past (take number made)
+    pub at_stall : IsStall next cycle read (record_at past.entry) past.roots (newest (take number made))
+    pub turns : turns_of runs ≡ hands (take number made)
+    -- before each of them a root was not settled
+    pub not_sooner : (n : ℕ) → n < number → LacksRoot past (take n made)
+
+  -- the law of a call holds, and choices were read up to a stall; or all were possible, and a root is not settled; or the one at the place was
+  -- not possible after those before it, and a root is not settled. After the latter two the graph is as after a stop.
+  abbrev pub Replays : List Key → GraphView → GraphView → List Choice → Replayed → Type 0
+  Replays roots old new made (replayed.Done runs) = (past : Past read) → IsHistory next read past roots old → IsCall next read past new runs.items × HasRead past made runs.items
+  Replays roots old new made replayed.ChoicesEnded = (past : Past read) → IsHistory next read past roots old → IsAfter next read past new × HasOpenRoot roots new × AreLegal past made
+  Replays roots old new made (replayed.NotLegal n) = (past : Past read) → IsHistory next read past roots old → IsAfter next read past new × HasOpenRoot roots new × AreLegal past (take n made)
+      × (c : Choice) × IsAt made n c × (IsPossibleAfter next read past (newest (take n made)) (chosen c) → ⊥)
+
+  -- the choices before the place were possible and handed the budget's turns out, and the one there could hand a further one out
+  pub record IsSpentAt (past : Past read) (made : List Choice) (budget n : ℕ) (c : Choice) : Type 0 where
+    pub at : IsAt made n c
+    pub hand : hand_of c ≡ 1
+    pub spent : hands (take n made) ≡ budget
+    pub legal : AreLegal past (take n made)
+    pub possible : IsPossibleAfter next read past (newest (take n made)) (chosen c)
+
+  -- it is so at a choice, and a root is not settled
+  abbrev pub SpendsBudget : List Key → GraphView → GraphView → List Choice → ℕ → Type 0
+  SpendsBudget roots old new made budget = (past : Past read) → IsHistory next read past roots old → HasOpenRoot roots new × (n : ℕ) × (c : Choice) × IsSpentAt past made budget n c
+
+  -- it is so at no choice
+  abbrev pub KeepsBudget : List Key → GraphView → List Choice → ℕ → Type 0
+  KeepsBudget roots old made budget = (past : Past read) → IsHistory next read past roots old → (n : ℕ) (c : Choice) → IsSpentAt past made budget n c → ⊥
