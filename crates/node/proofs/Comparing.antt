@@ -1,27 +1,21 @@
 -- What a check finds in a group, member by member.
-use Rattle.std.proofs.Common.{◌≡◌, ◌≢◌, ◌∙◌, ℕ, nat_lt, ◌+◌, ◌<◌, ◌≤◌, ◌||◌, true, false, Bool, not, cond, List, [], ◌∷◌, ◌++◌, length, map, take, Option, Some, None, refl, sym, ap, subst, slice_index_or, append-nil, arith}
-use Rattle.std.specs.Prelude.{filter, slice_get}
+use Rattle.std.proofs.Common.{◌≡◌, ◌∙◌, ℕ, nat_lt, ◌+◌, ◌<◌, ◌≤◌, ◌||◌, true, false, Bool, not, cond, List, [], ◌∷◌, ◌++◌, length, take, Some, refl, sym, ap, subst, slice_index_or, append-nil, arith}
 use Rattle.std.specs.List.{list_any}
 use Rattle.std.specs.Map.{keys_of}
-use Rattle.std.specs.Option.{option_map}
-use Rattle.std.proofs.lemmas.List.{map-append}
 use Rattle.std.proofs.lemmas.List.Elements.{filter-append}
-use Rattle.std.proofs.lemmas.Option.{get_or_from_slice_get, slice_get_within}
-use Rattle.std.specs.declared.alloc.Global.{Global}
-use Rattle.std.specs.declared.vec.Vec.{Vec}
 use Rattle.std.proofs.lemmas.List.Folds.{list_any-append}
 use Rattle.evaluation.specs.Value.{In, first, after}
 use Rattle.numbered.specs.Tables.{AreDistinct, key_at, value_at}
-use Rattle.numbered.specs.Flats.{groups_in, members_in}
+use Rattle.numbered.specs.Flats.{members_in}
 use Rattle.numbered.proofs.Numbers.{value_by_number}
 use Rattle.keys.specs.declared.key.Key.{Key}
-use Rattle.node.specs.Records.{Records, items_of, record_of}
+use Rattle.node.specs.Records.{Records, record_of}
 use Rattle.node.specs.Graphs.{seen}
 use Rattle.node.specs.Writes.{is_clean}
 use Rattle.node.specs.Comparisons.{any_changed, has_changed, unsettled}
 use Rattle.node.specs.declared.records.NodeRecord.{NodeRecord}
 use Rattle.node.proofs.Linking.{is_seen}
-use Rattle.node.proofs.Numbering.{in_at, in_members, one_more, taken_members}
+use Rattle.node.proofs.Numbering.{in_at, in_members, taken_members}
 
 any_in : {X : Type 0} (p : X → Bool) {x : X} {xs : List X} → In x xs → p x ≡ true → list_any p xs ≡ true
 any_in p {x} (first {xs = xs}) h = ap (λ b. b || list_any p xs) h

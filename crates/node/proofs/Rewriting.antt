@@ -1,16 +1,20 @@
 -- The reverse edges while a record is written.
-use Rattle.std.proofs.Common.{◌≡◌, ◌⊎◌, inl, inr, Bool, true, false, List, Option, Some, None, refl, sym, ◌∙◌, subst}
+use Rattle.std.proofs.Common.{◌≡◌, ◌⊎◌, inl, inr, ℕ, Bool, true, false, List, Option, Some, None, refl, sym, ◌∙◌, subst}
+use Rattle.std.specs.List.{concat}
+use Rattle.std.specs.Map.{keys_of}
 use Rattle.std.specs.Option.{IsSome}
 use Rattle.evaluation.specs.Value.{In, IsMember}
 use Rattle.keys.specs.declared.key.Key.{Key}
 use Rattle.keys.specs.declared.value.Value.{Value}
 use Rattle.evaluation.specs.Graph.{Record}
-use Rattle.node.specs.Records.{Users, users_at}
+use Rattle.numbered.specs.Flats.{groups_in, members_in}
+use Rattle.node.specs.Records.{Records, Users, users_at}
 use Rattle.node.specs.Edges.{HasLinkedSome, HasLinkedAll, HasCut, HasUsers, among}
 use Rattle.node.specs.Graphs.{IsLinked}
 use Rattle.node.specs.Writes.{groups_at, SameSets}
 use Rattle.node.proofs.Lists.{true_false, decide_key, not_in}
 use Rattle.node.proofs.Joining.{among_member, not_among}
+use Rattle.node.proofs.Numbering.{member_named, named_member}
 
 pub some_there : {X : Type 0} (o : Option X) → IsSome o → (x : X) × (o ≡ Some x)
 some_there None h = absurd (true_false h refl)
@@ -81,3 +85,15 @@ linked_sets records old new same l = record {
   members = l.members;
   dirty_above = l.dirty_above;
 }
+
+-- the members of groups that are kept by numbers
+module _ (records : Records) (flat : List (List ℕ)) (ns : List ℕ) (groups : List (List Key)) (all : ns ≡ concat flat) (is : groups_in records flat ≡ groups) where
+  pub flat_member : (j : Key) → In j (members_in records ns) → IsMember j groups
+  flat_member j i = subst (IsMember j) is (named_member (keys_of records) flat (subst (λ (ms : List ℕ). In j (members_in records ms)) all i))
+
+  pub member_flat : (j : Key) → IsMember j groups → In j (members_in records ns)
+  member_flat j m = subst (λ (ms : List ℕ). In j (members_in records ms)) (sym all) (member_named (keys_of records) flat (subst (IsMember j) (sym is) m))
+
+-- the key became a user of some of more members
+pub linked_wider : {X : Type 0} (old new : Key → List X) (key : X) (M N : Key → Type 0) → ((j : Key) → M j → N j) → HasLinkedSome old new key M → HasLinkedSome old new key N
+linked_wider old new key M N wider some = record { from = λ j k i. elim (some.from j k i) [ inl a ↦ inl a | inr p ↦ inr (wider j p.0, p.1) ]; keeps = some.keeps }

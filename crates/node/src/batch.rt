@@ -106,7 +106,7 @@ fn link_all(alloc: Global, records: &mut Records, entries: &[Entry]) -> Result<(
 {
     for entry in entries {
         let user = records.number_of(&entry.key).unwrap();
-        let linked = members_with(alloc, records, kept_members(records, &entry.key))?;
+        let linked = members_with(alloc, records, kept_members(records, user))?;
         link_groups(records, entry.groups.as_slice(), &linked, user)?;
     }
     Ok(())
@@ -146,7 +146,7 @@ fn write_entry(records: &mut Records, entry: Entry, flat: Flat, version: u32)
         groups: _,
     } = entry;
     let user = records.number_of(&key).unwrap();
-    let old = write(records, &key, value, flat, version);
+    let old = write(records, user, value, flat, version);
     cut_with(records, old.members(), user);
 }
 

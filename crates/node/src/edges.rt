@@ -117,6 +117,44 @@ pub fn link_groups(
     Ok(())
 }
 
+// Makes the record with a number a user of the member with a number.
+fn link_at(records: &mut Records, member: Number, user: Number) -> Result<(), Memory>
+    requires within { member < length records.old }
+    requires distinct { AreDistinct records.old }
+    ensures ok { (k : Key) → key_at records.old member ≡ Some k → OnOk result
+        (HasLinked (numbers_of records.old) (numbers_of records.new) k user) }
+    ensures err { (k : Key) → key_at records.old member ≡ Some k → OnErr result
+        (SameUsers (numbers_of records.old) (numbers_of records.new)) }
+    ensures same { KeepsRecords records.old records.new }
+{
+    add_user(&mut records.value_mut(member).users, user)?;
+    Ok(())
+}
+
+/// Makes the record with a number a user of each of these members. It is one already of those in the set.
+pub fn link_members(
+    records: &mut Records,
+    members: &[Number],
+    linked: &BTreeSet<Key>,
+    user: Number,
+) -> Result<(), Memory>
+    requires numbers { All (λ n. n < length records.old) members.now }
+    requires distinct { AreDistinct records.old }
+    requires linked { (j : Key) → In j linked.now.keys → In user (numbers_of records.old j) }
+    ensures some { HasLinkedSome (numbers_of records.old) (numbers_of records.new) user
+        (λ j. In j (members_in records.old members.now)) }
+    ensures all { OnOk result (HasLinkedAll (numbers_of records.new) user
+        (λ j. In j (members_in records.old members.now))) }
+    ensures same { KeepsRecords records.old records.new }
+{
+    for member in members {
+        if !has(linked, records.key_at(*member)) {
+            link_at(records, *member, user)?;
+        }
+    }
+    Ok(())
+}
+
 // Returns whether the member is the key of one of these numbers.
 fn is_named(records: &Records, numbers: &[Number], member: &Key) -> bool
     requires { All (λ n. n < length records.now) numbers.now }

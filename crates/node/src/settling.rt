@@ -1,9 +1,9 @@
 //! Records written in place.
-ghost use Rattle.std.specs.Prelude.{◌≡◌, Some, None, false, OnOk, OnErr, IsSome, if◌then◌else◌};
+ghost use Rattle.std.specs.Prelude.{◌≡◌, ◌<◌, Some, None, false, length, OnOk, OnErr, IsSome, if◌then◌else◌};
 ghost use Rattle.std.specs.Arc.{arc_value};
 ghost use Rattle.std.specs.Map.{keys_of};
 ghost use Rattle.evaluation.specs.Value.{IsMember};
-ghost use Rattle.numbered.specs.Tables.{AreDistinct, Writes};
+ghost use Rattle.numbered.specs.Tables.{AreDistinct, Writes, key_at};
 ghost use Rattle.keys.specs.Values.{value_eq};
 ghost use Rattle.keys.specs.declared.key.Key.{Key};
 ghost use Rattle.node.specs.Records.{kept_at, items_of, numbers_of, users_of, AreNumbers, AsksNumbers, KeepsRecords, asked_of};
@@ -12,7 +12,7 @@ ghost use Rattle.node.specs.Edges.{HasUsers};
 ghost use Rattle.node.specs.Graphs.{IsLinkedBy, Sets, seen};
 ghost use Rattle.node.specs.declared.records.NodeRecord.{NodeRecord};
 
-use crate::edges::{cut, cut_beside, link_groups, members_beside, members_with};
+use crate::edges::{cut_beside, cut_with, link_members, members_beside, members_with};
 use crate::records::{NodeRecord, Records};
 use keys::{Key, Value};
 use numbered::{Flat, Number};
@@ -46,38 +46,38 @@ fn changed_at(kept: &NodeRecord, value: &Value, version: u32) -> u32
     }
 }
 
-/// Writes a value and groups into a record that is settled at the version, and returns the old groups.
+/// Writes a value and groups into the record with a number, which is settled at the version, and returns the old groups.
 pub fn write(
     records: &mut Records,
-    key: &Key,
+    number: Number,
     value: Arc<Value>,
     groups: Flat,
     version: u32,
 ) -> Flat
-    ensures updates { (e : NodeRecord) → kept_at records.old key.now ≡ Some e
-        → Writes records.old records.new key.now (written e value groups version) }
-    ensures groups { (e : NodeRecord) → kept_at records.old key.now ≡ Some e → result ≡ e.groups }
+    requires within { number < length records.old }
+    requires distinct { AreDistinct records.old }
+    ensures updates { (k : Key) (e : NodeRecord) → key_at records.old number ≡ Some k
+        → kept_at records.old k ≡ Some e
+        → Writes records.old records.new k (written e value groups version) }
+    ensures groups { (k : Key) (e : NodeRecord) → key_at records.old number ≡ Some k
+        → kept_at records.old k ≡ Some e → result ≡ e.groups }
 {
-    match records.get_mut(key) {
-        None => groups,
-        Some(kept) => {
-            kept.changed_at = changed_at(kept, &value, version);
-            kept.value = value;
-            kept.settled_at = version;
-            kept.dirty = false;
-            mem::replace(&mut kept.groups, groups)
-        }
-    }
+    let kept = records.value_mut(number);
+    kept.changed_at = changed_at(kept, &value, version);
+    kept.value = value;
+    kept.settled_at = version;
+    kept.dirty = false;
+    mem::replace(&mut kept.groups, groups)
 }
 
-/// Returns the members of the groups that are kept of a key.
-pub fn kept_members<'a>(records: &'a Records, key: &Key) -> &'a [Number]
-    ensures { result.now ≡ asked_of (kept_at records.now key.now) }
+/// Returns the members of the groups of the record with a number.
+pub fn kept_members(records: &Records, number: Number) -> &[Number]
+    requires within { number < length records.now }
+    requires distinct { AreDistinct records.now }
+    ensures { (k : Key) → key_at records.now number ≡ Some k
+        → result.now ≡ asked_of (kept_at records.now k) }
 {
-    match records.get(key) {
-        None => &[],
-        Some(kept) => kept.groups.members(),
-    }
+    records.value_at(number).groups.members()
 }
 
 /// Keeps a record without groups and users at a key that has none.
@@ -132,14 +132,14 @@ pub fn rewrite(
     ensures asks { AsksNumbers records.new }
 {
     let user = records.number_of(key).unwrap();
-    let keep = members_beside(alloc, kept_members(records, key), groups.as_slice())?;
-    let linked = members_with(alloc, records, kept_members(records, key))?;
+    let keep = members_beside(alloc, kept_members(records, user), groups.as_slice())?;
+    let linked = members_with(alloc, records, kept_members(records, user))?;
     let flat = Flat::of(alloc, records, groups.as_slice())?;
-    if let Err(error) = link_groups(records, groups.as_slice(), &linked, user) {
-        cut(records, groups.as_slice(), user);
+    if let Err(error) = link_members(records, flat.members(), &linked, user) {
+        cut_with(records, flat.members(), user);
         return Err(error);
     }
-    let old = write(records, key, value, flat, version);
+    let old = write(records, user, value, flat, version);
     cut_beside(records, old.members(), keep, user);
     Ok(())
 }

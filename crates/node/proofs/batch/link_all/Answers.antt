@@ -27,7 +27,20 @@ unwrap-user-requires c =
 pub members_with-requires : goal.members_with-requires
 members_with-requires c =
     let old = c.loop-entry.records in
-    subst (All (λ n. n < length old)) (sym c.kept_members.ensures) (asked_below old (keeps_asks c.args.records.now old c.loop-entry.invariant.same c.requires.asks) c.entry-item.result.key)
+    let user = c.unwrap-user.result in
+    let key = c.entry-item.result.key in
+    let at = (number_iff old c.number_of.ensures.distinct key user).0 (sym c.number_of.ensures.number ∙ c.unwrap-user.ensures) in
+    subst (All (λ n. n < length old)) (sym (c.kept_members.ensures key at)) (asked_below old (keeps_asks c.args.records.now old c.loop-entry.invariant.same c.requires.asks) key)
+
+pub kept_members-requires-clause-within : goal.kept_members-requires-clause-within
+kept_members-requires-clause-within c =
+    let old = c.loop-entry.records in
+    let user = c.unwrap-user.result in
+    let key = c.entry-item.result.key in
+    key_within old user key ((number_iff old c.number_of.ensures.distinct key user).0 (sym c.number_of.ensures.number ∙ c.unwrap-user.ensures))
+
+pub kept_members-requires-clause-distinct : goal.kept_members-requires-clause-distinct
+kept_members-requires-clause-distinct c = c.number_of.ensures.distinct
 
 pub link_groups-requires-clause-linked : goal.link_groups-requires-clause-linked
 link_groups-requires-clause-linked c = λ j m.
@@ -41,7 +54,7 @@ link_groups-requires-clause-linked c = λ j m.
     let at_old = (number_iff old c.number_of.ensures.distinct key user).0 (sym c.number_of.ensures.number ∙ c.unwrap-user.ensures) in
     let at = sym (key_same start old keys user) ∙ at_old in
     let e = is_in c.args.entries.now c.loop-entry.entry-index c.entry-item.result c.entry-item.is c.loop-entry-test.true in
-    let asked = subst (IsMember j) (λ x. groups_at (keeps_seen start old i.same x key)) (asked_member old key j (subst (λ (ns : List ℕ). In j (members_in old ns)) c.kept_members.ensures ((c.in_ok-linked.ensures j).0 m))) in
+    let asked = subst (IsMember j) (λ x. groups_at (keeps_seen start old i.same x key)) (asked_member old key j (subst (λ (ns : List ℕ). In j (members_in old ns)) (c.kept_members.ensures key at_old) ((c.in_ok-linked.ensures j).0 m))) in
     has_number start d key user at (numbers_of old) j (i.some.keeps j key (c.requires.users c.entry-item.result e j asked))
 
 pub link_groups-requires-clause-members : goal.link_groups-requires-clause-members

@@ -1,4 +1,4 @@
-use Rattle.std.proofs.Common.{◌∙◌, ◌∷◌, ◌++◌, [], ap, List}
+use Rattle.std.proofs.Common.{◌∙◌, ◌∷◌, ◌++◌, [], ap}
 use Rattle.keys.specs.declared.key.Key.{Key}
 use Rattle.node.proofs.Comparing.{one_settled, one_unsettled}
 use Rattle.node.proofs.Numbering.{key_there, within_at}

@@ -1,4 +1,4 @@
-use Rattle.std.proofs.Common.{◌≡◌, ◌∙◌, ◌<◌, ap, length, refl, subst, sym, arith}
+use Rattle.std.proofs.Common.{◌∙◌, ◌<◌, ap, length, refl, subst, sym, arith}
 use Rattle.std.specs.Prelude.{slice_get}
 use Rattle.std.proofs.lemmas.Option.{slice_get_read}
 use Rattle.node.proofs.Lending.{members_length, member_at}

@@ -1,0 +1,13 @@
+use Rattle.std.proofs.Common.{take}
+use Rattle.evaluation.specs.Value.{In}
+use Rattle.numbered.specs.Flats.{members_in}
+use Rattle.node.specs.Records.{KeepsRecords, numbers_of}
+use Rattle.node.specs.Edges.{HasLinkedSome, HasLinkedAll}
+use Rattle.node.proofs.edges.link_members.Given as goal
+
+abbrev pub invariant-loop-member : goal.invariant-loop-member
+invariant-loop-member l = record {
+  some : HasLinkedSome (numbers_of l.fn.records) (numbers_of l.records) l.user (λ j. In j (members_in l.fn.records l.members));
+  all : HasLinkedAll (numbers_of l.records) l.user (λ j. In j (members_in l.fn.records (take l.member-index l.members)));
+  same : KeepsRecords l.fn.records l.records;
+}
