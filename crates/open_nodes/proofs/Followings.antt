@@ -1,7 +1,6 @@
 -- What is true of a node stays true after further choices, and where further keys are settled.
-use Rattle.std.proofs.Common.{◌≡◌, ◌⊎◌, inl, inr, suc, List, ◌∷◌, Option, Some, refl, sym, ◌∙◌}
+use Rattle.std.proofs.Common.{◌≡◌, inl, inr, suc, List, ◌∷◌, Option, sym, ◌∙◌}
 use Rattle.evaluation.specs.Reply.{Reply}
-use Rattle.evaluation.specs.Value.{In}
 use Rattle.evaluation.specs.Graph.{Record}
 use Rattle.evaluation.specs.Choices.{Choice, Wanted, Checks, Runs, Settled}
 use Rattle.evaluation.specs.States.{HasBacks}
@@ -12,7 +11,7 @@ use Rattle.keys.specs.declared.key.Key.{Key}
 use Rattle.keys.specs.declared.value.Value.{Value}
 use Rattle.node.specs.Graphs.{GraphView, record_at}
 use Rattle.open_nodes.specs.Nodes.{groups_of, IsClean}
-use Rattle.open_nodes.specs.Truths.{Past, AreUnchanged, HasStopped, HasBegun, IsRun, IsCheck, IsDoing, TellOut, IsOpenTruly, IsRunToEnd, HasEnded, by_read, by_check, by_turns, IsSettledTruly, IsUntold}
+use Rattle.open_nodes.specs.Truths.{Past, AreUnchanged, HasBegun, IsDoing, TellOut, IsOpenTruly, HasEnded, by_read, by_check, by_turns, IsSettledTruly, IsUntold}
 use Rattle.open_nodes.specs.declared.table.Node.{Node}
 use Rattle.open_nodes.specs.declared.table.Phase.{Phase}
 use Rattle.open_nodes.specs.declared.table.Phase.TheVariants as phase

@@ -5,3 +5,4 @@ pub mod Settlings
 pub mod Counting
 pub mod Orders
 pub mod Grouping
+pub mod Least

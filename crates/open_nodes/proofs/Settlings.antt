@@ -18,7 +18,7 @@ use Rattle.node.specs.Graphs.{GraphView, record_at, present, Sets}
 use Rattle.node.specs.Laws.{IsLawfulFor}
 use Rattle.node.proofs.Lists.{some_is, none_some, true_false, decide_key, in_split, in_left, in_right, in_one}
 use Rattle.open_nodes.proofs.Lookups.{other_key}
-use Rattle.open_nodes.specs.Nodes.{Nodes, node_at, groups_of, IsUnsettled, IsClean}
+use Rattle.open_nodes.specs.Nodes.{Nodes, node_at, IsUnsettled, IsClean}
 use Rattle.open_nodes.specs.Truths.{IsNext, Past, IsReached, IsSince, IsAfter, IsOpenTruly, IsItem, IsRunOf, run_keys, IsTold, AreBehind, IsSettledTruly, IsUntold, IsTrueOf}
 use Rattle.open_nodes.specs.declared.run.Run.{Run}
 use Rattle.open_nodes.specs.declared.table.Node.{Node}

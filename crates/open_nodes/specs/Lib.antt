@@ -3,3 +3,4 @@ pub mod Members
 pub mod Truths
 pub mod Steps
 pub mod TurnCounts
+pub mod Ready

@@ -3,11 +3,13 @@
 #![tactic(auto)]
 
 mod members;
+mod ready;
 mod run;
 mod steps;
 mod table;
 
 pub use members::{answers_to, first_stop, is_settled, last_unsettled, share_all, unsettled};
+pub use ready::ReadySet;
 pub use run::Run;
 pub use steps::{
     ask, begin_check, begin_run, leave, look_again, note, pass, put_ready, run_anew, set_out, watch,

@@ -8,12 +8,12 @@ ghost use Rattle.open_nodes.specs.Steps.{HasEntered, HasPhase, SameRuns, Pends, 
 ghost use Rattle.open_nodes.specs.declared.table.Node.{Node};
 ghost use Rattle.open_nodes.specs.declared.table.Phase.TheVariants as phase;
 
+use crate::ready::ReadySet;
 use crate::run::Run;
 use crate::table::{Node, Nodes, Phase, Table};
 use indexmap::IndexMap;
 use keys::Key;
 use std::alloc::Global;
-use std::collections::BTreeSet;
 use texts::Memory;
 
 impl Table {
@@ -26,7 +26,7 @@ impl Table {
     {
         Table {
             nodes: IndexMap::new(alloc),
-            ready: BTreeSet::new(alloc),
+            ready: ReadySet::new(alloc),
             work: Vec::new(alloc),
             looked: 0,
             runs: Vec::new(alloc),
@@ -57,21 +57,14 @@ pub fn look_again(table: &mut Table, key: &Key) -> Result<(), Memory>
     Ok(())
 }
 
-// Adds the key to the set.
-fn put_in(set: &mut BTreeSet<Key>, key: Key) -> Result<(), Memory>
-    ensures { OnOk result (IsAdded set.old.keys set.new.keys key) }
-{
-    set.insert(key)?;
-    Ok(())
-}
-
 /// Adds the node to those whose next turn can be handed out.
 pub fn put_ready(table: &mut Table, key: &Key) -> Result<(), Memory>
     ensures readies { OnOk result (Readies table.old table.new key.now) }
     ensures nodes { table.new.nodes ≡ table.old.nodes }
     ensures looked { OnOk result (table.new.looked ≡ table.old.looked) }
 {
-    put_in(&mut table.ready, key.share()?)
+    table.ready.insert(key.share()?)?;
+    Ok(())
 }
 
 /// Opens a node whose record is to be checked.
@@ -188,13 +181,6 @@ pub fn note(table: &mut Table, key: &Key, version: u32, turns: u64) -> Result<()
     Ok(())
 }
 
-// Takes the key out of the set.
-fn take_out(set: &mut BTreeSet<Key>, key: &Key)
-    ensures { IsRemoved set.old.keys set.new.keys key.now }
-{
-    let _was_there = set.remove(key);
-}
-
 /// Notes that the node's job is out.
 pub fn set_out(table: &mut Table, key: &Key)
     ensures phase { HasPhase table.old.nodes table.new.nodes key.now phase.Out }
@@ -203,7 +189,7 @@ pub fn set_out(table: &mut Table, key: &Key)
     ensures runs { SameRuns table.old table.new }
     ensures looked { table.new.looked ≡ table.old.looked }
 {
-    take_out(&mut table.ready, key);
+    table.ready.remove(key);
     set_phase(&mut table.nodes, key, Phase::Out);
 }
 

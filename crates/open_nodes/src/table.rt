@@ -1,10 +1,10 @@
 //! What a round keeps of the nodes that it has not settled yet.
 ghost use Rattle.std.specs.Prelude.{◌≤◌, length};
 
+use crate::ready::ReadySet;
 use crate::run::Run;
 use indexmap::IndexMap;
 use keys::Key;
-use std::collections::BTreeSet;
 
 /// What an open node does.
 #[derive(Drop)]
@@ -37,7 +37,7 @@ pub struct Table {
     /// The open nodes.
     pub nodes: Nodes,
     /// Those whose next turn can be handed out.
-    pub ready: BTreeSet<Key>,
+    pub ready: ReadySet,
     /// Those that are to be looked at, from the place `looked` on.
     pub work: Vec<Key>,
     /// How many of `work` were looked at.
