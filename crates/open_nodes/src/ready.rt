@@ -68,7 +68,8 @@ fn is_next(next: &Option<Key>, key: &Key) -> bool
 fn put_first(next: &mut Option<Key>, rest: &mut BTreeSet<Key>, key: Key) -> Result<(), Memory>
     requires below { IsBelow next.old rest.old.keys }
     requires least { IsBelowAll key (keys_of next.old rest.old.keys) }
-    ensures added { OnOk result (IsAdded (keys_of next.old rest.old.keys) (keys_of next.new rest.new.keys) key) }
+    ensures added { OnOk result
+        (IsAdded (keys_of next.old rest.old.keys) (keys_of next.new rest.new.keys) key) }
     ensures below { IsBelow next.new rest.new.keys }
 {
     if let Some(second) = mem::replace(next, Some(key)) {

@@ -1,7 +1,7 @@
 //! One step of the table.
 ghost use Rattle.std.specs.Prelude.{◌≡◌, [], OnOk, IfOk, Some, None};
 ghost use Rattle.keys.specs.declared.key.Key.{Key};
-ghost use Rattle.node.specs.Edges.{IsAdded, IsRemoved};
+ghost use Rattle.node.specs.Edges.{IsRemoved};
 ghost use Rattle.node.specs.Records.{items_of};
 ghost use Rattle.open_nodes.specs.Nodes.{node_at, groups_of, pending};
 ghost use Rattle.open_nodes.specs.Steps.{HasEntered, HasPhase, SameRuns, Pends, Readies, HasWatcher, HasLeft, HasNoted, HasAsked};

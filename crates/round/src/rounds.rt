@@ -173,10 +173,7 @@ impl<R: Rules> Round<R> {
         ensures least { IfSome result
             (λ k. All (IsLeBy key_cmp k.now) (standing self.now).table.ready.keys) }
     {
-        match self.table.ready.first() {
-            None => None,
-            Some(key) => Some(key),
-        }
+        self.table.ready.first()
     }
 
     /// Returns how many keys' next turns can be handed out. It takes no memory.
@@ -316,7 +313,7 @@ impl<R: Rules> Round<R> {
     pub fn stalled(&self) -> bool
         ensures { Decides result (IsStalled (standing self.now)) }
     {
-        self.table.ready.is_empty() && self.out.is_empty()
+        self.table.ready.len() == 0 && self.out.is_empty()
     }
 
     /// Settles all open nodes at a stall, each with the loop to which it leads, all or none. That the round is stalled

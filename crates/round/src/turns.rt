@@ -7,8 +7,7 @@ ghost use Rattle.open_nodes.specs.Members.{Answers};
 ghost use Rattle.round.specs.NodeStates.{IsPaused, ArePaused, NeedsValues, SameStates, TakesOut, kept_answers};
 ghost use Rattle.std.specs.Bool.{Decides};
 ghost use Rattle.keys.specs.Turns.{values};
-ghost use Rattle.std.specs.BTreeSet.{contains};
-ghost use Rattle.keys.specs.Keys.{key_cmp, key_eq};
+ghost use Rattle.keys.specs.Keys.{key_eq};
 ghost use Rattle.keys.specs.Leaves as leaves;
 ghost use Rattle.keys.specs.declared.key.Key.{Key};
 ghost use Rattle.keys.specs.declared.value.Value.{Value};
@@ -29,7 +28,6 @@ use keys::{Job, Key, Rules, Step, Turned, Value, Waiting};
 use node::Graph;
 use open_nodes::{Nodes, Phase, Table, answers_to, ask, share_all};
 use std::alloc::Global;
-use std::collections::BTreeSet;
 use std::sync::Arc;
 use texts::Memory;
 
@@ -41,13 +39,6 @@ fn asked_groups<'a>(nodes: &'a Nodes, key: &Key) -> &'a [Vec<Key>]
         None => &[],
         Some(node) => node.groups.as_slice(),
     }
-}
-
-// Returns whether a key is in the set.
-fn is_among(set: &BTreeSet<Key>, key: &Key) -> bool
-    ensures { result ≡ contains key_cmp set.now key.now }
-{
-    set.contains(key)
 }
 
 // Returns the values of the members of the last group that a node asked.
@@ -81,7 +72,7 @@ pub fn values_needed<R: Rules>(
     ensures { IfOk result (λ found. NeedsValues graph.now table.now kept.now key.now
         (option_map (λ v. values v.items) found)) }
 {
-    if !is_among(&table.ready, key) {
+    if !table.ready.contains(key) {
         return Ok(None);
     }
     if kept.contains_key(key) {
