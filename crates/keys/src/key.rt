@@ -1,18 +1,21 @@
 //! What names a node.
-ghost use Rattle.std.specs.Prelude.{◌≡◌, ◌++◌, IfOk, OnOk, refl};
+ghost use Rattle.std.specs.Prelude.{◌≡◌, ◌==◌, ◌++◌, IfOk, OnOk, refl};
 ghost use Rattle.std.proofs.Common.{rules};
 ghost use Rattle.std.specs.Hash as fed;
 ghost use Rattle.std.specs.String.{string_bytes};
 ghost use Rattle.std.specs.Cmp.{partial_order_from_own_ties};
 ghost use Rattle.std.specs.Cmp.Rules.{comparing, hashing};
-ghost use Rattle.std.specs.Cmp.Lexicographic.{slice_cmp};
-ghost use Rattle.std.specs.Ordering.{as_partial_cmp, nat_cmp, on, then_cmp};
+ghost use Rattle.std.specs.Cmp.Lexicographic.{pointwise, slice_cmp};
+ghost use Rattle.std.specs.Ordering.{as_partial_cmp, eq_of_both, nat_cmp, on, then_cmp};
 ghost use Rattle.keys.specs.Keys.{key_cmp, key_eq, kind, name_of, pattern_of, scope, prefix, key_name, key_text};
 
 use std::alloc::Global;
 use std::cmp::Ordering;
 use std::hash::{Hash, Hasher};
 use texts::{Memory, Text};
+
+// The place of globs in the order of kinds.
+const GLOB: u8 = 3;
 
 /// What names a node. Keys are ordered by kind, as they stand here, and then by the bytes of their texts, which is the
 /// order of their fields.
@@ -74,7 +77,7 @@ impl Key {
             Key::File(_) => 0,
             Key::Listing(_) => 1,
             Key::Lookup(_) => 2,
-            Key::Glob(_, _, _) => 3,
+            Key::Glob(_, _, _) => GLOB,
             Key::Module(_) => 4,
             Key::Package(_) => 5,
             Key::Under(_) => 6,
@@ -178,15 +181,23 @@ fn compare_names(a: &Key, b: &Key) -> Ordering
     }
 }
 
+// Returns whether two keys have one pattern, and find the same by it. Keys that are no globs have none.
+fn same_patterns(a: &Key, b: &Key) -> bool
+    ensures { result ≡ eq_of_both (on pattern_of (pointwise ◌==◌)) (on scope ◌==◌) a.now b.now }
+{
+    if a.kind() != GLOB && b.kind() != GLOB {
+        return true;
+    }
+    a.pattern() == b.pattern() && a.scope() == b.scope()
+}
+
 impl PartialEq for Key {
     ghost eq = { key_eq };
 
     ghost laws = { Prim.search (comparing, rules) depth 12 };
 
     fn eq(&self, other: &Key) -> bool {
-        self.kind() == other.kind()
-            && (self.name() == other.name()
-                && (self.pattern() == other.pattern() && self.scope() == other.scope()))
+        self.kind() == other.kind() && (self.name() == other.name() && same_patterns(self, other))
     }
 }
 
