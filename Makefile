@@ -9,7 +9,7 @@ PYTHON := /usr/bin/python3
 CLIENT := clients/python
 LOADER := $(abspath $(or $(SEFGULAW_LOADER),$(PROGRAM)))
 
-.PHONY: clients clients-long has-loader quick run build measures shelf-trials readers overlaps trials schedules test lint digests language wrong-bodies answers limits allocations workers batches under hostile giving-back bench
+.PHONY: clients clients-long has-loader quick run build measures shelf-trials readers overlaps trials schedules bell test lint digests language wrong-bodies answers limits allocations workers batches under hostile giving-back bench
 
 # Shows each line of an example with its answer. It proves nothing: the kit interprets the program.
 quick:
@@ -107,6 +107,11 @@ allocations: build measures
 overlaps: build
 	@python3 bench/build_measures.py overlaps
 	@bench/out/overlaps | diff tests/overlaps/stdout -
+
+# All interleavings of threads that ring the bells of `pool` and of threads that wait by them: no ring is lost. It takes
+# some ten seconds, and needs no program.
+bell:
+	@$(PYTHON) tests/bell.py
 
 # What is compared over the libraries of the product: sessions, budgets, devices and turns in another order (`trials`),
 # and lists of choices (`schedules`). Built as `measures` is, with the libraries that `build` lacks. Each program reads
