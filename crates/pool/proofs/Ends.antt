@@ -1,6 +1,6 @@
 -- How an evaluation by workers ends.
 use Rattle.std.proofs.Common.{◌≡◌, suc, List, [], ◌∷◌, All, Result, Ok, Err, refl, ap, subst, arith}
-use Rattle.std.specs.Prelude.{IfOk, IfErr, IsErrOf}
+use Rattle.std.specs.Prelude.{IfOk, IfErr, IsErrOf, OnOk}
 use Rattle.atomic_table.specs.Seated.{TableId}
 use Rattle.board.specs.Places.{IsHandAtRest, IsNewHand}
 use Rattle.board.specs.Rule.{total}
@@ -34,6 +34,10 @@ if_ok (Err e) f p = tt
 pub if_err : {T E : Type 0} {P Q : E → Type 0} (r : Result T E) → ((x : E) → P x → Q x) → IfErr r P → IfErr r Q
 if_err (Ok x) f p = tt
 if_err (Err e) f p = f e p
+
+pub on_ok : {T E P Q : Type 0} (r : Result T E) → (P → Q) → OnOk r P → OnOk r Q
+on_ok (Ok x) f p = f p
+on_ok (Err e) f p = tt
 
 -- what is true of these roots and this graph
 pub moved : (P : List Key → GraphView → Type 0) (roots other : List Key) (old entry : GraphView) → other ≡ roots → entry ≡ old → P other entry → P roots old

@@ -57,9 +57,9 @@ not_both n a b = no (sym a ∙ b)
 
 module _ {R S : Type 0} where
   -- with no job out and none ready the round is stalled
-  pub is_stalled : (graph : GraphView) (round : Round R S) (v : View JobView Outcome) (roots : List Key) (first places hands out handed : ℕ) → IsServing graph round v roots first places hands out handed → out ≡ 0
+  pub is_stalled : (graph : GraphView) (round : Round R S) (v : View JobView Outcome) (roots : List Key) (own places hands out handed : ℕ) → IsServing graph round v roots own places hands out handed → out ≡ 0
       → (standing round).table.ready.keys ≡ [] → IsStalled (standing round)
-  is_stalled graph round v roots first places hands out handed s none ready =
+  is_stalled graph round v roots own places hands out handed s none ready =
       (ready, none_in (standing round).out (λ k i. let at = s.posted k i in none_at v.out (s.counted ∙ none) at.0 at.1 at.2))
 
   -- a key that is ready has no job out
@@ -70,8 +70,8 @@ module _ {R S : Type 0} where
   -- a job was handed out and posted
   pub given : (graph : GraphView) (before later : Round R S) (v w : View JobView Outcome) (p : ℕ) (job : JobView) (key : Key) → StandsBeside graph later → KeepsAllJobs graph (standing before) (standing later)
       → HandsOut graph key (standing before) (standing later) (Some job) → HasPosted v p job w
-      → (roots : List Key) (first places hands out handed : ℕ) → IsServing graph before v roots first places hands out handed → IsServing graph later w roots first places hands (out + 1) (handed + 1)
-  given graph before later v w p job key beside others h did roots first places hands out handed s =
+      → (roots : List Key) (own places hands out handed : ℕ) → IsServing graph before v roots own places hands out handed → IsServing graph later w roots own places hands (out + 1) (handed + 1)
+  given graph before later v w p job key beside others h did roots own places hands out handed s =
       let u = did.1.0 in let same = looked_same 0 p v u did.1.1 in let was : get_elem? v.out p ≡ some None = did.0 in
       let out_is : w.out ≡ set v.out p (Some job) = ap (λ (z : View JobView Outcome). z.out) did.1.2 ∙ ap (λ (l : List (Option JobView)). set l p (Some job)) same.0 in
       let here : get_elem? w.out p ≡ some (Some job) = ap (λ (l : List (Option JobView)). get_elem? l p) out_is ∙ set_here v.out p (Some job) (below v.out p None was) in
@@ -81,7 +81,7 @@ module _ {R S : Type 0} where
       record {
         beside = beside;
         same_roots = h.4 ∙ s.same_roots;
-        made = subst (HasMade later.table) (ap (λ (l : List Outcome). first + made_in l) (sym collected)) (h.5 (first + made_in v.collected) s.made);
+        made = subst (HasMade later.table) (ap (λ (l : List Outcome). own + made_in l) (sym collected)) (h.5 (own + made_in v.collected) s.made);
         posted = λ k i. ⊎_elim
             (λ old. let at = s.posted k old in
             (at.0, at.1, ap (λ (l : List (Option JobView)). get_elem? l at.0) out_is ∙ (set_else v.out p at.0 (Some job) (λ e. none_some (some-injective None (Some at.1) (sym was ∙ (ap (get_elem? v.out) (sym e) ∙ at.2)))) ∙ at.2), at.3))
@@ -107,13 +107,31 @@ module _ {R S : Type 0} where
             (λ r_else. s.apart q r found other (before_at q q_else found e) (before_at r r_else other f) same_key));
       }
 
+  -- a job was handed out, and the host made its turn and took it back
+  pub made_here : (old new : GraphView) (before between later : Round R S) (v : View JobView Outcome) (job : JobView) (key : Key) → HandsOut old key (standing before) (standing between) (Some job)
+      → KeepsAllJobs old (standing before) (standing between) → StandsBeside new later → KeepsJobs job.key old new (standing between) (standing later) → TakesBack (standing between) (standing later) job.key
+      → (roots : List Key) (own places hands out handed : ℕ) → IsServing old before v roots own places hands out handed → IsServing new later v roots (own + 1) places hands out (handed + 1)
+  made_here old new before between later v job key h kept beside others back roots own places hands out handed s = record {
+    beside = beside;
+    same_roots = back.0 ∙ (h.4 ∙ s.same_roots);
+    made = subst (HasMade later.table) (omega arith) (back.2 (own + made_in v.collected) (h.5 (own + made_in v.collected) s.made));
+    posted = λ k i. ⊎_elim (s.posted k) (λ same. absurd (back.1.gone (subst (λ (x : Key). In x (standing later).out) (sym (h.1 ∙ same)) i))) (h.3.from k (back.1.from k i));
+    sized = s.sized;
+    staffed = s.staffed;
+    none_answered = s.none_answered;
+    counted = s.counted;
+    handed_out = let e = s.handed_out in omega (arith, e);
+    known = λ p other e. let was = s.known p other e in others other (λ same. ready_not_out old before key other s.beside h.0 was (sym h.1 ∙ same)) (kept other was);
+    apart = s.apart;
+  }
+
   -- nothing was collected
   pub looked_in_vain : (graph : GraphView) (round : Round R S) (v w : View JobView Outcome) (n : ℕ) → Looked 3 n v w
-      → (roots : List Key) (first places hands out handed : ℕ) → IsServing graph round v roots first places hands out handed → IsServing graph round w roots first places hands out handed
-  looked_in_vain graph round v w n did roots first places hands out handed s = let same = looked_same 3 n v w did in record {
+      → (roots : List Key) (own places hands out handed : ℕ) → IsServing graph round v roots own places hands out handed → IsServing graph round w roots own places hands out handed
+  looked_in_vain graph round v w n did roots own places hands out handed s = let same = looked_same 3 n v w did in record {
     beside = s.beside;
     same_roots = s.same_roots;
-    made = subst (HasMade round.table) (ap (λ (l : List Outcome). first + made_in l) (sym same.2)) s.made;
+    made = subst (HasMade round.table) (ap (λ (l : List Outcome). own + made_in l) (sym same.2)) s.made;
     posted = λ k i. let at = s.posted k i in (at.0, at.1, ap (λ (l : List (Option JobView)). get_elem? l at.0) same.0 ∙ at.2, at.3);
     sized = ap length same.0 ∙ s.sized;
     staffed = same.3 ∙ s.staffed;
@@ -127,8 +145,8 @@ module _ {R S : Type 0} where
   -- a turn was collected and taken back
   pub taken : (old new : GraphView) (before later : Round R S) (v w : View JobView Outcome) (p : ℕ) (turn : Outcome) → StandsBeside new later → KeepsJobs turn.asked.key old new (standing before) (standing later)
       → TakesBack (standing before) (standing later) turn.asked.key → turn.ending ≡ Made → HasCollected (λ t. t.asked) v p turn w
-      → (roots : List Key) (first places hands out handed : ℕ) → IsServing old before v roots first places hands out handed → IsServing new later w roots first places hands (out - 1) handed × (0 < out)
-  taken old new before later v w p turn beside others back made did roots first places hands out handed s =
+      → (roots : List Key) (own places hands out handed : ℕ) → IsServing old before v roots own places hands out handed → IsServing new later w roots own places hands (out - 1) handed × (0 < out)
+  taken old new before later v w p turn beside others back made did roots own places hands out handed s =
       let u = did.1.0 in let same = looked_same 3 p v u did.1.1 in let was : get_elem? v.out p ≡ some (Some turn.asked) = did.0 in
       let out_is : w.out ≡ set v.out p None = ap (λ (z : View JobView Outcome). z.out) did.1.2 ∙ ap (λ (l : List (Option JobView)). set l p None) same.0 in
       let collected : w.collected ≡ v.collected ++ turn ∷ [] = ap (λ (z : View JobView Outcome). z.collected) did.1.2 ∙ ap (λ (l : List Outcome). l ++ turn ∷ []) same.2 in
@@ -142,7 +160,7 @@ module _ {R S : Type 0} where
         record {
           beside = beside;
           same_roots = back.0 ∙ s.same_roots;
-          made = subst (HasMade later.table) (omega (arith, one)) (back.2 (first + made_in v.collected) s.made);
+          made = subst (HasMade later.table) (omega (arith, one)) (back.2 (own + made_in v.collected) s.made);
           posted = λ k i. let at = s.posted k (back.1.from k i) in (
             at.0,
             at.1,
@@ -244,11 +262,11 @@ shut_same v w a = (ap length a.0, a.1, a.2)
 
 -- a host that did nothing but shut the board
 pub serves_shut : {R S : Type 0} (graph : GraphView) (round : Round R S) (v w : View JobView Outcome) → IsShutOnly v w
-    → (roots : List Key) (first places hands out handed : ℕ) → IsServing graph round v roots first places hands out handed → IsServing graph round w roots first places hands out handed
-serves_shut graph round v w same roots first places hands out handed s = record {
+    → (roots : List Key) (own places hands out handed : ℕ) → IsServing graph round v roots own places hands out handed → IsServing graph round w roots own places hands out handed
+serves_shut graph round v w same roots own places hands out handed s = record {
   beside = s.beside;
   same_roots = s.same_roots;
-  made = subst (HasMade round.table) (ap (λ (l : List Outcome). first + made_in l) (sym same.3)) s.made;
+  made = subst (HasMade round.table) (ap (λ (l : List Outcome). own + made_in l) (sym same.3)) s.made;
   posted = λ k i. let at = s.posted k i in (at.0, at.1, ap (λ (l : List (Option JobView)). get_elem? l at.0) same.0 ∙ at.2, at.3);
   sized = ap length same.0 ∙ s.sized;
   staffed = same.1 ∙ s.staffed;

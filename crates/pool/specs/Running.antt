@@ -1,5 +1,5 @@
 -- What comes back from the workers of a pool.
-use Rattle.std.specs.Prelude.{◌≡◌, ℕ, ◌+◌, ◌≤◌, List, [], All, length, Option, Ok, Err, IfOk, IfErr, IsErrOf}
+use Rattle.std.specs.Prelude.{◌≡◌, ℕ, ◌+◌, ◌≤◌, List, [], All, length, Option, Ok, Err, IfOk, IfErr, OnOk, IsErrOf}
 use Rattle.atomic_table.specs.Seated.{TableId}
 use Rattle.board.specs.Places.{IsHostAtRest, IsHandAtRest}
 use Rattle.board.specs.Rule.{total}
@@ -21,13 +21,13 @@ pub record HasRun {R S : Type 0} (next : Key → List Value → Reply Key Value)
   pub open_root : IsErrOf ran.ended stop.Budget → HasOpenRoot next read roots before ran.graph
   pub spent : IsErrOf ran.ended stop.Budget → HasTurnToMake next read roots before ran.graph
   -- all jobs are back where the budget is spent, and their turns are as many
-  pub made_all : IsErrOf ran.ended stop.Budget → (jobs_out ran.host.seat.me.0 ≡ 0) × (first + made_in ran.host.seat.me.0.collected ≡ budget)
+  pub made_all : IsErrOf ran.ended stop.Budget → (jobs_out ran.host.seat.me.0 ≡ 0) × (ran.made + made_in ran.host.seat.me.0.collected ≡ budget)
   -- host and hands are at rest, whatever it ended with
   pub host_rests : IsHostAtRest id ran.host.seat
   pub hands_rest : All (λ h. IsHandAtRest id h.seat) ran.hands.items
   pub staffed : (length ran.hands.items ≡ length given) × (ran.host.seat.me.0.hands ≡ length given) × (length ran.rules.items ≡ length given)
   pub sized : (length ran.host.seat.me.0.out ≡ places) × (ran.host.seat.me.0.answers ≡ [])
-  -- no job is out, and the first turns with those that were collected are the turns of the runs
-  pub done : IfOk ran.ended (λ runs. (jobs_out ran.host.seat.me.0 ≡ 0) × (first + made_in ran.host.seat.me.0.collected ≡ turns_of runs.items))
-  -- the rules made the turns that the hands answered
-  pub made : total turns ran.rules.items ≡ total turns given + total (λ h. made_in h.seat.me.0.answers) ran.hands.items
+  -- no job is out, and the turns that the host made itself with those that were collected are the turns of the runs
+  pub done : IfOk ran.ended (λ runs. (jobs_out ran.host.seat.me.0 ≡ 0) × (ran.made + made_in ran.host.seat.me.0.collected ≡ turns_of runs.items))
+  -- the rules made the turns that the host made itself after the first ones, and those that the hands answered
+  pub made : OnOk ran.ended (first + total turns ran.rules.items ≡ total turns given + ran.made + total (λ h. made_in h.seat.me.0.answers) ran.hands.items)

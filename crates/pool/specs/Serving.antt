@@ -41,6 +41,11 @@ IsSameHost v w = (length w.out ≡ length v.out) × (w.hands ≡ v.hands) × (w.
 abbrev pub IsShutOnly : View JobView Outcome → View JobView Outcome → Type 0
 IsShutOnly v w = (w.out ≡ v.out) × (w.hands ≡ v.hands) × (w.answers ≡ v.answers) × (w.collected ≡ v.collected)
 
+-- how many are out after one was handed out: one more, if it was posted
+abbrev pub given_out : Bool → ℕ → ℕ
+given_out true out = out + 1
+given_out false out = out
+
 -- the key's job is out at some place
 abbrev pub IsPostedKey : View JobView Outcome → Key → Type 0
 IsPostedKey v k = (p : ℕ) × (job : JobView) × (get_elem? v.out p ≡ some (Some job)) × (job.key ≡ k)
@@ -53,18 +58,18 @@ AreKnown graph s v = (p : ℕ) (job : JobView) → get_elem? v.out p ≡ some (S
 abbrev pub AreApart : View JobView Outcome → Type 0
 AreApart v = (p q : ℕ) (job other : JobView) → get_elem? v.out p ≡ some (Some job) → get_elem? v.out q ≡ some (Some other) → job.key ≡ other.key → p ≡ q
 
--- The round stands beside the graph, and each of its jobs that is out lies on the board of so many places. The turns that were made first, with
+-- The round stands beside the graph, and each of its jobs that is out lies on the board of so many places. The turns that the host made itself, with
 -- those that were collected, are those that the round has counted. With the jobs that are out they are as many as were handed out.
-pub record IsServing {R S : Type 0} (graph : GraphView) (round : Round R S) (v : View JobView Outcome) (roots : List Key) (first places hands out handed : ℕ) : Type 0 where
+pub record IsServing {R S : Type 0} (graph : GraphView) (round : Round R S) (v : View JobView Outcome) (roots : List Key) (own places hands out handed : ℕ) : Type 0 where
   pub beside : StandsBeside graph round
   pub same_roots : (standing round).roots ≡ roots
-  pub made : HasMade round.table (first + made_in v.collected)
+  pub made : HasMade round.table (own + made_in v.collected)
   pub posted : (k : Key) → In k (standing round).out → IsPostedKey v k
   pub sized : length v.out ≡ places
   pub staffed : v.hands ≡ hands
   pub none_answered : v.answers ≡ []
   pub counted : jobs_out v ≡ out
-  pub handed_out : first + made_in v.collected + out ≡ handed
+  pub handed_out : own + made_in v.collected + out ≡ handed
   pub known : AreKnown graph (standing round) v
   pub apart : AreApart v
 

@@ -1,5 +1,5 @@
 //! The hands of a pool: those at work, and those not hired yet.
-ghost use Rattle.std.specs.Prelude.{◌≡◌, ◌+◌, ◌<◌, ◌≤◌, All, length, OnOk};
+ghost use Rattle.std.specs.Prelude.{◌≡◌, ◌+◌, ◌<◌, ◌≤◌, All, length, OnOk, vec_capacity};
 ghost use Rattle.board.specs.Places.{IsHostAtRest, IsHandAtRest, IsNewHand};
 ghost use Rattle.board.specs.Rule.{total};
 ghost use Rattle.pool.specs.Crews.{IsCrew, SameCrew};
@@ -87,6 +87,8 @@ pub(crate) fn join_all<'s, R: Rules + Drop, T: Threads>(
     ensures as_many { (length result.0.items ≡ length crew.entry.rules.items
         + length crew.entry.workers.items) × (length result.1.items ≡ length result.0.items) }
     ensures hands { All (λ h. IsHandAtRest board.now.table.shared.table_id h.seat) result.1.items }
+    ensures room { (length result.0.items < vec_capacity result.0)
+        × (length result.1.items < vec_capacity result.1) }
     ensures turns { total R.turns result.0.items + total (λ h. made_in h.seat.me.0.answers)
         crew.entry.hands.items ≡ total R.turns crew.entry.rules.items + total
         (λ w. R.turns w.promise.given.value) crew.entry.workers.items + total

@@ -1,4 +1,4 @@
-//! An evaluation by one worker thread a hand.
+//! An evaluation by one thread a hand, the caller's among them.
 ghost use Rattle.std.specs.Prelude.{◌≡◌, ◌+◌, ◌<◌, ◌≤◌, [], All, length, vec_capacity, IfOk, IfErr, IsErrOf, Ok, Err};
 ghost use Rattle.board.specs.Places.{IsNewHost, IsNewHand};
 ghost use Rattle.board.specs.Rule.{total};
@@ -16,6 +16,7 @@ use crate::board_end::close_board;
 use crate::crew::{Crew, join_all};
 use crate::first_turns::make_first_turns;
 use crate::host::serve;
+use crate::own::{Own, divide};
 use board::{Board, Hand, Host, OpenError};
 use filetree::Tree;
 use keys::{Key, Rules};
@@ -37,6 +38,7 @@ struct ScopeResult<R: Rules> {
     host: Host<R>,
     rules: Vec<R>,
     hands: Vec<Hand<R>>,
+    made: u64,
     ended: Result<Vec<Run>, Stop>,
 }
 
@@ -68,6 +70,7 @@ fn run<'s, E, R: Rules + Send + Drop + 's, T: Threads + Wait + Sync>(
         (length rules.items) host.seat }
     requires hands { All (λ h. IsNewHand board.now.table.shared.table_id h.seat) hands.items
         × (length hands.items ≡ length rules.items) }
+    requires some { 0 < length rules.items }
     requires places { 0 < board.now.capacity }
     requires rests { IsResting graph round (standing round).roots first × (first ≤ budget) }
     requires truth { IsTrueSinceSome R.next (leaves.read tree.now) (standing round).roots
@@ -83,27 +86,37 @@ fn run<'s, E, R: Rules + Send + Drop + 's, T: Threads + Wait + Sync>(
                 host,
                 rules,
                 hands,
+                made: first,
                 ended: Err(Stop::Memory(error)),
             };
         }
     };
+    let (mut own, rules, hands) = divide(rules, hands, first);
     let mut crew = Crew {
         workers,
         rules,
         hands,
     };
     let ended = serve(
-        scope, rt, board, bells, &mut host, &mut crew, &mut graph, tree, entry, round, first,
+        scope, rt, board, bells, &mut host, &mut crew, &mut own, &mut graph, tree, entry, round,
         budget,
     );
     board.shut(&mut host);
     bells.jobs.ring_all();
-    let (rules, hands) = join_all(rt, board, crew);
+    let (mut rules, mut hands) = join_all(rt, board, crew);
+    let Own {
+        rules: last,
+        hand,
+        made,
+    } = own;
+    rules.push_reserved(last);
+    hands.push_reserved(hand);
     ScopeResult {
         graph,
         host,
         rules,
         hands,
+        made,
         ended,
     }
 }
@@ -128,6 +141,7 @@ fn scoped<R: Rules + Send + Drop, T: Threads + Wait + Sync>(
         (length rules.items) host.seat }
     requires hands { All (λ h. IsNewHand board.now.table.shared.table_id h.seat) hands.items
         × (length hands.items ≡ length rules.items) }
+    requires some { 0 < length rules.items }
     requires places { 0 < board.now.capacity }
     requires rests { IsResting graph round (standing round).roots first × (first ≤ budget) }
     requires truth { IsTrueSinceSome R.next (leaves.read tree.now) (standing round).roots
@@ -143,6 +157,7 @@ fn scoped<R: Rules + Send + Drop, T: Threads + Wait + Sync>(
                 (length rules.items) host.seat }
             requires hands { All (λ h. IsNewHand board.now.table.shared.table_id h.seat) hands.items
                 × (length hands.items ≡ length rules.items) }
+            requires some { 0 < length rules.items }
             requires places { 0 < board.now.capacity }
             requires rests { IsResting graph round (standing round).roots first × (first ≤ budget) }
             requires truth { IsTrueSinceSome R.next (leaves.read tree.now) (standing round).roots
@@ -200,6 +215,7 @@ fn by_workers<R: Rules + Send + Drop, T: Threads + Wait + Sync>(
         host,
         rules,
         hands: seats,
+        made: _made,
         ended,
     } = scoped(
         rt, alloc, &board, &bells, host, seats, hands, lent, tree, entry, round, first, budget,
@@ -212,10 +228,10 @@ fn by_workers<R: Rules + Send + Drop, T: Threads + Wait + Sync>(
     }
 }
 
-/// Evaluates the roots over the graph as `evaluate_here` does, in at most `budget` turns, by worker threads. Each has
-/// one of the hands. The first turns are made on the caller's thread, as long as one alone can be made at a time. A
-/// thread is made only if more jobs are out than there are threads. No promise hangs on the order in which jobs are
-/// taken, made and collected.
+/// Evaluates the roots over the graph as `evaluate_here` does, in at most `budget` turns, by one thread a hand. The
+/// caller's thread is among them, and makes the turns that take less than to hand them over. A worker thread is made only
+/// if more jobs are out than there are workers, and it has a processor, or is the first. No promise depends on the order
+/// in which jobs are taken, made and collected.
 ///
 /// Returns `Stop::Budget` if so many turns were made, all jobs are back, and a further turn is to be made. Returns
 /// `Stop::Memory` if an allocation fails or a thread could not be made. After a stop the graph is as after a stop of
@@ -244,13 +260,13 @@ pub fn evaluate<R: Rules + Send + Drop, T: Threads + Wait + Sync>(
     ensures spent { IsErrOf result Stop.Budget → HasTurnToMake R.next (leaves.read tree.now)
         roots.now graph.old graph.new }
 {
-    let roots = share_all(alloc, roots)?;
+    let shared = share_all(alloc, roots)?;
     let entry = Snapshot::of(&*graph);
-    let mut round: Round<R> = Round::open(alloc, graph, tree, roots)?;
+    let mut round: Round<R> = Round::open(alloc, graph, tree, shared)?;
     let Some(mut own) = hands.pop() else {
         unreachable!()
     };
-    let first = make_first_turns(&mut round, graph, tree, &mut own, budget)?;
+    let first = make_first_turns(&mut round, graph, tree, &mut own, roots, budget)?;
     hands.push_reserved(own);
     if has_ready(&round) {
         return by_workers(rt, alloc, graph, tree, entry, round, hands, first, budget);

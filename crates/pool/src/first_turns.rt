@@ -1,4 +1,5 @@
-//! The first turns of an evaluation, which the host makes itself: where one alone can be made, a thread gains nothing.
+//! The first turns of an evaluation, which the host makes before there is a board: where no two turns that take long can
+//! be made at once, a thread gains nothing.
 ghost use Rattle.std.specs.Prelude.{◌≡◌, ◌+◌, ◌≤◌, IfOk, OnOk, OnErr};
 ghost use Rattle.keys.specs.Leaves as leaves;
 ghost use Rattle.pool.specs.Serving.{StaysTrueSince, IsAfterStop};
@@ -6,17 +7,28 @@ ghost use Rattle.round.specs.Here.{IsResting};
 ghost use Rattle.round.specs.Rounds.{standing};
 
 use filetree::Tree;
-use keys::Rules;
+use keys::{Key, Rules};
 use node::Graph;
 use round::{Round, next_key, turn};
 use texts::Memory;
 
-// Makes the first turns by these rules, as long as one alone can be made at a time. Returns how many it made.
+// Returns whether threads may gain by what can be made now, of which this key is the least: several turns, none of a
+// look-up or a glob. Before any turn was made, a root's counts as well.
+fn is_to_share<R: Rules>(round: &Round<R>, key: &Key, made: u64, roots: &[Key]) -> bool {
+    match key {
+        Key::Module(_) => 1 < round.ready_count(),
+        Key::Package(_) => 1 < round.ready_count(),
+        _ => made == 0 && 1 < round.ready_count() && roots.contains(key),
+    }
+}
+
+// Makes the first turns by these rules, as long as there is nothing to share. Returns how many it made.
 pub(crate) fn make_first_turns<R: Rules>(
     round: &mut Round<R>,
     graph: &mut Graph,
     tree: &Tree,
     rules: &mut R,
+    roots: &[Key],
     budget: u64,
 ) -> Result<u64, Memory>
     requires { IsResting graph.old round.old (standing round.old).roots 0 }
@@ -30,13 +42,13 @@ pub(crate) fn make_first_turns<R: Rules>(
         round.old.table) }
 {
     for made in 0..budget {
-        if 1 < round.ready_count() {
+        let Some(key) = next_key(round)? else {
+            return Ok(made);
+        };
+        if is_to_share(round, &key, made, roots) {
             return Ok(made);
         }
-        match next_key(round)? {
-            None => return Ok(made),
-            Some(key) => turn(round, graph, tree, rules, &key)?,
-        }
+        turn(round, graph, tree, rules, &key)?;
     }
     Ok(budget)
 }

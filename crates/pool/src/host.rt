@@ -1,9 +1,9 @@
-//! The host: it hands out what is ready, hires hands for it, and takes back what was made.
+//! The host: it hands out what is ready, makes what is light, hires hands for the rest, and takes back what they made.
 ghost use Rattle.std.specs.Prelude.{◌≡◌, ◌⊎◌, ◌+◌, ◌<◌, ◌≤◌, All, length, IfOk, IfErr, IsErrOf, OnOk, Ok, Err};
-ghost use Rattle.board.specs.Places.{IsHostAtRest, IsNewHost, IsNewHand};
+ghost use Rattle.board.specs.Places.{IsHostAtRest, IsHandAtRest, IsNewHost, IsNewHand};
 ghost use Rattle.keys.specs.Leaves as leaves;
 ghost use Rattle.open_nodes.specs.TurnCounts.{turns_of};
-ghost use Rattle.pool.specs.Crews.{IsCrew, SameCrew};
+ghost use Rattle.pool.specs.Crews.{IsCrew, SameCrew, SameOwn};
 ghost use Rattle.pool.specs.Serving.{IsSameHost, IsShutOnly, jobs_out, made_in};
 ghost use Rattle.round.specs.Call.{Calls, HasOpenRoot, HasTurnToMake};
 ghost use Rattle.round.specs.Here.{IsResting};
@@ -13,7 +13,9 @@ ghost use Rattle.round.specs.declared.stop.Stop.{Stop};
 
 use crate::bell::Bells;
 use crate::crew::{Crew, hire};
+use crate::own::Own;
 use crate::steps::{give, take};
+use crate::worker::make_posted;
 use board::{Board, Host};
 use filetree::Tree;
 use keys::Rules;
@@ -21,18 +23,36 @@ use node::Graph;
 use round::{Round, Run, Stop, close_stall, has_ready};
 use std::snapshot::Snapshot;
 use std::sync::Wait;
-use std::thread::Scope;
+use std::thread::{Scope, Threads, available_parallelism};
 use texts::Memory;
 
-// Has somebody take the job that was posted last. It is a new worker if more jobs are out than there are workers and a
-// hand is left, and else one that sleeps.
-fn staff<'s, E, R: Rules + Send + Drop + 's, T: Wait + Sync>(
+// Returns whether there is a processor for one worker more, beside that of the host. The first worker is always worth
+// it, since the host may wait for the system. How many workers there may be is asked for once, and kept.
+fn has_processor<T: Threads>(rt: &T, workers: usize, most: &mut Option<usize>) -> bool {
+    if workers == 0 {
+        return true;
+    }
+    if let Some(most) = *most {
+        return workers < most;
+    }
+    let count = match available_parallelism(rt) {
+        Ok(processors) => processors.get().saturating_sub(1),
+        Err(_unknown) => usize::MAX,
+    };
+    *most = Some(count);
+    workers < count
+}
+
+// Has somebody take the job that was posted last. It is a new worker if more jobs are out than there are workers, a hand
+// is left and a processor too. Else it is one that sleeps.
+fn staff<'s, E, R: Rules + Send + Drop + 's, T: Threads + Wait + Sync>(
     scope: &Scope<'s, E>,
     rt: &'s T,
     board: &'s Board<R>,
     bells: &'s Bells,
     host: &mut Host<R>,
     crew: &mut Crew<'s, R>,
+    most: &mut Option<usize>,
     out: usize,
 ) -> Result<(), Memory>
     requires host { IsHostAtRest board.now.table.shared.table_id host.old.seat }
@@ -48,27 +68,36 @@ fn staff<'s, E, R: Rules + Send + Drop + 's, T: Wait + Sync>(
     ensures few { (length crew.new.workers.items ≤ length crew.old.workers.items)
         ⊎ (length crew.new.workers.items ≤ out) }
 {
-    if crew.workers.len() < out && !crew.rules.is_empty() {
+    let workers = crew.workers.len();
+    if workers < out && !crew.rules.is_empty() && has_processor(rt, workers, most) {
         return hire(scope, rt, board, bells, host, crew);
     }
-    bells.jobs.ring_for(out, crew.workers.len());
+    bells.jobs.ring_for(out, workers);
     Ok(())
 }
 
-// Goes on with the evaluation by the turns that the workers of the board make, until no turn can be made any more. All
-// jobs are back then, and also if the budget is spent. The first turns were made since the graph was the entry's.
-pub(crate) fn serve<'s, E, R: Rules + Send + Drop + 's, T: Wait + Sync>(
+// Returns whether two threads could make turns at once: there are other hands, and the turn of the least key is not the
+// only one that can be made or is.
+fn is_worth_sharing<R: Rules>(round: &Round<R>, has_others: bool, out: usize) -> bool {
+    has_others && (out > 0 || round.ready_count() > 1)
+}
+
+// Goes on with the evaluation by the turns that the host and the workers of the board make, until no turn can be made any
+// more. All jobs are back then, and also if the budget is spent. The host has made the first turns since the graph was
+// the entry's. It hands out what is ready as long as a place is empty, and collects a turn if it cannot. Where none is
+// answered, it makes the turn of a job that no worker has taken yet, and it waits only if there is none.
+pub(crate) fn serve<'s, E, R: Rules + Send + Drop + 's, T: Threads + Wait + Sync>(
     scope: &Scope<'s, E>,
     rt: &'s T,
     board: &'s Board<R>,
     bells: &'s Bells,
     host: &mut Host<R>,
     crew: &mut Crew<'s, R>,
+    own: &mut Own<R>,
     graph: &mut Graph,
     tree: &Tree,
     entry: Snapshot<Graph>,
     mut round: Round<R>,
-    first: u64,
     budget: u64,
 ) -> Result<Vec<Run>, Stop>
     requires host { IsNewHost board.now.table.shared.table_id board.now.capacity
@@ -78,13 +107,17 @@ pub(crate) fn serve<'s, E, R: Rules + Send + Drop + 's, T: Wait + Sync>(
     requires new { All (λ h. IsNewHand board.now.table.shared.table_id h.seat)
         crew.old.hands.items }
     requires none { length crew.old.workers.items ≡ 0 }
-    requires rests { IsResting graph.old round (standing round).roots first × (first ≤ budget) }
+    requires own { IsHandAtRest board.now.table.shared.table_id own.old.hand.seat }
+    requires rests { IsResting graph.old round (standing round).roots own.old.made
+        × (own.old.made ≤ budget) }
     requires truth { IsTrueSinceSome R.next (leaves.read tree.now) (standing round).roots
         entry.value graph.old round.table }
     ensures host { IsHostAtRest board.now.table.shared.table_id host.new.seat
         × IsSameHost host.old.seat.me.0 host.new.seat.me.0 }
     ensures crew { IsCrew board.now.table.shared.table_id crew.new × SameCrew R.turns crew.old
         crew.new }
+    ensures own { IsHandAtRest board.now.table.shared.table_id own.new.hand.seat
+        × OnOk result (SameOwn R.turns own.old own.new) }
     ensures law { IfOk result (λ runs. Calls R.next (leaves.read tree.now) (standing round).roots
         entry.value graph.new (Ok runs.items)) }
     ensures stopped { IfErr result (λ e. Calls R.next (leaves.read tree.now) (standing round).roots
@@ -94,27 +127,35 @@ pub(crate) fn serve<'s, E, R: Rules + Send + Drop + 's, T: Wait + Sync>(
     ensures spent { IsErrOf result Stop.Budget → HasTurnToMake R.next (leaves.read tree.now)
         (standing round).roots entry.value graph.new }
     ensures made { IsErrOf result Stop.Budget → (jobs_out host.new.seat.me.0 ≡ 0)
-        × (first + made_in host.new.seat.me.0.collected ≡ budget) }
+        × (own.new.made + made_in host.new.seat.me.0.collected ≡ budget) }
     ensures back { IfOk result (λ runs. (jobs_out host.new.seat.me.0 ≡ 0)
-        × (first + made_in host.new.seat.me.0.collected ≡ turns_of runs.items)) }
-    ensures few { IfOk result (λ runs. first + length crew.new.workers.items
+        × (own.new.made + made_in host.new.seat.me.0.collected ≡ turns_of runs.items)) }
+    ensures few { IfOk result (λ runs. own.new.made + length crew.new.workers.items
         ≤ turns_of runs.items) }
     ensures within { IfOk result (λ runs. turns_of runs.items ≤ budget) }
 {
+    let has_others = !crew.rules.is_empty();
+    let mut most = None;
     let mut out: usize = 0;
-    let mut handed = first;
+    let mut handed = own.made;
     for _ in rt.forever() {
         let heard = bells.turns.heard();
         let ready = has_ready(&round);
         if ready && handed < budget && out < board.capacity() {
-            give(&mut round, graph, board, host)?;
+            let is_shared = is_worth_sharing(&round, has_others, out);
+            let is_first = handed == 0;
             handed += 1;
-            out += 1;
-            staff(scope, rt, board, bells, host, crew, out)?;
+            let is_posted = give(
+                &mut round, graph, tree, board, host, own, is_shared, is_first,
+            )?;
+            if is_posted {
+                out += 1;
+                staff(scope, rt, board, bells, host, crew, &mut most, out)?;
+            }
         } else if out > 0 {
             if take(&mut round, graph, tree, board, host)? {
                 out -= 1;
-            } else {
+            } else if !make_posted(board, &mut own.hand, &mut own.rules) {
                 bells.turns.wait(rt, heard);
             }
         } else if ready {

@@ -1,5 +1,5 @@
-//! An evaluation by one worker thread a hand, which the host hires as jobs appear. Layer: engine, on base, files,
-//! values and evaluation of a file. Begin at `evaluations.rt`.
+//! An evaluation by one thread a hand, the caller's among them. The caller hires the others as jobs appear. Layer:
+//! engine, on base, files, values and evaluation of a file. Begin at `evaluations.rt`.
 #![tactic(auto)]
 
 mod bell;
@@ -8,6 +8,7 @@ mod crew;
 mod evaluations;
 mod first_turns;
 mod host;
+mod own;
 mod steps;
 mod worker;
 

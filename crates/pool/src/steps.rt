@@ -1,54 +1,79 @@
-//! What the host does in one step: it hands a job out, or takes a turn back.
-ghost use Rattle.std.specs.Prelude.{◌≡◌, ℕ, ◌+◌, ◌<◌, List, Option, length, true, false, IfOk, OnOk, OnErr};
+//! What the host does in one step: it hands a job out and posts it or makes its turn, or takes a turn back.
+ghost use Rattle.std.specs.Prelude.{◌≡◌, ℕ, ◌+◌, ◌<◌, ◌≤◌, ◌^◌, List, length, true, IfOk, OnOk, OnErr};
 ghost use Rattle.board.specs.Places.{IsHostAtRest};
-ghost use Rattle.evaluation.specs.Reply.{Reply};
 ghost use Rattle.evaluation.specs.Value.{In};
 ghost use Rattle.keys.specs.declared.key.Key.{Key};
-ghost use Rattle.keys.specs.declared.value.Value.{Value};
 ghost use Rattle.keys.specs.Leaves as leaves;
-ghost use Rattle.pool.specs.Serving.{IsServing, AreKnown, IsSameHost, StaysTrueSince, IsAfterStop, jobs_out, left_out};
+ghost use Rattle.pool.specs.Crews.{SameOwn};
+ghost use Rattle.pool.specs.Serving.{IsServing, AreKnown, IsSameHost, StaysTrueSince, IsAfterStop, jobs_out, given_out, left_out};
 ghost use Rattle.round.specs.Rounds.{standing, StandsBeside};
 
+use crate::own::Own;
 use board::{Board, Host};
 use filetree::Tree;
-use keys::Rules;
+use keys::{Job, Key, Rules};
 use node::Graph;
 use round::{Round, next_key};
 use texts::Memory;
 
-// Hands out the job of the least key that is ready, and posts it. A key is ready and a place is empty, which is the
-// caller's condition.
+// Returns whether the turn of a job takes long enough to be worth a place on the board: it parses a file, or evaluates
+// it. A module or a package asks twice before it does.
+fn is_heavy<R: Rules>(job: &Job<R>) -> bool {
+    match job.key() {
+        Key::Module(_) => job.answers().len() > 1,
+        Key::Package(_) => job.answers().len() > 1,
+        _ => false,
+    }
+}
+
+// Hands out the job of the least key that is ready. It is posted if others may make turns meanwhile, and it is heavy or
+// the first of its evaluation. Else the host makes its turn. Returns whether it was posted. A key is ready and a place is
+// empty, which is the caller's condition.
 pub(crate) fn give<R: Rules>(
     round: &mut Round<R>,
-    graph: &Graph,
+    graph: &mut Graph,
+    tree: &Tree,
     board: &Board<R>,
     host: &mut Host<R>,
-) -> Result<(), Memory>
+    own: &mut Own<R>,
+    is_shared: bool,
+    is_first: bool,
+) -> Result<bool, Memory>
     requires seat { IsHostAtRest board.now.table.shared.table_id host.old.seat }
     requires room { (length host.old.seat.me.0.out ≡ board.now.capacity)
         × (jobs_out host.old.seat.me.0 < board.now.capacity) }
-    requires beside { StandsBeside graph.now round.old }
+    requires beside { StandsBeside graph.old round.old }
     requires ready { (k : Key) × In k (standing round.old).table.ready.keys }
+    requires few { own.old.made + 1 < 2 ^ 64 }
     ensures seat { IsHostAtRest board.now.table.shared.table_id host.new.seat }
     ensures same { IsSameHost host.old.seat.me.0 host.new.seat.me.0 }
-    ensures serving { OnOk result ((roots : List Key) (first places hands out handed : ℕ)
-        → IsServing graph.now round.old host.old.seat.me.0 roots first places hands out handed
-        → IsServing graph.now round.new host.new.seat.me.0 roots first places hands (out + 1)
-        (handed + 1)) }
-    ensures truth { OnOk result
-        ((next : Key → List Value → Reply Key Value) (read : Key → Option Value)
-        → StaysTrueSince next read graph.now graph.now round.old.table round.new.table) }
+    ensures own { OnOk result (SameOwn R.turns own.old own.new) × (own.new.hand ≡ own.old.hand) }
+    ensures more { own.new.made ≤ own.old.made + 1 }
+    ensures serving { IfOk result (λ posted. (roots : List Key) (places hands out handed : ℕ)
+        → IsServing graph.old round.old host.old.seat.me.0 roots own.old.made places hands out
+        handed → IsServing graph.new round.new host.new.seat.me.0 roots own.new.made places hands
+        (given_out posted out) (handed + 1)) }
+    ensures truth { OnOk result (StaysTrueSince R.next (leaves.read tree.now) graph.old graph.new
+        round.old.table round.new.table) }
+    ensures stopped { OnErr result (IsAfterStop R.next (leaves.read tree.now) graph.old graph.new
+        round.old.table) }
 {
-    match next_key(round)? {
-        None => unreachable!(),
-        Some(key) => match round.hand_out(graph, &key)? {
-            None => unreachable!(),
-            Some(job) => match board.post(host, job) {
-                Ok(_) => Ok(()),
-                Err(_) => unreachable!(),
-            },
-        },
+    let Some(key) = next_key(round)? else {
+        unreachable!()
+    };
+    let Some(job) = round.hand_out(graph, &key)? else {
+        unreachable!()
+    };
+    if is_shared && (is_first || is_heavy(&job)) {
+        match board.post(host, job) {
+            Ok(_) => return Ok(true),
+            Err(_) => unreachable!(),
+        }
     }
+    let turned = job.make(&mut own.rules);
+    round.take_known(graph, tree, turned)?;
+    own.made += 1;
+    Ok(false)
 }
 
 // Collects a turn and takes it back, if one is answered. Returns whether one was.
@@ -64,9 +89,9 @@ pub(crate) fn take<R: Rules>(
     requires known { AreKnown graph.old (standing round.old) host.old.seat.me.0 }
     ensures seat { IsHostAtRest board.now.table.shared.table_id host.new.seat }
     ensures same { IsSameHost host.old.seat.me.0 host.new.seat.me.0 }
-    ensures serving { IfOk result (λ took. (roots : List Key) (first places hands out handed : ℕ)
-        → IsServing graph.old round.old host.old.seat.me.0 roots first places hands out handed
-        → IsServing graph.new round.new host.new.seat.me.0 roots first places hands
+    ensures serving { IfOk result (λ took. (roots : List Key) (own places hands out handed : ℕ)
+        → IsServing graph.old round.old host.old.seat.me.0 roots own places hands out handed
+        → IsServing graph.new round.new host.new.seat.me.0 roots own places hands
         (left_out took out) handed × (took ≡ true → 0 < out)) }
     ensures truth { OnOk result (StaysTrueSince R.next (leaves.read tree.now) graph.old graph.new
         round.old.table round.new.table) }

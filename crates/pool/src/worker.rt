@@ -32,6 +32,23 @@ impl<'a, R: Rules> Promise<Back<R>> for Keeps<'a, R> {
     ghost kept_by = { λ p b. IsHandAtRest p.board.now.table.shared.table_id b.hand.seat × (R.turns b.rules ≡ R.turns p.given.value + made_in b.hand.seat.me.0.answers) };
 }
 
+// Takes a job that nobody has taken yet, makes its turn and answers with it. Returns whether it found one.
+pub(crate) fn make_posted<R: Rules>(board: &Board<R>, hand: &mut Hand<R>, rules: &mut R) -> bool
+    requires { IsHandAtRest board.now.table.shared.table_id hand.old.seat }
+    ensures seat { IsHandAtRest board.now.table.shared.table_id hand.new.seat }
+    ensures counted { R.turns rules.new + made_in hand.old.seat.me.0.answers ≡ R.turns rules.old
+        + made_in hand.new.seat.me.0.answers }
+{
+    match board.take(hand) {
+        Some(held) => {
+            let made = held.make(rules);
+            board.answer(hand, made);
+            true
+        }
+        None => false,
+    }
+}
+
 // Takes jobs and answers with their turns, until the board is shut. It sleeps where it finds none.
 pub(crate) fn work_on<R: Rules, W: Wait>(
     rt: &W,
@@ -49,13 +66,10 @@ pub(crate) fn work_on<R: Rules, W: Wait>(
         if board.is_shut(&mut hand) {
             return Back { rules, hand };
         }
-        match board.take(&mut hand) {
-            Some(held) => {
-                let made = held.make(&mut rules);
-                board.answer(&mut hand, made);
-                bells.turns.ring();
-            }
-            None => bells.jobs.wait(rt, heard),
+        if make_posted(board, &mut hand, &mut rules) {
+            bells.turns.ring();
+        } else {
+            bells.jobs.wait(rt, heard);
         }
     }
     unreachable!()

@@ -27,4 +27,4 @@ returns-in-Err-clause-spent g c = λ e. (rw c.in-Err.is at c.scoped-after.ensure
 
 pub returns-clause-turns : goal.returns-clause-turns
 returns-clause-turns g c = let done = rw c.in-Ok-ended.is at c.scoped-after.ensures.done in let left = c.close_board-back.ensures.answers done.0 in
-    let none = ap made_in c.scoped-after.ensures.sized.1 in let made = c.scoped-after.ensures.made in let all = done.1 in omega (arith, left, none, made, all)
+    let none = ap made_in c.scoped-after.ensures.sized.1 in let made = rw c.in-Ok-ended.is at c.scoped-after.ensures.made in let all = done.1 in omega (arith, left, none, made, all)

@@ -14,25 +14,25 @@ pub returns-in_err-first-clause-stopped : goal.returns-in_err-first-clause-stopp
 returns-in_err-first-clause-stopped g c =
     let met = g.met.R.Rules g.world.𝓛 g.world.𝓜 g.world.𝓡 ((λ s x. x), (λ x. x), (λ x. x), λ x. x) in
     let laws : IsNext g.R.Rules.next = record { groups_differ = met.groups_differ; ends_plain = met.ends_plain } in
-    let opened = subst (λ (rs : List Key). IsTrueSinceSome g.R.Rules.next (leaves.read c.args.tree.now) rs c.args.graph.now c.open.new.graph c.in_ok-round.round.table) c.in_ok-roots.ensures
+    let opened = subst (λ (rs : List Key). IsTrueSinceSome g.R.Rules.next (leaves.read c.args.tree.now) rs c.args.graph.now c.open.new.graph c.in_ok-round.round.table) c.in_ok-shared.ensures
     (λ laws past h. ([], c.in_ok-round.ensures.truth g.R.Rules.next laws past h)) in
     on_err c.from_residual-in_err-first.result (λ past h. c.in_err-first.ensures.stopped c.args.roots.now c.args.graph.now opened laws past h)
 
 pub by_workers-requires-clause-truth : goal.by_workers-requires-clause-truth
 by_workers-requires-clause-truth g c κs within =
     moved (λ rs entry. IsTrueSinceSome g.R.Rules.next (leaves.read c.args.tree.now) rs entry c.make_first_turns.new.graph c.make_first_turns.new.round.table)
-    c.make_first_turns.new.round.roots.items c.in_ok-roots.roots.items c.of-entry.result.value c.args.graph.now (sym (c.in_ok-first.ensures.rests.same_roots ∙ c.in_ok-round.ensures.begins.0)) (sym c.of-entry.ensures)
-    (c.in_ok-first.ensures.truth c.in_ok-roots.roots.items c.args.graph.now (λ laws past h. ([], c.in_ok-round.ensures.truth g.R.Rules.next laws past h)))
+    c.make_first_turns.new.round.roots.items c.in_ok-shared.shared.items c.of-entry.result.value c.args.graph.now (sym (c.in_ok-first.ensures.rests.same_roots ∙ c.in_ok-round.ensures.begins.0)) (sym c.of-entry.ensures)
+    (c.in_ok-first.ensures.truth c.in_ok-shared.shared.items c.args.graph.now (λ laws past h. ([], c.in_ok-round.ensures.truth g.R.Rules.next laws past h)))
 
 pub returns-then-has_ready-clause-law : goal.returns-then-has_ready-clause-law
 returns-then-has_ready-clause-law g c = if_ok c.by_workers.result
     (λ done. moved (λ rs entry. Calls g.R.Rules.next (leaves.read c.args.tree.now) rs entry c.by_workers.new.graph (Ok done.1.items)) c.args.roots.now c.make_first_turns.new.round.roots.items c.args.graph.now c.of-entry.result.value
-    (c.in_ok-first.ensures.rests.same_roots ∙ c.in_ok-round.ensures.begins.0 ∙ c.in_ok-roots.ensures) c.of-entry.ensures) c.by_workers.ensures.law
+    (c.in_ok-first.ensures.rests.same_roots ∙ c.in_ok-round.ensures.begins.0 ∙ c.in_ok-shared.ensures) c.of-entry.ensures) c.by_workers.ensures.law
 
 pub returns-then-has_ready-clause-stopped : goal.returns-then-has_ready-clause-stopped
 returns-then-has_ready-clause-stopped g c = if_err c.by_workers.result
     (λ e. moved (λ rs entry. Calls g.R.Rules.next (leaves.read c.args.tree.now) rs entry c.by_workers.new.graph (Err e)) c.args.roots.now c.make_first_turns.new.round.roots.items c.args.graph.now c.of-entry.result.value
-    (c.in_ok-first.ensures.rests.same_roots ∙ c.in_ok-round.ensures.begins.0 ∙ c.in_ok-roots.ensures) c.of-entry.ensures) c.by_workers.ensures.stopped
+    (c.in_ok-first.ensures.rests.same_roots ∙ c.in_ok-round.ensures.begins.0 ∙ c.in_ok-shared.ensures) c.of-entry.ensures) c.by_workers.ensures.stopped
 
 pub returns-then-has_ready-clause-turns : goal.returns-then-has_ready-clause-turns
 returns-then-has_ready-clause-turns g c =
@@ -49,19 +49,19 @@ returns-then-has_ready-clause-hands g c =
 
 pub returns-then-has_ready-clause-budget : goal.returns-then-has_ready-clause-budget
 returns-then-has_ready-clause-budget g c = λ e. moved (λ rs entry. HasOpenRoot g.R.Rules.next (leaves.read c.args.tree.now) rs entry c.by_workers.new.graph)
-    c.args.roots.now c.make_first_turns.new.round.roots.items c.args.graph.now c.of-entry.result.value (c.in_ok-first.ensures.rests.same_roots ∙ c.in_ok-round.ensures.begins.0 ∙ c.in_ok-roots.ensures) c.of-entry.ensures
+    c.args.roots.now c.make_first_turns.new.round.roots.items c.args.graph.now c.of-entry.result.value (c.in_ok-first.ensures.rests.same_roots ∙ c.in_ok-round.ensures.begins.0 ∙ c.in_ok-shared.ensures) c.of-entry.ensures
     (c.by_workers.ensures.budget e)
 
 pub returns-then-has_ready-clause-spent : goal.returns-then-has_ready-clause-spent
 returns-then-has_ready-clause-spent g c = λ e. moved (λ rs entry. HasTurnToMake g.R.Rules.next (leaves.read c.args.tree.now) rs entry c.by_workers.new.graph)
-    c.args.roots.now c.make_first_turns.new.round.roots.items c.args.graph.now c.of-entry.result.value (c.in_ok-first.ensures.rests.same_roots ∙ c.in_ok-round.ensures.begins.0 ∙ c.in_ok-roots.ensures) c.of-entry.ensures
+    c.args.roots.now c.make_first_turns.new.round.roots.items c.args.graph.now c.of-entry.result.value (c.in_ok-first.ensures.rests.same_roots ∙ c.in_ok-round.ensures.begins.0 ∙ c.in_ok-shared.ensures) c.of-entry.ensures
     (c.by_workers.ensures.spent e)
 
 pub returns-in_err-runs-clause-stopped : goal.returns-in_err-runs-clause-stopped
 returns-in_err-runs-clause-stopped g c =
     let met = g.met.R.Rules g.world.𝓛 g.world.𝓜 g.world.𝓡 ((λ s x. x), (λ x. x), (λ x. x), λ x. x) in
     let laws : IsNext g.R.Rules.next = record { groups_differ = met.groups_differ; ends_plain = met.ends_plain } in
-    let opened = subst (λ (rs : List Key). IsTrueSinceSome g.R.Rules.next (leaves.read c.args.tree.now) rs c.args.graph.now c.open.new.graph c.in_ok-round.round.table) c.in_ok-roots.ensures
+    let opened = subst (λ (rs : List Key). IsTrueSinceSome g.R.Rules.next (leaves.read c.args.tree.now) rs c.args.graph.now c.open.new.graph c.in_ok-round.round.table) c.in_ok-shared.ensures
     (λ laws past h. ([], c.in_ok-round.ensures.truth g.R.Rules.next laws past h)) in
     on_err c.from_residual-in_err-runs.result
     (λ past h. let t = c.in_ok-first.ensures.truth c.args.roots.now c.args.graph.now opened laws past h in c.in_err-runs.ensures.stopped (leaves.read c.args.tree.now) g.R.Rules.next laws past t.0 t.1)
@@ -70,10 +70,10 @@ pub returns-clause-law : goal.returns-clause-law
 returns-clause-law g c = λ past h.
     let met = g.met.R.Rules g.world.𝓛 g.world.𝓜 g.world.𝓡 ((λ s x. x), (λ x. x), (λ x. x), λ x. x) in
     let laws : IsNext g.R.Rules.next = record { groups_differ = met.groups_differ; ends_plain = met.ends_plain } in
-    let opened = subst (λ (rs : List Key). IsTrueSinceSome g.R.Rules.next (leaves.read c.args.tree.now) rs c.args.graph.now c.open.new.graph c.in_ok-round.round.table) c.in_ok-roots.ensures
+    let opened = subst (λ (rs : List Key). IsTrueSinceSome g.R.Rules.next (leaves.read c.args.tree.now) rs c.args.graph.now c.open.new.graph c.in_ok-round.round.table) c.in_ok-shared.ensures
     (λ laws past h. ([], c.in_ok-round.ensures.truth g.R.Rules.next laws past h)) in
     let t = c.in_ok-first.ensures.truth c.args.roots.now c.args.graph.now opened laws past h in
-    c.in_ok-runs.ensures.law (leaves.read c.args.tree.now) g.R.Rules.next laws past t.0 (h.of_roots ∙ sym (c.in_ok-first.ensures.rests.same_roots ∙ c.in_ok-round.ensures.begins.0 ∙ c.in_ok-roots.ensures)) t.1
+    c.in_ok-runs.ensures.law (leaves.read c.args.tree.now) g.R.Rules.next laws past t.0 (h.of_roots ∙ sym (c.in_ok-first.ensures.rests.same_roots ∙ c.in_ok-round.ensures.begins.0 ∙ c.in_ok-shared.ensures)) t.1
 
 pub returns-clause-turns : goal.returns-clause-turns
 returns-clause-turns g c =

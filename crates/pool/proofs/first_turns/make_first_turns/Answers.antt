@@ -3,22 +3,19 @@ use Rattle.node.proofs.Lists.{on_err}
 use Rattle.round.specs.Rounds.{standing}
 use Rattle.pool.proofs.first_turns.make_first_turns.Goals as goal
 
-pub loop-made-init : goal.loop-made-init
-loop-made-init g c = record { resting = c.requires; truth = λ roots entry since. since; counted = omega (arith) }
-
 one_more : (a b base n : ℕ) → a ≡ b + 1 → b ≡ base + n → a ≡ base + (n + 1)
 one_more a b base n e f = omega (arith, e, f)
 
 pub loop-made-preserved : goal.loop-made-preserved
 loop-made-preserved g c = record {
-  resting = c.in_ok-turn-in-Some.ensures.turns (standing c.args.round.now).roots c.loop-made.made c.loop-made.invariant.resting;
-  truth = λ roots entry since laws past h. let t = c.loop-made.invariant.truth roots entry since laws past h in (_, c.in_ok-turn-in-Some.ensures.truth laws past t.0 t.1);
-  counted = one_more (g.R.Rules.turns c.turn.new.rules) (g.R.Rules.turns c.loop-made.rules) (g.R.Rules.turns c.args.rules.now) c.loop-made.made c.in_ok-turn-in-Some.ensures.counted c.loop-made.invariant.counted;
+  resting = c.in_ok-turn.ensures.turns (standing c.args.round.now).roots c.loop-made.made c.loop-made.invariant.resting;
+  truth = λ roots entry since laws past h. let t = c.loop-made.invariant.truth roots entry since laws past h in (_, c.in_ok-turn.ensures.truth laws past t.0 t.1);
+  counted = one_more (g.R.Rules.turns c.turn.new.rules) (g.R.Rules.turns c.loop-made.rules) (g.R.Rules.turns c.args.rules.now) c.loop-made.made c.in_ok-turn.ensures.counted c.loop-made.invariant.counted;
 }
 
-pub returns-in_err-next_key-clause-stopped : goal.returns-in_err-next_key-clause-stopped
-returns-in_err-next_key-clause-stopped g c = on_err c.from_residual.result (λ roots entry since laws past h. (c.loop-made.invariant.truth roots entry since laws past h).1.after)
+pub returns-in_err-key-clause-stopped : goal.returns-in_err-key-clause-stopped
+returns-in_err-key-clause-stopped g c = on_err c.from_residual.result (λ roots entry since laws past h. (c.loop-made.invariant.truth roots entry since laws past h).1.after)
 
-pub returns-in_err-turn-in-Some-clause-stopped : goal.returns-in_err-turn-in-Some-clause-stopped
-returns-in_err-turn-in-Some-clause-stopped g c = on_err c.from_residual-in_err-turn-in-Some.result
-    (λ roots entry since laws past h. let t = c.loop-made.invariant.truth roots entry since laws past h in c.in_err-turn-in-Some.ensures.truth laws past t.0 t.1)
+pub returns-in_err-turn-clause-stopped : goal.returns-in_err-turn-clause-stopped
+returns-in_err-turn-clause-stopped g c = on_err c.from_residual-in_err-turn.result
+    (λ roots entry since laws past h. let t = c.loop-made.invariant.truth roots entry since laws past h in c.in_err-turn.ensures.truth laws past t.0 t.1)

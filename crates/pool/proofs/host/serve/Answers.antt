@@ -8,7 +8,7 @@ use Rattle.round.proofs.NextTurns.{wants_turn}
 use Rattle.round.proofs.Resting.{root_open}
 use Rattle.pool.specs.Serving.{made_in}
 use Rattle.pool.proofs.Keeping.{begins, is_stalled, same_then, shut_same, serves_shut}
-use Rattle.pool.proofs.Staffing.{crew_then}
+use Rattle.pool.proofs.Staffing.{crew_then, own_then, own_counts}
 use Rattle.pool.proofs.host.serve.Goals as goal
 use Rattle.pool.proofs.host.serve.Goals.{else-ready-via-then-ready+then-handed-budget+else-out-capacity, else-ready-via-then-ready+else-handed-budget, else-ready-via-else-ready}
 
@@ -16,42 +16,68 @@ pub loop-init : goal.loop-init
 loop-init g c = let host = c.requires.host in record {
   host = (host.0, (ap (λ m. m.0.using) host.1, ap (λ m. m.1) host.1));
   same = (refl, refl, refl);
-  serving = begins c.args.graph.now c.args.round c.args.host.now.seat.me.0 (standing c.args.round).roots c.args.first c.args.board.now.capacity (ap (λ m. m.0) host.1) c.requires.rests.0;
+  serving = begins c.args.graph.now c.args.round c.args.host.now.seat.me.0 (standing c.args.round).roots c.args.own.now.made c.args.board.now.capacity (ap (λ m. m.0) host.1) c.requires.rests.0;
   within = c.requires.rests.1;
   truth = c.requires.truth;
   crew = c.requires.crew;
   kept = record { sized = refl; counted = refl };
   new = c.requires.new;
   few = (let none = c.requires.none in omega (arith, none));
+  hand = c.requires.own;
+  own = refl;
 }
 
-pub returns-in_err-give-clause-stopped : goal.returns-in_err-give-clause-stopped
-returns-in_err-give-clause-stopped g c =
+pub give-requires-clause-few : goal.give-requires-clause-few
+give-requires-clause-few g c κs within = let e = c.loop.invariant.serving.handed_out in let spent = c.if-handed-budget.true in let fits = c.ranges.budget.fits in omega (arith, e, spent, fits)
+
+pub returns-in_err-is_posted-clause-stopped : goal.returns-in_err-is_posted-clause-stopped
+returns-in_err-is_posted-clause-stopped g c =
     let met = g.met.R.Rules g.world.𝓛 g.world.𝓜 g.world.𝓡 ((λ s x. x), (λ x. x), (λ x. x), λ x. x) in
     let laws : IsNext g.R.Rules.next = record { groups_differ = met.groups_differ; ends_plain = met.ends_plain } in
-    on_err c.from_residual.result (λ past h. (c.loop.invariant.truth laws past h).1.after)
+    on_err c.from_residual.result (λ past h. c.in_err-is_posted.ensures.stopped (standing c.args.round).roots c.args.entry.value c.loop.invariant.truth laws past h)
 
 pub returns-in_err-staff-clause-stopped : goal.returns-in_err-staff-clause-stopped
 returns-in_err-staff-clause-stopped g c =
     let met = g.met.R.Rules g.world.𝓛 g.world.𝓜 g.world.𝓡 ((λ s x. x), (λ x. x), (λ x. x), λ x. x) in
     let laws : IsNext g.R.Rules.next = record { groups_differ = met.groups_differ; ends_plain = met.ends_plain } in
-    on_err c.from_residual-in_err-staff.result (λ past h. (c.loop.invariant.truth laws past h).1.after)
+    on_err c.from_residual-in_err-staff.result
+    (λ past h. (c.in_ok-is_posted.ensures.truth (standing c.args.round).roots c.args.entry.value c.loop.invariant.truth laws past h).1.after)
 
-pub loop-preserved-then-out-capacity : goal.loop-preserved-then-out-capacity
-loop-preserved-then-out-capacity g c = let i = c.loop.invariant in let gave = c.in_ok-give.ensures in let staffed = c.in_ok-staff.ensures in
-    let serving = gave.serving (standing c.args.round).roots c.args.first c.args.board.now.capacity c.args.host.now.seat.me.0.hands c.loop.out c.loop.handed i.serving in
-    let handed = serving.handed_out in let spent = c.if-handed-budget.true in let few = i.few in
+pub loop-preserved-in_ok-staff : goal.loop-preserved-in_ok-staff
+loop-preserved-in_ok-staff g c = let i = c.loop.invariant in let gave = c.in_ok-is_posted.ensures in let staffed = c.in_ok-staff.ensures in
+    let serving = rw c.if-is_posted.true at (gave.serving (standing c.args.round).roots c.args.board.now.capacity c.args.host.now.seat.me.0.hands c.loop.out c.loop.handed i.serving) in
+    let handed = serving.handed_out in let spent = c.if-handed-budget.true in let few = i.few in let more_made = gave.more in
     record {
       host = staffed.host.0;
       same = same_then c.args.host.now.seat.me.0 c.give.new.host.seat.me.0 c.staff.new.host.seat.me.0 (same_then c.args.host.now.seat.me.0 c.loop.host.seat.me.0 c.give.new.host.seat.me.0 i.same gave.same)
           (shut_same c.give.new.host.seat.me.0 c.staff.new.host.seat.me.0 staffed.host.1);
-      serving = serves_shut c.loop.graph c.give.new.round c.give.new.host.seat.me.0 c.staff.new.host.seat.me.0 staffed.host.1 (standing c.args.round).roots c.args.first c.args.board.now.capacity c.args.host.now.seat.me.0.hands (c.loop.out + 1) (c.loop.handed + 1) serving;
+      serving = serves_shut c.give.new.graph c.give.new.round c.give.new.host.seat.me.0 c.staff.new.host.seat.me.0 staffed.host.1 (standing c.args.round).roots c.give.new.own.made c.args.board.now.capacity c.args.host.now.seat.me.0.hands (c.loop.out + 1) (c.loop.handed + 1) serving;
       within = omega (arith, spent);
-      truth = gave.truth g.R.Rules.next (leaves.read c.args.tree.now) (standing c.args.round).roots c.args.entry.value i.truth;
+      truth = gave.truth (standing c.args.round).roots c.args.entry.value i.truth;
       crew = staffed.crew.0;
       kept = crew_then g.R.Rules.turns c.args.crew.now c.loop.crew c.staff.new.crew i.kept staffed.crew.1;
       new = staffed.new;
-      few = ⊎_elim (λ n. omega (arith, n, few)) (λ n. omega (arith, n, handed)) staffed.few;
+      few = ⊎_elim (λ n. omega (arith, n, few, more_made)) (λ n. omega (arith, n, handed)) staffed.few;
+      hand = rw gave.own.1 i.hand;
+      own = own_then g.R.Rules.turns c.args.own.now c.loop.own c.give.new.own i.own gave.own.0;
+    }
+
+pub loop-preserved-else-is_posted : goal.loop-preserved-else-is_posted
+loop-preserved-else-is_posted g c = let i = c.loop.invariant in let gave = c.in_ok-is_posted.ensures in
+    let serving = rw c.if-is_posted.false at (gave.serving (standing c.args.round).roots c.args.board.now.capacity c.args.host.now.seat.me.0.hands c.loop.out c.loop.handed i.serving) in
+    let spent = c.if-handed-budget.true in let few = i.few in let more_made = gave.more in
+    record {
+      host = gave.seat;
+      same = same_then c.args.host.now.seat.me.0 c.loop.host.seat.me.0 c.give.new.host.seat.me.0 i.same gave.same;
+      serving = serving;
+      within = omega (arith, spent);
+      truth = gave.truth (standing c.args.round).roots c.args.entry.value i.truth;
+      crew = i.crew;
+      kept = i.kept;
+      new = i.new;
+      few = omega (arith, few, more_made);
+      hand = rw gave.own.1 i.hand;
+      own = own_then g.R.Rules.turns c.args.own.now c.loop.own c.give.new.own i.own gave.own.0;
     }
 
 pub returns-in_err-take-clause-stopped : goal.returns-in_err-take-clause-stopped
@@ -62,7 +88,7 @@ returns-in_err-take-clause-stopped g c =
 
 pub loop-preserved-then-branch : goal.loop-preserved-then-branch
 loop-preserved-then-branch g c = let i = c.loop.invariant in let took = c.in_ok-take.ensures in
-    let did = rw c.if-branch.true at (took.serving (standing c.args.round).roots c.args.first c.args.board.now.capacity c.args.host.now.seat.me.0.hands c.loop.out c.loop.handed i.serving) in
+    let did = rw c.if-branch.true at (took.serving (standing c.args.round).roots c.loop.own.made c.args.board.now.capacity c.args.host.now.seat.me.0.hands c.loop.out c.loop.handed i.serving) in
     record {
       host = took.seat;
       same = same_then c.args.host.now.seat.me.0 c.loop.host.seat.me.0 c.take.new.host.seat.me.0 i.same took.same;
@@ -73,11 +99,13 @@ loop-preserved-then-branch g c = let i = c.loop.invariant in let took = c.in_ok-
       kept = i.kept;
       new = i.new;
       few = i.few;
+      hand = i.hand;
+      own = i.own;
     }
 
 pub loop-preserved : goal.loop-preserved
 loop-preserved g c = let i = c.loop.invariant in let took = c.in_ok-take.ensures in
-    let did = rw c.if-branch.false at (took.serving (standing c.args.round).roots c.args.first c.args.board.now.capacity c.args.host.now.seat.me.0.hands c.loop.out c.loop.handed i.serving) in
+    let did = rw c.if-branch.false at (took.serving (standing c.args.round).roots c.loop.own.made c.args.board.now.capacity c.args.host.now.seat.me.0.hands c.loop.out c.loop.handed i.serving) in
     record {
       host = took.seat;
       same = same_then c.args.host.now.seat.me.0 c.loop.host.seat.me.0 c.take.new.host.seat.me.0 i.same took.same;
@@ -88,6 +116,25 @@ loop-preserved g c = let i = c.loop.invariant in let took = c.in_ok-take.ensures
       kept = i.kept;
       new = i.new;
       few = i.few;
+      hand = c.make_posted.ensures.seat;
+      own = own_counts g.R.Rules.turns c.args.own.now c.loop.own c.make_posted.new.rules c.make_posted.new.hand i.own c.make_posted.ensures.counted;
+    }
+
+pub loop-preserved-then-not-make_posted : goal.loop-preserved-then-not-make_posted
+loop-preserved-then-not-make_posted g c = let i = c.loop.invariant in let took = c.in_ok-take.ensures in
+    let did = rw c.if-branch.false at (took.serving (standing c.args.round).roots c.loop.own.made c.args.board.now.capacity c.args.host.now.seat.me.0.hands c.loop.out c.loop.handed i.serving) in
+    record {
+      host = took.seat;
+      same = same_then c.args.host.now.seat.me.0 c.loop.host.seat.me.0 c.take.new.host.seat.me.0 i.same took.same;
+      serving = did.0;
+      within = i.within;
+      truth = took.truth (standing c.args.round).roots c.args.entry.value i.truth;
+      crew = i.crew;
+      kept = i.kept;
+      new = i.new;
+      few = i.few;
+      hand = c.make_posted.ensures.seat;
+      own = own_counts g.R.Rules.turns c.args.own.now c.loop.own c.make_posted.new.rules c.make_posted.new.hand i.own c.make_posted.ensures.counted;
     }
 
 pub returns-then-ready-2-clause-stopped : goal.returns-then-ready-2-clause-stopped
@@ -120,7 +167,7 @@ returns-then-ready-2-clause-spent g c = λ e.
 
 pub close_stall-requires-clause-stalled : goal.close_stall-requires-clause-stalled
 close_stall-requires-clause-stalled g c κs within = let none = c.if-out-gt0.false in
-    is_stalled c.loop.graph c.loop.round c.loop.host.seat.me.0 (standing c.args.round).roots c.args.first c.args.board.now.capacity c.args.host.now.seat.me.0.hands c.loop.out c.loop.handed c.loop.invariant.serving (omega (arith, none)) (c.has_ready-ready.ensures.no c.if-ready-2.false)
+    is_stalled c.loop.graph c.loop.round c.loop.host.seat.me.0 (standing c.args.round).roots c.loop.own.made c.args.board.now.capacity c.args.host.now.seat.me.0.hands c.loop.out c.loop.handed c.loop.invariant.serving (omega (arith, none)) (c.has_ready-ready.ensures.no c.if-ready-2.false)
 
 pub returns-in_err-close_stall-clause-stopped : goal.returns-in_err-close_stall-clause-stopped
 returns-in_err-close_stall-clause-stopped g c =
@@ -137,15 +184,15 @@ returns-else-ready-2-clause-law g c = λ past h.
 
 pub returns-else-ready-2-clause-back : goal.returns-else-ready-2-clause-back
 returns-else-ready-2-clause-back g c = let s = c.loop.invariant.serving in let none = c.if-out-gt0.false in
-    (s.counted ∙ omega (arith, none), c.in_ok-close_stall.ensures.made (c.args.first + made_in c.loop.host.seat.me.0.collected) s.made)
+    (s.counted ∙ omega (arith, none), c.in_ok-close_stall.ensures.made (c.loop.own.made + made_in c.loop.host.seat.me.0.collected) s.made)
 
 pub returns-else-ready-2-clause-few : goal.returns-else-ready-2-clause-few
 returns-else-ready-2-clause-few g c = let s = c.loop.invariant.serving in let none = c.if-out-gt0.false in let few = c.loop.invariant.few in let handed = s.handed_out in
-    let made = c.in_ok-close_stall.ensures.made (c.args.first + made_in c.loop.host.seat.me.0.collected) s.made in omega (arith, none, few, handed, made)
+    let made = c.in_ok-close_stall.ensures.made (c.loop.own.made + made_in c.loop.host.seat.me.0.collected) s.made in omega (arith, none, few, handed, made)
 
 pub returns-else-ready-2-clause-within : goal.returns-else-ready-2-clause-within
 returns-else-ready-2-clause-within g c = let s = c.loop.invariant.serving in let within = c.loop.invariant.within in let handed = s.handed_out in
-    let made = c.in_ok-close_stall.ensures.made (c.args.first + made_in c.loop.host.seat.me.0.collected) s.made in omega (arith, within, handed, made)
+    let made = c.in_ok-close_stall.ensures.made (c.loop.own.made + made_in c.loop.host.seat.me.0.collected) s.made in omega (arith, within, handed, made)
 
 true_false : {b : Bool} → b ≡ true → b ≡ false → ⊥
 true_false t f = cc
