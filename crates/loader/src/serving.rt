@@ -199,7 +199,7 @@ fn serve_line<R: Input, W: Output, J: Runs>(
     Ok(ended)
 }
 
-// Answers one more line by worker threads, and returns whether more may come. After a stop the hands are given up.
+// Answers one more line by a thread a hand, and returns whether more may come. After a stop the hands are given up.
 fn serve_line_with<
     H: LoadRules + Send + Drop,
     T: Threads + Wait + Sync,
@@ -320,7 +320,7 @@ pub fn serve_here<R: Input, W: Output>(
     Ok(journal)
 }
 
-/// Serves as `serve_into` does, by worker threads, each with one of the hands. Each keeps its hand over all requests, and
+/// Serves as `serve_into` does, by one thread a hand, the caller's among them. Each keeps its hand over all requests, and
 /// on Ok the hands come back, their turns grown by those of the journal. After a stop they are given up. That there are
 /// 1 to 16 hands is the caller's condition.
 pub fn serve_with<
@@ -372,9 +372,9 @@ pub fn serve_with<
     Ok(crew)
 }
 
-/// Serves as `serve_here` does, by worker threads, each with one of the hands, which it keeps over all requests and
-/// gives back with the journal. On Ok the bytes written are the answers that one thread gets by evaluating the present
-/// files from nothing. The order in which workers take and make turns does not matter. Each run in the journal is of a
+/// Serves as `serve_here` does, by one thread a hand, the caller's among them. Each hand is kept over all requests and
+/// comes back with the journal. On Ok the bytes written are the answers that one thread gets by evaluating the present
+/// files from nothing. The order in which threads take and make turns does not matter. Each run in the journal is of a
 /// node never settled before, or with a recorded dependency whose value has differed since. The hands' turns have grown
 /// by the journal's. After a stop the hands are given up. That there are 1 to 16 hands is the caller's condition.
 pub fn serve<H: LoadRules + Send + Drop, T: Threads + Wait + Sync, R: Input, W: Output>(
@@ -481,7 +481,7 @@ fn tell_stop<E: Write>(errors: &mut E, stop: &ServeStop) -> u8
     3
 }
 
-// Serves on one thread, or by so many worker threads.
+// Serves on one thread, or by so many.
 fn serve_lines<T: Threads + Wait + Sync, R: Input, W: Output, J: Runs>(
     runtime: &T,
     alloc: Global,

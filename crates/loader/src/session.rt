@@ -165,8 +165,8 @@ impl Session {
         Ok(Reply { text, runs })
     }
 
-    /// Answers a request as `request` does, by worker threads, each with one of the hands. Returns the hands too, whose
-    /// turns have grown by those of the reply's runs. The answer does not hang on the order in which the workers make
+    /// Answers a request as `request` does, by one thread a hand, the caller's too. Returns the hands too, whose
+    /// turns have grown by those of the reply's runs. The answer does not hang on the order in which the threads make
     /// their turns. After a stop the hands are given up. That there are 1 to 16 hands is the caller's condition.
     pub fn request_with<R: LoadRules + Send + Drop, T: Threads + Wait + Sync>(
         &mut self,
@@ -235,7 +235,7 @@ impl Session {
         Ok((later, all))
     }
 
-    // Evaluates as `evaluated` does, by worker threads.
+    // Evaluates as `evaluated` does, by one thread a hand.
     fn evaluated_with<R: LoadRules + Send + Drop, T: Threads + Wait + Sync>(
         &mut self,
         runtime: &T,
@@ -297,7 +297,7 @@ impl Session {
         Ok(runs)
     }
 
-    // Evaluates keys as `settle` does, by worker threads.
+    // Evaluates keys as `settle` does, by one thread a hand.
     fn settle_with<R: LoadRules + Send + Drop, T: Threads + Wait + Sync>(
         &mut self,
         runtime: &T,
@@ -508,7 +508,7 @@ pub fn answer(alloc: Global, session: &mut Session, line: &Line, budget: u64) ->
     }
 }
 
-/// Answers a line as `answer` does, by worker threads, each with one of the hands. Returns the hands too. After a stop
+/// Answers a line as `answer` does, by one thread a hand, the caller's too. Returns the hands too. After a stop
 /// they are given up.
 pub fn answer_with<H: LoadRules + Send + Drop, T: Threads + Wait + Sync>(
     runtime: &T,
