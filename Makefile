@@ -92,7 +92,7 @@ answers: build
 	@python3 tests/answers.py
 	@python3 tests/talk.py
 
-# Lines, texts and paths at their limits.
+# Lines, texts and paths at their limits, and the memory of a program that is told many edits.
 limits: build
 	python3 tests/limits.py
 
