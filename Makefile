@@ -1,5 +1,5 @@
-# 'make quick' shows the program at work without any proof, 'make run' proves it first, 'make test' is the whole gate.
-# They need the kit's command `rt`, and Debian's packages, which they install by themselves where they may.
+# `make` alone prints the targets. They need the kit's command `rt`, and Debian's packages, which they install by
+# themselves where they may.
 
 PROGRAM := crates/cli/out/cli
 EXAMPLE := examples/session.jsonl
@@ -9,36 +9,39 @@ PYTHON := /usr/bin/python3
 CLIENT := clients/python
 LOADER := $(abspath $(or $(SEFGULAW_LOADER),$(PROGRAM)))
 
-.PHONY: clients clients-long has-loader quick run build measures shelf-trials readers overlaps trials schedules bell test lint digests language wrong-bodies answers limits allocations workers batches under hostile giving-back bench
+.PHONY: help clients clients-long has-loader quick run build measures shelf-trials readers overlaps trials schedules bell test lint digests language wrong-bodies answers limits allocations workers batches under hostile giving-back bench
+
+help:  ## prints this list
+	@awk -F ':.*## ' '/^[a-z][a-z -]*:.*## / { printf "%-17s %s\n", $$1, $$2 }' $(MAKEFILE_LIST)
 
 # Shows each line of an example with its answer. It proves nothing: the kit interprets the program.
-quick:
+quick:  ## answers an example with the program, which is interpreted; nothing is proved (minutes)
 	@tools/install-packages run
 	@echo 'A quick look: the program is interpreted, and nothing is proved.'
 	@cd crates/cli && rt try -- run < ../../$(EXAMPLE) > quick.log 2> quick.err || { tail -n 30 quick.err quick.log; exit 1; }
 	@paste -d '\n' $(EXAMPLE) crates/cli/quick.log
 
 # Proves what the program stands on, builds it, and shows each line of the example with its answer.
-run: build
+run: build  ## proves and builds the program, and answers an example with it (an hour)
 	@$(PROGRAM) run < $(EXAMPLE) | paste -d '\n' $(EXAMPLE) -
 
-build:
+build:  ## proves and builds the program (an hour)
 	@tools/install-packages run
 	@cd crates/cli && rt run -- run < /dev/null > build.log 2>&1 || { tail -n 30 build.log; exit 1; }
 
 # The program that measures, proved and built over the libraries of `build`. The gate does not build it.
-measures: build
+measures: build  ## builds the program that measures, over the libraries of build (minutes)
 	@python3 bench/build_measures.py
 
 # The program that tries the shelf, built as `measures` is. Compares what readers find, and prints times.
-shelf-trials: build
+shelf-trials: build  ## compares what readers of the shelf find, and prints times (minutes)
 	@python3 bench/build_measures.py shelf_trials
 	@for word in rows threads loads requests; do bench/out/shelf_trials $$word || exit 1; done | diff bench/shelf_trials/stdout -
 	@python3 tests/shelf_allocations.py
 	@for names in 1000 100000; do bench/out/shelf_trials times $$names || exit 1; done
 
 # The example of an editor that embeds the loader, built as `measures` is. Compares what its readers find.
-readers: build
+readers: build  ## builds and runs the example of an editor that embeds the loader (minutes)
 	@python3 bench/build_measures.py readers
 	@bench/out/readers | diff examples/readers/stdout -
 
@@ -46,7 +49,7 @@ readers: build
 # nothing, the program run, and more answers of the built program compared. What takes a second comes first, with the
 # lines of the program compared with the topic files. A proof gets one job, since two cost a quarter more in sum.
 # At its end the command `sefgulaw` is tried over the program.
-test:
+test:  ## is the gate: style, digests, all proofs, the built program, and the command sefgulaw (an hour)
 	@tools/install-packages run test
 	@$(MAKE) --no-print-directory lint digests language
 	RT_JOBS=$$(nproc) rt ci
@@ -55,7 +58,7 @@ test:
 	@$(MAKE) --no-print-directory clients
 
 # The command `sefgulaw` over the built program: format, style, types, and the tests that take minutes at most.
-clients: has-loader
+clients: has-loader  ## tests the command sefgulaw over the built program (minutes)
 	@tools/install-packages test
 	cd $(CLIENT) && $(PYTHON) -m black --check --quiet .
 	cd $(CLIENT) && $(PYTHON) -m flake8
@@ -63,7 +66,7 @@ clients: has-loader
 	cd $(CLIENT) && SEFGULAW_LOADER=$(LOADER) $(PYTHON) -m pytest -q -n 2 -m 'not long'
 
 # Its long tests: many steps of random trees, real trees, packages in a fresh root, editors.
-clients-long: has-loader
+clients-long: has-loader  ## runs the long tests of the command sefgulaw (an hour)
 	@tools/install-packages test packages long
 	cd $(CLIENT) && SEFGULAW_LOADER=$(LOADER) $(PYTHON) -m pytest -q -m long
 
@@ -71,52 +74,52 @@ has-loader:
 	@test -x $(LOADER) || { echo "no loader at $(LOADER): 'make run' builds it" >&2; exit 1; }
 
 # Sentences, words and links of the documents, sizes of files and functions, the layout of the crates.
-lint:
+lint:  ## checks documents, names, sizes and layout (seconds)
 	@python3 tests/lint.py
 
 # Compares each crate with the digest at which its wrong bodies were refused.
-digests:
+digests:  ## compares each crate with the texts at which its wrong bodies were refused (seconds)
 	@python3 tests/wrong_bodies.py --digests
 
 # Compares the programs of tests/language with the lines of crates/cli that the program is run on.
-language:
+language:  ## compares the programs of tests/language with the lines that the gate runs (seconds)
 	@python3 tests/language.py --check
 
 # Tries the wrong bodies of the crates that have changed since they were refused, or with ALL=1 of all crates, over the
 # work that `rt check` kept. Two crates at once, or JOBS=N. Writes wrong-bodies.txt.
-wrong-bodies:
+wrong-bodies:  ## has the wrong bodies of changed crates refused; ALL=1 of all crates (an hour)
 	@python3 tests/wrong_bodies.py $(if $(ALL),--all) $(if $(JOBS),--jobs $(JOBS))
 
 # What the built program tells of its runs, its words and its devices, and its answers to texts that were cut.
-answers: build
+answers: build  ## compares the built program's journal, words, devices and cut texts (seconds)
 	@python3 tests/answers.py
 	@python3 tests/talk.py
 
 # Lines, texts and paths at their limits, and the memory of a program that is told many edits.
-limits: build
+limits: build  ## tries lines, texts and paths at their limits, and memory (minutes)
 	python3 tests/limits.py
 
 # Each allocation of the program fails in turn, over examples and scripts, each of the parser over two files, and each
 # of a script of values, of one of edits and look-ups, of one of a list of choices, and of two of sessions. Needs cc.
-allocations: build measures
+allocations: build measures  ## makes each allocation fail in turn; needs cc (minutes)
 	python3 tests/allocations.py
 	python3 tests/parse_allocations.py
 	python3 tests/script_allocations.py
 
 # Turns that are under way at once, the rows of the board, and a thousand jobs; built as `measures` is.
-overlaps: build
+overlaps: build  ## tries turns that are under way at once (minutes)
 	@python3 bench/build_measures.py overlaps
 	@bench/out/overlaps | diff tests/overlaps/stdout -
 
 # All interleavings of threads that ring the bells of `pool` and of threads that wait by them: no ring is lost. It takes
 # some ten seconds, and needs no program.
-bell:
+bell:  ## tries all interleavings of threads that wait for each other (seconds)
 	@$(PYTHON) tests/bell.py
 
 # What is compared over the libraries of the product: sessions, budgets, devices and turns in another order (`trials`),
 # and lists of choices (`schedules`). Built as `measures` is, with the libraries that `build` lacks. Each program reads
 # its file `stdin`, and what it writes has to be its file `stdout`.
-trials schedules: build
+trials schedules: build  ## compares sessions and budgets, and lists of choices (minutes)
 	@python3 bench/build_measures.py $@
 	@bench/out/$@ < tests/$@/stdin > bench/out/$@.stdout
 	@diff tests/$@/stdout bench/out/$@.stdout
@@ -124,27 +127,27 @@ trials schedules: build
 	@echo "$@: $$(wc -l < tests/$@/stdout) lines compared, 0 wrong"
 
 # The same answers with 1 to 16 workers, over the gate's commands, scripts and 10,000 random scripts.
-workers: build
+workers: build  ## compares answers with 1 to 16 workers (minutes)
 	python3 tests/workers.py
 
 # Batches of edits and the same edits one by one, over 10,000 random scripts.
-batches: build
+batches: build  ## compares batches with the same edits one by one (minutes)
 	python3 tests/batches.py
 
 # All packages under a directory, and globs with directories, over 2,000 random trees, compared with plain models.
-under: build
+under: build  ## compares packages under directories with plain models (minutes)
 	python3 tests/under.py
 
 # Deep and wide sources by 1 and 16 workers, the stack that they take, and the costs of lines at their limits.
-hostile: build
+hostile: build  ## tries deep and wide sources, their stack and their costs (minutes)
 	python3 tests/hostile.py --stack --costs
 
 # Values that are held by each kind of expression and statement while others are given back.
-giving-back: build
+giving-back: build  ## holds values while others are given back (minutes)
 	python3 tests/giving_back.py
 
 # Times of the program; prints a table.
-bench: build measures
+bench: build measures  ## prints the times of the program (minutes)
 	python3 bench/bench.py
 	python3 bench/values.py
 	python3 bench/programs.py

@@ -10,17 +10,17 @@ DESTDIR ?=
 
 .PHONY: install uninstall dist deb
 
-install: has-loader
+install: has-loader  ## puts the command below PREFIX, with DESTDIR before it (seconds)
 	@tools/install-packages install
 	@packaging/stage install '$(LOADER)' '$(PREFIX)' '$(DESTDIR)'
 
-uninstall:
+uninstall:  ## takes it away again (seconds)
 	@packaging/stage uninstall '$(PREFIX)' '$(DESTDIR)'
 
-dist: has-loader
+dist: has-loader  ## makes a tar file that runs where it is unpacked, and a wheel (seconds)
 	@tools/install-packages install packages
 	@packaging/stage dist '$(LOADER)'
 
-deb: has-loader
+deb: has-loader  ## makes two Debian packages (minutes)
 	@tools/install-packages install packages
 	@packaging/stage deb '$(LOADER)'
