@@ -1,54 +1,38 @@
 -- Names that ascend are sorted.
-use Rattle.std.proofs.Common.{◌≡◌, ◌∙◌, ap, sym, refl, ℕ, List, [], ◌∷◌, map as each, String, Global, BTreeMap}
-use Rattle.std.specs.Prelude.{string_bytes}
+use Rattle.std.proofs.Common.{◌≡◌, ◌∙◌, ap, refl, ℕ, true, ◌&&◌, List, [], ◌∷◌, map as each}
 use Rattle.std.specs.FinMap as map
 use Rattle.std.specs.FinMap.Entries.{by_order}
-use Rattle.std.specs.BTreeMap.{keys, IsOrdered}
-use Rattle.std.specs.String.{string_cmp}
-use Rattle.std.specs.List.{AllByRecursion}
-use Rattle.std.specs.List.Sorted.{IsStrictlySortedBy}
-use Rattle.std.specs.Ordering.{nat_cmp}
-use Rattle.std.specs.declared.cmp.Ordering.TheVariants.{Less}
+use Rattle.std.specs.List.{list_all}
+use Rattle.std.specs.Ordering.{nat_cmp, is_lt}
 use Rattle.std.specs.declared.cmp.Ordering.{Ordering}
-use Rattle.std.specs.declared.sync.Arc.{Arc}
 use Rattle.std.specs.Cmp.Lexicographic.{slice_cmp, nat_list_cmp_total}
-use Rattle.std.proofs.lemmas.Map.Keys.{sorted_head, sorted_tail}
+use Rattle.std.proofs.lemmas.Bool.{and_parts}
 use Rattle.filetree.specs.Listings.{alone, sorted_names}
-use Rattle.filetree.specs.Folders.{name_value, named}
+use Rattle.filetree.specs.NameMaps.{is_ascending}
 use Rattle.filetree.proofs.FilesLemmas.{no_entries}
+use Rattle.filetree.proofs.Order.{below}
 
-abbrev key_alone : String Global → List ℕ × ℕ
-key_alone k = alone (string_bytes k)
+-- the names of entries as keys of a map that holds nothing else
+abbrev keys_alone : {X : Type 0} → List (List ℕ × X) → List (List ℕ × ℕ)
+keys_alone es = each alone (each (λ e. e.0) es)
 
-put_first : (k : String Global) (ks : List (String Global)) → AllByRecursion (λ y. string_cmp k y ≡ Less) ks
-    → map.put (slice_cmp nat_cmp) (string_bytes k) 0 (each key_alone ks) ≡ key_alone k ∷ each key_alone ks
+put_first : {X : Type 0} (k : List ℕ) (es : List (List ℕ × X)) → list_all (λ f. is_lt (slice_cmp nat_cmp k f.0)) es ≡ true → map.put (slice_cmp nat_cmp) k 0 (keys_alone es) ≡ alone k ∷ keys_alone es
 put_first k [] h = refl
-put_first k (y ∷ ks) h =
-    let made : Ordering → List (List ℕ × ℕ) = λ o. by_order o (key_alone k ∷ key_alone y ∷ each key_alone ks) (key_alone y ∷ each key_alone ks) (key_alone y ∷ map.put (slice_cmp nat_cmp) (string_bytes k) 0 (each key_alone ks)) in
-    ap made h.0
+put_first k (e ∷ es) h =
+    let made : Ordering → List (List ℕ × ℕ) = λ o. by_order o (alone k ∷ keys_alone (e ∷ es)) (alone e.0 ∷ keys_alone es) (alone e.0 ∷ map.put (slice_cmp nat_cmp) k 0 (keys_alone es)) in
+    ap made (below k e.0 (and_parts (is_lt (slice_cmp nat_cmp k e.0)) (list_all (λ f. is_lt (slice_cmp nat_cmp k f.0)) es) h).0)
 
-entries_stay : (ks : List (String Global)) → IsStrictlySortedBy string_cmp ks → map.entries (map.from_entries {R = slice_cmp nat_cmp} (each key_alone ks)) ≡ each key_alone ks
+entries_stay : {X : Type 0} (es : List (List ℕ × X)) → is_ascending es ≡ true → map.entries (map.from_entries {R = slice_cmp nat_cmp} (keys_alone es)) ≡ keys_alone es
 entries_stay [] h = no_entries
-entries_stay (k ∷ ks) h =
-    map.entries-insert nat_list_cmp_total (map.from_entries (each key_alone ks)) (string_bytes k) 0
-    ∙ ap (map.put (slice_cmp nat_cmp) (string_bytes k) 0) (entries_stay ks (sorted_tail string_cmp k ks h)) ∙ put_first k ks (sorted_head string_cmp k ks h)
+entries_stay (e ∷ es) h =
+    let both = and_parts (list_all (λ f. is_lt (slice_cmp nat_cmp e.0 f.0)) es) (is_ascending es) h in
+    map.entries-insert nat_list_cmp_total (map.from_entries (keys_alone es)) e.0 0
+    ∙ ap (map.put (slice_cmp nat_cmp) e.0 0) (entries_stay es both.1) ∙ put_first e.0 es both.0
 
-twice : (ks : List (String Global)) → each alone (each string_bytes ks) ≡ each key_alone ks
-twice [] = refl
-twice (k ∷ ks) = ap (λ r. key_alone k ∷ r) (twice ks)
-
-firsts : (ks : List (String Global)) → each (λ e. e.0) (each key_alone ks) ≡ each string_bytes ks
+firsts : (names : List (List ℕ)) → each (λ e. e.0) (each alone names) ≡ names
 firsts [] = refl
-firsts (k ∷ ks) = ap (λ r. string_bytes k ∷ r) (firsts ks)
+firsts (n ∷ names) = ap (λ r. n ∷ r) (firsts names)
 
-keys_stay : (ks : List (String Global)) → IsStrictlySortedBy string_cmp ks → sorted_names (each string_bytes ks) ≡ each string_bytes ks
-keys_stay ks h =
-    ap (λ es. map.keys (map.from_entries {R = slice_cmp nat_cmp} es)) (twice ks) ∙ ap (each (λ e. e.0)) (entries_stay ks h) ∙ firsts ks
-
-names_keys : {X : Type 0} (es : List (String Global × Arc X Global)) → each (λ e. e.0) (each name_value es) ≡ each string_bytes (each (λ e. e.0) es)
-names_keys [] = refl
-names_keys (e ∷ es) = ap (λ r. string_bytes e.0 ∷ r) (names_keys es)
-
--- the names of a map are sorted
-pub sorted_stay : {X : Type 0} (m : BTreeMap (String Global) (Arc X Global)) → IsOrdered string_cmp m → each string_bytes (keys m) ≡ sorted_names (each (λ e. e.0) (named m))
-sorted_stay m h = sym (ap sorted_names (names_keys m.entries) ∙ keys_stay (keys m) h)
+-- names that ascend are sorted
+pub sorted_stay : {X : Type 0} (es : List (List ℕ × X)) → is_ascending es ≡ true → sorted_names (each (λ e. e.0) es) ≡ each (λ e. e.0) es
+sorted_stay es h = ap (each (λ e. e.0)) (entries_stay es h) ∙ firsts (each (λ e. e.0) es)

@@ -1,32 +1,13 @@
 -- The texts of a folder, by its own names and those of the folders in it.
-use Rattle.std.proofs.Common.{◌≡◌, ◌∙◌, ap, sym, refl, arith, ℕ, ◌<◌, Bool, true, false, cond, not, ◌&&◌, List, [], ◌∷◌, ◌++◌, length, Option, Some, None, map as each, String, Global, BTreeMap, nat_cmp, inl, inr}
-use Rattle.std.specs.Prelude.{option_map, option_and_then, string_bytes, flat_map, bytes_eq, nat_lt}
+use Rattle.std.proofs.Common.{◌≡◌, ◌∙◌, ap, sym, refl, arith, ℕ, ◌<◌, Bool, true, false, cond, not, ◌&&◌, List, [], ◌∷◌, ◌++◌, length, Option, Some, None, inl, inr}
+use Rattle.std.specs.Prelude.{option_and_then, flat_map, bytes_eq, nat_lt}
 use Rattle.std.specs.Option.{option_or}
-use Rattle.std.specs.declared.sync.Arc.{Arc}
-use Rattle.std.specs.BTreeMap.{get_by_text, is_at}
-use Rattle.std.specs.Map.{lookup, update}
+use Rattle.std.specs.Map.{lookup}
 use Rattle.std.specs.List.{list_all}
-use Rattle.std.specs.Ordering.{is_eq}
-use Rattle.std.specs.Cmp.Lexicographic.{slice_cmp}
 use Rattle.std.proofs.lemmas.Bool.{and_parts, not-true}
-use Rattle.std.proofs.lemmas.Map.Text.{is_eq-slice_cmp}
-use Rattle.filetree.specs.Folders.{Entries, Below, named, behind, level, has_no_slash, is_distinct, is_inner, is_sound, text_at}
+use Rattle.filetree.specs.Folders.{Entries, Below, behind, level, has_no_slash, is_distinct, is_inner, is_sound, text_at}
 use Rattle.filetree.proofs.Slashes.{same_bytes, plain_apart, plain_apart_back, both_parts, Cut, cut}
-
-pushed : {X Y : Type 0} (b : Bool) (f : X → Y) (x : X) (o : Option X) → cond b (Some (f x)) (option_map f o) ≡ option_map f (cond b (Some x) o)
-pushed true f x o = refl
-pushed false f x o = refl
-
-named_lookup_in : {X : Type 0} (es : List (String Global × Arc X Global)) (q : List ℕ)
-    → lookup (bytes_eq q) (each (λ e. (string_bytes e.0, e.1.value)) es) ≡ option_map (λ a. a.value) (lookup (is_at (λ k. slice_cmp nat_cmp q (string_bytes k))) es)
-named_lookup_in [] q = refl
-named_lookup_in (e ∷ es) q =
-    ap (cond (bytes_eq q (string_bytes e.0)) (Some e.1.value)) (named_lookup_in es q)
-    ∙ ap (λ b. cond b (Some e.1.value) (option_map (λ a. a.value) (lookup (is_at (λ k. slice_cmp nat_cmp q (string_bytes k))) es))) (sym (is_eq-slice_cmp q (string_bytes e.0)))
-    ∙ pushed (is_eq (slice_cmp nat_cmp q (string_bytes e.0))) (λ a. a.value) e.1 (lookup (is_at (λ k. slice_cmp nat_cmp q (string_bytes k))) es)
-
-pub named_lookup : {X : Type 0} (m : BTreeMap (String Global) (Arc X Global)) (q : List ℕ) → lookup (bytes_eq q) (named m) ≡ option_map (λ a. a.value) (get_by_text m q)
-named_lookup m q = named_lookup_in m.entries q
+use Rattle.filetree.proofs.Sound.{parts_of}
 
 or_after : {X : Type 0} (b : Bool) (x : X) (o p : Option X) → cond b (Some x) (option_or o p) ≡ option_or (cond b (Some x) o) p
 or_after true x o p = refl
@@ -107,11 +88,10 @@ folders_deep name rest (d ∷ ds) hn good apart =
 pub below_name : (fs : Entries) (ds : List (List ℕ × Below)) (name rest : List ℕ) → is_sound fs ds ≡ true → has_no_slash name ≡ true
     → text_at (level fs ds) (name ++ 47 ∷ rest) ≡ option_and_then (λ b. text_at b.entries rest) (lookup (bytes_eq name) ds)
 below_name fs ds name rest sound plain =
-    let parts = and_parts (list_all (λ e. has_no_slash e.0) fs) (list_all is_inner ds && is_distinct ds) sound in
-    let inner = and_parts (list_all is_inner ds) (is_distinct ds) parts.1 in
+    let parts = parts_of fs ds sound in
     lookup-append (bytes_eq (name ++ 47 ∷ rest)) fs (flat_map (λ e. behind e.0 e.1.entries) ds)
     ∙ ap (λ o. option_or o (text_at (flat_map (λ e. behind e.0 e.1.entries) ds) (name ++ 47 ∷ rest))) (files_deep name rest fs parts.0)
-    ∙ folders_deep name rest ds plain inner.0 inner.1
+    ∙ folders_deep name rest ds plain parts.1 parts.2
 
 -- a change of one file of the folder itself
 file_changed_at : (fs gs : Entries) (ds : List (List ℕ × Below)) (name : List ℕ) (w : Option (List ℕ)) → is_sound fs ds ≡ true → is_sound gs ds ≡ true → has_no_slash name ≡ true
@@ -149,17 +129,6 @@ pub folder_changed : (fs : Entries) (ds es : List (List ℕ × Below)) (name res
     → ((r : List ℕ) → option_and_then (λ b. text_at b.entries r) i ≡ cond (bytes_eq rest r) w (option_and_then (λ b. text_at b.entries r) (lookup (bytes_eq name) ds)))
     → (q : List ℕ) → text_at (level fs es) q ≡ cond (bytes_eq (name ++ 47 ∷ rest) q) w (text_at (level fs ds) q)
 folder_changed fs ds es name rest w i old new plain set inner q = folder_changed_at fs ds es name rest w i old new plain set inner q (cut q)
-
--- a map's names after a change at one of them
-chosen : {X Y : Type 0} (b : Bool) (f : X → Y) (v o : Option X) → option_map f (cond b v o) ≡ cond b (option_map f v) (option_map f o)
-chosen true f v o = refl
-chosen false f v o = refl
-
-pub named_set : {X : Type 0} (m n : BTreeMap (String Global) (Arc X Global)) (k : List ℕ) (w : Option (Arc X Global)) → ((q : List ℕ) → get_by_text n q ≡ update bytes_eq (get_by_text m) k w q)
-    → (q : List ℕ) → lookup (bytes_eq q) (named n) ≡ cond (bytes_eq k q) (option_map (λ a. a.value) w) (lookup (bytes_eq q) (named m))
-named_set m n k w h q =
-    named_lookup n q ∙ ap (option_map (λ a. a.value)) (h q) ∙ chosen (bytes_eq k q) (λ a. a.value) w (get_by_text m q)
-    ∙ ap (cond (bytes_eq k q) (option_map (λ a. a.value) w)) (sym (named_lookup m q))
 
 pub some_entry : (es : Entries) (q t : List ℕ) → text_at es q ≡ Some t → 0 < length es
 some_entry [] q t h = cc

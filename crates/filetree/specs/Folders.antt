@@ -2,9 +2,10 @@
 use Rattle.std.specs.Prelude.{◌≡◌, ◌<◌, ℕ, ◌+◌, List, [], ◌∷◌, ◌++◌, length, Bool, true, ◌&&◌, ◌==◌, not, nat_lt, Option, Some, None, map as each, flat_map, string_bytes, String, bytes_eq, if◌then◌else◌}
 use Rattle.std.specs.declared.alloc.Global.{Global}
 use Rattle.std.specs.declared.sync.Arc.{Arc}
-use Rattle.std.specs.BTreeMap.{BTreeMap}
-use Rattle.std.specs.Map.{lookup}
+use Rattle.std.specs.Map.{lookup, set_value}
 use Rattle.std.specs.List.{list_all}
+use Rattle.filetree.specs.declared.name_map.NameMap.{NameMap}
+use Rattle.filetree.specs.NameMaps.{named, is_ascending}
 use denote.Param.Weighed.{most}
 
 -- paths with their texts
@@ -16,13 +17,6 @@ pub record Below : Type 0 where
   pub entries : Entries
   pub depth : ℕ
 
-abbrev pub name_value : {X : Type 0} → String Global × Arc X Global → List ℕ × X
-name_value e = (string_bytes e.0, e.1.value)
-
--- the names of a map with what they stand for
-abbrev pub named : {X : Type 0} → BTreeMap (String Global) (Arc X Global) → List (List ℕ × X)
-named m = each name_value m.entries
-
 -- the entries below a name: behind it and a slash
 abbrev pub behind : List ℕ → Entries → Entries
 behind name es = each (λ e. (name ++ 47 ∷ e.0, e.1)) es
@@ -31,8 +25,12 @@ behind name es = each (λ e. (name ++ 47 ∷ e.0, e.1)) es
 abbrev pub level : Entries → List (List ℕ × Below) → Entries
 level files folders = files ++ flat_map (λ e. behind e.0 e.1.entries) folders
 
-abbrev pub depth_of : BTreeMap (String Global) (Arc Below Global) → ℕ
-depth_of folders = most (λ a. a.value.depth + 1) (each (λ e. e.1) folders.entries)
+-- a folder is deeper by one than those in it
+abbrev pub depth_above : List ℕ × Below → ℕ
+depth_above e = e.1.depth + 1
+
+abbrev pub depth_of : NameMap Below → ℕ
+depth_of folders = most depth_above (named folders)
 
 abbrev pub has_no_slash : List ℕ → Bool
 has_no_slash name = list_all (λ b. not (b == 47)) name
@@ -45,9 +43,9 @@ is_distinct (e ∷ es) = list_all (λ f. not (bytes_eq e.0 f.0)) es && is_distin
 abbrev pub is_inner : List ℕ × Below → Bool
 is_inner e = has_no_slash e.0 && nat_lt 0 (length e.1.entries)
 
--- names have no slash, no folder in it is empty, and no two have one name
+-- names have no slash, no folder in it is empty, and the names of both kinds ascend
 abbrev pub is_sound : Entries → List (List ℕ × Below) → Bool
-is_sound files folders = list_all (λ e. has_no_slash e.0) files && (list_all is_inner folders && is_distinct folders)
+is_sound files folders = list_all (λ e. has_no_slash e.0) files && (list_all is_inner folders && (is_ascending files && is_ascending folders))
 
 -- the files below a folder that may be there
 abbrev pub entries_of : Option (Arc Below Global) → Entries
@@ -61,6 +59,18 @@ text_at es path = lookup (bytes_eq path) es
 -- below a name, the new entries have w at one path, and at the others what the old have
 abbrev pub Changes : List ℕ → List ℕ → Option (List ℕ) → Entries → Entries → Type 0
 Changes name rest w old new = (r : List ℕ) → text_at new r ≡ (if bytes_eq rest r then w else text_at old (name ++ 47 ∷ r))
+
+-- the files have this text at one path, and at the others what they had
+abbrev pub IsPut : List ℕ → List ℕ → Below → Below → Type 0
+IsPut rest text old new = (r : List ℕ) → text_at new.entries r ≡ (if bytes_eq rest r then Some text else text_at old.entries r)
+
+-- one of the folders in a folder is another one now, to which it is so
+pub record Rewrites (name : List ℕ) (so : Below → Below → Type 0) (old new : List (List ℕ × Below)) : Type 0 where
+  pub before : Below
+  pub after : Below
+  pub found : lookup (bytes_eq name) old ≡ Some before
+  pub is : new ≡ set_value (bytes_eq name) old after
+  pub changed : so before after
 
 -- a path is a first name, a slash and a rest
 pub record IsSplit (path name rest : List ℕ) : Type 0 where

@@ -1,13 +1,16 @@
 //! Folders in folders.
 ghost use Rattle.std.specs.Prelude.{◌≡◌, ◌<◌, ◌==◌, ℕ, List, [], ◌∷◌, ◌++◌, length, true, false, Option, Some, None, IfOk, OnOk, OnErr, IfSome, MatchOption, bytes_eq, is_some, option_and_then, option_map, map as each, if◌then◌else◌};
 ghost use Rattle.std.specs.Option.{option_copied};
+ghost use Rattle.std.specs.Map.{lookup};
+ghost use Rattle.std.specs.Bool.{MatchBool};
 ghost use Rattle.filetree.specs.Folders as levels;
-ghost use Rattle.filetree.specs.Listings.{names_in, sorted_names};
+ghost use Rattle.filetree.specs.NameMaps as names;
+ghost use Rattle.filetree.specs.Listings.{names_in};
 ghost use Rattle.filetree.specs.ListingView.{names_seen};
 
 use crate::listing::Listing;
+use crate::name_map::{NameMap, find_name};
 use std::alloc::Global;
-use std::collections::BTreeMap;
 use std::marker::Model;
 use std::sync::Arc;
 use texts::{Memory, Text};
@@ -16,25 +19,26 @@ use texts::{Memory, Text};
 /// the paths that lead to them from here.
 #[derive(Drop)]
 pub(crate) struct Folder {
-    files: BTreeMap<String, Arc<Text>>,
-    folders: BTreeMap<String, Arc<Folder>>,
+    files: NameMap<Text>,
+    folders: NameMap<Folder>,
 }
 
 impl Model for Folder {
     ghost use Rattle.std.specs.Prelude.{IsTrue};
     ghost use Rattle.filetree.specs.Folders as levels;
+    ghost use Rattle.filetree.specs.NameMaps as names;
 
     ghost Value = { levels.Below };
 
-    ghost view = { λ f. record { entries = levels.level (levels.named f.files) (levels.named f.folders); depth = levels.depth_of f.folders } };
+    ghost view = { λ f. record { entries = levels.level (names.named f.files) (names.named f.folders); depth = levels.depth_of f.folders } };
 
-    ghost invariant = { λ f. IsTrue (levels.is_sound (levels.named f.files) (levels.named f.folders)) };
+    ghost invariant = { λ f. IsTrue (levels.is_sound (names.named f.files) (names.named f.folders)) };
 
     ghost size = { λ v. v.depth };
 
-    ghost use Rattle.std.proofs.Common.{arith};
+    ghost use Rattle.filetree.specs.Depths.{depth_falls};
 
-    ghost size_decreases = { λ a h. Prim.omega arith };
+    ghost size_decreases = { λ a h. depth_falls a };
 }
 
 // Returns the first name of a path and the rest, if the path has a slash.
@@ -45,34 +49,14 @@ fn split_name(path: &str) -> Option<(&str, &str)>
     path.split_once('/')
 }
 
-// Returns a map of the same names with the same values, which are shared.
-fn copy_of<V: Drop>(map: &BTreeMap<String, Arc<V>>) -> Result<BTreeMap<String, Arc<V>>, Memory>
-    ensures { IfOk result (λ copy. levels.named copy ≡ levels.named map.now) }
-{
-    let copy = map.clone()?;
-    Ok(copy)
-}
-
-// Returns the names of a map.
-fn names_of<V: Drop>(alloc: Global, map: &BTreeMap<String, Arc<V>>) -> Result<Vec<Text>, Memory>
-    ensures { IfOk result
-        (λ names. names.items ≡ sorted_names (each (λ e. e.0) (levels.named map.now))) }
-{
-    let mut names = Vec::with_capacity(alloc, map.len())?;
-    for name in map.keys() {
-        names.push(Text::new(alloc, name.as_str())?)?;
-    }
-    Ok(names)
-}
-
 impl Folder {
     /// Makes a folder without files.
     pub(crate) fn new(alloc: Global) -> Folder
         ensures { result.entries ≡ [] }
     {
         Folder {
-            files: BTreeMap::new(alloc),
-            folders: BTreeMap::new(alloc),
+            files: NameMap::new(alloc),
+            folders: NameMap::new(alloc),
         }
     }
 
@@ -81,10 +65,7 @@ impl Folder {
         requires { levels.has_no_slash name.now ≡ true }
         ensures { option_copied result ≡ levels.text_at self.now.entries name.now }
     {
-        match self.files.get(name) {
-            Some(text) => Some(text),
-            None => None,
-        }
+        self.files.get(name)
     }
 
     // Returns the folder at a name. It is not empty.
@@ -94,10 +75,7 @@ impl Folder {
             result ≡ levels.text_at self.now.entries (name.now ++ 47 ∷ rest) }
         ensures some { IfSome result (λ f. 0 < length f.now.entries) }
     {
-        match self.folders.get(name) {
-            Some(folder) => Some(folder),
-            None => None,
-        }
+        self.folders.get(name)
     }
 
     fn is_empty(&self) -> bool
@@ -113,21 +91,21 @@ impl Folder {
             ≡ (if bytes_eq name.now path then Some text.now.value
             else levels.text_at self.now.entries path)) }
     {
-        let mut files = copy_of(&self.files)?;
-        let folders = copy_of(&self.folders)?;
-        files.insert(String::from_str(alloc, name)?, Arc::try_clone(text)?)?;
+        let mut files = self.files.copy(alloc)?;
+        let folders = self.folders.copy(alloc)?;
+        files.put(alloc, name, Arc::try_clone(text)?)?;
         Ok(Folder { files, folders })
     }
 
     // Returns the folder without the file at a name.
-    fn without_file(&self, name: &str) -> Result<Folder, Memory>
+    fn without_file(&self, alloc: Global, name: &str) -> Result<Folder, Memory>
         requires { levels.has_no_slash name.now ≡ true }
         ensures { IfOk result (λ new. (path : List ℕ) → levels.text_at new.entries path
             ≡ (if bytes_eq name.now path then None else levels.text_at self.now.entries path)) }
     {
-        let mut files = copy_of(&self.files)?;
-        let folders = copy_of(&self.folders)?;
-        let _ = files.remove(name);
+        let mut files = self.files.copy(alloc)?;
+        let folders = self.folders.copy(alloc)?;
+        files.remove(name);
         Ok(Folder { files, folders })
     }
 
@@ -140,31 +118,31 @@ impl Folder {
             → levels.text_at new.entries path ≡ (if bytes_eq (name.now ++ 47 ∷ rest) path then w
             else levels.text_at self.now.entries path)) }
     {
-        let files = copy_of(&self.files)?;
-        let mut folders = copy_of(&self.folders)?;
-        folders.insert(String::from_str(alloc, name)?, Arc::new(alloc, inner)?)?;
+        let files = self.files.copy(alloc)?;
+        let mut folders = self.folders.copy(alloc)?;
+        folders.put(alloc, name, Arc::new(alloc, inner)?)?;
         Ok(Folder { files, folders })
     }
 
     // Returns the folder without the folder at a name, which has a text at one path at most.
-    fn without_folder(&self, name: &str) -> Result<Folder, Memory>
+    fn without_folder(&self, alloc: Global, name: &str) -> Result<Folder, Memory>
         requires { levels.has_no_slash name.now ≡ true }
         ensures { IfOk result (λ new. (rest : List ℕ) → levels.Changes name.now rest None
             self.now.entries [] → (path : List ℕ) → levels.text_at new.entries path
             ≡ (if bytes_eq (name.now ++ 47 ∷ rest) path then None
             else levels.text_at self.now.entries path)) }
     {
-        let files = copy_of(&self.files)?;
-        let mut folders = copy_of(&self.folders)?;
-        let _ = folders.remove(name);
+        let files = self.files.copy(alloc)?;
+        let mut folders = self.folders.copy(alloc)?;
+        folders.remove(name);
         Ok(Folder { files, folders })
     }
 
-    fn copy(&self) -> Result<Folder, Memory>
+    fn copy(&self, alloc: Global) -> Result<Folder, Memory>
         ensures { IfOk result (λ new. new.entries ≡ self.now.entries) }
     {
-        let files = copy_of(&self.files)?;
-        let folders = copy_of(&self.folders)?;
+        let files = self.files.copy(alloc)?;
+        let folders = self.folders.copy(alloc)?;
         Ok(Folder { files, folders })
     }
 
@@ -174,6 +152,19 @@ impl Folder {
         ensures some { IfSome result (λ f. 0 < length f.entries) }
     {
         if self.is_empty() { None } else { Some(self) }
+    }
+
+    /// Returns a folder with a text at a path alone.
+    pub(crate) fn of_one(alloc: Global, path: &str, text: &Arc<Text>) -> Result<Folder, Memory>
+        ensures { IfOk result (λ new. (other : List ℕ) → levels.text_at new.entries other
+            ≡ (if bytes_eq path.now other then Some text.now.value else None)) }
+    {
+        let empty = Folder::new(alloc);
+        let Some((name, rest)) = split_name(path) else {
+            return empty.with_file(alloc, path, text);
+        };
+        let inner = Folder::of_one(alloc, rest, text)?;
+        empty.with_folder(alloc, name, inner)
     }
 
     /// Returns the folder with a text at a path; its other parts are shared.
@@ -187,7 +178,7 @@ impl Folder {
         };
         let inner = match self.folder(name) {
             Some(folder) => folder.put(alloc, rest, text)?,
-            None => Folder::new(alloc).put(alloc, rest, text)?,
+            None => Folder::of_one(alloc, rest, text)?,
         };
         self.with_folder(alloc, name, inner)
     }
@@ -200,14 +191,14 @@ impl Folder {
         ensures some { IfOk result (λ left. IfSome left (λ f. 0 < length f.entries)) }
     {
         let Some((name, rest)) = split_name(path) else {
-            return Ok(self.without_file(path)?.unless_empty());
+            return Ok(self.without_file(alloc, path)?.unless_empty());
         };
         let Some(folder) = self.folder(name) else {
-            return Ok(self.copy()?.unless_empty());
+            return Ok(self.copy(alloc)?.unless_empty());
         };
         let left = match folder.del(alloc, rest)? {
             Some(inner) => self.with_folder(alloc, name, inner)?,
-            None => self.without_folder(name)?,
+            None => self.without_folder(alloc, name)?,
         };
         Ok(left.unless_empty())
     }
@@ -287,8 +278,8 @@ impl Folder {
             (λ l. Some (names_seen l) ≡ names_in [] (each (λ e. e.0) self.now.entries)) }
     {
         Ok(Listing {
-            files: names_of(alloc, &self.files)?,
-            directories: names_of(alloc, &self.folders)?,
+            files: self.files.names(alloc)?,
+            directories: self.folders.names(alloc)?,
         })
     }
 
@@ -318,17 +309,49 @@ impl Folder {
         ensures err { OnErr result (self.new.entries ≡ self.old.entries) }
     {
         let Some((name, rest)) = split_name(path) else {
-            self.files
-                .insert(String::from_str(alloc, path)?, Arc::try_clone(text)?)?;
-            return Ok(());
+            return self.files.put(alloc, path, Arc::try_clone(text)?);
         };
-        if let Some(shared) = self.folders.get_mut(name) {
-            return put_shared(shared, alloc, rest, text);
+        let is_there = put_below(&mut self.folders, alloc, name, rest, text)?;
+        if is_there {
+            return Ok(());
         }
-        let inner = Folder::new(alloc).put(alloc, rest, text)?;
-        self.folders
-            .insert(String::from_str(alloc, name)?, Arc::new(alloc, inner)?)?;
-        Ok(())
+        let inner = Folder::of_one(alloc, rest, text)?;
+        self.folders.put(alloc, name, Arc::new(alloc, inner)?)
+    }
+}
+
+// Puts a text at a path into the folder at a name, if there is one, and returns whether there is.
+#[cycle(put_shared)]
+fn put_below(
+    folders: &mut NameMap<Folder>,
+    alloc: Global,
+    name: &str,
+    rest: &str,
+    text: &Arc<Text>,
+) -> Result<bool, Memory>
+    requires { names.is_ascending (names.named folders.old) ≡ true }
+    ensures ok { IfOk result (λ there. MatchBool there (levels.Rewrites name.now
+        (levels.IsPut rest.now text.now.value) (names.named folders.old)
+        (names.named folders.new)) ((names.named folders.new ≡ names.named folders.old)
+        × (lookup (bytes_eq name.now) (names.named folders.old) ≡ None))) }
+    ensures err { OnErr result (levels.Rewrites name.now (λ before after. after.entries
+        ≡ before.entries) (names.named folders.old) (names.named folders.new)) }
+{
+    match folders {
+        NameMap::Few(list) => match find_name(list, name) {
+            Ok(at) => {
+                put_shared(&mut list[at].1, alloc, rest, text)?;
+                Ok(true)
+            }
+            Err(_) => Ok(false),
+        },
+        NameMap::Many(map) => match map.get_mut(name) {
+            Some(shared) => {
+                put_shared(shared, alloc, rest, text)?;
+                Ok(true)
+            }
+            None => Ok(false),
+        },
     }
 }
 

@@ -8,6 +8,7 @@ mod change;
 mod error;
 mod folder;
 mod listing;
+mod name_map;
 pub mod refusals;
 mod tree;
 

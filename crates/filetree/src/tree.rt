@@ -57,7 +57,7 @@ fn put_below(
     if let Some(shared) = root {
         return put_shared(shared, alloc, path, &text);
     }
-    let new = Folder::new(alloc).put(alloc, path, &text)?;
+    let new = Folder::of_one(alloc, path, &text)?;
     *root = Some(Arc::new(alloc, new)?);
     Ok(())
 }

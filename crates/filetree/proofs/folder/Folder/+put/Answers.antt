@@ -17,7 +17,7 @@ with_folder-requires-clause-some t c =
       | in-Some-folder+in_ok-inner-in-Some-folder w ↦
           ap (λ v. text_at v.entries r) w.inner-is ∙ w.in_ok-inner-in-Some-folder.ensures r ∙ ap (cond (bytes_eq rest r) (Some text)) (w.in-Some-folder.ensures.below r)
       | in-None+in_ok-inner-in-None w ↦
-          ap (λ v. text_at v.entries r) w.inner-is ∙ w.in_ok-inner-in-None.ensures r ∙ ap (cond (bytes_eq rest r) (Some text)) (ap (λ es. text_at es r) w.new.ensures ∙ w.in-None.ensures.below r)
+          ap (λ v. text_at v.entries r) w.inner-is ∙ w.in_ok-inner-in-None.ensures r ∙ ap (cond (bytes_eq rest r) (Some text)) (w.in-None.ensures.below r)
     ] in
     some_entry c.match-folder.inner.entries rest text (changes rest ∙ ap (λ b. cond b (Some text) (text_at self (c.in-Some.name.now ++ 47 ∷ rest))) (own_bytes rest))
 
@@ -31,6 +31,6 @@ returns t c =
       | in-Some-folder+in_ok-inner-in-Some-folder w ↦
           ap (λ v. text_at v.entries r) w.inner-is ∙ w.in_ok-inner-in-Some-folder.ensures r ∙ ap (cond (bytes_eq rest r) (Some text)) (w.in-Some-folder.ensures.below r)
       | in-None+in_ok-inner-in-None w ↦
-          ap (λ v. text_at v.entries r) w.inner-is ∙ w.in_ok-inner-in-None.ensures r ∙ ap (cond (bytes_eq rest r) (Some text)) (ap (λ es. text_at es r) w.new.ensures ∙ w.in-None.ensures.below r)
+          ap (λ v. text_at v.entries r) w.inner-is ∙ w.in_ok-inner-in-None.ensures r ∙ ap (cond (bytes_eq rest r) (Some text)) (w.in-None.ensures.below r)
     ] in
     if_ok_map _ _ c.with_folder.result (λ new h other. h rest (Some text) changes other ∙ ap (λ p. cond (bytes_eq p other) (Some text) (text_at self other)) (sym c.in-Some.ensures.joined)) c.with_folder.ensures

@@ -1,46 +1,40 @@
-use Rattle.std.proofs.Common.{◌≡◌, ◌∙◌, ap, sym, Some, ℕ, List, ◌∷◌, ◌++◌, string_bytes, cond, true, length, nat_lt, map as each}
+use Rattle.std.proofs.Common.{◌≡◌, ◌∙◌, ap, sym, ℕ, List, ◌∷◌, ◌++◌, cond}
 use Rattle.std.specs.Prelude.{option_and_then, bytes_eq}
+use Rattle.std.specs.BTreeMap.{insert_entry}
 use Rattle.std.specs.Map.{lookup}
-use Rattle.std.specs.List.{list_all}
-use Rattle.std.proofs.lemmas.Bool.{and_from, lt-ltb}
-use Rattle.std.proofs.lemmas.Map.Text.{btree_map_updates_text}
-use Rattle.filetree.specs.Folders.{name_value, named, level, text_at, has_no_slash, is_inner}
-use Rattle.filetree.proofs.Levels.{folder_changed, below_name, named_set}
-use Rattle.filetree.proofs.Sound.{inserted, distinct, parts_of, sound_from}
+use Rattle.std.specs.Ordering.{nat_cmp}
+use Rattle.std.specs.Cmp.Lexicographic.{slice_cmp}
+use Rattle.filetree.specs.NameMaps.{named, is_ascending}
+use Rattle.filetree.specs.Folders.{level, text_at, is_sound}
+use Rattle.filetree.proofs.Levels.{below_name}
+use Rattle.filetree.proofs.Sound.{parts_of}
+use Rattle.filetree.proofs.Keeping.{folder_put, folder_put_sound}
 use Rattle.filetree.proofs.folder.Folder.with_folder.Goals as goal
+
+pub put-requires : goal.put-requires
+put-requires c = ap is_ascending c.in_ok-folders.ensures ∙ (parts_of (named c.self.inside.files) (named c.self.inside.folders) c.self.invariant).4
 
 pub invariant_of-result : goal.invariant_of-result
 invariant_of-result c =
-    let parts = parts_of (named c.self.inside.files) (named c.self.inside.folders) c.self.invariant in
-    let key = c.in_ok-from_str.field-0 in
-    let inner = c.in_ok-new.field-0 in
-    let plain : has_no_slash (string_bytes key) ≡ true = ap has_no_slash c.in_ok-from_str.ensures.ok ∙ c.requires.plain in
-    let some : nat_lt 0 (length inner.value.entries) ≡ true = ap (λ v. nat_lt 0 (length v.entries)) c.in_ok-new.ensures.ok ∙ lt-ltb 0 (length c.args.inner.entries) c.requires.some in
-    let folders : list_all is_inner (named c.insert.new.self) ≡ true =
-    ap (λ es. list_all is_inner (each name_value es)) c.in_ok-insert.ensures.entries
-    ∙ inserted is_inner c.in_ok-folders.folders.entries key inner (and_from (has_no_slash (string_bytes key)) (nat_lt 0 (length inner.value.entries)) plain some) (ap (list_all is_inner) c.in_ok-folders.ensures ∙ parts.1) in
-    sound_from (named c.in_ok-files.files) (named c.insert.new.self) (ap (list_all (λ e. has_no_slash e.0)) c.in_ok-files.ensures ∙ parts.0) folders (distinct c.insert.new.self c.in_ok-insert.ensures.ordered)
+    let files = named c.self.inside.files in
+    let folders = named c.self.inside.folders in
+    let name = c.args.name.now in
+    let made : named c.put.new.self ≡ insert_entry (slice_cmp nat_cmp) folders name c.args.inner =
+    c.in_ok-put.ensures.ok ∙ ap (λ ds. insert_entry (slice_cmp nat_cmp) ds name c.in_ok-new.field-0.value) c.in_ok-folders.ensures
+    ∙ ap (insert_entry (slice_cmp nat_cmp) folders name) c.in_ok-new.ensures.ok in
+    ap (λ fs. is_sound fs (named c.put.new.self)) c.in_ok-files.ensures ∙ ap (is_sound files) made ∙ folder_put_sound files folders name c.args.inner c.self.invariant c.requires.plain c.requires.some
 
 pub returns : goal.returns
 returns c = λ rest w changes path.
-    let parts = parts_of (named c.self.inside.files) (named c.self.inside.folders) c.self.invariant in
-    let key = c.in_ok-from_str.field-0 in
-    let inner = c.in_ok-new.field-0 in
+    let files = named c.self.inside.files in
+    let folders = named c.self.inside.folders in
     let name = c.args.name.now in
-    let plain : has_no_slash (string_bytes key) ≡ true = ap has_no_slash c.in_ok-from_str.ensures.ok ∙ c.requires.plain in
-    let some : nat_lt 0 (length inner.value.entries) ≡ true = ap (λ v. nat_lt 0 (length v.entries)) c.in_ok-new.ensures.ok ∙ lt-ltb 0 (length c.args.inner.entries) c.requires.some in
-    let folders : list_all is_inner (named c.insert.new.self) ≡ true =
-    ap (λ es. list_all is_inner (each name_value es)) c.in_ok-insert.ensures.entries
-    ∙ inserted is_inner c.in_ok-folders.folders.entries key inner (and_from (has_no_slash (string_bytes key)) (nat_lt 0 (length inner.value.entries)) plain some) (ap (list_all is_inner) c.in_ok-folders.ensures ∙ parts.1) in
-    let set : (q : List ℕ) → lookup (bytes_eq q) (named c.insert.new.self) ≡ cond (bytes_eq name q) (Some c.args.inner) (lookup (bytes_eq q) (named c.self.inside.folders)) = λ q.
-    named_set c.in_ok-folders.folders c.insert.new.self (string_bytes key) (Some inner) (btree_map_updates_text (string_bytes key) c.in_ok-folders.folders c.insert.new.self (Some inner) c.in_ok-insert.ensures.updates) q
-    ∙ ap (λ k. cond (bytes_eq k q) (Some inner.value) (lookup (bytes_eq q) (named c.in_ok-folders.folders))) c.in_ok-from_str.ensures.ok
-    ∙ ap (λ v. cond (bytes_eq name q) (Some v) (lookup (bytes_eq q) (named c.in_ok-folders.folders))) c.in_ok-new.ensures.ok
-    ∙ ap (λ ds. cond (bytes_eq name q) (Some c.args.inner) (lookup (bytes_eq q) ds)) c.in_ok-folders.ensures in
-    let below : (r : List ℕ) → text_at c.args.inner.entries r ≡ cond (bytes_eq rest r) w (option_and_then (λ b. text_at b.entries r) (lookup (bytes_eq name) (named c.self.inside.folders))) = λ r.
+    let made : named c.put.new.self ≡ insert_entry (slice_cmp nat_cmp) folders name c.args.inner =
+    c.in_ok-put.ensures.ok ∙ ap (λ ds. insert_entry (slice_cmp nat_cmp) ds name c.in_ok-new.field-0.value) c.in_ok-folders.ensures
+    ∙ ap (insert_entry (slice_cmp nat_cmp) folders name) c.in_ok-new.ensures.ok in
+    let below : (r : List ℕ) → text_at c.args.inner.entries r ≡ cond (bytes_eq rest r) w (option_and_then (λ b. text_at b.entries r) (lookup (bytes_eq name) folders)) = λ r.
     changes r ∙ ap (λ v. cond (bytes_eq rest r) w (text_at v.entries (name ++ 47 ∷ r))) (sym c.self.view_is)
-    ∙ ap (cond (bytes_eq rest r) w) (below_name (named c.self.inside.files) (named c.self.inside.folders) name r c.self.invariant c.requires.plain) in
-    ap (λ fs. text_at (level fs (named c.insert.new.self)) path) c.in_ok-files.ensures
-    ∙ folder_changed (named c.self.inside.files) (named c.self.inside.folders) (named c.insert.new.self) name rest w (Some c.args.inner) c.self.invariant
-    (sound_from (named c.self.inside.files) (named c.insert.new.self) parts.0 folders (distinct c.insert.new.self c.in_ok-insert.ensures.ordered)) c.requires.plain set below path
+    ∙ ap (cond (bytes_eq rest r) w) (below_name files folders name r c.self.invariant c.requires.plain) in
+    ap (λ fs. text_at (level fs (named c.put.new.self)) path) c.in_ok-files.ensures ∙ ap (λ ds. text_at (level files ds) path) made
+    ∙ folder_put files folders name rest w c.args.inner c.self.invariant c.requires.plain c.requires.some below path
     ∙ ap (λ v. cond (bytes_eq (name ++ 47 ∷ rest) path) w (text_at v.entries path)) c.self.view_is
