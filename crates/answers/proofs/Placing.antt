@@ -10,13 +10,14 @@ use Rattle.std.specs.Cmp.Lexicographic.{slice_cmp}
 use Rattle.std.specs.declared.cmp.Ordering.{Ordering}
 use Rattle.std.specs.declared.cmp.Ordering.TheVariants.{Less, Equal, Greater}
 use Rattle.serde_json.specs.Data.{Data, Members, no_members, member, put}
+use Rattle.module_values.specs.View.{attribute_of}
 use Rattle.answers.specs.Answers.{attribute_data}
 use Rattle.answers.specs.Order.{name_of, onto, Passes}
 use Rattle.answers.specs.declared.order.Row.{Row}
 
 pub onto_append : (xs ys : List Row) (ms : Members) → onto (xs ++ ys) ms ≡ onto xs (onto ys ms)
 onto_append [] ys ms = refl
-onto_append (x ∷ xs) ys ms = ap (member (name_of x) (attribute_data x.attribute.now)) (onto_append xs ys ms)
+onto_append (x ∷ xs) ys ms = ap (member (name_of x) (attribute_data (attribute_of x.value))) (onto_append xs ys ms)
 
 abbrev Below : List ℕ → List Row → ℕ → Type 0
 Below name rows at = (d : Data) (ms : Members) → put name d (onto (take at rows) ms) ≡ onto (take at rows) (put name d ms)
@@ -26,8 +27,8 @@ pub below_more : (name : List ℕ) (rows : List Row) (at : ℕ) (r : Row) → at
 below_more name rows at r within is greater below d ms =
     let n : suc at ≡ at + 1 = omega arith in
     let more : take (at + 1) rows ≡ take at rows ++ r ∷ [] = ap (λ k. take k rows) (sym n) ∙ take-suc rows at r within ∙ ap (λ z. take at rows ++ z ∷ []) (sym is) in
-    let one : put name d (member (name_of r) (attribute_data r.attribute.now) ms) ≡ member (name_of r) (attribute_data r.attribute.now) (put name d ms)
-    = ap (λ o. match_ordering o (member name d (member (name_of r) (attribute_data r.attribute.now) ms)) (member (name_of r) d ms) (member (name_of r) (attribute_data r.attribute.now) (put name d ms))) greater in
+    let one : put name d (member (name_of r) (attribute_data (attribute_of r.value)) ms) ≡ member (name_of r) (attribute_data (attribute_of r.value)) (put name d ms)
+    = ap (λ o. match_ordering o (member name d (member (name_of r) (attribute_data (attribute_of r.value)) ms)) (member (name_of r) d ms) (member (name_of r) (attribute_data (attribute_of r.value)) (put name d ms))) greater in
     ap (λ rs. put name d (onto rs ms)) more ∙ ap (put name d) (onto_append (take at rows) (r ∷ []) ms) ∙ below d (onto (r ∷ []) ms) ∙ ap (onto (take at rows)) one ∙ sym (onto_append (take at rows) (r ∷ []) (put name d ms))
     ∙ ap (λ rs. onto rs (put name d ms)) (sym more)
 
@@ -61,7 +62,7 @@ cut rows at ms = ap (λ rs. onto rs ms) (sym (take-append-drop at rows)) ∙ ont
 
 module _ (rows : List Row) (at : ℕ) (new : Row) (p : Passes (name_of new) rows at) where
   abbrev d : Data
-  d = attribute_data new.attribute.now
+  d = attribute_data (attribute_of new.value)
 
   behind : put (name_of new) d (onto rows no_members) ≡ onto (take at rows) (put (name_of new) d (onto (drop at rows) no_members))
   behind = ap (put (name_of new) d) (cut rows at no_members) ∙ p.below d (onto (drop at rows) no_members)
@@ -71,7 +72,7 @@ module _ (rows : List Row) (at : ℕ) (new : Row) (p : Passes (name_of new) rows
   put_over r within is same =
       let equal : slice_cmp nat_cmp (name_of new) (name_of r) ≡ Equal = equal_of (slice_cmp nat_cmp (name_of new) (name_of r)) same in
       let rest = onto (drop (suc at) rows) no_members in
-      let e = attribute_data r.attribute.now in
+      let e = attribute_data (attribute_of r.value) in
       let there : put (name_of new) d (onto (drop at rows) no_members) ≡ member (name_of new) d rest
       = ap (λ rs. put (name_of new) d (onto rs no_members)) (row_at rows at r within is)
       ∙ ap (λ o. match_ordering o (member (name_of new) d (member (name_of r) e rest)) (member (name_of r) d rest) (member (name_of r) e (put (name_of new) d rest))) equal
@@ -88,7 +89,7 @@ module _ (rows : List Row) (at : ℕ) (new : Row) (p : Passes (name_of new) rows
       rest = onto more no_members
 
       e : Data
-      e = attribute_data r.attribute.now
+      e = attribute_data (attribute_of r.value)
 
       go : (o : Ordering) → (o ≢ Greater) × (is_eq o ≡ false)
           → match_ordering o (member (name_of new) d (member (name_of r) e rest)) (member (name_of r) d rest) (member (name_of r) e (put (name_of new) d rest)) ≡ member (name_of new) d (member (name_of r) e rest)

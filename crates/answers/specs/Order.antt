@@ -5,6 +5,7 @@ use Rattle.std.specs.Cmp.Lexicographic.{slice_cmp}
 use Rattle.std.specs.Ordering.{nat_cmp}
 use Rattle.std.specs.declared.cmp.Ordering.TheVariants.{Greater}
 use Rattle.serde_json.specs.Data.{Data, Members, member, put}
+use Rattle.module_values.specs.View.{attribute_of}
 use Rattle.answers.specs.Answers.{attribute_data}
 use Rattle.answers.specs.declared.order.Row.{Row}
 
@@ -14,7 +15,7 @@ name_of r = cow_str_bytes r.name
 -- the rows as members, in front of others
 abbrev pub onto : List Row → Members → Members
 onto [] ms = ms
-onto (r ∷ rs) ms = member (name_of r) (attribute_data r.attribute.now) (onto rs ms)
+onto (r ∷ rs) ms = member (name_of r) (attribute_data (attribute_of r.value)) (onto rs ms)
 
 -- so many rows have names below this one, and the row behind them has not
 pub record Passes (name : List ℕ) (rows : List Row) (at : ℕ) : Type 0 where

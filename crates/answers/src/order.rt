@@ -3,11 +3,11 @@ ghost use Rattle.std.specs.Prelude.{◌≡◌, OnOk, IfOk};
 ghost use Rattle.std.specs.Cow.{cow_str_bytes};
 ghost use Rattle.std.specs.Str.Lossy.{utf8_lossy};
 ghost use Rattle.serde_json.specs.Data.{put, no_members};
+ghost use Rattle.module_values.specs.View.{attribute_of};
 ghost use Rattle.answers.specs.Answers.{attribute_data, put_attributes};
 ghost use Rattle.answers.specs.Order.{onto, Passes};
 
-use meaning::Bytes;
-use module_values::Attribute;
+use module_values::{AttributeReader, AttributeValue};
 use std::alloc::Global;
 use std::borrow::CowStr;
 use texts::Memory;
@@ -17,18 +17,18 @@ use texts::Memory;
 pub struct Row<'a> {
     /// The name, as text.
     pub name: CowStr<'a, Global>,
-    /// The attribute.
-    pub attribute: &'a Attribute,
+    /// What the attribute holds.
+    pub value: AttributeValue<'a>,
 }
 
 // Returns bytes as text. Bytes that are text are not copied.
-fn text_of<'a>(alloc: Global, bytes: &'a Bytes) -> Result<CowStr<'a, Global>, Memory>
+fn text_of<'a>(alloc: Global, bytes: &'a [u8]) -> Result<CowStr<'a, Global>, Memory>
     ensures { IfOk result (λ text. cow_str_bytes text ≡ utf8_lossy bytes.now) }
 {
-    if let Ok(text) = str::from_utf8(bytes.as_slice()) {
+    if let Ok(text) = str::from_utf8(bytes) {
         return Ok(CowStr::Borrowed(text));
     }
-    let text = String::from_utf8_lossy(alloc, bytes.as_slice())?;
+    let text = String::from_utf8_lossy(alloc, bytes)?;
     Ok(CowStr::Owned(text))
 }
 
@@ -46,7 +46,7 @@ fn place_of(rows: &[Row<'_>], name: &str) -> usize
 // Puts a row at its place among others. It replaces one of the same name.
 fn put_row<'a>(rows: &mut Vec<Row<'a>>, row: Row<'a>) -> Result<(), Memory>
     ensures { OnOk result (onto rows.new.items no_members ≡ put (cow_str_bytes row.entry.name)
-        (attribute_data row.entry.attribute.now) (onto rows.old.items no_members)) }
+        (attribute_data (attribute_of row.entry.value)) (onto rows.old.items no_members)) }
 {
     let at = place_of(rows.as_slice(), row.name.as_str());
     if at < rows.len() && row.name.as_str().cmp(rows[at].name.as_str()).is_eq() {
@@ -57,21 +57,16 @@ fn put_row<'a>(rows: &mut Vec<Row<'a>>, row: Row<'a>) -> Result<(), Memory>
 }
 
 /// Returns attributes in byte order of their names. Of several with one name the last stays.
-pub fn rows_of<'a>(
-    alloc: Global,
-    attributes: &'a [(Bytes, Attribute)],
-) -> Result<Vec<Row<'a>>, Memory>
-    ensures { IfOk result (λ rows. onto rows.items no_members ≡ put_attributes attributes.now
+pub fn rows_of<'a>(alloc: Global, attributes: AttributeReader<'a>) -> Result<Vec<Row<'a>>, Memory>
+    ensures { IfOk result (λ rows. onto rows.items no_members ≡ put_attributes attributes.entry
         no_members) }
 {
-    let mut rows = Vec::with_capacity(alloc, attributes.len())?;
-    for attribute in attributes {
-        let name = text_of(alloc, &attribute.0)?;
-        let row = Row {
-            name,
-            attribute: &attribute.1,
-        };
-        put_row(&mut rows, row)?;
+    let mut rest = attributes;
+    let mut rows = Vec::new(alloc);
+    while let Some(attribute) = rest.next() {
+        let name = text_of(alloc, attribute.name)?;
+        let value = attribute.value;
+        put_row(&mut rows, Row { name, value })?;
     }
     Ok(rows)
 }

@@ -1,6 +1,7 @@
 //! Packages and their targets.
 ghost use Rattle.std.specs.Prelude.{◌≡◌, ◌++◌, ◌∷◌, [], OnOk, codes, map};
 ghost use Rattle.json.specs.Token.{begin_object, end_object, begin_array, end_array, key};
+ghost use Rattle.module_values.specs.View.{attribute_of, target_of};
 ghost use Rattle.answers.specs.Answers as answers;
 ghost use Rattle.answers.specs.Answers.{fault_data, cycle_data};
 ghost use Rattle.answers.specs.Tokens.{tokens_of};
@@ -9,18 +10,18 @@ use crate::draft::Draft;
 use crate::fault_json::{write_cycle, write_fault};
 use crate::order::rows_of;
 use crate::strings::{write_string, write_strings};
-use meaning::Bytes;
-use module_values::{Attribute, AttributeValue, Target, Targets};
+use module_values::{AttributeReader, AttributeValue, Target, Targets};
 use std::alloc::Global;
 use texts::{Memory, Text};
 
 // Writes what an attribute holds.
-fn write_attribute(alloc: Global, out: &mut Draft, attribute: &Attribute) -> Result<(), Memory>
-    ensures { OnOk result (out.new ≡ out.old ++ tokens_of (answers.attribute_data attribute.now)) }
+fn write_attribute(alloc: Global, out: &mut Draft, value: AttributeValue<'_>) -> Result<(), Memory>
+    ensures { OnOk result
+        (out.new ≡ out.old ++ tokens_of (answers.attribute_data (attribute_of value.entry))) }
 {
-    match attribute.held() {
+    match value {
         AttributeValue::Single(text) => write_string(alloc, out, text),
-        AttributeValue::Several(texts) => write_strings(alloc, out, texts.as_slice()),
+        AttributeValue::Several(texts) => write_strings(alloc, out, texts),
     }
 }
 
@@ -28,30 +29,31 @@ fn write_attribute(alloc: Global, out: &mut Draft, attribute: &Attribute) -> Res
 fn write_attributes(
     alloc: Global,
     out: &mut Draft,
-    attributes: &[(Bytes, Attribute)],
+    attributes: AttributeReader<'_>,
 ) -> Result<(), Memory>
     ensures { OnOk result
-        (out.new ≡ out.old ++ tokens_of (answers.attributes_data attributes.now)) }
+        (out.new ≡ out.old ++ tokens_of (answers.attributes_data attributes.entry)) }
 {
     let rows = rows_of(alloc, attributes)?;
     out.begin_object()?;
-    for row in rows.as_slice() {
+    for row in rows {
         out.key(row.name.as_str())?;
-        write_attribute(alloc, out, row.attribute)?;
+        write_attribute(alloc, out, row.value)?;
     }
     out.end_object()
 }
 
 // Writes a target: its rule, its name and the attributes that it was given.
-fn write_target(alloc: Global, out: &mut Draft, target: &Target) -> Result<(), Memory>
-    ensures { OnOk result (out.new ≡ out.old ++ tokens_of (answers.target_data target.now)) }
+fn write_target(alloc: Global, out: &mut Draft, target: Target<'_>) -> Result<(), Memory>
+    ensures { OnOk result
+        (out.new ≡ out.old ++ tokens_of (answers.target_data (target_of target.entry))) }
 {
     out.begin_object()?;
     out.key("attrs")?;
-    write_attributes(alloc, out, target.attributes())?;
-    out.string_member("kind", target.kind().as_str())?;
+    write_attributes(alloc, out, target.attributes)?;
+    out.string_member("kind", target.kind)?;
     out.key("name")?;
-    write_string(alloc, out, target.name())?;
+    write_string(alloc, out, target.name)?;
     out.end_object()
 }
 
@@ -60,8 +62,9 @@ fn write_targets(alloc: Global, out: &mut Draft, targets: &Targets) -> Result<()
     ensures { OnOk result
         (out.new ≡ out.old ++ tokens_of (answers.list (map answers.target_data targets.now))) }
 {
+    let mut rest = targets.reader();
     out.begin_array()?;
-    for target in targets.as_slice() {
+    while let Some(target) = rest.next() {
         write_target(alloc, out, target)?;
     }
     out.end_array()

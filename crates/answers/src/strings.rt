@@ -5,29 +5,31 @@ ghost use Rattle.answers.specs.Answers.{list, string_data};
 ghost use Rattle.answers.specs.Tokens.{tokens_of};
 
 use crate::draft::Draft;
-use meaning::Bytes;
+use module_values::TextReader;
 use std::alloc::Global;
 use texts::{Memory, Text};
 
 /// Writes a string that an evaluation made. Bytes that are text are not copied.
-pub fn write_string(alloc: Global, out: &mut Draft, bytes: &Bytes) -> Result<(), Memory>
+pub fn write_string(alloc: Global, out: &mut Draft, bytes: &[u8]) -> Result<(), Memory>
     ensures { OnOk result (out.new ≡ out.old ++ tokens_of (string_data bytes.now)) }
 {
-    match str::from_utf8(bytes.as_slice()) {
+    match str::from_utf8(bytes) {
         Ok(text) => out.string(text),
         Err(_) => {
-            let text = String::from_utf8_lossy(alloc, bytes.as_slice())?;
+            let text = String::from_utf8_lossy(alloc, bytes)?;
             out.string(text.as_str())
         }
     }
 }
 
 /// Writes the strings of a list, in their order.
-pub fn write_strings(alloc: Global, out: &mut Draft, strings: &[Bytes]) -> Result<(), Memory>
-    ensures { OnOk result (out.new ≡ out.old ++ tokens_of (list (map string_data strings.now))) }
+pub fn write_strings(alloc: Global, out: &mut Draft, strings: TextReader<'_>) -> Result<(), Memory>
+    ensures { OnOk result
+        (out.new ≡ out.old ++ tokens_of (list (map string_data strings.entry))) }
 {
+    let mut rest = strings;
     out.begin_array()?;
-    for bytes in strings {
+    while let Some(bytes) = rest.next() {
         write_string(alloc, out, bytes)?;
     }
     out.end_array()

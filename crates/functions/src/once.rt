@@ -1,5 +1,5 @@
 //! Members of a group that may repeat, and their answers.
-ghost use Rattle.std.specs.Prelude.{◌≡◌, true, Some, is_some, IfOk, OnOk, option_map};
+ghost use Rattle.std.specs.Prelude.{◌≡◌, ◌∷◌, [], true, Some, is_some, IfOk, OnOk, option_map};
 ghost use Rattle.std.specs.BTreeMap.{get, Updates as MapUpdates};
 ghost use Rattle.std.specs.BTreeSet.{contains, Updates};
 ghost use Rattle.keys.specs.Keys.{key_cmp};
@@ -28,10 +28,21 @@ fn add(set: &mut BTreeSet<Key>, key: Key) -> Result<(), Memory>
     Ok(())
 }
 
+// Returns a list of one key.
+fn alone(alloc: Global, key: &Key) -> Result<Vec<Key>, Memory>
+    ensures { IfOk result (λ v. v.items ≡ key.now ∷ []) }
+{
+    let key = key.share()?;
+    Ok(vec![in alloc; key]?)
+}
+
 /// Returns the keys, each at its first place.
 pub fn once(alloc: Global, keys: &[Key]) -> Result<Vec<Key>, Memory>
     ensures { IfOk result (λ v. v.items ≡ specs.once keys.now) }
 {
+    if let [only] = keys {
+        return alone(alloc, only);
+    }
     let mut all = Vec::new(alloc);
     let mut seen = BTreeSet::new(alloc);
     for key in keys {

@@ -102,12 +102,6 @@ loaded_decide = exactly loaded_eq
     (λ a b h. let p = each (body_eq a.body b.body) (pointwise body_eq a.reached b.reached) h in λ i. record { body = (bodies_decide a.body b.body).0 p.0 i; reached = (pointwise_decides bodies_decide a.reached b.reached).0 p.1 i })
     (λ a. together (body_eq a.body a.body) (pointwise body_eq a.reached a.reached) ((bodies_decide a.body a.body).1 refl) ((pointwise_decides bodies_decide a.reached a.reached).1 refl))
 
-pub attributes_equiv : IsEquivalence attribute_eq
-attributes_equiv = decided attribute_eq attributes_decide
-
-pub targets_equiv : IsEquivalence target_eq
-targets_equiv = decided target_eq targets_decide
-
 pub all_targets_equiv : IsEquivalence (pointwise target_eq)
 all_targets_equiv = decided (pointwise target_eq) (pointwise_decides targets_decide)
 

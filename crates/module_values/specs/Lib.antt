@@ -1,3 +1,5 @@
+pub mod Blocks
+pub mod Encoding
 pub mod Equal
 pub mod EqualLaws
 pub mod FunctionNames

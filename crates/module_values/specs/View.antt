@@ -1,12 +1,22 @@
--- What a module in memory holds, and an attribute.
-use Rattle.module_values.specs.Values.{Body, Attribute, single, several}
-use Rattle.module_values.specs.declared.targets.AttributeValue.{AttributeValue}
-use Rattle.module_values.specs.declared.targets.AttributeValue.TheVariants.{Single, Several}
+-- What a module in memory holds, and what is read of a block of targets.
+use Rattle.std.specs.Prelude.{ℕ, List}
+use Rattle.module_values.specs.Values as v
+use Rattle.module_values.specs.Values.{Body, single, several}
+use Rattle.module_values.specs.declared.attributes.AttributeValue.{AttributeValue}
+use Rattle.module_values.specs.declared.attributes.AttributeValue.TheVariants.{Single, Several}
+use Rattle.module_values.specs.declared.attributes.Attribute.{Attribute}
+use Rattle.module_values.specs.declared.targets.Target.{Target}
 use Rattle.module_values.specs.declared.modules.Parts.{Parts}
 
 abbrev pub body_of : Parts → Body
 body_of p = record { label = p.label; path = p.path; own = p.own.items; loaded = p.loaded.items; functions = p.functions; defaults = p.defaults.items }
 
-abbrev pub attribute_of : AttributeValue → Attribute
-attribute_of (Single text) = single text
+abbrev pub attribute_of : AttributeValue → v.Attribute
+attribute_of (Single text) = single text.now
 attribute_of (Several texts) = several texts
+
+abbrev pub attributed_of : Attribute → List ℕ × v.Attribute
+attributed_of a = (a.name.now, attribute_of a.value)
+
+abbrev pub target_of : Target → v.Target
+target_of t = record { kind = t.kind.now; name = t.name.now; attributes = t.attributes }

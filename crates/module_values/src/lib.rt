@@ -2,7 +2,9 @@
 //! Layer: values, on base and syntax. Begin at `modules.rt` and `specs/Values.antt`.
 #![tactic(auto)]
 
+mod attributes;
 mod bindings;
+mod blocks;
 mod exprs;
 mod functions;
 mod modules;
@@ -10,8 +12,10 @@ mod numbers;
 mod stmts;
 mod targets;
 
+pub use attributes::{Attribute, AttributeReader, AttributeValue, Attributes};
 pub use bindings::{Binding, Defaults, Function};
+pub use blocks::{TextBlock, TextReader};
 pub use functions::Functions;
 pub use modules::{Module, ModuleValue};
 pub use stmts::same_def;
-pub use targets::{Attribute, AttributeValue, Target, Targets, Texts};
+pub use targets::{Target, TargetReader, Targets, blocks_tell_targets};

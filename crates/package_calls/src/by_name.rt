@@ -4,49 +4,50 @@ ghost use Rattle.std.specs.Cmp.{partial_equiv_from_equiv, on_equiv, on_po};
 ghost use Rattle.std.specs.Cmp.Lexicographic.{pointwise, slice_cmp, nat_list_eq_equiv, texts_po, texts_ties, on_texts};
 ghost use Rattle.std.specs.Ordering.{nat_cmp, as_partial_cmp};
 
-use module_values::Target;
+use names::Target;
 use std::cmp::Ordering;
 use std::marker::Model;
 
-/// A target, which is equal to another, or before it, by its name alone.
+/// A target, which is equal to another, or before it, by its name alone. A contract sees the target as the package has it.
 #[derive(Drop)]
-pub struct ByName {
-    pub target: Target,
+pub struct ByName<'a> {
+    pub target: &'a Target,
 }
 
-impl Model for ByName {
+impl<'a> Model for ByName<'a> {
     ghost use Rattle.module_values.specs.Values.{Target};
+    ghost use Rattle.names.specs.View.{target_of};
 
     ghost Value = { Target };
 
-    ghost view = { λ b. b.target };
+    ghost view = { λ b. target_of b.target.now };
 }
 
-impl PartialEq for ByName {
+impl<'a> PartialEq for ByName<'a> {
     ghost eq = { λ x y. pointwise nat_eq x.name y.name };
 
     ghost laws = { partial_equiv_from_equiv (on_equiv (λ x. x.name) nat_list_eq_equiv) };
 
-    fn eq(&self, other: &ByName) -> bool {
-        self.target.name() == other.target.name()
+    fn eq(&self, other: &ByName<'a>) -> bool {
+        self.target.name == other.target.name
     }
 }
 
-impl Eq for ByName {
+impl<'a> Eq for ByName<'a> {
     ghost laws = { on_equiv (λ x. x.name) nat_list_eq_equiv };
 }
 
-impl PartialOrd for ByName {
+impl<'a> PartialOrd for ByName<'a> {
     ghost partial_cmp = { as_partial_cmp (λ x y. slice_cmp nat_cmp x.name y.name) };
 
     ghost laws = { on_po (λ x. x.name) texts_po };
 
-    fn partial_cmp(&self, other: &ByName) -> Option<Ordering> {
+    fn partial_cmp(&self, other: &ByName<'a>) -> Option<Ordering> {
         Some(self.cmp(other))
     }
 }
 
-impl Ord for ByName {
+impl<'a> Ord for ByName<'a> {
     ghost cmp = { λ x y. slice_cmp nat_cmp x.name y.name };
 
     ghost total = { on_texts (λ x. x.name) };
@@ -55,8 +56,8 @@ impl Ord for ByName {
 
     ghost matches_eq = { λ x y. texts_ties x.name y.name };
 
-    fn cmp(&self, other: &ByName) -> Ordering {
-        let (name, other) = (self.target.name(), other.target.name());
+    fn cmp(&self, other: &ByName<'a>) -> Ordering {
+        let (name, other) = (&self.target.name, &other.target.name);
         name.as_slice().cmp(other.as_slice())
     }
 }

@@ -1,8 +1,11 @@
-use Rattle.std.proofs.Common.{◌≡◌, drop}
+use Rattle.std.proofs.Common.{◌≡◌, length}
 use Rattle.serde_json.specs.Data.{no_members}
 use Rattle.answers.specs.Answers.{put_attributes}
 use Rattle.answers.specs.Order.{onto}
 use Rattle.answers.proofs.order.rows_of.Given as goal
 
 abbrev pub invariant-loop-attribute : goal.invariant-loop-attribute
-invariant-loop-attribute l = put_attributes (drop l.attribute-index l.attributes) (onto l.rows.items no_members) ≡ put_attributes l.attributes no_members
+invariant-loop-attribute l = put_attributes l.rest (onto l.rows.items no_members) ≡ put_attributes l.fn.attributes no_members
+
+abbrev pub decreases-loop-attribute : goal.decreases-loop-attribute
+decreases-loop-attribute l = length l.rest

@@ -1,4 +1,5 @@
-use Rattle.std.proofs.Common.{◌≡◌, ◌++◌, drop}
+use Rattle.std.proofs.Common.{◌≡◌, ◌++◌}
+use Rattle.std.specs.Vec.Iter.{into_iter_items}
 use Rattle.serde_json.specs.Data.{no_members}
 use Rattle.answers.specs.Answers.{attributes_data}
 use Rattle.answers.specs.Order.{onto}
@@ -6,4 +7,4 @@ use Rattle.answers.specs.Tokens.{tokens_of, members_rest}
 use Rattle.answers.proofs.package_json.write_attributes.Given as goal
 
 abbrev pub invariant-loop-row : goal.invariant-loop-row
-invariant-loop-row l = l.out ++ members_rest (onto (drop l.row-index l.row-items) no_members) ≡ l.fn.out ++ tokens_of (attributes_data l.attributes)
+invariant-loop-row l = l.out ++ members_rest (onto (into_iter_items l.row-iterator) no_members) ≡ l.fn.out ++ tokens_of (attributes_data l.fn.attributes)

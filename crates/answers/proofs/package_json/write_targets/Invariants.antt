@@ -1,7 +1,10 @@
-use Rattle.std.proofs.Common.{◌≡◌, ◌++◌, drop, map}
+use Rattle.std.proofs.Common.{◌≡◌, ◌++◌, length, map}
 use Rattle.answers.specs.Answers.{list, target_data}
 use Rattle.answers.specs.Tokens.{tokens_of, rest_of}
 use Rattle.answers.proofs.package_json.write_targets.Given as goal
 
 abbrev pub invariant-loop-target : goal.invariant-loop-target
-invariant-loop-target l = l.out ++ rest_of (map target_data (drop l.target-index l.target-items)) ≡ l.fn.out ++ tokens_of (list (map target_data l.targets))
+invariant-loop-target l = l.out ++ rest_of (map target_data l.rest) ≡ l.fn.out ++ tokens_of (list (map target_data l.targets))
+
+abbrev pub decreases-loop-target : goal.decreases-loop-target
+decreases-loop-target l = length l.rest

@@ -3,4 +3,4 @@ use Rattle.names.specs.View.{attributed_of}
 use Rattle.package_calls.proofs.targets.make_attributes.Given as goal
 
 abbrev pub invariant-loop-attribute : goal.invariant-loop-attribute
-invariant-loop-attribute l = l.all.items ++ map attributed_of (drop l.attribute-index l.attributes) ≡ map attributed_of l.attributes
+invariant-loop-attribute l = l.all ++ map attributed_of (drop l.attribute-index l.attributes) ≡ map attributed_of l.attributes
