@@ -15,7 +15,7 @@ use Rattle.board.specs.declared.view.Stage.{Stage}
 use Rattle.board.specs.declared.view.Stage.TheVariants.{Empty, Ready, Held, Answered}
 use Rattle.board.specs.declared.view.View.{View}
 use Rattle.board.specs.Rule.{bit, face, weight_at, total, Cell, IsInside, Suits, Lies, job_at, IsOrderly}
-use Rattle.board.specs.Plays.{Mine, looked, uses, outs, collects, answers_with, turns_used, filled, posted, claimed, answered, found, cleared}
+use Rattle.board.specs.Plays.{Mine, looked, uses, outs, collects, answers_with, turns_used, filled, posted, glanced, claimed, answered, found, cleared}
 use Rattle.board.proofs.Moves.{below, moved, stays, total_snoc}
 
 pub there : {X : Type 0} (l : List X) (i : ℕ) → i < length l → (a : X) × (get_elem? l i ≡ some a)
@@ -83,6 +83,12 @@ module _ {J A : Type 0} (of : A → J) where
   looks s r id p n v at = let h = host_after s r id v (looked v p n) at refl refl refl refl in
       subst (λ (ws : List ℕ). IsOrderly of record { words = ws; homes = s.homes; views = set s.views id (looked v p n) }) (sym (set-get_or s.words p 0))
       (stays of s r id v (looked v p n) h.0 s.words at refl (λ _ _. refl) (r.shut_shows ∙ ap bit (sym h.1.3)) h.1.0 h.1.1 h.1.2 (λ e. h.1.3 ∙ e) h.1.4 refl (λ e. h.1.3 ∙ host_shut s r id v at e) refl refl refl refl refl)
+
+  -- a step that changes nothing
+  pub stands : (s : S) (r : IsOrderly of s) (id p : ℕ) (v : View J A) → get_elem? s.views id ≡ some v → IsOrderly of record { words = set s.words p (get_or s.words p 0); homes = s.homes; views = set s.views id v }
+  stands s r id p v at = let h = host_after s r id v v at refl refl refl refl in
+      subst (λ (ws : List ℕ). IsOrderly of record { words = ws; homes = s.homes; views = set s.views id v }) (sym (set-get_or s.words p 0))
+      (stays of s r id v v h.0 s.words at refl (λ _ _. refl) (r.shut_shows ∙ ap bit (sym h.1.3)) h.1.0 h.1.1 h.1.2 (λ e. h.1.3 ∙ e) h.1.4 refl (λ e. h.1.3 ∙ host_shut s r id v at e) refl refl refl refl refl)
 
   -- a seat takes the slot of a place
   grabs : (s : S) (r : IsOrderly of s) (id p n : ℕ) (v : View J A) (st st' : Stage J A) → get_elem? s.views id ≡ some v → v.using ≡ None → get_elem? r.cells p ≡ some (0, st)
@@ -166,6 +172,12 @@ module _ {J A : Type 0} (of : A → J) where
 
   pub finds : (n p : ℕ) (me : Mine J A) → p < n → me.0.using ≡ None → Allows (IsOrderly of) n 0 me p (λ y. y) (found of (step n p 0 0 none) me)
   finds n p me near rests s r long at _ = let c = cell_at s r p n long near in find s r p me at rests c.0.0 c.0.1 c.1
+
+  -- a hand looks whether a place is ready
+  pub glances : (n id p : ℕ) (me : Mine J A) → Allows (IsOrderly of) n id me p (λ y. y) (glanced (step n p 0 0 none) me)
+  glances n id p me s r long at _ = let y : ℕ = get_or s.words p 0 in dite (ℕ_discrete y 1)
+      (λ hit. (me.0, keeps, tt, stands s r id p me.0 at, ((λ _. refl), λ ne. absurd (ne hit))))
+      (λ miss. (looked me.0 p y, keeps, tt, looks s r id p y me.0 at, ((λ e. absurd (miss e)), λ _. refl)))
 
   -- a hand that finds READY
   claim : (s : S) (r : IsOrderly of s) (id p : ℕ) (me : Mine J A) → get_elem? s.views id ≡ some me.0 → me.0.is_host ≡ false → me.0.live ≡ 1 → me.0.using ≡ None → get_or s.words p 0 ≡ 1 → (h : ℕ) (st : Stage J A) → get_elem? r.cells p ≡ some (h, st)

@@ -8,7 +8,7 @@ ghost use Rattle.board.specs.Places.{IsAtRest, IsSame, IsFull};
 ghost use Rattle.board.specs.Plays.{looked, uses, outs, collects, answers_with};
 
 use crate::board::{Board, SeatView, Slot};
-use crate::table_rule::{Answer, Claim, Clear, Fill, Find, Post};
+use crate::table_rule::{Answer, Claim, Clear, Fill, Find, Post, SeeReady};
 use crate::view::Entry;
 use atomic_table::Seat;
 use keys::{Job, Rules, Turned};
@@ -55,7 +55,8 @@ impl<R: Rules> Board<R> {
         words.store::<Post>(seat, place, READY);
     }
 
-    // Claims the place if it is ready, and returns whether it was. If so, the hand has its slot.
+    // Claims the place if it is ready, and returns whether it was. If so, the hand has its slot. A place that is not
+    // ready costs a load, which other threads do not feel.
     pub(crate) fn claims(&self, seat: &mut Seat<Slot<R>, SeatView<R>>, place: usize) -> bool
         requires { (seat.old.table_id ≡ self.now.table.shared.table_id)
             × (seat.old.me.0.is_host ≡ false) × (seat.old.me.0.live ≡ 1) × IsAtRest seat.old.me
@@ -70,10 +71,12 @@ impl<R: Rules> Board<R> {
         ensures none { result ≡ false → (n : _) × (n ≢ 1)
             × (seat.new.me ≡ (looked seat.old.me.0 place n, [])) }
     {
-        self.table
-            .shared
-            .compare_exchange::<Claim>(seat, place, READY, HELD)
-            == READY
+        let words = &self.table.shared;
+        let is_ready = words.load::<SeeReady>(seat, place) == READY;
+        if !is_ready {
+            return false;
+        }
+        words.compare_exchange::<Claim>(seat, place, READY, HELD) == READY
     }
 
     // Takes the job out of the slot of the place, which the hand has claimed.

@@ -1,5 +1,6 @@
 -- The order of keys, what tells them apart, and how they are written.
 use Rattle.std.specs.Prelude.{ℕ, List, [], ◌∷◌, ◌++◌, Bool, true, false, ◌==◌, ◌<◌, codes, if◌then◌else◌}
+use Rattle.std.specs.Hash as fed
 use Rattle.std.specs.declared.cmp.Ordering.{Ordering}
 use Rattle.std.specs.List.{AllByRecursion}
 use Rattle.std.specs.Ordering.{nat_cmp, on, then_cmp, eq_of_both}
@@ -78,6 +79,10 @@ key_cmp = then_cmp (on kind nat_cmp) (then_cmp (on name_of (slice_cmp nat_cmp)) 
 -- of one kind, with one name, one pattern and one scope
 abbrev pub key_eq : Key → Key → Bool
 key_eq = eq_of_both (on kind ◌==◌) (eq_of_both (on name_of (pointwise ◌==◌)) (eq_of_both (on pattern_of (pointwise ◌==◌)) (on scope ◌==◌)))
+
+-- what the hash of a key is made of: its kind and its name, and of a glob its pattern and its scope too
+abbrev pub key_fed : Key → fed.HashWrites
+key_fed key = fed.u8 (kind key) ++ name_of key ∷ (if kind key == 3 then pattern_of key ∷ fed.u8 (scope key) else [])
 
 -- a text in which no byte is a space or below it, as all paths, directory names and patterns are
 abbrev pub HasNoSpace : List ℕ → Type 0

@@ -1,13 +1,12 @@
 //! What names a node.
-ghost use Rattle.std.specs.Prelude.{◌≡◌, ◌==◌, ◌++◌, IfOk, OnOk, refl};
+ghost use Rattle.std.specs.Prelude.{◌≡◌, ◌==◌, ◌++◌, false, IfOk, IfNone, IfSome, OnOk, refl};
 ghost use Rattle.std.proofs.Common.{rules};
-ghost use Rattle.std.specs.Hash as fed;
 ghost use Rattle.std.specs.String.{string_bytes};
 ghost use Rattle.std.specs.Cmp.{partial_order_from_own_ties};
 ghost use Rattle.std.specs.Cmp.Rules.{comparing, hashing};
 ghost use Rattle.std.specs.Cmp.Lexicographic.{pointwise, slice_cmp};
 ghost use Rattle.std.specs.Ordering.{as_partial_cmp, eq_of_both, nat_cmp, on, then_cmp};
-ghost use Rattle.keys.specs.Keys.{key_cmp, key_eq, kind, name_of, pattern_of, scope, prefix, key_name, key_text};
+ghost use Rattle.keys.specs.Keys.{key_cmp, key_eq, key_fed, kind, name_of, pattern_of, scope, prefix, key_name, key_text};
 
 use std::alloc::Global;
 use std::cmp::Ordering;
@@ -181,11 +180,30 @@ fn compare_names(a: &Key, b: &Key) -> Ordering
     }
 }
 
-// Returns whether two keys have one pattern, and find the same by it. Keys that are no globs have none.
+// Returns the names of two keys, if these are of one kind.
+fn names_of_a_kind<'a>(a: &'a Key, b: &'a Key) -> Option<(&'a Text, &'a Text)>
+    ensures alike { IfSome result (λ names. (kind a.now ≡ kind b.now)
+        × (names.0.now ≡ name_of a.now) × (names.1.now ≡ name_of b.now)) }
+    ensures apart { IfNone result ((kind a.now == kind b.now) ≡ false) }
+{
+    match (a, b) {
+        (Key::File(a), Key::File(b)) => Some((a, b)),
+        (Key::Listing(a), Key::Listing(b)) => Some((a, b)),
+        (Key::Lookup(a), Key::Lookup(b)) => Some((a, b)),
+        (Key::Glob(a, _, _), Key::Glob(b, _, _)) => Some((a, b)),
+        (Key::Module(a), Key::Module(b)) => Some((a, b)),
+        (Key::Package(a), Key::Package(b)) => Some((a, b)),
+        (Key::Under(a), Key::Under(b)) => Some((a, b)),
+        _ => None,
+    }
+}
+
+// Returns whether two keys of one kind have one pattern, and find the same by it. Keys that are no globs have none.
 fn same_patterns(a: &Key, b: &Key) -> bool
+    requires { kind a.now ≡ kind b.now }
     ensures { result ≡ eq_of_both (on pattern_of (pointwise ◌==◌)) (on scope ◌==◌) a.now b.now }
 {
-    if a.kind() != GLOB && b.kind() != GLOB {
+    if a.kind() != GLOB {
         return true;
     }
     a.pattern() == b.pattern() && a.scope() == b.scope()
@@ -197,7 +215,10 @@ impl PartialEq for Key {
     ghost laws = { Prim.search (comparing, rules) depth 12 };
 
     fn eq(&self, other: &Key) -> bool {
-        self.kind() == other.kind() && (self.name() == other.name() && same_patterns(self, other))
+        match names_of_a_kind(self, other) {
+            Some((name, other_name)) => name == other_name && same_patterns(self, other),
+            None => false,
+        }
     }
 }
 
@@ -233,14 +254,16 @@ impl Ord for Key {
 }
 
 impl Hash for Key {
-    ghost hash_input = { λ k. fed.u8 (kind k) ++ fed.str (name_of k) ++ fed.str (pattern_of k) ++ fed.u8 (scope k) };
+    ghost hash_input = { key_fed };
 
     ghost respects_eq = { Prim.search (hashing, rules) depth 12 };
 
     fn hash<H: Hasher>(&self, state: &mut H) {
-        self.kind().hash(state);
-        self.name().hash(state);
-        self.pattern().hash(state);
-        self.scope().hash(state);
+        state.write_u8(self.kind());
+        state.write(self.name().as_str().as_bytes());
+        if self.kind() == GLOB {
+            state.write(self.pattern().as_bytes());
+            state.write_u8(self.scope());
+        }
     }
 }

@@ -9,7 +9,6 @@ use Rattle.keys.specs.declared.value.Value.{Value}
 use Rattle.std.proofs.lemmas.Bool.{le-ltb}
 use Rattle.evaluation.specs.Reply.{Reply, Ask}
 use Rattle.keys.specs.declared.key.Key.{Key}
-use Rattle.pattern.specs.Globs.{pattern_in, asks_directories}
 use Rattle.walks.specs.Globs.{files_in, directories_in, asked_names, lookups, has_build, open_names, paths_of, found_below, by_open, after_listing, step}
 use Rattle.walks.proofs.NamesInOrder.{drop_item}
 

@@ -3,14 +3,14 @@ use Rattle.std.proofs.Common.{◌≡◌, ◌∙◌, ap, sym, refl, arith, ℕ, z
 use Rattle.std.specs.Prelude.{codes, bytes_eq, nat_le, nat_lt}
 use Rattle.std.specs.List.{list_all, position_or_len, after_first}
 use Rattle.std.proofs.lemmas.Bool.{and_parts, and_from, ltb-true, ltb-false, ne_eqb}
-use Rattle.std.proofs.lemmas.List.{append_assoc, take_at, take_all, drop_at, length-append, length-drop}
+use Rattle.std.proofs.lemmas.List.{take_all, length-drop}
 use Rattle.labels.specs.Labels.{is_slash}
 use Rattle.labels.specs.Paths.{is_name_byte, is_segment, segments, is_path, is_package_name}
 use Rattle.pattern.specs.Rest.{rest_segments}
 use Rattle.pattern.specs.Patterns.{is_double_star, path_matches}
 use Rattle.pattern.proofs.FirstSegment.{one_segment, more_segments}
 use Rattle.pattern.specs.Globs.{is_space}
-use Rattle.pattern.proofs.Questions.{NoSpace, no_space_between, space_at}
+use Rattle.pattern.proofs.Questions.{NoSpace, no_space_between}
 use Rattle.walks.specs.Globs.{first_segment, other_segments, text_or_none, is_deep, pattern_below, ends_here}
 
 -- ---- no space stands in a path

@@ -1,6 +1,6 @@
-pub mod Alone
 pub mod Builds
 pub mod Directories
+pub mod GlobCounts
 pub mod GlobFinds
 pub mod GlobSteps
 pub mod GlobTexts

@@ -1,5 +1,5 @@
 -- The groups of a glob have no key twice, and a glob ends with paths.
-use Rattle.std.proofs.Common.{◌≡◌, ◌≢◌, T, ℕ, ◌+◌, ◌<◌, ◌≤◌, List, [], ◌∷◌, ◌++◌, drop, length, map, Bool, true, false, cond, ◌&&◌, ◌||◌, Some, None, refl, ap, sym, subst, ◌∙◌, arith, length-append}
+use Rattle.std.proofs.Common.{◌≡◌, ◌≢◌, T, ℕ, ◌+◌, ◌<◌, List, [], ◌∷◌, ◌++◌, drop, length, map, Bool, true, false, cond, ◌&&◌, ◌||◌, Some, None, refl, ap, sym, subst, ◌∙◌, arith}
 use Rattle.std.specs.Prelude.{filter, is_some, nat_lt}
 use Rattle.std.specs.List.{AllByRecursion, position_or_len, after_first}
 use Rattle.std.specs.FinMap as finite

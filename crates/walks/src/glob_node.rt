@@ -1,11 +1,12 @@
 //! The node function of a glob.
-ghost use Rattle.std.specs.Prelude.{◌≡◌, ◌∷◌, ◌++◌, IfOk, OnOk, map};
+ghost use Rattle.std.specs.Prelude.{◌≡◌, ◌∷◌, ◌++◌, length, nat_lt, IfOk, OnOk, map};
 ghost use Rattle.keys.specs.Turns.{values};
 ghost use Rattle.walks.specs.Globs as specs;
 ghost use Rattle.walks.specs.Replies.{IsReply};
 
 use crate::glob_pattern::{
-    add_all, all_entered, asked_names, asks_here, others_of, own_found, path_in, pattern_below,
+    add_all, all_entered, asked_names, asks_here, join_by_slash, others_of, own_found, path_in,
+    pattern_below,
 };
 use crate::ordering::in_order;
 use crate::reply::Reply;
@@ -59,7 +60,7 @@ fn paths_of(answer: &Value) -> &[Text]
 fn lookups(alloc: Global, directory: &str, names: &[Text]) -> Result<Vec<Key>, Memory>
     ensures { IfOk result (λ g. g.items ≡ specs.lookups directory.now names.now) }
 {
-    let mut group = Vec::new(alloc);
+    let mut group = Vec::with_capacity(alloc, names.len())?;
     for name in names {
         let path = path_in(alloc, directory, name.as_str())?;
         group.push(Key::Lookup(Text::new(alloc, path.as_str())?))?;
@@ -101,6 +102,18 @@ fn add_globs(
     Ok(())
 }
 
+// Returns whether the globs that a glob asks are more than these answers.
+fn awaits_globs(search: Search<'_>, names: &[Text], answers: &[Arc<Value>]) -> bool
+    ensures { result ≡ nat_lt (length answers.now) (length (specs.globs search.entry.directory.now
+        search.entry.directories search.entry.pattern.now names.now)) }
+{
+    if asks_here(search.pattern) {
+        answers.len() <= names.len()
+    } else {
+        answers.len() < names.len()
+    }
+}
+
 // Returns the globs that a glob asks.
 fn globs(alloc: Global, search: Search<'_>, names: &[Text]) -> Result<Vec<Key>, Memory>
     ensures { IfOk result
@@ -124,7 +137,7 @@ fn add_under(alloc: Global, all: &mut Vec<Text>, name: &Text, paths: &[Text]) ->
         paths.now) }
 {
     for path in paths {
-        let text = format!(in alloc; "{}/{}", name.as_str(), path.as_str())?;
+        let text = join_by_slash(alloc, name.as_str(), path.as_str())?;
         all.push(Text::from_string(alloc, text)?)?;
     }
     Ok(())
@@ -185,9 +198,8 @@ fn after_lookups(
         (IsReply (specs.after_lookups search.entry.directory.now search.entry.directories
         search.entry.pattern.now files.now free.now names.now (values answers.now))) }
 {
-    let group = globs(alloc, search, names)?;
-    if answers.len() < group.len() {
-        return Ok(Reply::Ask(group));
+    if awaits_globs(search, names, answers) {
+        return Ok(Reply::Ask(globs(alloc, search, names)?));
     }
     let mut all = own_found(alloc, search, files, free)?;
     add_found(alloc, &mut all, search.pattern, names, answers)?;

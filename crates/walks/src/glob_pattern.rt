@@ -1,5 +1,5 @@
 //! One step of a glob by its pattern.
-ghost use Rattle.std.specs.Prelude.{◌≡◌, ◌++◌, ◌&&◌, ◌||◌, is_some, IfOk, OnOk, filter};
+ghost use Rattle.std.specs.Prelude.{◌≡◌, ◌∷◌, ◌++◌, ◌&&◌, ◌||◌, is_some, IfOk, OnOk, filter};
 ghost use Rattle.std.specs.Option.{option_copied};
 ghost use Rattle.std.specs.String.{string_bytes};
 ghost use Rattle.std.specs.List.{list_all};
@@ -212,10 +212,22 @@ pub fn asked_names(alloc: Global, search: Search<'_>, names: &[Text]) -> Result<
 pub fn path_in(alloc: Global, directory: &str, name: &str) -> Result<String, Memory>
     ensures { IfOk result (λ p. string_bytes p ≡ path_in directory.now name.now) }
 {
-    let mut path = String::from_str(alloc, directory)?;
-    if !path.is_empty() {
-        path.push_str("/")?;
+    if directory.is_empty() {
+        return Ok(String::from_str(alloc, name)?);
     }
-    path.push_str(name)?;
-    Ok(path)
+    join_by_slash(alloc, directory, name)
+}
+
+/// Returns two texts with a slash between them. It takes one allocation of their size.
+pub fn join_by_slash(alloc: Global, front: &str, back: &str) -> Result<String, Memory>
+    ensures { IfOk result (λ text. string_bytes text ≡ front.now ++ 47 ∷ back.now) }
+{
+    let mut text = String::with_capacity(
+        alloc,
+        front.len().saturating_add(back.len()).saturating_add(1),
+    )?;
+    text.push_str(front)?;
+    text.push_str("/")?;
+    text.push_str(back)?;
+    Ok(text)
 }

@@ -1,5 +1,5 @@
 //! Texts in byte order.
-ghost use Rattle.std.specs.Prelude.{◌≡◌, IfOk};
+ghost use Rattle.std.specs.Prelude.{◌≡◌, ◌<◌, ◌+◌, length, drop, true, IfOk};
 ghost use Rattle.filetree.specs.Listings.{sorted_names};
 
 use std::alloc::Global;
@@ -42,11 +42,38 @@ fn by_set(alloc: Global, texts: &[Text]) -> Result<Vec<Text>, Memory>
     Ok(all)
 }
 
+// Returns whether a text is below the next one, if there is one.
+fn is_below_next(texts: &[Text], i: usize) -> bool
+    requires { i < length texts.now }
+    ensures { result ≡ true → sorted_names (drop (i + 1) texts.now) ≡ drop (i + 1) texts.now
+        → sorted_names (drop i texts.now) ≡ drop i texts.now }
+{
+    if i + 1 < texts.len() {
+        let order = texts[i].cmp(&texts[i + 1]);
+        return order.is_lt();
+    }
+    true
+}
+
+// Returns whether texts are in byte order, each once.
+fn are_in_order(texts: &[Text]) -> bool
+    ensures { result ≡ true → sorted_names texts.now ≡ texts.now }
+{
+    let mut i = texts.len();
+    while i > 0 {
+        i -= 1;
+        if !is_below_next(texts, i) {
+            return false;
+        }
+    }
+    true
+}
+
 /// Returns texts in byte order, each once.
 pub fn in_order(alloc: Global, texts: &[Text]) -> Result<Vec<Text>, Memory>
     ensures { IfOk result (λ v. v.items ≡ sorted_names texts.now) }
 {
-    if texts.len() < 2 {
+    if are_in_order(texts) {
         let few = shared(alloc, texts)?;
         return Ok(few);
     }

@@ -1,6 +1,5 @@
-use Rattle.std.proofs.Common.{◌∙◌}
-use Rattle.walks.proofs.Alone.{alone}
+use Rattle.std.proofs.Common.{◌∙◌, sym}
 use Rattle.walks.proofs.ordering.in_order.Goals as goal
 
-pub returns-then-texts-lt2 : goal.returns-then-texts-lt2
-returns-then-texts-lt2 c = c.in_ok-few.ensures ∙ alone c.args.texts.now c.if-texts-lt2.true
+pub returns-then-are_in_order : goal.returns-then-are_in_order
+returns-then-are_in_order c = c.in_ok-few.ensures ∙ sym (c.are_in_order.ensures c.if-are_in_order.true)
