@@ -9,7 +9,7 @@ PYTHON := /usr/bin/python3
 CLIENT := clients/python
 LOADER := $(abspath $(or $(SEFGULAW_LOADER),$(PROGRAM)))
 
-.PHONY: help clients clients-long has-loader quick run build measures shelf-trials readers overlaps trials schedules bell test lint digests language wrong-bodies answers limits allocations workers batches under hostile giving-back bench
+.PHONY: help clients clients-long has-loader quick run build measures shelf-trials readers overlaps trials schedules bell test lint digests language wrong-bodies answers limits allocations workers events batches under hostile giving-back bench
 
 help:  ## prints this list
 	@awk -F ':.*## ' '/^[a-z][a-z -]*:.*## / { printf "%-17s %s\n", $$1, $$2 }' $(MAKEFILE_LIST)
@@ -129,6 +129,10 @@ trials schedules: build  ## compares sessions and budgets, and lists of choices 
 # The same answers with 1 to 16 workers, over the gate's commands, scripts and 10,000 random scripts.
 workers: build  ## compares answers with 1 to 16 workers (minutes)
 	python3 tests/workers.py
+
+# The events of the program beside its answers and its journal, and causes over 1,000 random scripts.
+events: build  ## compares events with answers, journals and fresh loaders (minutes)
+	python3 tests/events.py
 
 # Batches of edits and the same edits one by one, over 10,000 random scripts.
 batches: build  ## compares batches with the same edits one by one (minutes)

@@ -4,7 +4,7 @@ ghost use Rattle.json.specs.Print.{print};
 ghost use Rattle.serde_json.specs.Data.{Data};
 ghost use Rattle.serde_json.specs.Written.{compact_text};
 ghost use Rattle.answers.specs.Tokens.{tokens_of};
-ghost use Rattle.json.specs.Token.{begin_object, end_object, begin_array, end_array, key, string, number, null};
+ghost use Rattle.json.specs.Token.{begin_object, end_object, begin_array, end_array, key, string, number, boolean, null};
 
 use json::Writer;
 use std::alloc::Global;
@@ -106,6 +106,14 @@ impl Draft {
         ensures { OnOk result (self.new ≡ self.old ++ number (decimal n) ∷ []) }
     {
         Ok(self.writer.u64(n)?)
+    }
+
+    /// Writes `true` or `false`.
+    #[inline]
+    pub fn boolean(&mut self, value: bool) -> Result<(), Memory>
+        ensures { OnOk result (self.new ≡ self.old ++ boolean value ∷ []) }
+    {
+        Ok(self.writer.boolean(value)?)
     }
 
     /// Writes `null`.

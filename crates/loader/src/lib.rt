@@ -2,6 +2,7 @@
 //! and loading. Begin at `session.rt` and `specs/Effects.antt`.
 #![tactic(auto)]
 
+mod journal;
 mod laws;
 mod program;
 mod publishing;
@@ -13,14 +14,13 @@ mod turns;
 mod workers;
 
 pub use commands::{Edit, EditError, Request};
+pub use events::{Events, LineFacts, LineOutcome};
 pub use filetree::Change;
+pub use journal::{EventJournal, GhostJournal, Journal, Runs};
 pub use laws::{input_determines_output, lines_determine_answers, lines_have_answers};
 pub use lines::{DeviceError, Input, Output};
 pub use program::{ProgramEnd, run_program};
 pub use publishing_laws::{published_load_is_found, published_texts_are_answers};
 pub use round::{Run, Stop};
-pub use serving::{
-    BUDGET, GhostJournal, Journal, Runs, ServeStop, command, serve, serve_here, serve_into,
-    serve_with,
-};
+pub use serving::{BUDGET, ServeStop, command, serve, serve_here, serve_into, serve_with};
 pub use session::{Reply, Session};

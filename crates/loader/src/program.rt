@@ -8,6 +8,7 @@ use lines::{ReaderInput, WriterOutput};
 use std::alloc::Global;
 use std::convert::AsStr;
 use std::io::{Read, Write};
+use std::rt::Files;
 use std::sync::Wait;
 use std::thread::Threads;
 
@@ -29,7 +30,7 @@ pub struct ProgramEnd<R, W> {
 /// 2 for bad words, whose text goes to `errors`; nothing is read or written then. It is 3 for a stop, which a line on
 /// `errors` tells, `stop: read`, `stop: write`, `stop: budget` or `stop: memory`; then a beginning of the answers was
 /// written.
-pub fn run_program<T: Threads + Wait + Sync, S: AsStr, R: Read, W: Write, E: Write>(
+pub fn run_program<T: Threads + Wait + Sync + Files, S: AsStr, R: Read, W: Write, E: Write>(
     runtime: &T,
     alloc: Global,
     words: &[S],

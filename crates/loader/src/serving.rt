@@ -1,26 +1,27 @@
 //! Serving: lines of a reader in, their answers out to a writer, what is kept of the runs, and the program but for its `main`.
-ghost use Rattle.std.specs.Prelude.{◌≡◌, [], ℕ, ◌<◌, ◌≤◌, ◌+◌, List, length, IfOk, OnOk, OnErr, IsErrOf, not, ◌&&◌, ◌==◌, false, if◌then◌else◌, ◌⊎◌, ◌++◌, flat_map};
+ghost use Rattle.std.specs.Prelude.{◌≡◌, [], ℕ, ◌<◌, ◌≤◌, ◌+◌, List, length, IfOk, OnOk, OnErr, IsErrOf, not, ◌&&◌, ◌==◌, false, if◌then◌else◌, ◌⊎◌};
 ghost use Rattle.board.specs.Rule.{total};
 ghost use Rattle.lines.specs.Lines.{Keeps};
 ghost use Rattle.open_nodes.specs.TurnCounts.{turns_of};
 ghost use Rattle.open_nodes.specs.declared.run.Run.{Run};
 ghost use Rattle.loader.specs.Service.{Served, Stopped, Between, After};
 
+use crate::journal::{EventJournal, GhostJournal, Journal, Runs};
 use crate::session::{Session, answer, answer_with};
 use clap::error::ErrorKind;
 use clap::{Arg, ArgAction, ArgMatches, Command, value_parser};
+use events::Events;
 use functions::{LoadRules, Loading};
-use http_server::Log;
 use keys::is_leaf;
-use lines::{DeviceError, Input, Line, Output, Pending, ReadStop, next_line};
+use lines::{DeviceError, Input, Line, Output, Pending, ReadStop, WriterOutput, next_line};
 use round::{Run, Stop};
 use std::alloc::{AllocError, Global};
 use std::convert::AsStr;
 use std::io::Write;
-use std::marker::Model;
-use std::mem;
+use std::rt::Files;
 use std::sync::Wait;
 use std::thread::Threads;
+use std::{fs, mem};
 use texts::Memory;
 use thiserror::Error;
 
@@ -96,61 +97,6 @@ impl From<DeviceError> for ServeStop {
     }
 }
 
-/// What takes the runs of requests, in their order.
-pub trait Runs {
-    // The runs that it took.
-    ghost kept: { Self → List Run };
-
-    /// Takes the runs of one more request, or is refused memory.
-    fn add(&mut self, runs: Vec<Run>) -> Result<(), AllocError>
-        ensures { OnOk result (kept self.new ≡ kept self.old ++ runs.items) };
-}
-
-/// The run lists of all requests, in their order.
-pub type Journal = Vec<Run>;
-
-impl Runs for Vec<Run> {
-    ghost kept = { λ journal. journal.items };
-
-    fn add(&mut self, runs: Vec<Run>) -> Result<(), AllocError> {
-        let mut runs = runs;
-        self.append(&mut runs)
-    }
-}
-
-/// Keeps no run. A contract sees those that it took; a program cannot read them, and they take no memory.
-#[derive(Drop)]
-pub struct GhostJournal {
-    log: Log<Vec<Run>, ()>,
-}
-
-impl Model for GhostJournal {
-    ghost use Rattle.std.specs.Prelude.{List, flat_map};
-    ghost use Rattle.open_nodes.specs.declared.run.Run.{Run};
-
-    ghost Value = { List Run };
-
-    ghost view = { λ u. flat_map (λ p. p.0.items) u.log.items };
-}
-
-impl GhostJournal {
-    /// Begins with no run.
-    pub fn new() -> GhostJournal
-        ensures { result ≡ [] }
-    {
-        GhostJournal { log: Log::new() }
-    }
-}
-
-impl Runs for GhostJournal {
-    ghost kept = { λ u. u };
-
-    fn add(&mut self, runs: Vec<Run>) -> Result<(), AllocError> {
-        self.log = self.log.and(&runs, &());
-        Ok(())
-    }
-}
-
 // Returns whether the input ended with no byte of a line.
 fn is_end(ended: bool, line: &Line) -> bool
     ensures { (whole : List ℕ) → Keeps line.now.bytes.items line.now.too_long whole
@@ -193,9 +139,8 @@ fn serve_line<R: Input, W: Output, J: Runs>(
     if is_end(ended, line) {
         return Ok(false);
     }
-    let reply = answer(alloc, session, line, budget)?;
-    journal.add(reply.runs)?;
-    writer.write(reply.text.as_bytes())?;
+    let text = answer(alloc, session, journal, line, budget)?;
+    writer.write(text.as_bytes())?;
     Ok(ended)
 }
 
@@ -246,10 +191,9 @@ fn serve_line_with<
         return Ok(false);
     }
     let lent = mem::replace(hands, Vec::new(alloc));
-    let (back, answer) = answer_with(runtime, alloc, session, line, lent, budget)?;
+    let (back, text) = answer_with(runtime, alloc, session, journal, line, lent, budget)?;
     *hands = back;
-    journal.add(answer.runs)?;
-    writer.write(answer.text.as_bytes())?;
+    writer.write(text.as_bytes())?;
     Ok(ended)
 }
 
@@ -419,12 +363,17 @@ fn read_words<'a, S: AsStr>(alloc: Global, words: &'a [S]) -> Result<ArgMatches<
         .long("runs")
         .action(ArgAction::SetTrue)
         .help("Tell on standard error at the end what was read and run");
+    let events = Arg::new(alloc, "events")
+        .long("events")
+        .value_name("FILE")
+        .help("Tell in a file of each line what it came to, what was read and run, and why");
     let run = Command::new(alloc, "run")
         .about(
             "Serves commands of standard input, a JSON object a line, with answers on standard output",
         )
         .arg(workers)?
-        .arg(runs)?;
+        .arg(runs)?
+        .arg(events)?;
     let loader = Command::new(alloc, "loader")
         .about("A resident loader of packages")
         .subcommand_required(true)
@@ -437,6 +386,14 @@ fn wants_runs(matches: &ArgMatches<'_>) -> bool {
     match matches.subcommand() {
         Some((_, run)) => run.get_flag("runs"),
         None => false,
+    }
+}
+
+// Returns the file to which the words want events.
+fn events_of<'a>(matches: &'a ArgMatches<'_>) -> Option<&'a str> {
+    match matches.subcommand() {
+        Some((_, run)) => run.get_str("events"),
+        None => None,
     }
 }
 
@@ -508,6 +465,46 @@ fn serve_lines<T: Threads + Wait + Sync, R: Input, W: Output, J: Runs>(
     Ok(())
 }
 
+// Serves, tells a stop, and returns the exit status.
+fn serve_to<T: Threads + Wait + Sync, R: Input, W: Output, E: Write, J: Runs>(
+    runtime: &T,
+    alloc: Global,
+    count: usize,
+    reader: &mut R,
+    writer: &mut W,
+    errors: &mut E,
+    journal: &mut J,
+) -> u8
+    requires count { (1 ≤ count) × (count ≤ 16) }
+    requires none { J.kept journal.old ≡ [] }
+    ensures served { result ≡ 0 → (journal : List Run) × Served BUDGET (R.told reader.old)
+        (R.told reader.new) (W.held writer.old) (W.held writer.new) journal }
+    ensures ended { result ≡ 0 → R.ends reader.old < R.ends reader.new }
+    ensures stopped { result ≡ 3 → Stopped (R.ends reader.old) (R.ends reader.new)
+        (R.told reader.old) (R.told reader.new) (W.held writer.old) (W.held writer.new) }
+    ensures status { (result ≡ 0) ⊎ (result ≡ 3) }
+    ensures devices { (R.at_first reader.new ≡ R.at_first reader.old)
+        × (W.at_first writer.new ≡ W.at_first writer.old) }
+{
+    match serve_lines(runtime, alloc, count, reader, writer, journal) {
+        Ok(()) => 0,
+        Err(stop) => tell_stop(errors, &stop),
+    }
+}
+
+// Tells the journal of a serving that ended with this status, and returns the exit status.
+fn tell_after<E: Write>(alloc: Global, errors: &mut E, journal: &[Run], status: u8) -> u8
+    ensures { (result ≡ status) ⊎ (result ≡ 3) }
+{
+    if status != 0 {
+        return status;
+    }
+    match tell_runs(alloc, errors, journal) {
+        Ok(()) => 0,
+        Err(error) => tell_stop(errors, &ServeStop::Memory(error)),
+    }
+}
+
 // Serves, tells the journal, and returns the exit status.
 fn serve_and_tell<T: Threads + Wait + Sync, R: Input, W: Output, E: Write>(
     runtime: &T,
@@ -528,15 +525,8 @@ fn serve_and_tell<T: Threads + Wait + Sync, R: Input, W: Output, E: Write>(
         × (W.at_first writer.new ≡ W.at_first writer.old) }
 {
     let mut journal: Vec<Run> = Vec::new(alloc);
-    match serve_lines(runtime, alloc, count, reader, writer, &mut journal) {
-        Ok(()) => {
-            match tell_runs(alloc, errors, journal.as_slice()) {
-                Ok(()) => 0,
-                Err(error) => tell_stop(errors, &ServeStop::Memory(error)),
-            }
-        }
-        Err(stop) => tell_stop(errors, &stop),
-    }
+    let status = serve_to(runtime, alloc, count, reader, writer, errors, &mut journal);
+    tell_after(alloc, errors, journal.as_slice(), status)
 }
 
 // Serves, and returns the exit status. The runs are not kept.
@@ -559,10 +549,49 @@ fn serve_alone<T: Threads + Wait + Sync, R: Input, W: Output, E: Write>(
         × (W.at_first writer.new ≡ W.at_first writer.old) }
 {
     let mut runs = GhostJournal::new();
-    match serve_lines(runtime, alloc, count, reader, writer, &mut runs) {
-        Ok(()) => 0,
-        Err(stop) => tell_stop(errors, &stop),
+    serve_to(runtime, alloc, count, reader, writer, errors, &mut runs)
+}
+
+// Tells that a write of an event failed, if one did. A fault of `errors` is passed over.
+fn tell_failure<E: Write>(errors: &mut E, has_failed: bool) {
+    if has_failed {
+        let _ = writeln!(errors, "events: write");
     }
+}
+
+// Serves with events to a file, and returns the exit status. With `wants_runs` it tells the journal too.
+fn serve_events<T: Threads + Wait + Sync, R: Input, W: Output, E: Write, F: Write + Drop>(
+    runtime: &T,
+    alloc: Global,
+    count: usize,
+    wants_runs: bool,
+    file: F,
+    reader: &mut R,
+    writer: &mut W,
+    errors: &mut E,
+) -> u8
+    requires { (1 ≤ count) × (count ≤ 16) }
+    ensures served { result ≡ 0 → (journal : List Run) × Served BUDGET (R.told reader.old)
+        (R.told reader.new) (W.held writer.old) (W.held writer.new) journal }
+    ensures ended { result ≡ 0 → R.ends reader.old < R.ends reader.new }
+    ensures stopped { result ≡ 3 → Stopped (R.ends reader.old) (R.ends reader.new)
+        (R.told reader.old) (R.told reader.new) (W.held writer.old) (W.held writer.new) }
+    ensures status { (result ≡ 0) ⊎ (result ≡ 3) }
+    ensures devices { (R.at_first reader.new ≡ R.at_first reader.old)
+        × (W.at_first writer.new ≡ W.at_first writer.old) }
+{
+    let events = Events::new(alloc, WriterOutput::new(file));
+    if wants_runs {
+        let runs: Vec<Run> = Vec::new(alloc);
+        let mut journal = EventJournal::new(events, runs);
+        let status = serve_to(runtime, alloc, count, reader, writer, errors, &mut journal);
+        tell_failure(errors, journal.has_failed());
+        return tell_after(alloc, errors, journal.journal().as_slice(), status);
+    }
+    let mut journal = EventJournal::new(events, GhostJournal::new());
+    let status = serve_to(runtime, alloc, count, reader, writer, errors, &mut journal);
+    tell_failure(errors, journal.has_failed());
+    status
 }
 
 /// Runs the program `loader`: `words` are its words, its own name first. It serves the lines of `reader` to `writer`
@@ -570,7 +599,11 @@ fn serve_alone<T: Threads + Wait + Sync, R: Input, W: Output, E: Write>(
 /// journal on `errors`, one line an item, `run V KEY` or for a leaf `read V KEY`. The status is 2 for bad words, found
 /// before any input is read, with the text of the fault on `errors`. It is 3 for a stop, with a line `stop: read`,
 /// `stop: write`, `stop: budget` or `stop: memory` on `errors`. A fault of `errors` is passed over.
-pub fn command<T: Threads + Wait + Sync, S: AsStr, R: Input, W: Output, E: Write>(
+///
+/// With `--events FILE` it writes a line of JSON to FILE for each line of the input, before the answer goes out. A file
+/// that cannot be made is a bad word. Once a write to it has failed no more events are written, and at the end a line
+/// `events: write` on `errors` tells so; the status stays what it is.
+pub fn command<T: Threads + Wait + Sync + Files, S: AsStr, R: Input, W: Output, E: Write>(
     runtime: &T,
     alloc: Global,
     words: &[S],
@@ -592,7 +625,21 @@ pub fn command<T: Threads + Wait + Sync, S: AsStr, R: Input, W: Output, E: Write
     match read_words(alloc, words) {
         Ok(matches) => {
             let count = workers_of(&matches);
-            if wants_runs(&matches) {
+            let wants_runs = wants_runs(&matches);
+            if let Some(path) = events_of(&matches) {
+                return match fs::create(runtime, path) {
+                    Ok(file) => {
+                        serve_events(
+                            runtime, alloc, count, wants_runs, file, reader, writer, errors,
+                        )
+                    }
+                    Err(error) => {
+                        let _ = writeln!(errors, "error: {path}: {error}");
+                        2
+                    }
+                };
+            }
+            if wants_runs {
                 return serve_and_tell(runtime, alloc, count, reader, writer, errors);
             }
             serve_alone(runtime, alloc, count, reader, writer, errors)

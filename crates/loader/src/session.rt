@@ -11,13 +11,15 @@ ghost use Rattle.open_nodes.specs.TurnCounts.{turns_of};
 ghost use Rattle.round.specs.Call.{Calls};
 ghost use Rattle.lines.specs.Lines.{Keeps};
 ghost use Rattle.loader.specs.Answers as answers;
-ghost use Rattle.loader.specs.Effects.{AreHeld, Moves, StopsAfter, StopsRequest, evaluations, request_effect, told_roots, edit_effect};
+ghost use Rattle.loader.specs.Effects.{AreHeld, Moves, StopsAfter, StopsRequest, evaluations, request_effect, told_roots};
 ghost use Rattle.loader.specs.State as state;
-ghost use Rattle.loader.specs.Sessions.{state_of, files_of, paths_of, IsLawful};
-ghost use Rattle.loader.specs.LineAnswers.{Begins, AnswersLine};
+ghost use Rattle.loader.specs.Sessions.{SessionView, state_of, files_of, paths_of, IsLawful};
+ghost use Rattle.loader.specs.LineAnswers.{AddsLine, Begins, IsOneMore};
 ghost use Rattle.commands.specs.View.{edit_seen, request_seen};
 ghost use Rattle.commands.specs.Commands as commands;
+ghost use Rattle.commands.specs.Refusals.{request_refusal};
 
+use crate::journal::Runs;
 use crate::request_answers::{later_roots, roots_of, told};
 use crate::turns::{joined, turns_left};
 use crate::workers::evaluate_with;
@@ -25,6 +27,7 @@ use commands::{
     Command, Edit, EditError, EditLog, Request, command_of, data_of, edit_files, edited_paths,
     refusal, refusal_at_limit,
 };
+use events::{LineFacts, LineOutcome, edit_word, request_word};
 use filetree::Tree;
 use filetree::refusals::{LINE_TOO_LONG, NO_COMMAND};
 use functions::{LoadRules, Loading};
@@ -160,8 +163,27 @@ impl Session {
                 runs: Vec::new(self.alloc),
             });
         }
+        self.reply_to(request, budget)
+    }
+
+    // Answers a request that is not refused, as `request` does.
+    fn reply_to(&mut self, request: &Request<'_>, budget: u64) -> Result<Reply, Stop>
+        requires { request_refusal (request_seen request.now) ≡ None }
+        ensures text { IfOk result
+            (λ reply. answers.Tells (answers.IsRequestAnswer (request_seen request.now)
+            (files_of self.old)) (string_bytes reply.text)) }
+        ensures moves { IfOk result
+            (λ reply. Moves (request_effect (request_seen request.now) (state_of self.old)) self.old
+            self.new reply.runs.items) }
+        ensures turns { IfOk result (λ reply. turns_of reply.runs.items ≤ budget) }
+        ensures stopped { OnErr result (StopsRequest (request_seen request.now) self.old self.new) }
+        ensures history { (self.new.began ≡ self.old.began) × (self.new.edits ≡ self.old.edits) }
+        ensures version { self.new.graph.version ≡ self.old.graph.version }
+        ensures lawful { IsLawful self.new }
+    {
+        let alloc = self.alloc;
         let (roots, runs) = self.evaluated(request, budget)?;
-        let text = told(self.alloc, &self.graph, request, roots.as_slice())?;
+        let text = told(alloc, &self.graph, request, roots.as_slice())?;
         Ok(Reply { text, runs })
     }
 
@@ -199,8 +221,38 @@ impl Session {
             };
             return Ok((hands, reply));
         }
+        self.reply_to_with(runtime, request, hands, budget)
+    }
+
+    // Answers a request that is not refused, as `request_with` does.
+    fn reply_to_with<R: LoadRules + Send + Drop, T: Threads + Wait + Sync>(
+        &mut self,
+        runtime: &T,
+        request: &Request<'_>,
+        hands: Vec<R>,
+        budget: u64,
+    ) -> Result<(Vec<R>, Reply), Stop>
+        requires hands { (1 ≤ length hands.items) × (length hands.items ≤ 16) }
+        requires accepted { request_refusal (request_seen request.now) ≡ None }
+        ensures hands { IfOk result (λ done. length done.0.items ≡ length hands.items) }
+        ensures counted { IfOk result
+            (λ done. total R.turns done.0.items ≡ total R.turns hands.items
+            + turns_of done.1.runs.items) }
+        ensures text { IfOk result
+            (λ done. answers.Tells (answers.IsRequestAnswer (request_seen request.now)
+            (files_of self.old)) (string_bytes done.1.text)) }
+        ensures moves { IfOk result
+            (λ done. Moves (request_effect (request_seen request.now) (state_of self.old)) self.old
+            self.new done.1.runs.items) }
+        ensures turns { IfOk result (λ done. turns_of done.1.runs.items ≤ budget) }
+        ensures stopped { OnErr result (StopsRequest (request_seen request.now) self.old self.new) }
+        ensures history { (self.new.began ≡ self.old.began) × (self.new.edits ≡ self.old.edits) }
+        ensures version { self.new.graph.version ≡ self.old.graph.version }
+        ensures lawful { IsLawful self.new }
+    {
+        let alloc = self.alloc;
         let (hands, roots, runs) = self.evaluated_with(runtime, request, hands, budget)?;
-        let line = told(self.alloc, &self.graph, request, roots.as_slice())?;
+        let line = told(alloc, &self.graph, request, roots.as_slice())?;
         Ok((hands, Reply { text: line, runs }))
     }
 
@@ -406,45 +458,71 @@ pub fn build_text(alloc: Global, found: Option<BuildName>) -> Result<String, Mem
     written(alloc, &answer)
 }
 
-// What is done for a line before anything is evaluated: it is answered, or it asks something of the present files.
+// What is done for a line before anything is evaluated: it is refused, an edit is made, or it asks something of the
+// present files.
 pub(crate) enum Step<'a> {
-    Answered(String),
+    Refused(String, LineFacts<'a>),
+    Edited(String, Edit<'a>),
     Asks(Request<'a>),
 }
 
-fn edit_answer(alloc: Global, session: &mut Session, edit: &Edit<'_>) -> Result<String, Memory>
-    ensures answer { IfOk result
-        (λ text. answers.Tells (answers.IsAnswerTo (commands.change (edit_seen edit.now))
-        (state_of session.old)) (string_bytes text)
-        × (state_of session.new ≡ answers.state_by (commands.change (edit_seen edit.now))
-        (state_of session.old))) }
-    ensures moves { IfOk result
-        (λ _. Moves
-        (edit_effect (edit_seen edit.now)
-        (state.refusal_of (edit_seen edit.now) (state_of session.old))) session.old session.new
-        []) }
+// What is told of a line that was refused.
+fn refused_facts<'a>(word: Option<&'static str>, place: Option<usize>, code: u64) -> LineFacts<'a> {
+    LineFacts {
+        word,
+        outcome: LineOutcome::Refused(place, code),
+    }
+}
+
+// Makes an edit, or refuses it.
+fn begin_edit<'a>(alloc: Global, session: &mut Session, edit: Edit<'a>) -> Result<Step<'a>, Memory>
+    ensures begins { IfOk result (λ step. Begins (Some (commands.change (edit_seen edit.entry)))
+        session.old session.new step) }
     ensures lawful { IsLawful session.old → IsLawful session.new }
 {
-    match session.apply(edit) {
-        Ok(version) => accepted(alloc, version),
-        Err(EditError::Refused(n)) => refused(alloc, n),
-        Err(EditError::RefusedAt(at, n)) => refused_at(alloc, at, n),
+    let word = Some(edit_word(&edit));
+    match session.apply(&edit) {
+        Ok(version) => Ok(Step::Edited(accepted(alloc, version)?, edit)),
+        Err(EditError::Refused(n)) => {
+            Ok(Step::Refused(refused(alloc, n)?, refused_facts(word, None, n)))
+        }
+        Err(EditError::RefusedAt(at, n)) => {
+            Ok(Step::Refused(refused_at(alloc, at, n)?, refused_facts(word, Some(at), n)))
+        }
         Err(EditError::Memory(error)) => Err(error),
     }
 }
 
-// Makes a reply that no evaluation led to.
-fn plain(alloc: Global, text: String) -> Reply
-    ensures { (string_bytes result.text ≡ string_bytes text) × (result.runs.items ≡ []) }
+// Refuses a request, or returns it.
+fn begin_request<'a>(
+    alloc: Global,
+    session: &Session,
+    request: Request<'a>,
+) -> Result<Step<'a>, Memory>
+    ensures { IfOk result (λ step. Begins (Some (commands.ask (request_seen request.entry)))
+        session.now session.now step) }
 {
-    Reply {
-        text,
-        runs: Vec::new(alloc),
+    match refusal(alloc, &request)? {
+        Some(n) => {
+            let facts = refused_facts(Some(request_word(&request)), None, n);
+            Ok(Step::Refused(refused(alloc, n)?, facts))
+        }
+        None => Ok(Step::Asks(request)),
     }
 }
 
-// Answers a line that makes an edit or is no command, or returns the request that it asks. `value` is the line's JSON,
-// if it is any.
+// Refuses a line that is no command.
+fn begin_refused<'a>(alloc: Global) -> Result<Step<'a>, Memory>
+    ensures { IfOk result (λ step. (session : SessionView) → Begins None session session step) }
+{
+    Ok(Step::Refused(
+        refused(alloc, NO_COMMAND)?,
+        refused_facts(None, None, NO_COMMAND),
+    ))
+}
+
+// Makes the edit of a line, refuses the line, or returns the request that it asks. `value` is the line's JSON, if it is
+// any.
 fn begin<'a>(
     alloc: Global,
     session: &mut Session,
@@ -456,12 +534,12 @@ fn begin<'a>(
     ensures lawful { IsLawful session.old → IsLawful session.new }
 {
     let Some(value) = value else {
-        return Ok(Step::Answered(refused(alloc, NO_COMMAND)?));
+        return Ok(begin_refused(alloc)?);
     };
     match command_of(alloc, value)? {
-        None => Ok(Step::Answered(refused(alloc, NO_COMMAND)?)),
-        Some(Command::Change(edit)) => Ok(Step::Answered(edit_answer(alloc, session, &edit)?)),
-        Some(Command::Ask(request)) => Ok(Step::Asks(request)),
+        None => Ok(begin_refused(alloc)?),
+        Some(Command::Change(edit)) => Ok(begin_edit(alloc, session, edit)?),
+        Some(Command::Ask(request)) => Ok(begin_request(alloc, session, request)?),
     }
 }
 
@@ -474,70 +552,131 @@ fn ended(text: String) -> Result<String, Memory>
     Ok(text)
 }
 
-// Returns a reply with byte 10 behind its text.
-fn ended_reply(reply: Reply) -> Result<Reply, Memory>
-    ensures { IfOk result (λ r. (string_bytes r.text ≡ string_bytes reply.text ++ 10 ∷ [])
-        × (r.runs ≡ reply.runs)) }
+// Tells the journal of a line that is not evaluated, and returns its answer with byte 10 behind it.
+fn tell_line<J: Runs>(
+    alloc: Global,
+    session: &Session,
+    journal: &mut J,
+    text: String,
+    facts: &LineFacts<'_>,
+) -> Result<String, Memory>
+    ensures text { IfOk result (λ t. string_bytes t ≡ string_bytes text ++ 10 ∷ []) }
+    ensures kept { OnOk result (J.kept journal.new ≡ J.kept journal.old ++ []) }
+    ensures told { OnOk result (IsOneMore (J.lines journal.old) (J.lines journal.new)) }
 {
-    Ok(Reply {
-        text: ended(reply.text)?,
-        runs: reply.runs,
-    })
+    journal.add(&session.graph, facts, Vec::new(alloc))?;
+    ended(text)
 }
 
-/// Answers a line, with byte 10 behind the answer, in at most `budget` turns, and tells what its evaluation ran. A stop
-/// leaves the files as they were, or with the line's edit made and its answer lost.
-pub fn answer(alloc: Global, session: &mut Session, line: &Line, budget: u64) -> Result<Reply, Stop>
-    ensures answer { IfOk result (λ answer. (whole : List ℕ)
-        → Keeps line.now.bytes.items line.now.too_long whole → AnswersLine whole session.old
-        session.new (string_bytes answer.text) answer.runs.items) }
-    ensures turns { IfOk result (λ answer. turns_of answer.runs.items ≤ budget) }
+// Tells the journal of a line that was evaluated, and returns its answer with byte 10 behind it.
+fn tell_reply<J: Runs>(
+    session: &Session,
+    journal: &mut J,
+    request: &Request<'_>,
+    reply: Reply,
+) -> Result<String, Memory>
+    ensures text { IfOk result (λ t. string_bytes t ≡ string_bytes reply.text ++ 10 ∷ []) }
+    ensures kept { OnOk result (J.kept journal.new ≡ J.kept journal.old ++ reply.runs.items) }
+    ensures told { OnOk result (IsOneMore (J.lines journal.old) (J.lines journal.new)) }
+{
+    let facts = LineFacts {
+        word: Some(request_word(request)),
+        outcome: LineOutcome::Evaluated,
+    };
+    journal.add(&session.graph, &facts, reply.runs)?;
+    ended(reply.text)
+}
+
+// Tells the journal of an edit that was made, and returns its answer with byte 10 behind it.
+fn tell_edit<J: Runs>(
+    alloc: Global,
+    session: &Session,
+    journal: &mut J,
+    text: String,
+    edit: &Edit<'_>,
+) -> Result<String, Memory>
+    ensures text { IfOk result (λ t. string_bytes t ≡ string_bytes text ++ 10 ∷ []) }
+    ensures kept { OnOk result (J.kept journal.new ≡ J.kept journal.old ++ []) }
+    ensures told { OnOk result (IsOneMore (J.lines journal.old) (J.lines journal.new)) }
+{
+    let facts = LineFacts {
+        word: Some(edit_word(edit)),
+        outcome: LineOutcome::Edited(edit),
+    };
+    tell_line(alloc, session, journal, text, &facts)
+}
+
+/// Answers a line, with byte 10 behind the answer, in at most `budget` turns. `journal` is told of the line, and takes
+/// what its evaluation ran. A stop leaves the files as they were, or with the line's edit made and its answer lost.
+pub fn answer<J: Runs>(
+    alloc: Global,
+    session: &mut Session,
+    journal: &mut J,
+    line: &Line,
+    budget: u64,
+) -> Result<String, Stop>
+    ensures answer { IfOk result (λ text. (whole : List ℕ)
+        → Keeps line.now.bytes.items line.now.too_long whole → AddsLine whole budget session.old
+        session.new (string_bytes text) (J.kept journal.old) (J.kept journal.new)) }
+    ensures told { OnOk result (IsOneMore (J.lines journal.old) (J.lines journal.new)) }
     ensures lawful { IsLawful session.old → IsLawful session.new }
 {
     if line.too_long {
-        return Ok(plain(alloc, ended(refused(alloc, LINE_TOO_LONG)?)?));
+        let facts = refused_facts(None, None, LINE_TOO_LONG);
+        let text = refused(alloc, LINE_TOO_LONG)?;
+        return Ok(tell_line(alloc, session, journal, text, &facts)?);
     }
     let value = data_of(alloc, line.bytes.as_slice())?;
     let step = begin(alloc, session, &value)?;
     match step {
-        Step::Answered(text) => Ok(plain(alloc, ended(text)?)),
+        Step::Refused(text, facts) => Ok(tell_line(alloc, session, journal, text, &facts)?),
+        Step::Edited(text, edit) => Ok(tell_edit(alloc, session, journal, text, &edit)?),
         Step::Asks(request) => {
-            let reply = session.request(&request, budget)?;
-            Ok(ended_reply(reply)?)
+            let reply = session.reply_to(&request, budget)?;
+            Ok(tell_reply(session, journal, &request, reply)?)
         }
     }
 }
 
 /// Answers a line as `answer` does, by one thread a hand, the caller's too. Returns the hands too. After a stop
 /// they are given up.
-pub fn answer_with<H: LoadRules + Send + Drop, T: Threads + Wait + Sync>(
+pub fn answer_with<H: LoadRules + Send + Drop, T: Threads + Wait + Sync, J: Runs>(
     runtime: &T,
     alloc: Global,
     session: &mut Session,
+    journal: &mut J,
     line: &Line,
     hands: Vec<H>,
     budget: u64,
-) -> Result<(Vec<H>, Reply), Stop>
+) -> Result<(Vec<H>, String), Stop>
     requires { (1 ≤ length hands.items) × (length hands.items ≤ 16) }
     ensures hands { IfOk result (λ done. length done.0.items ≡ length hands.items) }
-    ensures counted { IfOk result (λ done. total H.turns done.0.items ≡ total H.turns hands.items
-        + turns_of done.1.runs.items) }
-    ensures answer { IfOk result
-        (λ done. (whole : List ℕ) → Keeps line.now.bytes.items line.now.too_long whole
-        → AnswersLine whole session.old session.new (string_bytes done.1.text) done.1.runs.items) }
-    ensures turns { IfOk result (λ done. turns_of done.1.runs.items ≤ budget) }
+    ensures counted { IfOk result (λ done. total H.turns done.0.items
+        + turns_of (J.kept journal.old) ≡ total H.turns hands.items
+        + turns_of (J.kept journal.new)) }
+    ensures answer { IfOk result (λ done. (whole : List ℕ)
+        → Keeps line.now.bytes.items line.now.too_long whole → AddsLine whole budget session.old
+        session.new (string_bytes done.1) (J.kept journal.old) (J.kept journal.new)) }
+    ensures told { OnOk result (IsOneMore (J.lines journal.old) (J.lines journal.new)) }
     ensures lawful { IsLawful session.old → IsLawful session.new }
 {
     if line.too_long {
-        return Ok((hands, plain(alloc, ended(refused(alloc, LINE_TOO_LONG)?)?)));
+        let facts = refused_facts(None, None, LINE_TOO_LONG);
+        let text = refused(alloc, LINE_TOO_LONG)?;
+        return Ok((hands, tell_line(alloc, session, journal, text, &facts)?));
     }
     let value = data_of(alloc, line.bytes.as_slice())?;
     let step = begin(alloc, session, &value)?;
     match step {
-        Step::Answered(text) => Ok((hands, plain(alloc, ended(text)?))),
+        Step::Refused(text, facts) => {
+            Ok((hands, tell_line(alloc, session, journal, text, &facts)?))
+        }
+        Step::Edited(text, edit) => {
+            Ok((hands, tell_edit(alloc, session, journal, text, &edit)?))
+        }
         Step::Asks(request) => {
-            let (hands, reply) = session.request_with(runtime, &request, hands, budget)?;
-            Ok((hands, ended_reply(reply)?))
+            let (hands, reply) = session.reply_to_with(runtime, &request, hands, budget)?;
+            Ok((hands, tell_reply(session, journal, &request, reply)?))
         }
     }
 }

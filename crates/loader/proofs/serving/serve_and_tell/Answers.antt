@@ -1,5 +1,7 @@
+use Rattle.std.proofs.Common.{inl, inr}
 use Rattle.loader.proofs.Steps.{served_stopped}
 use Rattle.loader.proofs.serving.serve_and_tell.Goals as goal
 
-pub returns-in-Ok-clause-stopped : goal.returns-in-Ok-clause-stopped
-returns-in-Ok-clause-stopped g c = λ status. served_stopped c.in-Ok.ensures.ok c.in-Ok.ensures.ended
+pub returns-clause-stopped : goal.returns-clause-stopped
+returns-clause-stopped g c = λ three.
+    elim c.serve_to-status.ensures.status [ inl zero ↦ served_stopped (c.serve_to-status.ensures.served zero).1 (c.serve_to-status.ensures.ended zero) | inr stop ↦ c.serve_to-status.ensures.stopped stop ]

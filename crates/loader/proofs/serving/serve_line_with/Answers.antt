@@ -4,8 +4,6 @@ use Rattle.loader.specs.Service.{Stopped, Between, After}
 use Rattle.loader.proofs.Steps.{stopped_before, stopped_within, served_at_end, after_line, on_err}
 use Rattle.std.specs.Prelude.{◌==◌}
 use Rattle.board.specs.Rule.{total}
-use Rattle.open_nodes.specs.TurnCounts.{turns_of}
-use Rattle.loader.proofs.Counts.{turns_append}
 use Rattle.loader.proofs.serving.serve_line_with.Goals as goal
 
 pub returns-in_err-ended-clause-err : goal.returns-in_err-ended-clause-err
@@ -20,19 +18,14 @@ returns-in_err-back-clause-err g c =
     → Stopped (g.R.Input.ends c.args.reader.now) (g.R.Input.ends c.next_line.new.input) told (g.R.Input.told c.next_line.new.input) held (g.W.Output.held c.args.writer.now) = λ told held b. let t = c.in_ok-ended.ensures.took in stopped_before b _ _ _ t.fresh t.told in
     on_err _ k
 
-pub returns-in_err-add-clause-err : goal.returns-in_err-add-clause-err
-returns-in_err-add-clause-err g c =
-    let k : (told held : List ℕ) → Between c.args.budget told (g.R.Input.told c.args.reader.now) held (g.W.Output.held c.args.writer.now) c.args.pending.now c.args.session.now (g.J.Runs.kept c.args.journal.now)
-    → Stopped (g.R.Input.ends c.args.reader.now) (g.R.Input.ends c.next_line.new.input) told (g.R.Input.told c.next_line.new.input) held (g.W.Output.held c.args.writer.now) = λ told held b. let t = c.in_ok-ended.ensures.took in stopped_before b _ _ _ t.fresh t.told in
-    on_err _ k
-
 pub returns-in_err-write-clause-err : goal.returns-in_err-write-clause-err
 returns-in_err-write-clause-err g c =
     let k : (told held : List ℕ) → Between c.args.budget told (g.R.Input.told c.args.reader.now) held (g.W.Output.held c.args.writer.now) c.args.pending.now c.args.session.now (g.J.Runs.kept c.args.journal.now)
     → Stopped (g.R.Input.ends c.args.reader.now) (g.R.Input.ends c.next_line.new.input) told (g.R.Input.told c.next_line.new.input) held (g.W.Output.held c.write.new.self) = λ told held b.
     let t = c.in_ok-ended.ensures.took in
     let no : (not c.in_ok-ended.ended && (length t.line == 0)) ≡ false = sym (c.is_end.ensures t.line t.keeps) ∙ c.if-is_end.false in
-    let a = c.in_ok-back.ensures.answer t.line t.keeps in
+    let added = c.in_ok-back.ensures.answer t.line t.keeps in
+    let a = added.3 in
     let e = c.in_err-write.ensures.err in
     stopped_within b _ _ c.in_ok-ended.ended t no c.in_ok-ended.ensures.ended (g.W.Output.held c.write.new.self) e.0 a.told.0 a.told.1
     (e.1 ∙ ap (λ r. g.W.Output.held c.args.writer.now ++ take e.0 r) (c.as_bytes.ensures.value ∙ a.told.2)) in
@@ -42,11 +35,12 @@ pub returns-clause-ok : goal.returns-clause-ok
 returns-clause-ok g c = λ told held b.
     let t = c.in_ok-ended.ensures.took in
     let no : (not c.in_ok-ended.ended && (length t.line == 0)) ≡ false = sym (c.is_end.ensures t.line t.keeps) ∙ c.if-is_end.false in
-    let a = c.in_ok-back.ensures.answer t.line t.keeps in
-    subst (λ (xs : List Run). After c.args.budget c.in_ok-ended.ended told (g.R.Input.told c.next_line.new.input) held (g.W.Output.held c.write.new.self) c.next_line.new.pending c.answer_with.new.session xs) (sym c.in_ok-add.ensures)
-    (after_line b c.in_ok-ended.ended t no (g.W.Output.held c.write.new.self) c.answer_with.new.session c.in_ok-back.answer.runs.items a.told.0 a.told.1
+    let added = c.in_ok-back.ensures.answer t.line t.keeps in
+    let a = added.3 in
+    subst (λ (xs : List Run). After c.args.budget c.in_ok-ended.ended told (g.R.Input.told c.next_line.new.input) held (g.W.Output.held c.write.new.self) c.next_line.new.pending c.answer_with.new.session xs) (sym added.1)
+    (after_line b c.in_ok-ended.ended t no (g.W.Output.held c.write.new.self) c.answer_with.new.session added.0 a.told.0 a.told.1
     (c.in_ok-write.ensures.held ∙ ap (λ r. g.W.Output.held c.args.writer.now ++ r) (c.as_bytes.ensures.value ∙ a.told.2)) a.state
-    c.answer_with.ensures.lawful a.moves c.in_ok-back.ensures.turns)
+    c.answer_with.ensures.lawful a.moves added.2)
 
 pub returns-then-is_end-clause-ok : goal.returns-then-is_end-clause-ok
 returns-then-is_end-clause-ok g c = λ told held b.
@@ -55,8 +49,6 @@ returns-then-is_end-clause-ok g c = λ told held b.
 
 pub returns-clause-counted : goal.returns-clause-counted
 returns-clause-counted g c =
-    let kept = ap turns_of c.in_ok-add.ensures in
-    let more = turns_append (g.J.Runs.kept c.args.journal.now) c.in_ok-back.answer.runs.items in
     let made = c.in_ok-back.ensures.counted in
     let lent = ap (λ h. total g.H.Rules.turns h.items) c.replace-lent.ensures.value in
-    omega (arith, kept, more, made, lent)
+    omega (arith, made, lent)

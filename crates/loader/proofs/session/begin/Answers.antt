@@ -1,19 +1,19 @@
-use Rattle.std.proofs.Common.{◌∙◌, ap, sym}
-use Rattle.std.specs.Prelude.{Option, option_map, option_and_then, string_bytes}
+use Rattle.std.proofs.Common.{◌∙◌, ap, sym, subst}
+use Rattle.std.specs.Prelude.{Option, option_map, option_and_then}
 use Rattle.commands.specs.Commands as commands
 use Rattle.commands.specs.View.{command_seen}
 use Rattle.commands.specs.declared.command.Command.{Command}
 use Rattle.serde_json.specs.View.{view}
 use Rattle.serde_json.specs.declared.value.Value.{Value}
-use Rattle.loader.proofs.LineAnswers.{no_step}
+use Rattle.loader.specs.LineAnswers.{Begins}
 use Rattle.loader.proofs.session.begin.Goals as goal
 
 pub returns-in_default-clause-begins : goal.returns-in_default-clause-begins
 returns-in_default-clause-begins c =
-    no_step (option_and_then commands.command_of (option_map view c.args.value.now)) c.args.session.now (string_bytes c.in_ok-refused.field-0)
-    (ap (λ (v : Option Value). option_and_then commands.command_of (option_map view v)) c.in_default.is) c.in_ok-refused.ensures
+    subst (λ (o : Option commands.Command). Begins o c.args.session.now c.args.session.now c.in_ok-begin_refused.field-0)
+    (sym (ap (λ (v : Option Value). option_and_then commands.command_of (option_map view v)) c.in_default.is)) (c.in_ok-begin_refused.ensures c.args.session.now)
 
-pub returns-in_ok-refused-in-None-clause-begins : goal.returns-in_ok-refused-in-None-clause-begins
-returns-in_ok-refused-in-None-clause-begins c =
-    no_step (option_and_then commands.command_of (option_map view c.args.value.now)) c.args.session.now (string_bytes c.in_ok-refused-in-None.field-0)
-    (ap (λ (v : Option Value). option_and_then commands.command_of (option_map view v)) c.in-Some.is ∙ (sym c.in_ok-command_of.ensures ∙ ap (λ (o : Option Command). option_map command_seen o) c.in-None.is)) c.in_ok-refused-in-None.ensures
+pub returns-in_ok-begin_refused-in-None-clause-begins : goal.returns-in_ok-begin_refused-in-None-clause-begins
+returns-in_ok-begin_refused-in-None-clause-begins c =
+    subst (λ (o : Option commands.Command). Begins o c.args.session.now c.args.session.now c.in_ok-begin_refused-in-None.field-0)
+    (sym (ap (λ (v : Option Value). option_and_then commands.command_of (option_map view v)) c.in-Some.is ∙ (sym c.in_ok-command_of.ensures ∙ ap (λ (o : Option Command). option_map command_seen o) c.in-None.is))) (c.in_ok-begin_refused-in-None.ensures c.args.session.now)

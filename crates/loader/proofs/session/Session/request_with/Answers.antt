@@ -11,24 +11,8 @@ use Rattle.loader.proofs.Requests.{text_told, held_in}
 use Rattle.loader.proofs.Evaluating.{moved_stops}
 use Rattle.loader.proofs.session.Session.request_with.Goals as goal
 
-pub returns-clause-text : goal.returns-clause-text
-returns-clause-text g c =
-    let files = files_of c.args.self.now in
-    let request = request_seen c.args.request.now in
-    let held : AreHeld files c.as_slice.result.now c.self-2.inside.graph
-    = held_in files c.in_ok-hands.roots.items c.as_slice.result.now c.evaluated_with.new.self.graph c.self-2.inside.graph
-    (sym c.as_slice.ensures.value) (sym (ap (λ (x : SessionView). x.graph) c.self-2.view_is)) c.in_ok-hands.ensures.held in
-    let good : HasPaths files = subst (λ (f : Files). HasPaths f) (c.self.invariant.0 ∙ ap files_of c.self.view_is) c.self.invariant.2 in
-    let accepted : request_refusal request ≡ None = sym c.in_ok-n.ensures ∙ c.in_default.is in
-    let told : Tells (IsValueOf request files) (string_bytes c.in_ok-line.line) = c.in_ok-line.ensures files good accepted (c.as_slice.ensures.value ∙ c.in_ok-hands.ensures.roots) held in
-    text_told request files (string_bytes c.in_ok-line.line) accepted told
-
 pub returns-in-Some-clause-text : goal.returns-in-Some-clause-text
 returns-in-Some-clause-text g c =
     let files = files_of c.args.self.now in
     let request = request_seen c.args.request.now in
     (refused c.in-Some.n, subst (λ (m : Option ℕ). IsUnlessRefused m (IsValueOf request files) (refused c.in-Some.n)) (sym (sym c.in_ok-n.ensures ∙ c.in-Some.is)) refl, c.in_ok-refused.ensures)
-
-pub returns-in_err-line-clause-stopped : goal.returns-in_err-line-clause-stopped
-returns-in_err-line-clause-stopped g c =
-    on_err _ (moved_stops (request_seen c.args.request.now) c.args.self.now c.evaluated_with.new.self c.in_ok-hands.runs.items c.in_ok-hands.ensures.moves)

@@ -1,0 +1,2 @@
+pub mod LineTokens
+pub mod Joining

@@ -1,0 +1,5 @@
+pub mod Words
+pub mod Causes
+pub mod Lines
+pub mod Tokens
+pub mod Writing

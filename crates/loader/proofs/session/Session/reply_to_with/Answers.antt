@@ -1,0 +1,28 @@
+use Rattle.std.proofs.Common.{◌≡◌, ◌∙◌, ap, sym, subst, refl, ℕ, Option, None, string_bytes}
+use Rattle.commands.specs.View.{request_seen}
+use Rattle.loader.specs.Answers.{refused, IsValueOf, IsUnlessRefused, Tells}
+use Rattle.filetree.specs.Files.{Files}
+use Rattle.filetree.specs.Lawful.{HasPaths}
+use Rattle.commands.specs.Refusals.{request_refusal}
+use Rattle.loader.specs.Effects.{AreHeld}
+use Rattle.loader.specs.Sessions.{SessionView, files_of}
+use Rattle.loader.proofs.Steps.{on_err}
+use Rattle.loader.proofs.Requests.{text_told, held_in}
+use Rattle.loader.proofs.Evaluating.{moved_stops}
+use Rattle.loader.proofs.session.Session.reply_to_with.Goals as goal
+
+pub returns-clause-text : goal.returns-clause-text
+returns-clause-text g c =
+    let files = files_of c.args.self.now in
+    let request = request_seen c.args.request.now in
+    let held : AreHeld files c.as_slice.result.now c.self-2.inside.graph
+    = held_in files c.in_ok-hands.roots.items c.as_slice.result.now c.evaluated_with.new.self.graph c.self-2.inside.graph
+    (sym c.as_slice.ensures.value) (sym (ap (λ (x : SessionView). x.graph) c.self-2.view_is)) c.in_ok-hands.ensures.held in
+    let good : HasPaths files = subst (λ (f : Files). HasPaths f) (c.self.invariant.0 ∙ ap files_of c.self.view_is) c.self.invariant.2 in
+    let accepted : request_refusal request ≡ None = c.requires.accepted in
+    let told : Tells (IsValueOf request files) (string_bytes c.in_ok-line.line) = c.in_ok-line.ensures files good accepted (c.as_slice.ensures.value ∙ c.in_ok-hands.ensures.roots) held in
+    text_told request files (string_bytes c.in_ok-line.line) accepted told
+
+pub returns-in_err-line-clause-stopped : goal.returns-in_err-line-clause-stopped
+returns-in_err-line-clause-stopped g c =
+    on_err _ (moved_stops (request_seen c.args.request.now) c.args.self.now c.evaluated_with.new.self c.in_ok-hands.runs.items c.in_ok-hands.ensures.moves)
