@@ -214,8 +214,13 @@ RECIPES = {
         "app/BUILD:4:1: filegroup rule //app:u_a\n"
         "lib/BUILD:1:1: filegroup rule //lib:base\n",
         "needs //app:core\nneeds //app:u_a\n",
+        "",
     ],
 }
+COMMANDS = (
+    b'{"op":"put","path":"app/BUILD","text":""}\n',
+    b'{"op":"load","names":["app"]}\n',
+)
 
 
 def test_the_other_recipes_run(tree: Make, run: Runner, tmp_path: Path) -> None:
@@ -223,6 +228,10 @@ def test_the_other_recipes_run(tree: Make, run: Runner, tmp_path: Path) -> None:
     commit(root)
     root.write("lib/BUILD", 'filegroup(name = "base", tags = ["x"])\n')
     environment = with_command(run, tmp_path)
+    words = [run.loader, "run", "--events", "events.jsonl"]
+    subprocess.run(
+        words, cwd=root.path, input=b"".join(COMMANDS), capture_output=True, check=True
+    )
     for title, expected in RECIPES.items():
         printed = []
         for recipe in recipes_of(title):
@@ -234,6 +243,7 @@ def test_the_other_recipes_run(tree: Make, run: Runner, tmp_path: Path) -> None:
             printed.append(done.stdout)
         assert printed == expected, title
     assert (root.path / "graph.dot").read_text().count(" -> ") == 4
+    assert "package //app" in (root.path / "causes.svg").read_text()
 
 
 def test_the_queries_and_changes_that_the_page_shows(tree: Make, direct: Direct) -> None:

@@ -73,6 +73,10 @@ def run(found: argparse.Namespace) -> int:
 
         commands = {"query": asking.query, "changed": asking.changed, "index": asking.index}
         return commands[found.command](found)
+    if found.command == "explain":
+        from sefgulaw.cli.explain import explain
+
+        return explain(found)
     if found.command == "lsp":
         from sefgulaw.cli.lsp import lsp
 

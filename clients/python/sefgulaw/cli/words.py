@@ -24,6 +24,12 @@ def _workers(text: str) -> int:
     return int(text)
 
 
+def _line_number(text: str) -> int:
+    if not text.isdecimal() or int(text) < 1:
+        raise argparse.ArgumentTypeError("a whole number from 1 on")
+    return int(text)
+
+
 def _query_form(text: str) -> str:
     if text in LEFT_OUT_FORMS:
         raise argparse.ArgumentTypeError(f"the form {text} is left out")
@@ -106,6 +112,19 @@ def _add_graph_commands(commands: argparse._SubParsersAction[_Parser], common: _
     words = "print targets, edges and modules with their places as lines of JSON"
     index = commands.add_parser("index", parents=[common], help=words, description=words)
     index.add_argument("patterns", nargs="*", metavar="PATTERN", help="//a, //a:b, //a/...")
+    words = "print why a node ran, from the events of a loader"
+    explain = commands.add_parser("explain", parents=[common], help=words, description=words)
+    words = "a key as the events have it, or a label, a package or a path"
+    explain.add_argument("key", nargs="?", metavar="KEY", help=words)
+    words = "the file that the loader or the daemon wrote with --events"
+    explain.add_argument("--events", required=True, metavar="FILE", help=words)
+    words = "the run at this line of the loader's input, or the last one before it"
+    explain.add_argument("--line", type=_line_number, metavar="N", help=words)
+    words = "also print what was read or run at that line with an equal value"
+    explain.add_argument("--all", action="store_true", help=words)
+    words = "print the N keys with most turns instead"
+    explain.add_argument("--top", type=_line_number, metavar="N", help=words)
+    explain.add_argument("--output", choices=("text", "graph"), default="text", help="form")
     words = "serve an editor by the Language Server Protocol"
     commands.add_parser("lsp", parents=[common], help=words, description=words)
 
