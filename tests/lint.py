@@ -1,7 +1,8 @@
 #!/usr/bin/env python3
 """Checks the house's rules of style that a program can check. Run it by `make lint`.
 
-- README.md, CONTRIBUTING.md and docs/*.md: no sentence of over 40 words, no banned word, no dead link.
+- README.md, CONTRIBUTING.md, docs/*.md and the page of results: no sentence of over 40 words, a mean of 14 to 26 words a
+  sentence where tables and code do not count, no banned word, no dead link.
 - README.md: its session is the example that `make quick` runs.
 - Sources, definitions, proofs, scripts and programs of the language: no file of over 800 lines.
 - Sources: no function of over 60 lines. Fields that the layout puts on lines of their own do not count.
@@ -28,6 +29,7 @@ import tempfile
 ROOT = os.path.join(os.path.dirname(os.path.abspath(__file__)), "..")
 MOST_WORDS, MOST_LINES, MOST_FUNCTION = 40, 800, 60
 MOST_MODULE = 400
+LEAST_MEAN, MOST_MEAN = 14, 26
 
 # Past participles that do not end in "ed", and the names that the public surface fixes.
 IRREGULAR = {
@@ -58,11 +60,12 @@ BANNED = [
     "what is", "that of", "such that", "a refused growth", "want of memory", "in order to", "utilize", "leverage",
     "simply", "obviously", "basically", "very", "robust", "seamless", "blazing", "state of the art", "best in class",
     "cutting edge", "and/or", "etc.", "e.g.", "i.e.", "as well as", "a number of", "due to the fact",
+    "anew", "hangs on", "stands beside", "this machine", "since then",
 ]
 
 
 def documents():
-    return ["README.md", "CONTRIBUTING.md"] + sorted(glob.glob("docs/*.md"))
+    return ["README.md", "CONTRIBUTING.md", "bench/results/results.md"] + sorted(glob.glob("docs/*.md"))
 
 
 def prose(text):
@@ -129,6 +132,18 @@ def check_prose(path, text):
         for word in BANNED:
             if re.search(r"(?<!\w)" + re.escape(word) + r"(?!\w)", plain):
                 yield f"{path}:{line}: '{word}'"
+
+
+def check_mean(path, text):
+    """The mean of a page's sentences, without headings, tables and code. A list item that no full stop ends is a part."""
+    lines, words, ends = text.split("\n"), 0, 0
+    for line, block in prose(text):
+        if not lines[line - 1].lstrip().startswith(("#", "|")):
+            for sentence in sentences(block):
+                words += len(words_of(sentence))
+                ends += sentence.rstrip('*)"').endswith((".", "?", "!"))
+    if ends and not LEAST_MEAN <= words / ends <= MOST_MEAN:
+        yield f"{path}:1: {words / ends:.1f} words a sentence"
 
 
 def anchors(path):
@@ -294,7 +309,7 @@ def main():
     for path in documents():
         with open(path) as file:
             text = file.read()
-        faults += list(check_prose(path, text)) + list(check_links(path, text))
+        faults += [*check_prose(path, text), *check_mean(path, text), *check_links(path, text)]
     for path in tracked():
         if path.endswith((".rt", ".antt", ".py", ".proof", ".rattle", ".md", ".star")):
             with open(path) as file:
