@@ -45,8 +45,8 @@ readers: build  ## builds and runs the example of an editor that embeds the load
 	@python3 bench/build_measures.py readers
 	@bench/out/readers | diff examples/readers/stdout -
 
-# The gate: the house's rules of style, each crate's wrong bodies refused at its present text, everything proved from
-# nothing, the program run, and more answers of the built program compared. What takes a second comes first, with the
+# The gate: the house's rules of style, each crate's wrong bodies refused at its present text, every crate proved, the
+# program run, and more answers of the built program compared. What takes a second comes first, with the
 # lines of the program compared with the topic files. A proof gets one job, since two cost a quarter more in sum.
 # At its end the command `sefgulaw` is tried over the program.
 test:  ## is the gate: style, digests, all proofs, the built program, and the command sefgulaw (an hour)
