@@ -124,6 +124,7 @@ trials schedules: build  ## compares sessions and budgets, and lists of choices 
 	@bench/out/$@ < tests/$@/stdin > bench/out/$@.stdout
 	@diff tests/$@/stdout bench/out/$@.stdout
 	@test $@ = schedules || python3 tests/talk.py bench/out/$@ talk
+	@test $@ = schedules || python3 tests/changes.py
 	@echo "$@: $$(wc -l < tests/$@/stdout) lines compared, 0 wrong"
 
 # The same answers with 1 to 16 workers, over the gate's commands, scripts and 10,000 random scripts.

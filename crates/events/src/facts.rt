@@ -8,9 +8,9 @@ use commands::{Edit, Request};
 /// What a line came to.
 #[derive(Drop)]
 pub enum LineOutcome<'a> {
-    /// The line was refused with this number. Where a change of a batch was refused, its place in the batch, counted
-    /// from 0, stands before.
-    Refused(Option<usize>, u64),
+    /// The line was refused with a number. Where a change of a batch was refused, its place in the batch is told, counted
+    /// from 0.
+    Refused { place: Option<usize>, code: u64 },
     /// This edit was made.
     Edited(&'a Edit<'a>),
     /// A request was evaluated.

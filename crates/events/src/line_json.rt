@@ -34,7 +34,10 @@ fn write_place(out: &mut Draft, outcome: &LineOutcome<'_>) -> Result<(), Memory>
     ensures { OnOk result (out.new ≡ out.old ++ place_tokens outcome.now) }
 {
     match outcome {
-        LineOutcome::Refused(Some(place), _) => out.number_member("edit", *place as u64),
+        LineOutcome::Refused {
+            place: Some(place),
+            code: _,
+        } => out.number_member("edit", *place as u64),
         _ => Ok(()),
     }
 }
@@ -62,7 +65,7 @@ fn write_outcome(
         outcome.now runs.now) }
 {
     match outcome {
-        LineOutcome::Refused(_, code) => out.number_member("refused", *code),
+        LineOutcome::Refused { place: _, code } => out.number_member("refused", *code),
         LineOutcome::Edited(edit) => {
             let paths = edited_paths(alloc, edit)?;
             out.key("paths")?;

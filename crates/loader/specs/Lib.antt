@@ -3,6 +3,8 @@ pub mod Sessions
 pub mod Answers
 pub mod Journal
 pub mod Effects
+pub mod Holding
+pub mod HoldingLaws
 pub mod LineAnswers
 pub mod GraphLinks
 pub mod LineJournal

@@ -1,4 +1,5 @@
 //! Laws of answers and of what serving writes.
+ghost use Rattle.loader.specs.HoldingLaws.{UnchangedIsEqual};
 ghost use Rattle.loader.specs.Laws.{OneAnswer, OneAnswerEach, OneOutput, SomeAnswer, SomeAnswerEach, StopsInOutput};
 
 /// States the law of one answer: a line has one answer at most from each state, and lines have one list of answers at
@@ -20,4 +21,10 @@ pub fn lines_have_answers()
 pub fn input_determines_output()
     ensures served { OneOutput }
     ensures stopped { StopsInOutput }
+{}
+
+/// States the law of what has changed: a package that is held at a session, and again after calls that ended well, has
+/// the same value at both, unless it is told as changed since the version of the earlier one or a version before.
+pub fn unchanged_packages_are_equal()
+    ensures { UnchangedIsEqual }
 {}

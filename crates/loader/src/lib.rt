@@ -2,6 +2,7 @@
 //! and loading. Begin at `session.rt` and `specs/Effects.antt`.
 #![tactic(auto)]
 
+mod holding;
 mod journal;
 mod laws;
 mod program;
@@ -16,8 +17,12 @@ mod workers;
 pub use commands::{Edit, EditError, Request};
 pub use events::{Events, LineFacts, LineOutcome};
 pub use filetree::Change;
+pub use holding::Changes;
 pub use journal::{EventJournal, GhostJournal, Journal, Runs};
-pub use laws::{input_determines_output, lines_determine_answers, lines_have_answers};
+pub use laws::{
+    input_determines_output, lines_determine_answers, lines_have_answers,
+    unchanged_packages_are_equal,
+};
 pub use lines::{DeviceError, Input, Output};
 pub use program::{ProgramEnd, run_program};
 pub use publishing_laws::{published_load_is_found, published_texts_are_answers};

@@ -42,6 +42,7 @@ use std::sync::Wait;
 use std::thread::Threads;
 use texts::Memory;
 
+mod holding;
 mod publishing;
 
 /// What is answered to a request.
@@ -148,6 +149,9 @@ impl Session {
         ensures text { IfOk result
             (λ reply. answers.Tells (answers.IsRequestAnswer (request_seen request.now)
             (files_of self.old)) (string_bytes reply.text)) }
+        ensures held { OnOk result (request_refusal (request_seen request.now) ≡ None → AreHeld
+            (files_of self.old) (told_roots (request_seen request.now) (files_of self.old))
+            self.new.graph) }
         ensures moves { IfOk result
             (λ reply. Moves (request_effect (request_seen request.now) (state_of self.old)) self.old
             self.new reply.runs.items) }
@@ -172,6 +176,8 @@ impl Session {
         ensures text { IfOk result
             (λ reply. answers.Tells (answers.IsRequestAnswer (request_seen request.now)
             (files_of self.old)) (string_bytes reply.text)) }
+        ensures held { OnOk result (AreHeld (files_of self.old)
+            (told_roots (request_seen request.now) (files_of self.old)) self.new.graph) }
         ensures moves { IfOk result
             (λ reply. Moves (request_effect (request_seen request.now) (state_of self.old)) self.old
             self.new reply.runs.items) }
@@ -205,6 +211,9 @@ impl Session {
         ensures text { IfOk result
             (λ done. answers.Tells (answers.IsRequestAnswer (request_seen request.now)
             (files_of self.old)) (string_bytes done.1.text)) }
+        ensures held { OnOk result (request_refusal (request_seen request.now) ≡ None → AreHeld
+            (files_of self.old) (told_roots (request_seen request.now) (files_of self.old))
+            self.new.graph) }
         ensures moves { IfOk result
             (λ done. Moves (request_effect (request_seen request.now) (state_of self.old)) self.old
             self.new done.1.runs.items) }
@@ -241,6 +250,8 @@ impl Session {
         ensures text { IfOk result
             (λ done. answers.Tells (answers.IsRequestAnswer (request_seen request.now)
             (files_of self.old)) (string_bytes done.1.text)) }
+        ensures held { OnOk result (AreHeld (files_of self.old)
+            (told_roots (request_seen request.now) (files_of self.old)) self.new.graph) }
         ensures moves { IfOk result
             (λ done. Moves (request_effect (request_seen request.now) (state_of self.old)) self.old
             self.new done.1.runs.items) }
@@ -470,7 +481,7 @@ pub(crate) enum Step<'a> {
 fn refused_facts<'a>(word: Option<&'static str>, place: Option<usize>, code: u64) -> LineFacts<'a> {
     LineFacts {
         word,
-        outcome: LineOutcome::Refused(place, code),
+        outcome: LineOutcome::Refused { place, code },
     }
 }
 

@@ -58,6 +58,10 @@ module _ (next : Key → List Value → Reply Key Value) (read : Key → Option 
     pub lawful : IsLawfulFor next past.reads past.edits graph
     pub since : (k : Key) → IsSince graph k
 
+  -- the value of a record is that of the entry, which changed when it did then, or it changed in this call
+  abbrev pub TellsChange : GraphView → Key → Type 0
+  TellsChange graph k = (r s : Record Key Value) → record_at graph k ≡ Some r → record_at past.entry k ≡ Some s → ((s.value ≡ r.value) × (r.changed_at ≡ s.changed_at)) ⊎ ((r.changed_at ≡ past.entry.version) × (s.value ≢ r.value))
+
   -- from these answers on, the turns of k ask these groups, all but the last with grounded members
   pub data Asks : Key → List Value → List (List Key) → Type 0 where
     nothing : {k : Key} {a : List Value} → Asks k a []
@@ -151,10 +155,6 @@ module _ (next : Key → List Value → Reply Key Value) (read : Key → Option 
       by_check : {r : Record Key Value} → read k ≡ None → record_at past.entry k ≡ Some r → AreUnchanged graph r.settled_at r.groups → HasBacks k 0 cs → HasEnded graph k
       by_turns : IsRunToEnd graph k → HasEnded graph k
 
-    -- the value of a record is that of the entry, which changed when it did then, or it changed in this call
-    abbrev pub TellsChange : GraphView → Key → Type 0
-    TellsChange graph k = (r s : Record Key Value) → record_at graph k ≡ Some r → record_at past.entry k ≡ Some s → ((s.value ≡ r.value) × (r.changed_at ≡ s.changed_at)) ⊎ ((r.changed_at ≡ past.entry.version) × (s.value ≢ r.value))
-
     -- a key that was settled in this call
     pub record IsSettledTruly (graph : GraphView) (k : Key) : Type 0 where
       pub settled : Settled next cycle read (record_at past.entry) past.roots cs k
@@ -221,6 +221,7 @@ module _ (next : Key → List Value → Reply Key Value) (read : Key → Option 
     pub told : (k : Key) (r : Record Key Value) → record_at graph k ≡ Some r → IsTold runs k r
     pub behind : AreBehind graph runs
     pub closed : AreClosedLast runs
+    pub change : (k : Key) → TellsChange graph k
 
 -- where the state was true before, it is after these further choices, the newest first; and after want of memory the graph is as after a stop
 abbrev pub LeadsBy : {X E : Type 0} → List (Choice Key) → (Key → List Value → Reply Key Value) → (Key → Option Value) → GraphView → GraphView → Table → Table → Result X E → Type 0

@@ -22,7 +22,7 @@ use Rattle.node.specs.Writes.{stored}
 use Rattle.node.specs.declared.entry.Entry.{Entry}
 use Rattle.node.proofs.Lists.{some_is, none_some, true_false, in_split, in_left, in_right}
 use Rattle.open_nodes.specs.Nodes.{Records, node_at, groups_of, IsOpen, IsUnsettled, IsPlain, Stands}
-use Rattle.open_nodes.specs.Truths.{IsNext, Past, IsSince, IsAfter, IsDoing, IsOpenTruly, IsRunOf, run_keys, IsTold, AreBehind, AreClosedLast, IsTrueOf, IsTrueAtEnd}
+use Rattle.open_nodes.specs.Truths.{IsNext, Past, IsSince, IsAfter, IsDoing, IsOpenTruly, IsRunOf, run_keys, IsTold, AreBehind, AreClosedLast, TellsChange, IsTrueOf, IsTrueAtEnd}
 use Rattle.open_nodes.specs.declared.run.Run.{Run}
 use Rattle.open_nodes.specs.declared.table.Node.{Node}
 use Rattle.open_nodes.specs.declared.table.Phase.{Phase}
@@ -40,6 +40,7 @@ use Rattle.round.specs.Showing as showing
 use Rattle.round.specs.declared.closing.Closing.{Closing}
 use Rattle.round.specs.declared.closing.Stall.{Stall}
 use Rattle.open_nodes.proofs.Grouping.{clean_cycle, items_length}
+use Rattle.round.proofs.Seeking.{stored_change}
 use Rattle.round.proofs.Reaching.{AsksAfter, asks_last, check_asks}
 use Rattle.round.proofs.Stalls.{ComesBy, IsStopped, stop_among, stopped, all_closed, has_stop, is_stall}
 use Rattle.round.proofs.Walking.{chain_end}
@@ -367,6 +368,19 @@ module _ (old : GraphView) (start later : Table) (stall : Stall) (w : IsWholeNow
       | inr l ↦ (added_lost y (subst (In y) (sym l.2) (in_right l.0 (after i))), t.ascending l.0 rest x l.2 y i)
     ]
 
+    -- each record tells whether its value changed
+    closed_change : (k : Key) → TellsChange next read past new k
+    closed_change k = elim (decide_in k (keys_of entries)) [
+      | inl i ↦ let x = entry_of k i in subst (TellsChange next read past new) x.2
+          (stored_change next read laws past cs old start.nodes start.runs.items h new x.0.key (arc_value x.0.value) (asked x.0) (unsettled_entry x.0 x.1) (sets.there x.0 x.1))
+      | inr n ↦ elim (h.after.since k) [
+        | inl e ↦ λ r s f g.
+            let same : s ≡ r = some_is (sym g ∙ (sym e ∙ (sym (sets.others k n) ∙ f))) in
+            inl (ap (λ (z : Record Key Value). z.value) same, ap (λ (z : Record Key Value). z.changed_at) (sym same))
+        | inr c ↦ λ r s f g. (h.settled k c.4 (c.0, c.1, c.2)).change r s (sym (sets.others k n) ∙ f) g
+      ]
+    ]
+
     pub closed_end : IsTrueAtEnd next read past new later.runs.items
     closed_end = subst (λ (x : List Run). IsTrueAtEnd next read past new x) (sym t.runs) (record {
       after = closed_after;
@@ -378,4 +392,5 @@ module _ (old : GraphView) (start later : Table) (stall : Stall) (w : IsWholeNow
       ];
       behind = closed_behind;
       closed = closed_last;
+      change = closed_change;
     })

@@ -131,6 +131,7 @@ module _ (next : Key → List Value → Reply Key Value) (read : Key → Option 
     ];
     behind = t.behind;
     closed = t.closed;
+    change = t.change;
     over = λ k x. let c = all_settled next read laws past graph t.after root_clean k x.reached in unsettled_not_clean (record_at graph k) c.0 x.unsettled c.1 c.2;
   }
     where

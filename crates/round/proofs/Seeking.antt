@@ -69,7 +69,7 @@ module _ (next : Key → List Value → Reply Key Value) (read : Key → Option 
         late e = grind (arith, e)
 
     -- what is stored for a key tells whether its value changed
-    pub stored_change : (new : GraphView) (k : Key) (v : Value) (gs : List (List Key)) → IsUnsettled (record_at graph) k → record_at new k ≡ Some (stored (record_at graph k) v gs graph.version) → TellsChange next read past cs new k
+    pub stored_change : (new : GraphView) (k : Key) (v : Value) (gs : List (List Key)) → IsUnsettled (record_at graph) k → record_at new k ≡ Some (stored (record_at graph k) v gs graph.version) → TellsChange next read past new k
     stored_change new k v gs was there r s e f = go (is_change (record_at graph k) v graph.version)
       where
         is : stored (record_at graph k) v gs graph.version ≡ r

@@ -11,7 +11,7 @@ use Rattle.keys.specs.declared.value.Value.{Value}
 use Rattle.node.specs.Graphs.{GraphView, record_at, IsTouched}
 use Rattle.node.specs.Laws.{IsLawfulFor}
 use Rattle.open_nodes.specs.Nodes.{IsUnsettled, IsClean}
-use Rattle.open_nodes.specs.Truths.{Past, IsReached, IsAfter, IsRunOf, IsTold, AreBehind, AreClosedLast, run_keys}
+use Rattle.open_nodes.specs.Truths.{Past, IsReached, IsAfter, IsRunOf, IsTold, AreBehind, AreClosedLast, TellsChange, run_keys}
 use Rattle.open_nodes.specs.declared.run.Run.{Run}
 use Rattle.round.specs.declared.stop.Stop.{Stop}
 
@@ -50,6 +50,8 @@ module _ (next : Key → List Value → Reply Key Value) (read : Key → Option 
     pub behind : AreBehind next read past graph runs
     -- the nodes that a stall closed stand last, in the order of their keys
     pub closed : AreClosedLast next read past runs
+    -- the value of a record is that of the entry, which changed when it did then, or it changed in this call
+    pub change : (k : Key) → TellsChange next read past graph k
     -- no turn is to be made any more
     pub over : (k : Key) → WantsTurn past graph k → ⊥
 

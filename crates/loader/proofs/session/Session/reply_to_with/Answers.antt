@@ -4,7 +4,7 @@ use Rattle.loader.specs.Answers.{refused, IsValueOf, IsUnlessRefused, Tells}
 use Rattle.filetree.specs.Files.{Files}
 use Rattle.filetree.specs.Lawful.{HasPaths}
 use Rattle.commands.specs.Refusals.{request_refusal}
-use Rattle.loader.specs.Effects.{AreHeld}
+use Rattle.loader.specs.Effects.{AreHeld, told_roots}
 use Rattle.loader.specs.Sessions.{SessionView, files_of}
 use Rattle.loader.proofs.Steps.{on_err}
 use Rattle.loader.proofs.Requests.{text_told, held_in}
@@ -26,3 +26,9 @@ returns-clause-text g c =
 pub returns-in_err-line-clause-stopped : goal.returns-in_err-line-clause-stopped
 returns-in_err-line-clause-stopped g c =
     on_err _ (moved_stops (request_seen c.args.request.now) c.args.self.now c.evaluated_with.new.self c.in_ok-hands.runs.items c.in_ok-hands.ensures.moves)
+
+pub returns-clause-held : goal.returns-clause-held
+returns-clause-held g c =
+    let request = request_seen c.args.request.now in
+    let files = files_of c.args.self.now in
+    held_in files c.in_ok-hands.roots.items (told_roots request files) c.evaluated_with.new.self.graph c.evaluated_with.new.self.graph c.in_ok-hands.ensures.roots refl c.in_ok-hands.ensures.held

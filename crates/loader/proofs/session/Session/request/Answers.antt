@@ -4,6 +4,7 @@ use Rattle.loader.specs.Answers.{refused, IsValueOf, IsUnlessRefused, Tells}
 use Rattle.filetree.specs.Files.{Files}
 use Rattle.filetree.specs.Lawful.{HasPaths}
 use Rattle.commands.specs.Refusals.{request_refusal}
+use Rattle.node.proofs.Lists.{none_some}
 use Rattle.loader.specs.Effects.{AreHeld}
 use Rattle.loader.specs.Sessions.{SessionView, files_of}
 use Rattle.loader.proofs.Steps.{on_err}
@@ -16,3 +17,6 @@ returns-in-Some-clause-text c =
     let files = files_of c.args.self.now in
     let request = request_seen c.args.request.now in
     (refused c.in-Some.n, subst (λ (m : Option ℕ). IsUnlessRefused m (IsValueOf request files) (refused c.in-Some.n)) (sym (sym c.in_ok-n.ensures ∙ c.in-Some.is)) refl, c.in_ok-refused.ensures)
+
+pub returns-in-Some-clause-held : goal.returns-in-Some-clause-held
+returns-in-Some-clause-held c accepted = absurd (none_some (sym accepted ∙ sym c.in_ok-n.ensures ∙ c.in-Some.is))
