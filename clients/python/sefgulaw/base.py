@@ -14,6 +14,7 @@ from typing import Union
 from sefgulaw import disk, telling
 from sefgulaw.bridge.tree import Bridge
 from sefgulaw.disk import Ignore, Unreadable
+from sefgulaw.event_file import EventFile
 from sefgulaw.guilty import Guilty, Search
 from sefgulaw.mirror import Mirror, Progress, no_progress
 from sefgulaw.names import (
@@ -63,14 +64,16 @@ class Base:
         watch: Watch,
         progress: Progress = no_progress,
         read: Reader | None = None,
+        events: EventFile | None = None,
     ) -> None:
         self.root, self.options = root, options
+        self.events = events
         self._read = read or partial(disk.read, root)
         self.watch = watch
         self.progress = progress
         self.needs = Needs()
         self.store = Store()
-        self.mirror = Mirror(self.start_loader, self._source, self._guilty, self._show)
+        self.mirror = Mirror(self._start_own, self._source, self._guilty, self._show)
         self.bridge = Bridge(self, options.rules)
         self.odd: set[Path] = set()
         self.touched: set[str] = set()
@@ -88,10 +91,15 @@ class Base:
 
     @staticmethod
     def open_watched(
-        root: bytes, options: Options, say: Callable[[str], None], progress: Progress = no_progress
+        root: bytes,
+        options: Options,
+        say: Callable[[str], None],
+        progress: Progress = no_progress,
+        events: EventFile | None = None,
     ) -> Base:
         """Opens a tree that is kept up by the kernel's events, where there are such."""
-        return Base(root, options, FallBack(root, options.ignore, say), progress)
+        watch = FallBack(root, options.ignore, say)
+        return Base(root, options, watch, progress, events=events)
 
     def close(self) -> None:
         """Ends the loader and the watch."""
@@ -102,6 +110,17 @@ class Base:
     def start_loader(self) -> Loader:
         """Starts a loader that was told nothing, with the same options as the base's own."""
         return Loader.start([self.options.program], self.options.workers, self.options.deadline)
+
+    def _start_own(self) -> Loader:
+        """Starts the base's own loader, which alone writes events."""
+        options = self.options
+        words = [] if self.events is None else self.events.begin()
+        return Loader.start([options.program], options.workers, options.deadline, words)
+
+    def look_at_events(self) -> None:
+        """Sees whether the loader could write its events up to here."""
+        if self.events is not None:
+            self.events.look(self.mirror.answered)
 
     # What is on disk.
 

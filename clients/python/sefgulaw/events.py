@@ -1,13 +1,22 @@
-"""What a loader tells of its lines in the file of its option `--events`."""
+"""What a loader tells of its lines in the file of its option `--events`.
+
+Such a file may be larger than the memory, so nothing here holds it whole. It is read line by line,
+from its first line or from its last one.
+"""
 
 from __future__ import annotations
 
 import json
-from bisect import bisect_right
-from collections.abc import Iterable
-from dataclasses import dataclass, field
+import os
+import shutil
+import tempfile
+from collections.abc import Iterator, Mapping
+from dataclasses import dataclass
+from typing import BinaryIO, cast
 
 LEAVES = ("file ", "listing //")
+
+_PIECE = 1 << 20
 
 
 class BadEvents(Exception):
@@ -28,7 +37,7 @@ class Run:
     @property
     def is_leaf(self) -> bool:
         """Tells whether the key is a file or the names in a directory, which are read."""
-        return self.key.startswith(LEAVES)
+        return is_leaf(self.key)
 
 
 @dataclass(frozen=True)
@@ -40,89 +49,140 @@ class Edit:
     paths: tuple[str, ...]
 
 
-@dataclass
-class Events:
-    """The runs of each key and the edits, in the order of their lines."""
+@dataclass(frozen=True)
+class Event:
+    """What one line came to. Its runs are read one by one, since mostly few of them are needed."""
 
-    runs: dict[str, list[Run]] = field(default_factory=dict)
-    edits: list[Edit] = field(default_factory=list)
-    is_cut: bool = False
+    line: int
+    version: int
+    edit: Edit | None
+    raw_runs: Mapping[str, Mapping[str, object]]
 
-    def newest(self, key: str, line: int | None) -> Run | None:
-        """Returns the last run of a key at a line or before it, or its last run of all."""
-        runs = self.runs.get(key, [])
-        end = len(runs) if line is None else bisect_right([run.line for run in runs], line)
-        return runs[end - 1] if end else None
-
-    def before(self, run: Run) -> Run | None:
-        """Returns the run of the same key before this one."""
-        return self.newest(run.key, run.line - 1)
-
-    def touching(self, run: Run) -> list[Edit]:
-        """Returns the edits that touch a leaf, since it was read before and up to its reading."""
-        before = self.before(run)
-        first = 0 if before is None else before.line
-        near = (edit for edit in self.edits if first < edit.line < run.line)
-        return [edit for edit in near if any(_touches(path, run.key) for path in edit.paths)]
-
-    def of_line(self, line: int) -> list[Run]:
-        """Returns the runs of a line, in no order that matters."""
-        return [run for runs in self.runs.values() for run in runs if run.line == line]
-
-
-def read(lines: Iterable[bytes]) -> Events:
-    """Reads the lines of a file of events.
-
-    A last line that has no end was cut off, since its loader was ended: it is left out. Raises
-    BadEvents where another line is no event.
-    """
-    events = Events()
-    for number, line in enumerate(lines, 1):
-        if not line.endswith(b"\n"):
-            events.is_cut = True
-            break
+    def run(self, key: str) -> Run:
+        """Returns the run of a key that has one here."""
+        raw = self.raw_runs[key]
         try:
-            _add(events, json.loads(line))
-        except (ValueError, KeyError, TypeError, AttributeError):
-            raise BadEvents(f"line {number} is no event") from None
-    return events
-
-
-def _add(events: Events, told: dict[str, object]) -> None:
-    line, version = _number(told["line"]), _number(told["version"])
-    paths, runs = told.get("paths"), told.get("runs")
-    if paths is not None:
-        events.edits.append(Edit(line, version, _texts(paths)))
-    if runs is not None:
-        if not isinstance(runs, list):
-            raise TypeError(runs)
-        for run in runs:
-            causes = run.get("causes")
-            found = Run(
-                line,
-                version,
-                str(run["key"]),
-                _number(run["turns"]),
-                bool(run["changed"]),
+            causes = raw.get("causes")
+            return Run(
+                self.line,
+                self.version,
+                key,
+                _number(raw["turns"]),
+                _truth(raw["changed"]),
                 None if causes is None else _texts(causes),
             )
-            events.runs.setdefault(found.key, []).append(found)
+        except (KeyError, TypeError, ValueError):
+            raise BadEvents(f"the run of {key} in the event of line {self.line} is none") from None
+
+    def runs(self) -> Iterator[Run]:
+        """Yields all runs of the line."""
+        return map(self.run, self.raw_runs)
 
 
-def _number(value: object) -> int:
-    if not isinstance(value, int):
-        raise TypeError(value)
-    return value
+def is_leaf(key: str) -> bool:
+    """Tells whether a key is that of a file or of the names in a directory."""
+    return key.startswith(LEAVES)
 
 
-def _texts(value: object) -> tuple[str, ...]:
-    if not isinstance(value, list) or not all(isinstance(text, str) for text in value):
-        raise TypeError(value)
-    return tuple(value)
-
-
-def _touches(path: str, leaf: str) -> bool:
+def touches(path: str, leaf: str) -> bool:
+    """Tells whether an edit of a path can change what a leaf reads."""
     if leaf.startswith(LEAVES[0]):
         return leaf[len(LEAVES[0]) :] == path
     directory = leaf[len(LEAVES[1]) :]
     return not directory or path.startswith(directory + "/")
+
+
+class EventReader:
+    """Reads a file of events. A file that has no places, as a pipe, is copied to disk first.
+
+    A last line that has no end was cut off, since its loader was ended or could not write on. It is
+    left out, and `is_cut` says so once it was come to.
+    """
+
+    def __init__(self, file: BinaryIO) -> None:
+        self.is_cut = False
+        self._file = file
+        if not file.seekable():
+            self._file = cast(BinaryIO, tempfile.TemporaryFile())
+            shutil.copyfileobj(file, self._file)
+
+    def forward(self) -> Iterator[Event]:
+        """Yields the events from the first one on. Raises BadEvents where a line is none."""
+        self._file.seek(0)
+        for number, line in enumerate(self._file, 1):
+            if not line.endswith(b"\n"):
+                self.is_cut = True
+                return
+            event = _event(line)
+            if event is None:
+                raise BadEvents(f"line {number} is no event")
+            yield event
+
+    def backward(self) -> Iterator[Event]:
+        """Yields the events from the last one on. Raises BadEvents where a line is none."""
+        lines = _lines_from_the_end(self._file)
+        self.is_cut = next(lines) != b""
+        for line in lines:
+            event = _event(line)
+            if event is None:
+                for _ in self.forward():
+                    pass
+                raise BadEvents("it has changed while it was read")
+            yield event
+
+
+def _lines_from_the_end(file: BinaryIO) -> Iterator[bytes]:
+    """Yields what stands behind the last end of a line, and then the lines, the last one first."""
+    at = file.seek(0, os.SEEK_END)
+    pieces: list[bytes] = []
+    while at:
+        size = min(at, _PIECE)
+        at -= size
+        file.seek(at)
+        lines = file.read(size).split(b"\n")
+        pieces.append(lines[-1])
+        if len(lines) > 1:
+            yield b"".join(reversed(pieces))
+            yield from reversed(lines[1:-1])
+            pieces = [lines[0]]
+    yield b"".join(reversed(pieces))
+
+
+def _event(line: bytes) -> Event | None:
+    """Reads a line. None says that it is no event."""
+    try:
+        told = json.loads(line)
+        number, version = _number(told["line"]), _number(told["version"])
+        edit, raw_runs = None, {}
+        if "paths" in told:
+            edit = Edit(number, version, _texts(told["paths"]))
+        if "runs" in told:
+            raw_runs = {_text(run["key"]): run for run in told["runs"]}
+        return Event(number, version, edit, raw_runs)
+    except (ValueError, KeyError, TypeError, AttributeError, RecursionError):
+        return None
+
+
+def _number(value: object) -> int:
+    if not isinstance(value, int) or isinstance(value, bool) or value < 0:
+        raise TypeError(value)
+    return value
+
+
+def _truth(value: object) -> bool:
+    if not isinstance(value, bool):
+        raise TypeError(value)
+    return value
+
+
+def _text(value: object) -> str:
+    if not isinstance(value, str):
+        raise TypeError(value)
+    value.encode("utf-8")
+    return value
+
+
+def _texts(value: object) -> tuple[str, ...]:
+    if not isinstance(value, list):
+        raise TypeError(value)
+    return tuple(_text(text) for text in value)

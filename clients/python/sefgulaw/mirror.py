@@ -97,6 +97,11 @@ class Mirror:
         """The number of the loader's process, where one runs."""
         return None if self._loader is None else self._loader.pid
 
+    @property
+    def answered(self) -> int:
+        """How many lines the running loader has answered."""
+        return 0 if self._loader is None else self._loader.answered
+
     def close(self) -> None:
         """Ends the loader."""
         if self._loader is not None:

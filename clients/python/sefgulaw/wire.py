@@ -25,6 +25,8 @@ LONGEST_LINE = 1_048_576
 LONGEST_TEXT = 262_144
 MOST_NAMES = 256
 MOST_EDITS = 256
+EVENTS_FAILED = "events: write"
+"""What the loader says at its end, last of all, where it could not write all its events."""
 
 Why = Literal["memory", "budget", "read", "write", "killed", "deadline"]
 
@@ -153,7 +155,10 @@ def _checked(words: str) -> bytes:
 
 
 class Loader:
-    """A running loader. `deadline` is how many seconds an answer may take; None is any time."""
+    """A running loader. `deadline` is how many seconds an answer may take; None is any time.
+
+    `answered` is the number of lines that it has answered.
+    """
 
     def __init__(self, process: subprocess.Popen[bytes], deadline: float | None) -> None:
         assert process.stdin and process.stdout and process.stderr
@@ -161,6 +166,7 @@ class Loader:
         self._process = process
         self._in, self._out, self._err = process.stdin, process.stdout, process.stderr
         self._left = b""
+        self.answered = 0
         for stream in (self._in, self._out):
             try:
                 fcntl.fcntl(stream, _SET_PIPE_SIZE, _CHUNK)
@@ -169,9 +175,14 @@ class Loader:
         os.set_blocking(self._in.fileno(), False)
 
     @staticmethod
-    def start(program: Sequence[str], workers: int = 1, deadline: float | None = None) -> Loader:
-        """Starts the loader's program with this many worker threads."""
-        words = [*program, "run", "--workers", str(workers)]
+    def start(
+        program: Sequence[str],
+        workers: int = 1,
+        deadline: float | None = None,
+        options: Sequence[str] = (),
+    ) -> Loader:
+        """Starts the loader's program with this many worker threads, and with further options."""
+        words = [*program, "run", "--workers", str(workers), *options]
         pipe = subprocess.PIPE
         try:
             process = subprocess.Popen(
@@ -195,7 +206,9 @@ class Loader:
         """Sends one line that ends with byte 10, and returns its answer without that byte."""
         until = None if self.deadline is None else time.monotonic() + self.deadline
         self._write(line, until)
-        return self._read(until)
+        answer = self._read(until)
+        self.answered += 1
+        return answer
 
     def close(self) -> int:
         """Ends the input, waits for the program's end, and returns its status."""
@@ -260,9 +273,9 @@ class Loader:
             self._process.kill()
         status = self._process.wait()
         words = b"" if self._err.closed else self._err.read()
-        text = words.decode("utf-8", "replace").strip()
+        said = words.decode("utf-8", "replace").strip().split("\n")
         self.close()
-        last = text.rpartition("\n")[2]
+        last = next((it for it in reversed(said) if it != EVENTS_FAILED), "")
         known: dict[str, Why] = {
             "stop: memory": "memory",
             "stop: budget": "budget",

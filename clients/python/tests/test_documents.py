@@ -229,9 +229,7 @@ def test_the_other_recipes_run(tree: Make, run: Runner, tmp_path: Path) -> None:
     root.write("lib/BUILD", 'filegroup(name = "base", tags = ["x"])\n')
     environment = with_command(run, tmp_path)
     words = [run.loader, "run", "--events", "events.jsonl"]
-    subprocess.run(
-        words, cwd=root.path, input=b"".join(COMMANDS), capture_output=True, check=True
-    )
+    subprocess.run(words, cwd=root.path, input=b"".join(COMMANDS), capture_output=True, check=True)
     for title, expected in RECIPES.items():
         printed = []
         for recipe in recipes_of(title):

@@ -4,14 +4,12 @@ from __future__ import annotations
 
 import json
 import subprocess
-from collections.abc import Callable
 from pathlib import Path
 
 import pytest
-from conftest import Runner
+from conftest import Done, Runner
 
-from sefgulaw.events import BadEvents, Events, read
-from sefgulaw.explain import chain, text_lines
+from sefgulaw.events import EventReader
 
 LOAD = 'load("//m:x.bzl", "V")\nfilegroup(name = "t", tags = V)\n'
 A: dict[str, object] = {"op": "load", "names": ["a"]}
@@ -46,6 +44,8 @@ package //a  ran at line 12, version 8; last at version 4; 4 turns; value change
       file m/y.bzl  changed by the edits of lines 8, 11
 """
 
+TOP_ALONE = "--line, --all and --output graph go with a key, and not with --top"
+
 
 @pytest.fixture
 def events(loader: str, tmp_path: Path) -> Path:
@@ -68,12 +68,19 @@ def test_the_chain_of_a_script(run: Runner, events: Path, tmp_path: Path) -> Non
     )
 
 
-def test_a_value_that_stays_equal_stops_the_chain(events: Path) -> None:
+def test_a_value_that_stays_equal_stops_the_chain(
+    run: Runner, events: Path, tmp_path: Path
+) -> None:
     with open(events, "rb") as file:
-        found = read(file)
-    ran = {run.key for run in found.of_line(7)}
-    assert ran == {"file m/y.bzl", "module //m:y.bzl"}
-    assert [run.line for run in found.runs["module //m:x.bzl"]] == [5, 12, 14]
+        found = list(EventReader(file).forward())
+    assert set(found[6].raw_runs) == {"file m/y.bzl", "module //m:y.bzl"}
+    lines = [event.line for event in found if "module //m:x.bzl" in event.raw_runs]
+    assert lines == [5, 12, 14]
+    words = ["file m/y.bzl", "--events", str(events), "--line", "7", "--all"]
+    assert run("explain", *words, cwd=tmp_path).lines == [
+        "file m/y.bzl  changed by the edit of line 6",
+        "  module //m:y.bzl  equal",
+    ]
 
 
 def test_each_line_has_an_event(events: Path) -> None:
@@ -100,9 +107,14 @@ def test_the_keys_with_most_turns(run: Runner, events: Path, tmp_path: Path) -> 
     ("words", "status", "said"),
     [
         (["//z"], 2, "package //z: the events have no run of it"),
+        (["pakage //a"], 2, "file pakage //a: the events have no run of it"),
         (["//a", "--line", "1"], 2, "package //a: the events have no run of it up to line 1"),
         ([], 2, "explain takes a key, or --top"),
         (["//a", "--top", "3"], 2, "explain takes a key, or --top"),
+        (["--top", "3", "--all"], 2, TOP_ALONE),
+        (["--top", "3", "--line", "4"], 2, TOP_ALONE),
+        (["--top", "3", "--output", "graph"], 2, TOP_ALONE),
+        (["//a", "--all", "--output", "graph"], 2, "--all goes with --output text"),
     ],
 )
 def test_words_that_have_no_answer(
@@ -112,64 +124,40 @@ def test_words_that_have_no_answer(
     assert (done.status, done.out, done.err.decode()) == (status, b"", f"sefgulaw: {said}\n")
 
 
-def test_a_file_that_is_no_file_of_events(run: Runner, tmp_path: Path) -> None:
+def test_words_that_cannot_be_read(run: Runner, tmp_path: Path) -> None:
+    for words in (["--line", "0"], ["--line", "x"], ["--top", "-1"], ["--output", "xml"]):
+        done = run("explain", "//a", "--events", "no", *words, cwd=tmp_path)
+        assert (done.status, done.out) == (2, b"") and words[0] in done.words[-1]
+
+
+def test_files_that_are_no_files_of_events(run: Runner, tmp_path: Path) -> None:
     (tmp_path / "no").write_text('{"line":1,"version":0}\nnonsense\n')
-    done = run("explain", "//a", "--events", "no", cwd=tmp_path)
-    assert (done.status, done.err) == (3, b"sefgulaw: no: line 2 is no event\n")
-    done = run("explain", "//a", "--events", "absent", cwd=tmp_path)
-    assert (done.status, done.err) == (3, b"sefgulaw: absent: No such file or directory\n")
+    (tmp_path / "empty").write_text("")
+    for name, said in (
+        ("no", "line 2 is no event"),
+        ("empty", "there are no events in it"),
+        ("absent", "No such file or directory"),
+        (".", "Is a directory"),
+    ):
+        for words in (["//a"], ["--top", "3"]):
+            done = run("explain", *words, "--events", name, cwd=tmp_path)
+            assert done == Done(3, b"", f"sefgulaw: {name}: {said}\n".encode())
 
 
-def line_of(**members: object) -> bytes:
-    return json.dumps(members).encode() + b"\n"
+def test_half_a_line_at_the_end_is_told(run: Runner, events: Path, tmp_path: Path) -> None:
+    raw = events.read_bytes()
+    events.write_bytes(raw[:-10])
+    words = ["explain", "package //a", "--events", str(events)]
+    done = run(*words, cwd=tmp_path)
+    assert (done.status, done.out.decode()) == (0, EXPECTED)
+    assert done.err.decode() == f"sefgulaw: {events}: the last line is not whole and is left out\n"
+    assert run(*words, "-q", cwd=tmp_path) == Done(0, EXPECTED.encode(), b"")
 
 
-def test_a_last_line_that_was_cut_off_is_left_out() -> None:
-    whole = line_of(line=1, version=1, op="put", paths=["a/BUILD"])
-    found = read([whole, b'{"line":2,"ver'])
-    assert (len(found.edits), found.is_cut) == (1, True)
-    with pytest.raises(BadEvents, match="line 1 is no event"):
-        read([b'{"line":2,"ver\n'])
-
-
-def run_of(key: str, **members: object) -> dict[str, object]:
-    return {"key": key, "turns": 2, "changed": True, **members}
-
-
-def explained(events: Events, key: str) -> list[str]:
-    return list(text_lines(chain(events, key, None)))
-
-
-def test_a_cause_with_two_ways_is_told_once() -> None:
-    runs = [
-        run_of("file x", causes=[], turns=0),
-        run_of("module //:x.bzl", causes=["file x"]),
-        run_of("module //:y.bzl", causes=["module //:x.bzl"]),
-        run_of("package //", causes=["module //:x.bzl", "module //:y.bzl", "module //:z.bzl"]),
-    ]
-    found = read(
-        [
-            line_of(line=1, version=1, op="put", paths=["x"]),
-            line_of(line=2, version=1, op="load", runs=runs),
-        ]
-    )
-    assert explained(found, "package //") == [
-        "package //  ran at line 2, version 1; for the first time; 2 turns; value changed",
-        "  module //:x.bzl  changed at version 1",
-        "    file x  changed by the edit of line 1",
-        "  module //:y.bzl  changed at version 1",
-        "    module //:x.bzl  changed at version 1, see above",
-        "  module //:z.bzl  changed before these events begin",
-    ]
-
-
-def test_a_listing_is_touched_by_what_lies_below_it() -> None:
-    make: Callable[..., dict[str, object]] = run_of
-    found = read(
-        [
-            line_of(line=1, version=1, op="put", paths=["a/b/c"]),
-            line_of(line=2, version=2, op="put", paths=["ab/c"]),
-            line_of(line=3, version=2, op="load", runs=[make("listing //a", causes=[], turns=0)]),
-        ]
-    )
-    assert explained(found, "listing //a") == ["listing //a  changed by the edit of line 1"]
+def test_a_full_disk(run: Runner, events: Path, tmp_path: Path) -> None:
+    words = ["explain", "//a", "--events", str(events), "--output", "graph"]
+    with open("/dev/full", "wb") as full:
+        process = run.start(*words, cwd=tmp_path, stdout=full.fileno())
+        _, err = process.communicate(timeout=60)
+    said = b"sefgulaw: standard output: No space left on device\n"
+    assert (process.returncode, err) == (3, said)

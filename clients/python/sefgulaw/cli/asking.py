@@ -42,8 +42,11 @@ def where(found: argparse.Namespace) -> Where:
     return Where(root, cwd, getattr(found, "loader", None), is_direct)
 
 
-def connected(at: Where, starts: bool) -> tuple[Client, Hello] | None:
-    """Returns a connection with the daemon, which is started if it may be. None is no daemon."""
+def connected(at: Where, starts: bool, events: str | None = None) -> tuple[Client, Hello] | None:
+    """Returns a connection with the daemon, which is started if it may be. None is no daemon.
+
+    `events` is the file to which a daemon that is started writes events.
+    """
     place = Place(at.root)
     loader = find_loader(at.loader)
     found = connect(place)
@@ -54,7 +57,7 @@ def connected(at: Where, starts: bool) -> tuple[Client, Hello] | None:
             raise Failure(NO_ANSWER, no_loader(at.loader))
         from sefgulaw.daemon.start import started
 
-        found = started(place, at.root, loader)
+        found = started(place, at.root, loader, events)
     if loader is None and named_loader(at.loader):
         raise Failure(NO_ANSWER, no_loader(at.loader))
     return Client(found), hello(loader)

@@ -8,7 +8,7 @@ import os
 import time
 
 from sefgulaw.cli.asking import Where, connected, where
-from sefgulaw.cli.output import NO_ANSWER, Failure, Output, say
+from sefgulaw.cli.output import BAD_WORDS, NO_ANSWER, Failure, Output, say
 from sefgulaw.daemon.client import Client, Lost, Other, connect
 from sefgulaw.daemon.place import Place
 from sefgulaw.plain import Members
@@ -20,8 +20,10 @@ def daemon(found: argparse.Namespace) -> int:
     """Starts, stops or shows the daemon of a tree."""
     at = where(found)
     word = found.word
+    if found.events is not None and word != "start":
+        raise Failure(BAD_WORDS, f"--events goes with start, and not with {word}")
     if word == "start":
-        return _start(at)
+        return _start(at, found)
     if word == "stop":
         return _stop(at)
     if word == "log":
@@ -29,26 +31,57 @@ def daemon(found: argparse.Namespace) -> int:
     return _status(at)
 
 
-def _start(at: Where) -> int:
+def _start(at: Where, found: argparse.Namespace) -> int:
+    events = None if found.events is None else os.path.abspath(found.events)
     for _ in range(2):
-        pair = connected(at, True)
+        pair = connected(at, True, events)
         assert pair is not None
         client, greeting = pair
         try:
-            for _reply in client.ask("status", None, greeting):
-                pass
-            return 0
+            items = [it.item for it in client.ask("status", None, greeting) if it.item is not None]
         except (Lost, Other):
             continue
         finally:
             client.close()
+        if events is not None:
+            _check_events(json.loads(items[0]), events)
+            if _is_seen(at.root, events) and not hasattr(found, "quiet"):
+                say(f"{found.events} lies in the tree, where globs see it")
+        return 0
     raise Failure(NO_ANSWER, "the daemon has ended again")
+
+
+def _check_events(state: Members, events: str) -> None:
+    """Fails where the daemon, which may have run before, does not write its events there."""
+    again = "end it by 'sefgulaw daemon stop' and start it again"
+    if not state.get("events"):
+        raise Failure(NO_ANSWER, f"a daemon runs that writes no events: {again}")
+    if os.path.realpath(str(state["events"])) != os.path.realpath(events):
+        words = f"a daemon runs that writes its events to {state['events']}"
+        raise Failure(NO_ANSWER, f"{words}: {again}")
+    if state["events_fault"]:
+        raise Failure(NO_ANSWER, f"{events}: {state['events_fault']}: {again}")
+
+
+def _is_seen(root: bytes, events: str) -> bool:
+    """Tells whether a file lies in the tree and in no directory that is not looked at."""
+    from sefgulaw.cli.direct import settings_of
+
+    path = os.path.relpath(os.fsencode(os.path.realpath(events)), root)
+    if path.startswith(b"../"):
+        return False
+    ignored = settings_of(root).ignored
+    while path := os.path.dirname(path):
+        if ignored.covers(path):
+            return False
+    return True
 
 
 def _stop(at: Where) -> int:
     place = Place(at.root)
     connection = connect(place)
     if connection is None:
+        place.forget_events()
         say("no daemon runs")
         return 0
     client = Client(connection)
@@ -85,14 +118,15 @@ def _status(at: Where) -> int:
     connection = connect(Place(at.root))
     output = Output()
     if connection is None:
-        output.line(os.fsencode(f"{_home(at.root)}: no daemon runs"))
+        output.line(os.fsencode(f"{home(os.fsdecode(at.root))}: no daemon runs"))
         output.flush()
         return 0
     client = Client(connection)
     try:
         for reply in client.ask("status", None, None):
             if reply.item is not None:
-                line = f"{_home(at.root)}: {status_text(json.loads(reply.item))}"
+                shown = status_text(json.loads(reply.item))
+                line = f"{home(os.fsdecode(at.root))}: {shown}"
                 output.line(os.fsencode(line))
     except Lost:
         raise Failure(NO_ANSWER, "the daemon has just ended") from None
@@ -102,10 +136,10 @@ def _status(at: Where) -> int:
     return 0
 
 
-def _home(root: bytes) -> str:
-    home = os.path.expanduser("~")
-    name = os.fsdecode(root)
-    return "~" + name[len(home) :] if home != "/" and name.startswith(home + "/") else name
+def home(name: str) -> str:
+    """Returns a path as a person writes it, with `~` for the home directory."""
+    at = os.path.expanduser("~")
+    return "~" + name[len(at) :] if at != "/" and name.startswith(at + "/") else name
 
 
 def status_text(state: Members) -> str:
@@ -123,9 +157,19 @@ def status_text(state: Members) -> str:
         words.append(_count(state["restarts"], "restart"))
     if state.get("differences"):
         words.append(f"{_count(state['differences'], 'difference')} found, see the log")
+    if state.get("events"):
+        words.append(_events_text(state))
     minutes = max(0, round(_number(state["idle_seconds"]) / 60))
     words.append(f"stops after {_count(minutes, 'minute')}")
     return ", ".join(words)
+
+
+def _events_text(state: Members) -> str:
+    """Returns what a person is shown of the file of events."""
+    name = home(str(state["events"]))
+    if state["events_fault"]:
+        return f"events to {name} are not complete ({state['events_fault']})"
+    return f"events to {name} ({_number(state['events_size']) / 1_000_000:,.1f} MB)"
 
 
 def _number(value: object) -> int:

@@ -3,62 +3,117 @@
 from __future__ import annotations
 
 import argparse
+import json
 import os
 from collections.abc import Iterator
 
+from sefgulaw.cli.asking import where
 from sefgulaw.cli.output import BAD_WORDS, NO_ANSWER, Failure, Output, say
-from sefgulaw.events import BadEvents, Events, read
+from sefgulaw.daemon.client import Client, Lost, connect
+from sefgulaw.daemon.place import Place
+from sefgulaw.event_file import earlier
+from sefgulaw.events import BadEvents, EventReader
 from sefgulaw.explain import (
-    Cause,
+    History,
+    NoEvents,
     NoRun,
     chain,
     equal_lines,
     graph_lines,
-    key_of,
+    history_of,
+    keys_of,
+    shown,
     text_lines,
     top_lines,
 )
 
+_START = "'sefgulaw daemon start --events FILE'"
+
 
 def explain(found: argparse.Namespace) -> int:
     """Prints the chain of causes of one run, or the keys with most turns."""
-    if (found.key is None) == (found.top is None):
-        raise Failure(BAD_WORDS, "explain takes a key, or --top")
-    events = _events(found.events)
-    if events.is_cut:
-        say(f"{found.events}: the last line is not whole and is left out")
+    _check_words(found)
+    name = found.events
+    if name is None:
+        name, fault = _events_of_daemon(found)
+        if fault and not hasattr(found, "quiet"):
+            say(f"{name}: {fault}")
     output = Output()
-    for line in _lines(events, found):
-        output.line(os.fsencode(line))
-    output.flush()
-    return 0
-
-
-def _events(name: str) -> Events:
     try:
         with open(name, "rb") as file:
-            return read(file)
+            reader = EventReader(file)
+            for line in _lines(reader, found, name):
+                output.line(line.encode("utf-8", "surrogateescape"))
     except OSError as error:
         raise Failure(NO_ANSWER, f"{name}: {error.strerror}") from None
     except BadEvents as error:
         raise Failure(NO_ANSWER, f"{name}: {error}") from None
+    except NoEvents as error:
+        raise Failure(NO_ANSWER, f"{name}: {error}{_earlier(name)}") from None
+    output.flush()
+    if reader.is_cut and not hasattr(found, "quiet"):
+        say(f"{name}: the last line is not whole and is left out")
+    return 0
 
 
-def _lines(events: Events, found: argparse.Namespace) -> Iterator[str]:
-    if found.top is not None:
-        return top_lines(events, found.top)
-    key = key_of(found.key)
+def _check_words(found: argparse.Namespace) -> None:
+    if (found.key is None) == (found.top is None):
+        raise Failure(BAD_WORDS, "explain takes a key, or --top")
+    is_graph = found.output == "graph"
+    if found.top is not None and (found.line is not None or found.all or is_graph):
+        raise Failure(
+            BAD_WORDS, "--line, --all and --output graph go with a key, and not with --top"
+        )
+    if found.all and is_graph:
+        raise Failure(BAD_WORDS, "--all goes with --output text")
+
+
+def _events_of_daemon(found: argparse.Namespace) -> tuple[str, str]:
+    """Returns the file to which the tree's daemon writes events, and what is wrong with it."""
+    at = where(found)
+    connection = connect(Place(at.root))
+    if connection is None:
+        words = f"no daemon runs for {os.fsdecode(at.root)}: name a file by --events FILE"
+        raise Failure(NO_ANSWER, f"{words}, or start a daemon by {_START}")
+    client = Client(connection)
     try:
-        cause = chain(events, key, found.line)
+        items = [reply.item for reply in client.ask("status", None, None) if reply.item]
+    except Lost:
+        raise Failure(NO_ANSWER, "the daemon has just ended") from None
+    finally:
+        client.close()
+    state = json.loads(items[0]) if items else {}
+    if not state.get("events"):
+        words = f"the daemon of {os.fsdecode(at.root)} writes no events: end it by"
+        raise Failure(NO_ANSWER, f"{words} 'sefgulaw daemon stop' and start it by {_START}")
+    return str(state["events"]), str(state["events_fault"])
+
+
+def _earlier(name: str) -> str:
+    """Tells where the events of the loader before this one are, if they are kept."""
+    try:
+        files = earlier(name)
+    except OSError:
+        return ""
+    return f"; {files[-1]} has those of the loader before" if files else ""
+
+
+def _lines(reader: EventReader, found: argparse.Namespace, name: str) -> Iterator[str]:
+    if found.top is not None:
+        return top_lines(reader, found.top)
+    keys = keys_of(found.key)
+    try:
+        history = history_of(reader, keys, found.line)
     except NoRun:
-        where = "" if found.line is None else f" up to line {found.line}"
-        raise Failure(BAD_WORDS, f"{key}: the events have no run of it{where}") from None
+        at = "" if found.line is None else f" up to line {found.line}"
+        words = f"{shown(keys[0])}: the events have no run of it{at}{_earlier(name)}"
+        raise Failure(BAD_WORDS, words) from None
     if found.output == "graph":
-        return graph_lines(cause)
-    return _text(events, found, cause)
+        return graph_lines(chain(history))
+    return _text(history, found.all)
 
 
-def _text(events: Events, found: argparse.Namespace, cause: Cause) -> Iterator[str]:
-    yield from text_lines(cause)
-    if found.all:
-        yield from equal_lines(events, cause)
+def _text(history: History, has_equal: bool) -> Iterator[str]:
+    yield from text_lines(chain(history))
+    if has_equal:
+        yield from equal_lines(history)

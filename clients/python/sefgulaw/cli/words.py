@@ -90,6 +90,8 @@ def parser() -> argparse.ArgumentParser:
     bridge.add_argument("--json", action="store_true", help="a line of JSON for each file")
     daemon = commands.add_parser("daemon", parents=[common], help="look after the daemon")
     daemon.add_argument("word", choices=DAEMON_WORDS)
+    words = "with start: the file to which the daemon's loader writes events"
+    daemon.add_argument("--events", metavar="FILE", help=words)
     completion = commands.add_parser("completion", help="print the completion of a shell")
     completion.add_argument("shell", choices=SHELLS)
     return top
@@ -116,8 +118,8 @@ def _add_graph_commands(commands: argparse._SubParsersAction[_Parser], common: _
     explain = commands.add_parser("explain", parents=[common], help=words, description=words)
     words = "a key as the events have it, or a label, a package or a path"
     explain.add_argument("key", nargs="?", metavar="KEY", help=words)
-    words = "the file that the loader or the daemon wrote with --events"
-    explain.add_argument("--events", required=True, metavar="FILE", help=words)
+    words = "the file that a loader wrote with --events, in place of the one of the tree's daemon"
+    explain.add_argument("--events", metavar="FILE", help=words)
     words = "the run at this line of the loader's input, or the last one before it"
     explain.add_argument("--line", type=_line_number, metavar="N", help=words)
     words = "also print what was read or run at that line with an equal value"

@@ -177,7 +177,7 @@ class Connection:
         if method not in METHODS and method not in _OWN_METHODS:
             raise BadWords(f"there is no method {method}")
         if method == "stop":
-            self._server.end("it was told to stop")
+            self._server.stop()
             return End(0, 0)
         if method == "status":
             return await self._status(number)

@@ -12,6 +12,7 @@ from typing import TypeVar
 
 from sefgulaw.answers import Answers
 from sefgulaw.base import Base, Options
+from sefgulaw.event_file import EventFile
 from sefgulaw.mirror import BrokenLoader
 from sefgulaw.names import Pattern, encode
 from sefgulaw.overlay import Overlay
@@ -49,8 +50,8 @@ class Keeper:
     All methods but `progress_to` and `state` run in the thread that owns the tree.
     """
 
-    def __init__(self, root: bytes, options: Options) -> None:
-        self.root, self.options = root, options
+    def __init__(self, root: bytes, options: Options, events: EventFile | None = None) -> None:
+        self.root, self.options, self.events = root, options, events
         self.asked_at = time.monotonic()
         self.differences = 0
         self._tree: Tree | None = None
@@ -60,6 +61,7 @@ class Keeper:
         self._told_at = 0.0
         self._subscriptions: list[Subscription] = []
         self._overflows = 0
+        self._events_fault = ""
 
     def progress_to(self, tell: Callable[[int, int, str], None]) -> None:
         """Sets who is told how far the tree is."""
@@ -69,7 +71,9 @@ class Keeper:
     def tree(self) -> Tree:
         """The tree, which is opened when it is first needed."""
         if self._tree is None:
-            base = Base.open_watched(self.root, self.options, LOG.warning, self._progress)
+            base = Base.open_watched(
+                self.root, self.options, LOG.warning, self._progress, self.events
+            )
             self._tree = Tree(base)
             self._answers = Answers(self._tree)
         return self._tree
@@ -170,10 +174,20 @@ class Keeper:
         if overflows > self._overflows:
             self._overflows = overflows
             LOG.warning("the queue of events was too short, and the tree was walked over")
+        self._look_at_events()
         touched = self.tree.base.take_touched()
         if touched:
             for subscription in self._subscriptions:
                 subscription.touch(touched)
+
+    def _look_at_events(self) -> None:
+        """Notes in the log where the loader's events are not all written."""
+        if self.events is None:
+            return
+        self.tree.base.look_at_events()
+        if self.events.fault and self.events.fault != self._events_fault:
+            LOG.warning("%s: %s", self.events.path, self.events.fault)
+        self._events_fault = self.events.fault
 
     @property
     def has_subscriptions(self) -> bool:
@@ -204,8 +218,15 @@ class Keeper:
 
     def state(self) -> dict[str, object]:
         """Returns what `status` shows of the tree. Any thread may ask, also during a long load."""
+        events = self.events
+        recorded: dict[str, object] = {
+            "events": None if events is None else events.path,
+            "events_fault": "" if events is None else events.fault,
+            "events_size": 0 if events is None else events.size(),
+        }
         if self._tree is None:
-            return {"packages": 0, "files": 0, "version": 0, "watches": 0, "watched": True}
+            empty = {"packages": 0, "files": 0, "version": 0, "watches": 0, "watched": True}
+            return {**empty, **recorded}
         base = self._tree.base
         watch = base.watch
         return {
@@ -218,6 +239,7 @@ class Keeper:
             "restarts": base.mirror.restarts,
             "differences": self.differences,
             "memory": memory_of(os.getpid()) + memory_of(base.mirror.pid),
+            **recorded,
         }
 
 

@@ -19,7 +19,7 @@ class NoPlace(Exception):
 
 
 class Place:
-    """The directory of one tree's daemon: `socket`, `lock`, `log` and `pid` lie in it."""
+    """The directory of one tree's daemon: `socket`, `lock`, `log`, `pid` and `events` lie in it."""
 
     def __init__(self, root: bytes) -> None:
         runtime = os.environ.get("XDG_RUNTIME_DIR", "")
@@ -47,6 +47,26 @@ class Place:
             raise NoPlace(f"{self.directory}: belongs to somebody else")
         if stat.S_IMODE(found.st_mode) & 0o077:
             os.chmod(self.directory, 0o700)
+
+    def events(self) -> str | None:
+        """Returns the file to which the daemons of this tree write events, if they do."""
+        try:
+            with open(self.file("events"), "rb") as file:
+                return os.fsdecode(file.read()) or None
+        except OSError:
+            return None
+
+    def keep_events(self, path: str) -> None:
+        """Has this daemon and those after it write events to a file, until `forget_events`."""
+        with open(self.file("events"), "wb") as file:
+            file.write(os.fsencode(path))
+
+    def forget_events(self) -> None:
+        """Has the next daemon write no events."""
+        try:
+            os.unlink(self.file("events"))
+        except OSError:
+            pass
 
     def address(self) -> tuple[str, int | None]:
         """Returns a path of the socket that is short enough for the system.

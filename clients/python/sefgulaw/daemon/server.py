@@ -18,12 +18,13 @@ from typing import TypeVar
 from sefgulaw import __version__
 from sefgulaw.base import Options
 from sefgulaw.cli.direct import options_of, settings_of
-from sefgulaw.cli.output import Failure
+from sefgulaw.cli.output import NO_ANSWER, Failure
 from sefgulaw.daemon.connection import Connection, peer_is_own
 from sefgulaw.daemon.keeper import CHECK_AFTER, FATAL, LOG, Keeper, Watcher
 from sefgulaw.daemon.place import Place
 from sefgulaw.daemon.protocol import LONGEST_LINE, VERSION
 from sefgulaw.daemon.start import READY
+from sefgulaw.event_file import CannotRecord, EventFile
 from sefgulaw.settings import IGNORE_FILE, SETTINGS_FILE, Settings
 from sefgulaw.watching import Subscription, Update
 
@@ -37,9 +38,16 @@ T = TypeVar("T")
 class Server:
     """Answers front ends until nobody needs it any more."""
 
-    def __init__(self, root: bytes, settings: Settings, options: Options, place: Place) -> None:
+    def __init__(
+        self,
+        root: bytes,
+        settings: Settings,
+        options: Options,
+        place: Place,
+        events: EventFile | None = None,
+    ) -> None:
         self.root, self.settings, self.place = root, settings, place
-        self.keeper = Keeper(root, options)
+        self.keeper = Keeper(root, options, events)
         self.thread = ThreadPoolExecutor(1, "keeper")
         self.connections: set[Connection] = set()
         self.watching: dict[int, tuple[Connection, int]] = {}
@@ -76,6 +84,11 @@ class Server:
             LOG.info("ends: %s", why)
             self._remove_socket()
             self._ended.set()
+
+    def stop(self) -> None:
+        """Ends the daemon for good: the next one writes no events."""
+        self.place.forget_events()
+        self.end("it was told to stop")
 
     @property
     def is_ending(self) -> bool:
@@ -241,13 +254,35 @@ def _log_to(place: Place) -> None:
     logger.setLevel(logging.INFO)
 
 
-async def _run(root: bytes, loader: str, done: int) -> None:
+def _events(place: Place, named: str, program: str) -> EventFile | None:
+    """Returns the file for events: the one that is named, or that of the daemon before this one.
+
+    One that is named has to take events. Where that of the daemon before does not, questions are
+    answered without.
+    """
+    path = named or place.events()
+    if path is None:
+        return None
+    events = EventFile(path)
+    if named:
+        try:
+            events.claim()
+            events.try_out(program)
+        except CannotRecord as error:
+            raise Failure(NO_ANSWER, f"{named}: {error}") from None
+        place.keep_events(named)
+    LOG.info("events go to %s", path)
+    return events
+
+
+async def _run(root: bytes, loader: str, done: int, named: str) -> None:
     settings = settings_of(root)
     options = options_of(settings, loader, None)
     place = Place(root)
     _log_to(place)
+    events = _events(place, named, options.program)
     listening = _listen(place)
-    server = Server(root, settings, options, place)
+    server = Server(root, settings, options, place, events)
     with open(place.file("pid"), "w", encoding="ascii") as file:
         file.write(str(os.getpid()))
     os.write(done, READY)
@@ -260,11 +295,19 @@ async def _run(root: bytes, loader: str, done: int) -> None:
 
 
 def main() -> None:
-    """Serves a tree. The words are its root, the loader, and who is told that all is ready."""
-    root, loader, done = os.fsencode(sys.argv[1]), sys.argv[2], int(sys.argv[3])
+    """Serves a tree.
+
+    The words are its root, the loader, who is told that all is ready, and the file for events.
+    """
+    root, loader, done, events = (
+        os.fsencode(sys.argv[1]),
+        sys.argv[2],
+        int(sys.argv[3]),
+        sys.argv[4],
+    )
     gc.disable()
     try:
-        asyncio.run(_run(root, loader, done))
+        asyncio.run(_run(root, loader, done, events))
     except Failure as failure:
         os.write(done, f"{failure.status}{failure}".encode("utf-8", "surrogateescape"))
     os._exit(0)

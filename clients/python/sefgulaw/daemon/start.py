@@ -17,8 +17,11 @@ _HINT = "the daemon does not start: "
 _CODE = "import sys; sys.path[:] = {path!r}; from sefgulaw.daemon.server import main; main()"
 
 
-def started(place: Place, root: bytes, loader: str) -> socket.socket:
-    """Returns a connection with the daemon of a tree, which is started if nobody listens."""
+def started(place: Place, root: bytes, loader: str, events: str | None = None) -> socket.socket:
+    """Returns a connection with the daemon of a tree, which is started if nobody listens.
+
+    `events` is the file to which a daemon that is started writes events.
+    """
     found = connect(place)
     if found is not None:
         return found
@@ -34,7 +37,7 @@ def started(place: Place, root: bytes, loader: str) -> socket.socket:
         found = connect(place)
         if found is None:
             _remove(place.file("socket"))
-            _start(place, root, loader)
+            _start(place, root, loader, events)
             found = connect(place)
         if found is None:
             raise Failure(NO_ANSWER, f"{_HINT}it has ended, see {place.file('log')}")
@@ -50,10 +53,10 @@ def _remove(path: str) -> None:
         pass
 
 
-def _start(place: Place, root: bytes, loader: str) -> None:
+def _start(place: Place, root: bytes, loader: str, events: str | None) -> None:
     """Starts the daemon, and waits until it is ready or says why it is not."""
     ready, done = os.pipe()
-    words = [os.fsdecode(root), loader, str(done)]
+    words = [os.fsdecode(root), loader, str(done), events or ""]
     path = [os.path.abspath(entry or ".") for entry in sys.path]
     try:
         subprocess.Popen(
