@@ -205,7 +205,10 @@ RECIPES = {
         '["//lib:base",[]]\n',
         "//app:gone.c\n",
     ],
-    "Recipes for editors": [""],
+    "Recipes for editors": [
+        "",
+        "app/BUILD:3:1: filegroup rule //app:core\napp/BUILD:2:1: filegroup rule //app:bin\n",
+    ],
     "Recipes for code search": ["app/BUILD:4 //app:u_a\n", "//app:BUILD\n"],
     "Recipes for somebody who asks why": [
         "//app:bin\n//app:core\n//lib:base\n",
@@ -214,13 +217,12 @@ RECIPES = {
         "app/BUILD:4:1: filegroup rule //app:u_a\n"
         "lib/BUILD:1:1: filegroup rule //lib:base\n",
         "needs //app:core\nneeds //app:u_a\n",
-        "",
     ],
 }
-COMMANDS = (
-    b'{"op":"put","path":"app/BUILD","text":""}\n',
-    b'{"op":"load","names":["app"]}\n',
-)
+CAUSES = r"""package //app  ran at line \d+, version 2; last at version 1; \d+ turns; value changed
+  module //lib:g0.bzl  changed at version 2
+    file lib/g0.bzl  changed by the edit of line \d+
+"""
 
 
 def test_the_other_recipes_run(tree: Make, run: Runner, tmp_path: Path) -> None:
@@ -228,20 +230,45 @@ def test_the_other_recipes_run(tree: Make, run: Runner, tmp_path: Path) -> None:
     commit(root)
     root.write("lib/BUILD", 'filegroup(name = "base", tags = ["x"])\n')
     environment = with_command(run, tmp_path)
-    words = [run.loader, "run", "--events", "events.jsonl"]
-    subprocess.run(words, cwd=root.path, input=b"".join(COMMANDS), capture_output=True, check=True)
     for title, expected in RECIPES.items():
-        printed = []
-        for recipe in recipes_of(title):
-            words = ["sh", "-ec", recipe]
-            done = subprocess.run(
-                words, cwd=root.path, env=environment, capture_output=True, text=True
-            )
-            assert done.returncode == 0, (recipe, done.stderr)
-            printed.append(done.stdout)
-        assert printed == expected, title
+        recipes = recipes_of(title)
+        if title.endswith("why"):
+            recipes = recipes[:3]
+        assert shells(recipes, root, environment) == expected, title
     assert (root.path / "graph.dot").read_text().count(" -> ") == 4
-    assert "package //app" in (root.path / "causes.svg").read_text()
+
+
+def shells(recipes: list[str], root: Root, environment: dict[str, str]) -> list[str]:
+    """Runs recipes, and returns what each prints."""
+    printed = []
+    for recipe in recipes:
+        words = ["sh", "-ec", recipe]
+        done = subprocess.run(words, cwd=root.path, env=environment, capture_output=True, text=True)
+        assert done.returncode == 0, (recipe, done.stderr)
+        printed.append(done.stdout)
+    return printed
+
+
+def test_each_kind_of_users_has_recipes_that_are_run() -> None:
+    page = (CHECKOUT / "docs" / "TOOLS.md").read_text()
+    titles = re.findall(r"^## (Recipes for .*)$", page, re.M)
+    assert sorted(titles) == sorted([*RECIPES, "Recipes for CI"]) and len(titles) == 5
+
+
+def test_the_recipes_for_causes_run(tree: Make, run: Runner, tmp_path: Path) -> None:
+    root = tree(GRAPH)
+    environment = {**with_command(run, tmp_path), "HOME": str(tmp_path)}
+    begin, change, draw = recipes_of("Recipes for somebody who asks why")[3:]
+    assert shells([begin], root, environment) == [""]
+    root.write("lib/g0.bzl", GRAPH["lib/g0.bzl"].replace("_a", "_b"))
+    (told,) = shells([change], root, environment)
+    assert re.fullmatch(CAUSES, told)
+    (told,) = shells([draw], root, environment)
+    rows = [line.split("\t") for line in told.splitlines()]
+    assert len(rows) == 3 and "package //app" in [key for _, _, key in rows]
+    assert [int(turns) for turns, _, _ in rows] == sorted((int(it[0]) for it in rows), reverse=True)
+    drawing = (root.path / "causes.svg").read_text()
+    assert "package //app" in drawing and "edit of line" in drawing
 
 
 def test_the_queries_and_changes_that_the_page_shows(tree: Make, direct: Direct) -> None:
@@ -279,12 +306,7 @@ def test_the_recipes_for_ci_run(tree: Make, run: Runner, tmp_path: Path) -> None
     commit(root)
     root.write("a/BUILD", tagged)
     environment = with_command(run, tmp_path)
-    printed = []
-    for recipe in recipes:
-        words = ["sh", "-ec", recipe]
-        done = subprocess.run(words, cwd=root.path, env=environment, capture_output=True, text=True)
-        assert done.returncode == 0, (recipe, done.stderr)
-        printed.append(done.stdout)
+    printed = shells(recipes, root, environment)
     assert printed[:3] == ["", "", ""] and len(printed) == 5
     assert printed[3:] == ["//a:one\n//new/b:one\n//old/b:one\n", "//a:one\n//a:two\n"]
     assert (root.path / "faults.jsonl").read_text() == ""

@@ -3,11 +3,12 @@
 from __future__ import annotations
 
 import json
+import shlex
 import subprocess
 from pathlib import Path
 
 import pytest
-from conftest import Done, Runner
+from conftest import CHECKOUT, Done, Runner
 
 from sefgulaw.events import EventReader
 
@@ -66,6 +67,30 @@ def test_the_chain_of_a_script(run: Runner, events: Path, tmp_path: Path) -> Non
         "module //m:y.bzl  ran at line 7, version 5; last at version 4; 3 turns; value equal\n"
         "  file m/y.bzl  changed by the edit of line 6\n"
     )
+
+
+SHOWN: list[dict[str, object]] = [
+    put("m/BUILD", ""),
+    put("m/x.bzl", 'V = ["t"]\n'),
+    put("a/BUILD", LOAD),
+    put("c", ""),
+    A,
+    put("c", ""),
+    put("d", ""),
+    put("m/x.bzl", 'V = ["u"]\n'),
+    A,
+]
+
+
+@pytest.mark.parametrize("page", ["docs/TOOLS.md", "packaging/man/sefgulaw-explain.1.scd"])
+def test_the_chain_that_the_pages_show(run: Runner, loader: str, tmp_path: Path, page: str) -> None:
+    told = "".join(json.dumps(line) + "\n" for line in SHOWN).encode()
+    words = [loader, "run", "--events", str(tmp_path / "ev.jsonl")]
+    subprocess.run(words, input=told, capture_output=True, check=True)
+    command = "explain 'package //a' --events ev.jsonl\n"
+    shown = (CHECKOUT / page).read_text().split(f"$ sefgulaw {command}")[1].split("```")[0]
+    done = run(*shlex.split(command), cwd=tmp_path)
+    assert (done.status, done.out.decode()) == (0, shown)
 
 
 def test_a_value_that_stays_equal_stops_the_chain(

@@ -93,6 +93,18 @@ def test_bash_completes_words_and_patterns(tree: Make, run: Runner, tmp_path: Pa
     assert completed(run, tmp_path, root, "sefgulaw targets //a:") == ["l"]
 
 
+def test_bash_completes_keys_and_files_of_events(tree: Make, run: Runner, tmp_path: Path) -> None:
+    root = tree({**SMALL, ".sefgulaw.toml": "", "a/b/x": "", "ev.jsonl": ""})
+    assert completed(run, tmp_path, root, "sefgulaw explain //l") == ["//lib", "//lib/"]
+    assert completed(run, tmp_path, root, "sefgulaw explain //lib:") == ["x.bzl"]
+    assert completed(run, tmp_path, root, "sefgulaw explain a") == ["a/"]
+    assert completed(run, tmp_path, root, "sefgulaw explain a/B") == ["a/BUILD"]
+    assert completed(run, tmp_path, root, "sefgulaw explain no/such") == []
+    for words in ("explain", "daemon start"):
+        assert completed(run, tmp_path, root, f"sefgulaw {words} --ev") == ["--events"]
+        assert completed(run, tmp_path, root, f"sefgulaw {words} --events e") == ["ev.jsonl"]
+
+
 def test_bash_completes_revisions(tree: Make, run: Runner, tmp_path: Path) -> None:
     root = tree(SMALL)
     assert completed(run, tmp_path, root, "sefgulaw changed HE") == []

@@ -70,6 +70,8 @@ def _set_completer(parser: argparse.ArgumentParser) -> None:
             setattr(action, "completer", _patterns)
         elif action.dest in ("old", "new"):
             setattr(action, "completer", _revisions)
+        elif action.dest == "key":
+            setattr(action, "completer", _keys)
 
 
 def _revisions(prefix: str, parsed_args: argparse.Namespace, **_: object) -> list[str]:
@@ -89,6 +91,27 @@ def _patterns(prefix: str, parsed_args: argparse.Namespace, **_: object) -> list
         return list(_candidates(prefix, parsed_args))
     except (Failure, OSError, Lost):
         return []
+
+
+def _keys(prefix: str, parsed_args: argparse.Namespace, **_: object) -> list[str]:
+    """Returns the packages, modules and paths from the root that begin so."""
+    try:
+        root = os.fsdecode(where(parsed_args).root)
+        is_label = prefix.startswith("//")
+        package, colon, name = prefix.partition(":")
+        if is_label and not colon:
+            return [it for it in _candidates(prefix, parsed_args) if not it.endswith("...")]
+        directory = package[2:] if is_label else os.path.dirname(prefix)
+        with os.scandir(os.path.join(root, directory)) as entries:
+            found = sorted((it.name, it.is_dir()) for it in entries)
+    except (Failure, OSError):
+        return []
+    if is_label:
+        files = [it for it, _ in found if it.endswith(".bzl") and it.startswith(name)]
+        return [f"{package}:{file}" for file in files]
+    head = f"{directory}/" if directory else ""
+    paths = [f"{head}{it}{'/' if is_directory else ''}" for it, is_directory in found]
+    return [it for it in paths if it.startswith(prefix) and not it.startswith(".")]
 
 
 def _candidates(prefix: str, found: argparse.Namespace) -> Iterator[str]:
