@@ -4,8 +4,10 @@
 - Standard output and the journal are the same with and without events, with 1 and 16 workers.
 - A program that is killed after some answers has left at least as many whole events.
 - A file that is full, and one that cannot be made, change no answer.
-- Over random scripts each line has one event, the runs are those of the journal, and each run of a key but the first has a
-  cause. Each cause is a key that fresh loaders, which are told the files of two versions, answer differently.
+- Over random scripts each line has one event, which says what the command and its answer say. Each run of a key but the
+  first has a cause. Each cause is a key that fresh loaders, which are told the files of two versions, answer differently.
+  Whether a run changed its value is what such loaders say of the version of the run before and its own.
+- Ten times as many edits take no more memory, beyond a fifth.
 """
 import argparse
 import concurrent.futures
@@ -17,11 +19,13 @@ import subprocess
 import sys
 import tempfile
 
+import limits
 import workers
 
 HERE = os.path.dirname(os.path.abspath(__file__))
 LOADER = os.path.join(HERE, "../crates/cli/out/cli")
 LINES = os.path.join(HERE, "../crates/cli/stdin")
+FEW, MANY = 10_000, 100_000
 
 
 def serve(words, lines):
@@ -92,7 +96,7 @@ class Files:
     """The files of each version, by the events and the commands alone."""
 
     def __init__(self, commands, told):
-        self.at = {0: {}}
+        self.at, self.known = {0: {}}, {}
         for command, event in zip(commands, told):
             if "paths" in event:
                 files = dict(self.at[event["version"] - 1])
@@ -103,55 +107,104 @@ class Files:
                         del files[change["path"]]
                 self.at[event["version"]] = files
 
+    def differ(self, one, other, key):
+        """Whether fresh loaders of two versions answer a key differently, and None where no request asks for it."""
+        values = [self.value(it, key) for it in (one, other)]
+        return None if values[0] is None else values[0] != values[1]
+
+    def value(self, version, key):
+        """What `fresh` returns, asked once."""
+        if (version, key) not in self.known:
+            self.known[version, key] = self.fresh(version, key)
+        return self.known[version, key]
+
     def fresh(self, version, key):
         """What a loader that is told these files alone answers about a key, and None where no request asks for it."""
         files = self.at[version]
         kind, _, name = key.partition(" ")
         if kind == "file":
-            return files.get(name)
+            return [files.get(name)]
         if kind == "listing":
             above = name[2:] + "/" if name[2:] else ""
             below = [it[len(above):] for it in files if it.startswith(above)]
             return sorted({it.split("/")[0] + "/" * ("/" in it) for it in below})
-        asks = {"lookup": {"op": "find", "name": name[2:]}, "module": {"op": "module", "label": name},
-                "package": {"op": "load", "names": [name[2:]]}, "under": {"op": "under", "dir": name[2:]}}
-        if kind not in asks or kind == "module":
+        asks = {"lookup": {"op": "find", "name": name[2:]}, "package": {"op": "load", "names": [name[2:]]},
+                "under": {"op": "under", "dir": name[2:]}}
+        if kind not in asks:
             # a module's values, and what a glob finds, no answer tells whole
             return None
         puts = [{"op": "put", "path": path, "text": text} for path, text in sorted(files.items())]
         lines = b"".join(json.dumps(it).encode() + b"\n" for it in [*puts, asks[kind]])
-        return serve([], lines)[0].splitlines()[-1]
+        answer = json.loads(serve([], lines)[0].splitlines()[-1])
+        return [it["name"] for it in answer["packages"]] if kind == "under" else answer
+
+
+def wrong_lines(commands, told, answers):
+    """Yields what is wrong with events beside their commands and answers, but for their runs."""
+    for command, event, answer in zip(commands, told, answers):
+        line, answer = event["line"], json.loads(answer)
+        if event.get("op") != command["op"]:
+            yield f"line {line}: another word than its command"
+        if any(event.get(it) != answer.get(it) for it in ("refused", "edit")):
+            yield f"line {line}: another refusal than its answer"
+        paths = [it["path"] for it in command.get("edits", [command])] if "ok" in answer else None
+        if event.get("paths") != paths:
+            yield f"line {line}: other paths than its command"
+        if ("runs" in event) != ("ok" not in answer and "refused" not in answer):
+            yield f"line {line}: runs of no request, or a request without runs"
+
+
+def wrong_run(files, run, version, before):
+    """Yields what is wrong with a run whose key ran before at a version, or has not run."""
+    key, causes = run["key"], run.get("causes")
+    is_leaf = key.startswith(("file ", "listing //"))
+    if is_leaf and causes != []:
+        yield "a leaf has no list of causes, or has causes"
+    if not is_leaf and (before is None) != (causes is None):
+        yield "causes in a first run, or none in a later one"
+    if not is_leaf and before is not None and not causes:
+        yield "it ran again without a cause"
+    if before is None and not run["changed"]:
+        yield "its first run changed nothing"
+    if before is not None and files.differ(before, version, key) not in (None, run["changed"]):
+        yield f"its value has {'not ' * run['changed']}differed"
+    for cause in causes or []:
+        if all(files.differ(before, it, cause) is False for it in files.at if before < it <= version):
+            yield f"the value of {cause} has not differed"
 
 
 def compare_causes(number):
-    """Yields what is wrong with the causes of a random script."""
+    """Yields what is wrong with the events of a random script."""
     chance = random.Random(number)
-    commands = [workers.command(chance) for _ in range(chance.randint(10, 40))]
+    commands = [workers.batch(chance) if chance.random() < 0.1 else workers.command(chance)
+                for _ in range(chance.randint(10, 40))]
     lines = b"".join(json.dumps(it).encode() + b"\n" for it in commands)
     told, out, _, _ = events_of(lines)
     if len(told) != out.count(b"\n"):
         yield f"script {number}: not one event a line"
         return
+    for fault in wrong_lines(commands, told, out.splitlines()):
+        yield f"script {number}, {fault}"
     files, last = Files(commands, told), {}
     for event in told:
         for run in event.get("runs", []):
-            key, before = run["key"], last.get(run["key"])
-            is_leaf = key.startswith(("file ", "listing //"))
-            if not is_leaf and (before is None) != ("causes" not in run):
-                yield f"script {number}, line {event['line']}: {key}: causes in a first run, or none in a later one"
-            if not is_leaf and before is not None and not run.get("causes"):
-                yield f"script {number}, line {event['line']}: {key} ran again without a cause"
-            for cause in run.get("causes") or []:
-                versions = [it for it in files.at if before <= it <= event["version"]]
-                values = [files.fresh(it, cause) for it in versions]
-                if values[0] is not None and all(it == values[0] for it in values):
-                    yield f"script {number}, line {event['line']}: {key}: the value of {cause} has not differed"
-            last[key] = event["version"]
+            for fault in wrong_run(files, run, event["version"], last.get(run["key"])):
+                yield f"script {number}, line {event['line']}: {run['key']}: {fault}"
+            last[run["key"]] = event["version"]
+
+
+def compare_memory():
+    """Yields whether ten times the edits take more memory, though the files and the keys stay as many."""
+    few, many = (limits.most_memory(it, "--events", "/dev/null") for it in (FEW, MANY))
+    print(f"memory with events after {FEW} edits: {few} KB, after {MANY}: {many} KB")
+    if many > limits.MOST_GROWTH * few:
+        yield "memory grows with the edits"
 
 
 def main():
     words = argparse.ArgumentParser(description=__doc__, formatter_class=argparse.RawDescriptionHelpFormatter)
     words.add_argument("--scripts", type=int, default=1000)
+    words.add_argument("--no-memory", action="store_true", help="leave out the memory of many edits")
     found = words.parse_args()
     with open(LINES, "rb") as file:
         lines = file.read()
@@ -162,6 +215,7 @@ def main():
     with concurrent.futures.ProcessPoolExecutor() as pool:
         for faults in pool.map(faults_of, range(found.scripts)):
             wrong += faults
+    wrong += [] if found.no_memory else compare_memory()
     for fault in wrong:
         print(fault)
     print(f"events: {found.scripts} scripts, {len(wrong)} wrong")

@@ -46,10 +46,10 @@ def told(program, line):
     return program.stdout.readline()
 
 
-def most_memory(edits):
-    """Returns the most memory, in kilobytes, of a program that is told so many edits of a package and asked for it each
-    time."""
-    program = subprocess.Popen([LOADER, "run"], stdin=subprocess.PIPE, stdout=subprocess.PIPE)
+def most_memory(edits, *words):
+    """Returns the most memory, in kilobytes, of a program with these words that is told so many edits of a package and
+    asked for it each time."""
+    program = subprocess.Popen([LOADER, "run", *words], stdin=subprocess.PIPE, stdout=subprocess.PIPE)
     told(program, json.dumps({"op": "put", "path": "m/BUILD", "text": ""}))
     for it in range(MODULES):
         told(program, json.dumps({"op": "put", "path": f"m/x{it}.bzl", "text": f"X{it} = {it}\n"}))
