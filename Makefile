@@ -9,7 +9,7 @@ PYTHON := /usr/bin/python3
 CLIENT := clients/python
 LOADER := $(abspath $(or $(SEFGULAW_LOADER),$(PROGRAM)))
 
-.PHONY: help clients clients-long has-loader quick run build measures shelf-trials readers overlaps trials schedules bell test lint digests language wrong-bodies answers limits allocations workers events batches under hostile giving-back bench
+.PHONY: help clients clients-long has-loader quick run build measures shelf-trials readers embedding overlaps trials schedules bell test lint digests language wrong-bodies answers limits allocations workers events batches under hostile giving-back bench
 
 help:  ## prints this list
 	@awk -F ':.*## ' '/^[a-z][a-z -]*:.*## / { printf "%-17s %s\n", $$1, $$2 }' $(MAKEFILE_LIST)
@@ -105,6 +105,10 @@ allocations: build measures  ## makes each allocation fail in turn; needs cc (mi
 	python3 tests/allocations.py
 	python3 tests/parse_allocations.py
 	python3 tests/script_allocations.py
+
+# The loader in a program of another repository, as docs/EMBEDDING.md shows it, in a folder outside this checkout.
+embedding: build  ## does what docs/EMBEDDING.md says, in a folder outside this checkout (minutes)
+	@python3 tests/embedding.py
 
 # Turns that are under way at once, the rows of the board, and a thousand jobs; built as `measures` is.
 overlaps: build  ## tries turns that are under way at once (minutes)

@@ -1,0 +1,89 @@
+#!/usr/bin/env python3
+"""Does what docs/EMBEDDING.md says, in a folder outside the checkout, and compares what is printed. Run it by
+`make embedding`.
+
+The folder has a repository and, beside it, a link `sefgulaw` to this checkout. The repository gets the files as the page
+shows them. Then the page's commands are run in it, in their order, and the last of them has to print what the page shows.
+"""
+import argparse
+import os
+import re
+import subprocess
+import sys
+import tempfile
+
+TOP = os.path.dirname(os.path.dirname(os.path.abspath(__file__)))
+PAGE = os.path.join(TOP, "docs/EMBEDDING.md")
+FILES = ("crates.txt", "crates/viewer/src/main.rt")
+BLOCK = r"```(\w+)\n(.*?)^```$"
+
+
+def blocks(text, language):
+    """Returns the blocks of a page that are in a language."""
+    return [it[1] for it in re.findall(BLOCK, text, re.M | re.S) if it[0] == language]
+
+
+def file_in(text, path):
+    """Returns the block that stands behind the sentence that ends with the name of a file."""
+    found = re.findall(rf"`{re.escape(path)}`:\n\n{BLOCK}", text, re.M | re.S)
+    if len(found) != 1:
+        raise SystemExit(f"docs/EMBEDDING.md shows {path} {len(found)} times")
+    return found[0][1]
+
+
+def write(path, text):
+    os.makedirs(os.path.dirname(path), exist_ok=True)
+    with open(path, "w", encoding="utf-8") as file:
+        file.write(text)
+
+
+def link_checkout(room, crates):
+    """Makes the checkout that the page's commands name: this one, or this one with the crates of another."""
+    link = os.path.join(room, "sefgulaw")
+    if crates is None:
+        os.symlink(TOP, link)
+        return
+    os.mkdir(link)
+    os.symlink(os.path.join(TOP, "tools"), os.path.join(link, "tools"))
+    for name in ("crates", "crates.txt", "HANDLES"):
+        os.symlink(os.path.join(os.path.abspath(crates), name), os.path.join(link, name))
+
+
+def run(room, text):
+    """Runs the page's commands in a new repository. Returns what the last block of them prints, or what went wrong."""
+    repository = os.path.join(room, "viewer")
+    os.makedirs(os.path.join(repository, ".git"))
+    for path in FILES:
+        write(os.path.join(repository, path), file_in(text, path))
+    printed = ""
+    for block in blocks(text, "sh"):
+        done = subprocess.run(["sh", "-ec", block], cwd=repository, capture_output=True, text=True)
+        printed = done.stdout
+        if done.returncode:
+            log = os.path.join(repository, "crates/viewer/build.log")
+            if os.path.exists(log):
+                with open(log, errors="replace") as file:
+                    sys.stderr.writelines(file.readlines()[-40:])
+            raise SystemExit(f"{block}{done.stderr}ended with status {done.returncode}")
+    return printed
+
+
+def main():
+    words = argparse.ArgumentParser(description=__doc__, formatter_class=argparse.RawDescriptionHelpFormatter)
+    words.add_argument("--crates", metavar="CHECKOUT", help="take the crates of another checkout")
+    found = words.parse_args()
+    with open(PAGE, encoding="utf-8") as file:
+        text = file.read()
+    wanted = blocks(text, "text")[-1]
+    with tempfile.TemporaryDirectory(prefix="embedding-") as room:
+        link_checkout(room, found.crates)
+        printed = run(room, text)
+    if printed != wanted:
+        print(f"the page shows\n{wanted}and the program prints\n{printed}", end="")
+        return 1
+    print(f"embedding: {len(wanted.splitlines())} lines as the page shows them")
+    return 0
+
+
+if __name__ == "__main__":
+    sys.exit(main())
