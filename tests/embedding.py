@@ -14,7 +14,8 @@ import tempfile
 
 TOP = os.path.dirname(os.path.dirname(os.path.abspath(__file__)))
 PAGE = os.path.join(TOP, "docs/EMBEDDING.md")
-FILES = ("crates.txt", "crates/viewer/src/main.rt")
+# The files that the page shows, each with its place in the other repository.
+FILES = {"crates.txt": "crates.txt", "viewer/src/main.rt": "crates/viewer/src/main.rt"}
 BLOCK = r"```(\w+)\n(.*?)^```$"
 
 
@@ -53,8 +54,8 @@ def run(room, text):
     """Runs the page's commands in a new repository. Returns what the last block of them prints, or what went wrong."""
     repository = os.path.join(room, "viewer")
     os.makedirs(os.path.join(repository, ".git"))
-    for path in FILES:
-        write(os.path.join(repository, path), file_in(text, path))
+    for shown, path in FILES.items():
+        write(os.path.join(repository, path), file_in(text, shown))
     printed = ""
     for block in blocks(text, "sh"):
         done = subprocess.run(["sh", "-ec", block], cwd=repository, capture_output=True, text=True)
