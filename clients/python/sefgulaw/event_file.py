@@ -54,6 +54,22 @@ class EventFile:
         self._descriptor = None
         self._at = self._lines = 0
 
+    def unlock(self) -> None:
+        """Lets another process have the name of the file. Any thread may do so.
+
+        The present loader may write on: its file is moved aside before another one is made.
+        """
+        if self._descriptor is not None:
+            fcntl.flock(self._descriptor, fcntl.LOCK_UN)
+
+    def give_up(self) -> None:
+        """Takes the file away again, to which nobody has written."""
+        self.release()
+        try:
+            os.unlink(self.path)
+        except OSError:
+            pass
+
     def try_out(self, program: str) -> None:
         """Starts a loader that is asked nothing, to see that it takes the option and the file."""
         try:
@@ -119,28 +135,66 @@ class EventFile:
             return 0
 
     def _claim_once(self) -> bool:
-        """Opens and locks the file. Returns whether it is empty and still has its name."""
-        flags = os.O_RDWR | os.O_CREAT | os.O_CLOEXEC | os.O_NONBLOCK
-        descriptor = os.open(self.path, flags, 0o666)
+        """Makes the file and locks it. One that is there is moved aside, or unlinked if empty.
+
+        So no two loaders ever write to the same file, whoever holds its name.
+        """
+        path = os.path.realpath(self.path)
+        flags = os.O_RDWR | os.O_CLOEXEC | os.O_NONBLOCK
         try:
-            found = os.fstat(descriptor)
-            if not stat.S_ISREG(found.st_mode):
-                raise CannotRecord("is not a regular file")
-            try:
-                fcntl.flock(descriptor, fcntl.LOCK_EX | fcntl.LOCK_NB)
-            except BlockingIOError:
-                raise CannotRecord("another daemon writes its events there") from None
-            named = os.stat(self.path)
-            if (named.st_ino, named.st_dev) != (found.st_ino, found.st_dev):
-                return False
-            if os.fstat(descriptor).st_size:
-                _move_aside(self.path)
-                return False
-            self._descriptor, descriptor = descriptor, -1
-            return True
+            descriptor = os.open(path, flags | os.O_CREAT | os.O_EXCL, 0o666)
+        except FileExistsError:
+            _make_way_at(path, flags)
+            return False
+        try:
+            fcntl.flock(descriptor, fcntl.LOCK_EX | fcntl.LOCK_NB)
+            if _is_at(path, descriptor):
+                self._descriptor, descriptor = descriptor, -1
+                return True
+        except (BlockingIOError, FileNotFoundError):
+            pass
         finally:
             if descriptor >= 0:
                 os.close(descriptor)
+        return False
+
+
+def _is_at(path: str, descriptor: int) -> bool:
+    """Tells whether an open file has this path still."""
+    named, found = os.stat(path), os.fstat(descriptor)
+    return (named.st_ino, named.st_dev) == (found.st_ino, found.st_dev)
+
+
+def _make_way_at(path: str, flags: int) -> None:
+    """Moves a file aside that is there, unless somebody else holds it or has just moved it."""
+    try:
+        descriptor = os.open(path, flags)
+    except FileNotFoundError:
+        return
+    try:
+        _make_way(path, descriptor)
+    except FileNotFoundError:
+        pass
+    finally:
+        os.close(descriptor)
+
+
+def _make_way(path: str, descriptor: int) -> None:
+    found = os.fstat(descriptor)
+    if not stat.S_ISREG(found.st_mode):
+        raise CannotRecord("is not a regular file")
+    try:
+        fcntl.flock(descriptor, fcntl.LOCK_EX | fcntl.LOCK_NB)
+    except BlockingIOError:
+        raise CannotRecord("another daemon writes its events there") from None
+    if not _is_at(path, descriptor):
+        return
+    if not found.st_size:
+        os.unlink(path)
+        return
+    files = earlier(path)
+    number = int(files[-1].rpartition(".")[2]) + 1 if files else 1
+    os.rename(path, f"{path}.{number}")
 
 
 def earlier(path: str) -> list[str]:
@@ -149,10 +203,3 @@ def earlier(path: str) -> list[str]:
     pattern = re.compile(re.escape(name) + r"\.([1-9][0-9]{0,8})")
     numbers = [int(it[1]) for it in map(pattern.fullmatch, os.listdir(directory)) if it]
     return [os.path.join(directory, f"{name}.{number}") for number in sorted(numbers)]
-
-
-def _move_aside(path: str) -> None:
-    """Moves a file to its name with the next number, behind all that are there."""
-    file = os.path.realpath(path)
-    number = int(earlier(path)[-1].rpartition(".")[2]) + 1 if earlier(path) else 1
-    os.rename(file, f"{file}.{number}")

@@ -12,7 +12,6 @@ import pytest
 from conftest import Done, Root, Runner
 from daemon_lines import Lines
 from sefgulaw.daemon.place import Place
-from sefgulaw.event_file import CannotRecord, EventFile
 
 Make = Callable[..., Root]
 
@@ -101,6 +100,8 @@ def test_why_a_package_ran_in_a_daemon(root: Root, run: Runner, recorded: Path) 
     assert run("explain", "//a", "--events", str(recorded), cwd=root) == done
     assert "for the first time" in run("explain", "//a", "--line", "2", cwd=root).lines[0]
     assert run("explain", "//nowhere", cwd=root).status == 2
+    said = b"sefgulaw: without a daemon explain takes --events FILE\n"
+    assert run("explain", "//a", "--no-daemon", cwd=root) == Done(2, b"", said)
 
 
 def test_names_are_shown_as_they_are(root: Root, run: Runner, recorded: Path) -> None:
@@ -184,6 +185,7 @@ def test_a_loader_that_writes_no_events(root: Root, run: Runner, tmp_path: Path)
     done = run("daemon", "start", "--events", str(tmp_path / "ev"), cwd=root)
     said = f"{tmp_path / 'ev'}: the loader cannot write events: error: unexpected '--events'"
     assert done == Done(3, b"", f"sefgulaw: {said}\n".encode())
+    assert not (tmp_path / "ev").exists()
 
 
 def test_two_daemons_and_one_file(tree: Make, run: Runner, root: Root, recorded: Path) -> None:
@@ -360,41 +362,3 @@ def test_experiments_and_comparisons_are_not_in_the_events(
     assert run("query", "//b", "--output", "location", cwd=root).status == 0
     assert [it["op"] for it in events_in(recorded)] == lines
     assert lines[-2:] == ["edit", "load"] and not Path(f"{recorded}.1").exists()
-
-
-def test_a_file_is_held_by_one_and_nothing_is_lost(tmp_path: Path) -> None:
-    path = tmp_path / "ev"
-    path.write_text("old\n")
-    (tmp_path / "ev.7").write_text("older\n")
-    (tmp_path / "ev.x").write_text("another\n")
-    one, other = EventFile(str(path)), EventFile(str(path))
-    assert one.begin() == ["--events", str(path)]
-    assert (path.read_text(), (tmp_path / "ev.8").read_text()) == ("", "old\n")
-    with pytest.raises(CannotRecord, match="^another daemon writes its events there$"):
-        other.claim()
-    path.write_text('{"line":1}\n{"line":2}\n')
-    one.look(2)
-    assert one.fault == ""
-    one.look(3)
-    assert one.fault == "no events could be written after line 2"
-    assert one.begin() and one.fault == ""
-    assert (tmp_path / "ev.9").read_text() == '{"line":1}\n{"line":2}\n'
-    one.release()
-    other.claim()
-    assert sorted(os.listdir(tmp_path)) == ["ev", "ev.7", "ev.8", "ev.9", "ev.x"]
-
-
-def test_loaders_that_write_nothing_get_no_file_in_the_end(tmp_path: Path) -> None:
-    file = EventFile(str(tmp_path / "ev"))
-    assert [bool(file.begin()) for _ in range(4)] == [True, True, False, False]
-    assert file.fault == "two loaders in turn could write no events, so there are none"
-
-
-def test_a_link_to_a_file_stays_a_link(tmp_path: Path) -> None:
-    (tmp_path / "room").mkdir()
-    (tmp_path / "room" / "real").write_text("old\n")
-    (tmp_path / "link").symlink_to("room/real")
-    file = EventFile(str(tmp_path / "link"))
-    file.claim()
-    assert (tmp_path / "link").is_symlink() and (tmp_path / "link").read_text() == ""
-    assert (tmp_path / "room" / "real.1").read_text() == "old\n"

@@ -66,6 +66,8 @@ def _check_words(found: argparse.Namespace) -> None:
         )
     if found.all and is_graph:
         raise Failure(BAD_WORDS, "--all goes with --output text")
+    if found.events is None and hasattr(found, "no_daemon"):
+        raise Failure(BAD_WORDS, "without a daemon explain takes --events FILE")
 
 
 def _events_of_daemon(found: argparse.Namespace) -> tuple[str, str]:

@@ -83,6 +83,8 @@ class Server:
         if not self._ended.is_set():
             LOG.info("ends: %s", why)
             self._remove_socket()
+            if self.keeper.events is not None:
+                self.keeper.events.unlock()
             self._ended.set()
 
     def stop(self) -> None:
@@ -267,8 +269,12 @@ def _events(place: Place, named: str, program: str) -> EventFile | None:
     if named:
         try:
             events.claim()
+        except CannotRecord as error:
+            raise Failure(NO_ANSWER, f"{named}: {error}") from None
+        try:
             events.try_out(program)
         except CannotRecord as error:
+            events.give_up()
             raise Failure(NO_ANSWER, f"{named}: {error}") from None
         place.keep_events(named)
     LOG.info("events go to %s", path)
