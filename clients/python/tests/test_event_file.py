@@ -4,6 +4,7 @@ from __future__ import annotations
 
 import multiprocessing
 import os
+import time
 from pathlib import Path
 
 import pytest
@@ -56,28 +57,30 @@ def test_a_link_to_a_file_stays_a_link(tmp_path: Path) -> None:
     assert (tmp_path / "room" / "real.1").read_text() == "old\n"
 
 
-def claim_often(path: str, mark: str) -> list[str]:
-    """Claims a file many times, and writes two lines into it each time that it was had."""
-    written = []
-    for at in range(200):
+def claim_often(path: str, mark: str) -> int:
+    """Has a file twenty times, and writes two lines into it each time. Returns how often it tried."""
+    tries = 0
+    for at in range(20):
         file = EventFile(path)
-        try:
-            file.claim()
-        except CannotRecord:
-            continue
-        written.append(f"{mark}{at}")
+        while True:
+            tries += 1
+            try:
+                file.claim()
+                break
+            except CannotRecord:
+                time.sleep(0.001)
         with open(path, "w") as loader:
-            loader.write(f"{written[-1]}\n")
-            loader.write(f"{written[-1]}\n")
+            loader.write(f"{mark}{at}\n")
+            time.sleep(0.002)
+            loader.write(f"{mark}{at}\n")
         file.release()
-    return written
+    return tries
 
 
 def test_claims_at_once_mix_and_lose_nothing(tmp_path: Path) -> None:
     path = str(tmp_path / "ev")
     with multiprocessing.get_context("fork").Pool(4) as pool:
-        written = pool.starmap(claim_often, [(path, mark) for mark in "abcd"], chunksize=1)
-    found = [file.read_text().split() for file in tmp_path.iterdir()]
-    marks = [mark for each in written for mark in each]
-    assert len(marks) > 100 and sum(map(bool, written)) > 1
-    assert sorted(found) == sorted([mark, mark] for mark in marks)
+        tries = pool.starmap(claim_often, [(path, mark) for mark in "abcd"], chunksize=1)
+    found = sorted(file.read_text().split() for file in tmp_path.iterdir())
+    assert found == sorted([f"{mark}{at}"] * 2 for mark in "abcd" for at in range(20))
+    assert sum(tries) > 80
