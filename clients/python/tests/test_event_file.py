@@ -58,7 +58,7 @@ def test_a_link_to_a_file_stays_a_link(tmp_path: Path) -> None:
 
 
 def claim_often(path: str, mark: str) -> int:
-    """Has a file twenty times, and writes two lines into it each time. Returns how often it tried."""
+    """Has a file twenty times, and writes two lines each time. Returns how often it tried."""
     tries = 0
     for at in range(20):
         file = EventFile(path)
