@@ -7,9 +7,11 @@ EXAMPLE := examples/session.jsonl
 # The system's interpreter has Debian's libraries. Another `python3` may stand before it on the path.
 PYTHON := /usr/bin/python3
 CLIENT := clients/python
+# The packages of tests/ that are held to the style of the client.
+TESTED := wrong_bodies
 LOADER := $(abspath $(or $(SEFGULAW_LOADER),$(PROGRAM)))
 
-.PHONY: help clients clients-long has-loader quick run build measures shelf-trials readers embedding overlaps trials schedules bell test lint digests language wrong-bodies answers limits allocations workers events batches under hostile giving-back bench
+.PHONY: help clients clients-long has-loader quick run build measures shelf-trials readers embedding overlaps trials schedules bell test lint digests language wrong-bodies answers limits allocations workers events batches under hostile giving-back bench harness
 
 help:  ## prints this list
 	@awk -F ':.*## ' '/^[a-z][a-z -]*:.*## / { printf "%-17s %s\n", $$1, $$2 }' $(MAKEFILE_LIST)
@@ -51,7 +53,7 @@ readers: build  ## builds and runs the example of an editor that embeds the load
 # At its end the command `sefgulaw` is tried over the program.
 test:  ## is the gate: style, digests, all proofs, the built program, and the command sefgulaw (an hour)
 	@tools/install-packages run test
-	@$(MAKE) --no-print-directory lint digests language
+	@$(MAKE) --no-print-directory lint harness digests language
 	RT_JOBS=$$(nproc) rt ci
 	python3 tests/answers.py
 	python3 tests/talk.py
@@ -77,9 +79,17 @@ has-loader:
 lint:  ## checks documents, names, sizes and layout (seconds)
 	@python3 tests/lint.py
 
+# What the scripts of tests/ say of kept texts, which needs no prover and no program, with their format, style and types.
+harness:  ## tests the scripts of tests/ themselves (seconds)
+	@tools/install-packages test
+	@cd tests && $(PYTHON) -m black --check --quiet $(TESTED)
+	@cd tests && $(PYTHON) -m flake8 $(TESTED)
+	@cd tests && $(PYTHON) -m mypy --no-error-summary $(TESTED)
+	@$(PYTHON) tests/wrong_bodies/test_wrong_bodies.py
+
 # Compares each crate with the digest at which its wrong bodies were refused.
 digests:  ## compares each crate with the texts at which its wrong bodies were refused (seconds)
-	@python3 tests/wrong_bodies.py --digests
+	@python3 tests/wrong_bodies --digests
 
 # Compares the programs of tests/language with the lines of crates/cli that the program is run on.
 language:  ## compares the programs of tests/language with the lines that the gate runs (seconds)
@@ -88,7 +98,7 @@ language:  ## compares the programs of tests/language with the lines that the ga
 # Tries the wrong bodies of the crates that have changed since they were refused, or with ALL=1 of all crates, over the
 # work that `rt check` kept. Two crates at once, or JOBS=N. Writes wrong-bodies.txt.
 wrong-bodies:  ## has the wrong bodies of changed crates refused; ALL=1 of all crates (an hour)
-	@python3 tests/wrong_bodies.py $(if $(ALL),--all) $(if $(JOBS),--jobs $(JOBS))
+	@python3 tests/wrong_bodies $(if $(ALL),--all) $(if $(JOBS),--jobs $(JOBS))
 
 # What the built program tells of its runs, its words and its devices, and its answers to texts that were cut.
 answers: build  ## compares the built program's journal, words, devices and cut texts (seconds)
