@@ -8,7 +8,7 @@ EXAMPLE := examples/session.jsonl
 PYTHON := /usr/bin/python3
 CLIENT := clients/python
 # The packages of tests/ that are held to the style of the client.
-TESTED := wrong_bodies
+TESTED := style wrong_bodies
 LOADER := $(abspath $(or $(SEFGULAW_LOADER),$(PROGRAM)))
 
 .PHONY: help clients clients-long has-loader quick run build measures shelf-trials readers embedding overlaps trials schedules bell test lint digests language wrong-bodies answers limits allocations workers events batches under hostile giving-back bench harness
@@ -77,7 +77,7 @@ has-loader:
 
 # Sentences, words and links of the documents, sizes of files and functions, the layout of the crates.
 lint:  ## checks documents, names, sizes and layout (seconds)
-	@python3 tests/lint.py
+	@python3 tests/style
 
 # What the scripts of tests/ say of kept texts, which needs no prover and no program, with their format, style and types.
 harness:  ## tests the scripts of tests/ themselves (seconds)
@@ -85,6 +85,7 @@ harness:  ## tests the scripts of tests/ themselves (seconds)
 	@cd tests && $(PYTHON) -m black --check --quiet $(TESTED)
 	@cd tests && $(PYTHON) -m flake8 $(TESTED)
 	@cd tests && $(PYTHON) -m mypy --no-error-summary $(TESTED)
+	@$(PYTHON) tests/style/test_style.py
 	@$(PYTHON) tests/wrong_bodies/test_wrong_bodies.py
 
 # Compares each crate with the digest at which its wrong bodies were refused.

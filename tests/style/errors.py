@@ -1,0 +1,54 @@
+"""Errors of allocations: the error of one that failed is made from an error of the standard library
+alone, and by its makers in the files of `MAKERS`. Nowhere else is `AllocError` a value."""
+
+import re
+from collections.abc import Iterator
+
+from style.tree import Tree
+
+# The files that may call each maker of `texts::Memory`: those that know its reason.
+MAKERS = {
+    "no_number_left": {
+        "crates/freezing/src/laying.rt",
+        "crates/heap/src/heap.rt",
+        "crates/heap/src/objects.rt",
+        "crates/numbered/src/flat.rt",
+        "crates/numbered/src/table.rt",
+        "crates/shelf/src/keeper/publishing.rt",
+    },
+    "over_the_heap_limit": {"crates/heap/src/heap.rt"},
+    "object_not_there": {"crates/heap/src/heap_object.rt", "crates/heap/src/objects.rt"},
+    "told_by_library": {
+        "crates/commands/src/reading.rt",
+        "crates/pool/src/crew.rt",
+        "crates/shelf/src/history.rt",
+        "crates/shelf/src/keeper/sending.rt",
+    },
+}
+# `texts` has the error itself, and `shelf` tells `left_right` of one by the error that this library
+# takes.
+HOMES = ("crates/texts/src/memory.rt", "crates/shelf/src/store.rt")
+# Where `AllocError` is a type and no value.
+TYPES = re.compile(
+    r"^\s*(ghost )?use .*;$|->[^{;]*|\bFrom<AllocError>|\w+: &?AllocError|IsOkUnless[^}]*"
+    r"|Result<[^=;{]*>",
+    re.M,
+)
+
+
+def made_errors(path: str, text: str) -> Iterator[str]:
+    """The errors of an allocation that a source makes where none was told."""
+    if path in HOMES:
+        return
+    code = re.sub(r"//.*", "", text)
+    for name in re.findall(r"\bMemory::(\w+)\(", code):
+        if name != "from" and path not in MAKERS.get(name, ()):
+            yield f"Memory::{name}"
+    yield from re.findall(r"(?<![<\w])AllocError\b(?!>)", TYPES.sub("", code))
+
+
+def check(tree: Tree) -> Iterator[str]:
+    """The errors that the crates' sources make."""
+    for path, text in tree.matching(".rt", below="crates/"):
+        for found in made_errors(path, text):
+            yield f"{path}:1: an error of an allocation that nothing told: {found.strip()[:60]}"
