@@ -85,8 +85,7 @@ harness:  ## tests the scripts of tests/ themselves (seconds)
 	@cd tests && $(PYTHON) -m black --check --quiet $(TESTED)
 	@cd tests && $(PYTHON) -m flake8 $(TESTED)
 	@cd tests && $(PYTHON) -m mypy --no-error-summary $(TESTED)
-	@$(PYTHON) tests/style/test_style.py
-	@$(PYTHON) tests/wrong_bodies/test_wrong_bodies.py
+	@cd tests && $(PYTHON) -m unittest --quiet style.test_style style.test_dead wrong_bodies.test_wrong_bodies
 
 # Compares each crate with the digest at which its wrong bodies were refused.
 digests:  ## compares each crate with the texts at which its wrong bodies were refused (seconds)
