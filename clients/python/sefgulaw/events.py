@@ -10,7 +10,7 @@ import json
 import os
 import shutil
 import tempfile
-from collections.abc import Iterator, Mapping
+from collections.abc import Callable, Iterator, Mapping
 from dataclasses import dataclass
 from typing import BinaryIO, cast
 
@@ -78,6 +78,13 @@ class Event:
         """Yields all runs of the line."""
         return map(self.run, self.raw_runs)
 
+    def turns(self) -> Iterator[tuple[str, int]]:
+        """Yields the keys of the runs that are no leaves, each with its turns."""
+        for key, raw in self.raw_runs.items():
+            if not is_leaf(key):
+                turns = raw.get("turns")
+                yield key, turns if isinstance(turns, int) else self.run(key).turns
+
 
 def is_leaf(key: str) -> bool:
     """Tells whether a key is that of a file or of the names in a directory."""
@@ -96,11 +103,11 @@ class EventReader:
     """Reads a file of events. A file that has no places, as a pipe, is copied to disk first.
 
     A last line that has no end was cut off, since its loader was ended or could not write on. It is
-    left out, and `is_cut` says so once it was come to.
+    left out, and `is_cut` says so once it was come to. `is_empty` says that no line was whole.
     """
 
     def __init__(self, file: BinaryIO) -> None:
-        self.is_cut = False
+        self.is_cut, self.is_empty = False, True
         self._file = file
         if not file.seekable():
             self._file = cast(BinaryIO, tempfile.TemporaryFile())
@@ -113,16 +120,23 @@ class EventReader:
             if not line.endswith(b"\n"):
                 self.is_cut = True
                 return
+            self.is_empty = False
             event = _event(line)
             if event is None:
                 raise BadEvents(f"line {number} is no event")
             yield event
 
-    def backward(self) -> Iterator[Event]:
-        """Yields the events from the last one on. Raises BadEvents where a line is none."""
+    def backward(self, is_wanted: Callable[[bytes], bool] = lambda line: True) -> Iterator[Event]:
+        """Yields the events of wanted lines, from the last one on.
+
+        Raises BadEvents where a line is none. A line that is not wanted is looked at by its ends.
+        """
         lines = _lines_from_the_end(self._file)
         self.is_cut = next(lines) != b""
         for line in lines:
+            self.is_empty = False
+            if line.startswith(b"{") and line.endswith(b"}") and not is_wanted(line):
+                continue
             event = _event(line)
             if event is None:
                 for _ in self.forward():

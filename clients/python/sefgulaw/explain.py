@@ -11,12 +11,14 @@ from bisect import bisect_right
 from collections.abc import Collection, Iterator
 from dataclasses import dataclass, field
 
-from sefgulaw.events import Edit, Event, EventReader, Run, is_leaf, touches
+from sefgulaw.events import Edit, Event, EventReader, Run, touches
 from sefgulaw.names import encode, real
 
 INDENT = "  "
 KINDS = ("file", "listing", "lookup", "glob", "module", "package", "under")
 
+_MOST_PARTS = 64
+_PLAIN = re.compile(r"[ !#-\[\]-~]*")
 _CONTROLS = re.compile(r"[\x00-\x1f\x7f]")
 
 
@@ -70,10 +72,10 @@ class _Search:
 
     def __init__(self, keys: Collection[str], line: int | None) -> None:
         self.history: History | None = None
-        self.is_empty = True
-        self._keys, self._line = frozenset(keys), line
+        self._line = line
         self._wanted: set[str] = set(keys)
         self._found: set[str] = set()
+        self._parts: tuple[bytes, ...] | None = _parts(self._wanted)
 
     @property
     def is_done(self) -> bool:
@@ -82,14 +84,20 @@ class _Search:
 
     def take(self, event: Event) -> None:
         """Takes the event before those that were taken."""
-        self.is_empty = False
         if self._line is not None and event.line > self._line:
             return
         if event.edit is not None and self.history is not None:
             if any(map(self._is_looked_for, event.edit.paths)):
                 self.history.edits.append(event.edit)
         if event.raw_runs:
+            before = self._wanted | self._found
             self._take_runs(event)
+            if before != self._wanted | self._found:
+                self._parts = _parts(self._wanted | self._found)
+
+    def is_wanted(self, line: bytes) -> bool:
+        """Tells whether a line can have something that is looked for, before it is read."""
+        return self._parts is None or any(part in line for part in self._parts)
 
     def finished(self) -> History | None:
         """Returns what was kept, in the order of lines; None where the key has no run."""
@@ -155,18 +163,33 @@ class _Search:
         self.history.runs.setdefault(run.key, []).append(run)
 
 
+def _parts(keys: Collection[str]) -> tuple[bytes, ...] | None:
+    """Returns bytes of which each line has one that speaks of a key or of an edit that touches it.
+
+    None says that every line has to be read: where there are many keys, and where JSON may write a
+    key in several ways.
+    """
+    if len(keys) > _MOST_PARTS or not all(map(_PLAIN.fullmatch, keys)):
+        return None
+    parts = [f'"{key}"' for key in keys]
+    parts += [f'"{key[len("file ") :]}"' for key in keys if key.startswith("file ")]
+    directories = [key[len("listing //") :] for key in keys if key.startswith("listing //")]
+    parts += [f'"{it}/' if it else '"paths"' for it in directories]
+    return tuple(part.encode("ascii") for part in parts)
+
+
 def history_of(reader: EventReader, keys: Collection[str], line: int | None) -> History:
     """Returns what explains the last run of one of some keys, at a line or before it.
 
     Raises NoRun where there is none, NoEvents where the file is empty, and BadEvents.
     """
     search = _Search(keys, line)
-    for event in reader.backward():
+    for event in reader.backward(search.is_wanted):
         search.take(event)
         if search.is_done:
             break
     history = search.finished()
-    if search.is_empty:
+    if reader.is_empty:
         raise NoEvents("there are no events in it")
     if history is None:
         raise NoRun
@@ -312,13 +335,11 @@ def _quoted(key: str) -> str:
 def top_lines(reader: EventReader, count: int) -> Iterator[str]:
     """Yields the keys with most turns, each with its turns and runs. Raises NoEvents, BadEvents."""
     counted: dict[str, tuple[int, int]] = {}
-    event = None
     for event in reader.forward():
-        for run in event.runs():
-            if not is_leaf(run.key):
-                turns, runs = counted.get(run.key, (0, 0))
-                counted[run.key] = (turns + run.turns, runs + 1)
-    if event is None:
+        for key, turns in event.turns():
+            before = counted.get(key, (0, 0))
+            counted[key] = (before[0] + turns, before[1] + 1)
+    if reader.is_empty:
         raise NoEvents("there are no events in it")
     rows = sorted((-turns, key, runs) for key, (turns, runs) in counted.items())
     for turns, key, runs in rows[:count]:

@@ -224,9 +224,9 @@ BROKEN = [
 @pytest.mark.parametrize("line", BROKEN)
 def test_a_line_that_is_no_event_is_named(line: bytes) -> None:
     lines = [put(1, "a"), line + b"\n", put(3, "a")]
-    for read in (EventReader.backward, EventReader.forward):
+    for events in (reader_of(lines).backward(), reader_of(lines).forward()):
         with pytest.raises(BadEvents, match="^line 2 is no event$"):
-            list(read(reader_of(lines)))
+            list(events)
 
 
 @pytest.mark.parametrize(
@@ -237,6 +237,31 @@ def test_a_run_that_is_none_is_named(members: Members) -> None:
     lines = [load(4, {**run_of("package //a"), **members})]
     with pytest.raises(BadEvents, match="^the run of package //a in the event of line 4 is none$"):
         history_of(reader_of(lines), ["package //a"], None)
+
+
+def test_lines_that_are_not_read_still_have_to_be_objects() -> None:
+    lines = [load(1, run_of("package //a")), b"nonsense\n", load(3, run_of("package //b"))]
+    with pytest.raises(BadEvents, match="^line 2 is no event$"):
+        history_of(reader_of(lines), ["package //a"], None)
+
+
+def test_a_listing_that_was_read_before_has_the_edits_since() -> None:
+    listing = run_of("listing //a", causes=[], turns=0)
+    lines = [put(1, "a/b"), load(2, listing), put(3, "b"), put(4, "a/x/y"), load(5, listing)]
+    assert explained(lines, "listing //a") == ["listing //a  changed by the edit of line 4"]
+    root = run_of("listing //", causes=[], turns=0)
+    assert explained([put(1, "a/b"), load(2, root)], "listing //") == [
+        "listing //  changed by the edit of line 1"
+    ]
+
+
+def test_many_causes_and_odd_ones() -> None:
+    keys = [f"file f{at}" for at in range(100)] + ['glob //a "*"', "glob //a \\u0041"]
+    runs = [run_of(key, causes=[], turns=0) for key in keys]
+    lines = [*(put(at + 1, f"f{at}") for at in range(100)), load(101, *runs)]
+    lines += [put(102, "x"), load(103, run_of("package //a", causes=keys))]
+    told = explained(lines, "package //a")
+    assert len(told) == 103 and told[58] == "  file f57  changed by the edit of line 58"
 
 
 def test_members_and_kinds_that_are_not_known_are_passed_over() -> None:
