@@ -27,7 +27,7 @@ USED = [
     "true",
     "chmod",
 ]
-PROGRAMS = ["rt", "make", "cc", "git", "jq"]
+PROGRAMS = ["rt", "make", "cc", "git", "jq", "dot"]
 
 
 def program(folder: Path, name: str, text: str = "exit 0") -> None:
