@@ -138,7 +138,7 @@ class _Search:
         self._found -= before
         for key, run in here.items():
             self._keep(run)
-            if run.is_leaf or run == self.history_root:
+            if run.is_leaf or run == self._root:
                 self._found.add(key)
         for key in before - here.keys():
             self._keep(event.run(key))
@@ -148,7 +148,7 @@ class _Search:
         return key in event.raw_runs and (self.history is None or event.run(key).is_changed)
 
     @property
-    def history_root(self) -> Run | None:
+    def _root(self) -> Run | None:
         """The run that is explained, once it was come to."""
         return None if self.history is None else self.history.root
 
