@@ -11,6 +11,7 @@ from pathlib import Path
 import pytest
 from conftest import Done, Root, Runner
 from daemon_lines import Lines
+from git_trees import commit
 from sefgulaw.daemon.place import Place
 
 Make = Callable[..., Root]
@@ -355,10 +356,12 @@ def test_a_buffer_of_another_client_is_not_in_the_events(
 def test_experiments_and_comparisons_are_not_in_the_events(
     root: Root, run: Runner, recorded: Path
 ) -> None:
+    commit(root)
     root.write("a/BUILD", 'x = [\nfilegroup(name = "a")\n')
     assert run("check", cwd=root).status == 1
     lines = [it["op"] for it in events_in(recorded)]
     assert run("check", "//a", cwd=root).status == 1
     assert run("query", "//b", "--output", "location", cwd=root).status == 0
+    assert run("changed", "HEAD", ".", cwd=root).status == 1
     assert [it["op"] for it in events_in(recorded)] == lines
     assert lines[-2:] == ["edit", "load"] and not Path(f"{recorded}.1").exists()
