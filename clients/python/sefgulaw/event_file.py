@@ -127,6 +127,10 @@ class EventFile:
         elif is_deleted:
             self.fault = "it was deleted while events were written"
 
+    def is_at(self, path: str) -> bool:
+        """Tells whether another path leads to the same place."""
+        return os.path.realpath(path) == os.path.realpath(self.path)
+
     def size(self) -> int:
         """Returns how many bytes the file has. Any thread may ask."""
         try:

@@ -24,7 +24,7 @@ FILES = {
     "b/BUILD": 'load("//m:x.bzl", "V")\nfilegroup(name = "b", tags = V)\n',
 }
 TARGETS = ["//a:a filegroup", "//b:b filegroup"]
-AGAIN = "end it by 'sefgulaw daemon stop' and start it again"
+REFUSED = "is not a regular file"
 
 
 @pytest.fixture
@@ -126,7 +126,6 @@ def test_the_daemon_shows_where_its_events_go(
 
 def test_a_daemon_without_events(root: Root, run: Runner, tmp_path: Path) -> None:
     shown = os.path.realpath(root.path)
-    start = "start it by 'sefgulaw daemon start --events FILE'"
     done = run("explain", "//a", cwd=root)
     assert (done.status, done.out) == (3, b"")
     assert done.words == [
@@ -137,18 +136,18 @@ def test_a_daemon_without_events(root: Root, run: Runner, tmp_path: Path) -> Non
     done = run("explain", "//a", cwd=root)
     assert (done.status, done.out) == (3, b"")
     assert done.words == [
-        f"sefgulaw: the daemon of {shown} writes no events: end it by"
-        f" 'sefgulaw daemon stop' and {start}"
+        f"sefgulaw: the daemon of {shown} writes no events:"
+        " start another one by 'sefgulaw daemon start --events FILE'"
     ]
     assert state_of(run, root)["events"] is None
-    done = run("daemon", "start", "--events", str(tmp_path / "ev"), cwd=root)
-    assert done == Done(
-        3, b"", f"sefgulaw: a daemon runs that writes no events: {AGAIN}\n".encode()
-    )
-    assert not (tmp_path / "ev").exists()
+    file = str(tmp_path / "ev")
+    assert run("daemon", "start", "--events", file, cwd=root) == Done(0, b"", b"")
+    assert state_of(run, root)["events"] == file
+    assert run("check", cwd=root).status == 0
+    assert run("explain", "//a", cwd=root).status == 0
 
 
-def test_the_words_of_the_option(root: Root, run: Runner, recorded: Path, tmp_path: Path) -> None:
+def test_the_words_of_the_option(root: Root, run: Runner, recorded: Path) -> None:
     for word in ("stop", "status", "log"):
         done = run("daemon", word, "--events", "ev", cwd=root)
         assert (done.status, done.out) == (2, b"")
@@ -156,11 +155,27 @@ def test_the_words_of_the_option(root: Root, run: Runner, recorded: Path, tmp_pa
     before = recorded.read_bytes()
     assert run("daemon", "start", cwd=root) == Done(0, b"", b"")
     assert run("daemon", "start", "--events", "../ev.jsonl", cwd=root) == Done(0, b"", b"")
-    other = str(tmp_path / "other")
-    said = f"a daemon runs that writes its events to {recorded}: {AGAIN}"
-    done = run("daemon", "start", "--events", other, cwd=root)
-    assert done == Done(3, b"", f"sefgulaw: {said}\n".encode())
-    assert recorded.read_bytes() == before and not os.path.exists(other)
+    assert recorded.read_bytes() == before and not Path(f"{recorded}.1").exists()
+
+
+def test_another_file_takes_over(
+    root: Root, run: Runner, place: Place, recorded: Path, tmp_path: Path
+) -> None:
+    before, other = recorded.read_bytes(), tmp_path / "other"
+    editor = Lines(run, root)
+    _, end = editor.ask("text", file="m/x.bzl", text="W = unbound\n")
+    assert end["status"] == 0
+    assert run("daemon", "start", "--events", str(other), cwd=root) == Done(0, b"", b"")
+    assert run("targets", cwd=root).lines == TARGETS
+    assert recorded.read_bytes() == before and events_in(other)
+    assert run("explain", "//a", cwd=root).status == 0
+    editor.close()
+    for name, why in (("/nowhere/ev", "No such file or directory"), ("/dev/null", REFUSED)):
+        process = Path(place.file("pid")).read_text()
+        done = run("daemon", "start", "--events", name, cwd=root)
+        assert done == Done(3, b"", f"sefgulaw: {name}: {why}\n".encode())
+        assert Path(place.file("pid")).read_text() == process
+    assert state_of(run, root)["events"] == str(other)
 
 
 def test_a_file_that_cannot_be_made(root: Root, run: Runner, place: Place, tmp_path: Path) -> None:
@@ -168,8 +183,8 @@ def test_a_file_that_cannot_be_made(root: Root, run: Runner, place: Place, tmp_p
     for name, why in (
         ("/nowhere/ev", "No such file or directory"),
         (str(tmp_path), "Is a directory"),
-        (str(tmp_path / "fifo"), "is not a regular file"),
-        ("/dev/null", "is not a regular file"),
+        (str(tmp_path / "fifo"), REFUSED),
+        ("/dev/null", REFUSED),
     ):
         done = run("daemon", "start", "--events", name, cwd=root)
         assert done == Done(3, b"", f"sefgulaw: {name}: {why}\n".encode())
@@ -268,7 +283,10 @@ def test_a_later_daemon_whose_file_cannot_be_made_answers(
     done = run("explain", "//a", cwd=root)
     assert done == Done(3, b"", f"sefgulaw: {file}: {why}\n".encode() * 2)
     done = run("daemon", "start", "--events", str(file), cwd=root)
-    assert done == Done(3, b"", f"sefgulaw: {file}: {why}: {AGAIN}\n".encode())
+    assert done == Done(3, b"", f"sefgulaw: {file}: {why}\n".encode())
+    (tmp_path / "away").rename(tmp_path / "room")
+    assert run("daemon", "start", "--events", str(file), cwd=root).status == 0
+    assert run("check", cwd=root).status == 0 and run("explain", "//a", cwd=root).words == []
 
 
 FULL = """#!/bin/sh
@@ -295,7 +313,7 @@ def test_a_full_disk(root: Root, run: Runner, place: Place, tmp_path: Path) -> N
     empty = f"sefgulaw: {file}: {why}\nsefgulaw: {file}: there are no events in it\n"
     assert done == Done(3, b"", empty.encode())
     mark.unlink()
-    kill_loader(place)
+    assert run("daemon", "start", "--events", str(file), cwd=root) == Done(0, b"", b"")
     root.write("b/BUILD", "")
     assert run("targets", cwd=root).lines == TARGETS[:1]
     assert run("explain", "//b", cwd=root).words == []

@@ -45,7 +45,7 @@ def where(found: argparse.Namespace) -> Where:
 def connected(at: Where, starts: bool, events: str | None = None) -> tuple[Client, Hello] | None:
     """Returns a connection with the daemon, which is started if it may be. None is no daemon.
 
-    `events` is the file to which a daemon that is started writes events.
+    `events` is the file to which the daemon has to write events.
     """
     place = Place(at.root)
     loader = find_loader(at.loader)
@@ -60,7 +60,7 @@ def connected(at: Where, starts: bool, events: str | None = None) -> tuple[Clien
         found = started(place, at.root, loader, events)
     if loader is None and named_loader(at.loader):
         raise Failure(NO_ANSWER, no_loader(at.loader))
-    return Client(found), hello(loader)
+    return Client(found), hello(loader, events)
 
 
 def replies(at: Where, method: str, asked: Params | None) -> Iterator[Reply] | None:

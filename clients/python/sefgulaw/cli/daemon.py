@@ -7,7 +7,7 @@ import json
 import os
 import time
 
-from sefgulaw.cli.asking import Where, connected, where
+from sefgulaw.cli.asking import ATTEMPTS, PAUSE, Where, connected, where
 from sefgulaw.cli.output import BAD_WORDS, NO_ANSWER, Failure, Output, say
 from sefgulaw.daemon.client import Client, Lost, Other, connect
 from sefgulaw.daemon.place import Place
@@ -33,34 +33,54 @@ def daemon(found: argparse.Namespace) -> int:
 
 def _start(at: Where, found: argparse.Namespace) -> int:
     events = None if found.events is None else os.path.abspath(found.events)
-    for _ in range(2):
+    if events is not None:
+        _check_file(at, events)
+    for attempt in range(ATTEMPTS):
+        time.sleep(attempt * PAUSE)
         pair = connected(at, True, events)
         assert pair is not None
         client, greeting = pair
         try:
-            items = [it.item for it in client.ask("status", None, greeting) if it.item is not None]
+            for _reply in client.ask("status", None, greeting):
+                pass
         except (Lost, Other):
             continue
         finally:
             client.close()
-        if events is not None:
-            _check_events(json.loads(items[0]), events)
-            if _is_seen(at.root, events) and not hasattr(found, "quiet"):
-                say(f"{found.events} lies in the tree, where globs see it")
+        if events is not None and _is_seen(at.root, events) and not hasattr(found, "quiet"):
+            say(f"{found.events} lies in the tree, where globs see it")
         return 0
     raise Failure(NO_ANSWER, "the daemon has ended again")
 
 
-def _check_events(state: Members, events: str) -> None:
-    """Fails where the daemon, which may have run before, does not write its events there."""
-    again = "end it by 'sefgulaw daemon stop' and start it again"
-    if not state.get("events"):
-        raise Failure(NO_ANSWER, f"a daemon runs that writes no events: {again}")
-    if os.path.realpath(str(state["events"])) != os.path.realpath(events):
-        words = f"a daemon runs that writes its events to {state['events']}"
-        raise Failure(NO_ANSWER, f"{words}: {again}")
-    if state["events_fault"]:
-        raise Failure(NO_ANSWER, f"{events}: {state['events_fault']}: {again}")
+def _check_file(at: Where, events: str) -> None:
+    """Fails where a daemon that runs would make way for one that cannot write its events."""
+    from sefgulaw.event_file import CannotRecord, EventFile
+
+    state, file = state_of(Place(at.root)), EventFile(events)
+    if state is None or (state.get("events") and file.is_at(str(state["events"]))):
+        return
+    try:
+        file.claim()
+    except CannotRecord as error:
+        raise Failure(NO_ANSWER, f"{events}: {error}") from None
+    file.give_up()
+
+
+def state_of(place: Place) -> Members | None:
+    """Returns what the daemon of a tree tells of itself. None says that there is no daemon."""
+    connection = connect(place)
+    if connection is None:
+        return None
+    client = Client(connection)
+    try:
+        items = [it.item for it in client.ask("status", None, None) if it.item is not None]
+    except Lost:
+        return None
+    finally:
+        client.close()
+    state: Members | None = json.loads(items[0]) if items else None
+    return state
 
 
 def _is_seen(root: bytes, events: str) -> bool:
@@ -115,23 +135,10 @@ def _log(at: Where) -> int:
 
 
 def _status(at: Where) -> int:
-    connection = connect(Place(at.root))
+    state = state_of(Place(at.root))
+    words = "no daemon runs" if state is None else status_text(state)
     output = Output()
-    if connection is None:
-        output.line(os.fsencode(f"{home(os.fsdecode(at.root))}: no daemon runs"))
-        output.flush()
-        return 0
-    client = Client(connection)
-    try:
-        for reply in client.ask("status", None, None):
-            if reply.item is not None:
-                shown = status_text(json.loads(reply.item))
-                line = f"{home(os.fsdecode(at.root))}: {shown}"
-                output.line(os.fsencode(line))
-    except Lost:
-        raise Failure(NO_ANSWER, "the daemon has just ended") from None
-    finally:
-        client.close()
+    output.line(os.fsencode(f"{home(os.fsdecode(at.root))}: {words}"))
     output.flush()
     return 0
 

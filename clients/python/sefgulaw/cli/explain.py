@@ -3,13 +3,12 @@
 from __future__ import annotations
 
 import argparse
-import json
 import os
 from collections.abc import Iterator
 
 from sefgulaw.cli.asking import where
+from sefgulaw.cli.daemon import state_of
 from sefgulaw.cli.output import BAD_WORDS, NO_ANSWER, Failure, Output, say
-from sefgulaw.daemon.client import Client, Lost, connect
 from sefgulaw.daemon.place import Place
 from sefgulaw.event_file import earlier
 from sefgulaw.events import BadEvents, EventReader
@@ -72,22 +71,14 @@ def _check_words(found: argparse.Namespace) -> None:
 
 def _events_of_daemon(found: argparse.Namespace) -> tuple[str, str]:
     """Returns the file to which the tree's daemon writes events, and what is wrong with it."""
-    at = where(found)
-    connection = connect(Place(at.root))
-    if connection is None:
-        words = f"no daemon runs for {os.fsdecode(at.root)}: name a file by --events FILE"
+    root = where(found).root
+    state = state_of(Place(root))
+    if state is None:
+        words = f"no daemon runs for {os.fsdecode(root)}: name a file by --events FILE"
         raise Failure(NO_ANSWER, f"{words}, or start a daemon by {_START}")
-    client = Client(connection)
-    try:
-        items = [reply.item for reply in client.ask("status", None, None) if reply.item]
-    except Lost:
-        raise Failure(NO_ANSWER, "the daemon has just ended") from None
-    finally:
-        client.close()
-    state = json.loads(items[0]) if items else {}
     if not state.get("events"):
-        words = f"the daemon of {os.fsdecode(at.root)} writes no events: end it by"
-        raise Failure(NO_ANSWER, f"{words} 'sefgulaw daemon stop' and start it by {_START}")
+        words = f"the daemon of {os.fsdecode(root)} writes no events"
+        raise Failure(NO_ANSWER, f"{words}: start another one by {_START}")
     return str(state["events"]), str(state["events_fault"])
 
 

@@ -56,13 +56,16 @@ def connect(place: Place) -> socket.socket | None:
             os.close(number)
 
 
-def hello(loader: str | None) -> Hello:
-    """Returns who this front end is."""
+def hello(loader: str | None, events: str | None = None) -> Hello:
+    """Returns who this front end is, and to which file it wants events, if it does."""
     stamp: list[object] = []
     if loader is not None:
         found = os.stat(loader)
         stamp = [os.path.realpath(loader), found.st_size, found.st_mtime_ns]
-    return {"protocol": VERSION, "version": __version__, "loader": stamp}
+    greeting: Hello = {"protocol": VERSION, "version": __version__, "loader": stamp}
+    if events is not None:
+        greeting["events"] = events
+    return greeting
 
 
 class Client:

@@ -136,7 +136,8 @@ class Connection:
 
     def _hello(self, number: int, params: Members) -> None:
         version = [params.get("protocol"), params.get("version")]
-        if self._server.is_ending or self._server.differs(version, params.get("loader")):
+        differs = self._server.differs(version, params.get("loader"), params.get("events"))
+        if self._server.is_ending or differs:
             self._end(number, End(OTHER_DAEMON, 0))
             self._server.make_way()
         else:

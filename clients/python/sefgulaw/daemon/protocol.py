@@ -9,7 +9,7 @@ from __future__ import annotations
 
 import json
 from collections.abc import Mapping
-from typing import TypedDict
+from typing import NotRequired, TypedDict
 
 VERSION = 1
 LONGEST_LINE = 1 << 20
@@ -19,11 +19,15 @@ OTHER_DAEMON = 4
 
 
 class Hello(TypedDict):
-    """The params of `hello`: the package's version, and path, size and time of the loader."""
+    """The params of `hello`: the package's version, and path, size and time of the loader.
+
+    `events` is the file to which the daemon has to write events. Without it any daemon will do.
+    """
 
     protocol: int
     version: str
     loader: list[object]
+    events: NotRequired[str]
 
 
 Params = Mapping[str, object]

@@ -97,14 +97,17 @@ class Server:
         """Whether no new request is taken."""
         return self._ended.is_set()
 
-    def differs(self, version: object, loader: object) -> bool:
+    def differs(self, version: object, loader: object, events: object = None) -> bool:
         """Tells whether a front end wants another daemon than this one."""
         is_other = bool(loader) and loader != self.identity
+        if isinstance(events, str):
+            own = self.keeper.events
+            is_other = is_other or own is None or not own.is_at(events) or bool(own.fault)
         return version != [VERSION, __version__] or is_other or self._stamps != _stamps(self.root)
 
     def make_way(self) -> None:
         """Leaves the socket to another daemon, and ends."""
-        self.end("another version, another loader or other settings are asked for")
+        self.end("another version, loader or file of events or other settings are asked for")
 
     def idle_seconds(self) -> float:
         """Returns in how many seconds the daemon ends if nobody comes."""
