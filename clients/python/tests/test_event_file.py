@@ -10,6 +10,7 @@ from pathlib import Path
 import pytest
 
 from sefgulaw.event_file import CannotRecord, EventFile
+from sefgulaw.wire import Find, Loader, Stopped
 
 
 def test_a_file_is_held_by_one_and_nothing_is_lost(tmp_path: Path) -> None:
@@ -55,6 +56,17 @@ def test_a_link_to_a_file_stays_a_link(tmp_path: Path) -> None:
     file.claim()
     assert (tmp_path / "link").is_symlink() and (tmp_path / "link").read_text() == ""
     assert (tmp_path / "room" / "real.1").read_text() == "old\n"
+
+
+def test_a_loader_that_could_not_write_events_tells_why_it_stops(tmp_path: Path) -> None:
+    program = tmp_path / "loader"
+    program.write_text("#!/bin/sh\nread line\necho 'stop: memory\nevents: write' >&2\nexit 3\n")
+    program.chmod(0o755)
+    loader = Loader.start([str(program)])
+    with pytest.raises(Stopped) as stopped:
+        loader.ask(Find("a"))
+    assert (stopped.value.why, stopped.value.status) == ("memory", 3)
+    assert loader.answered == 0
 
 
 def claim_often(path: str, mark: str) -> int:
