@@ -8,10 +8,10 @@ EXAMPLE := examples/session.jsonl
 PYTHON := /usr/bin/python3
 CLIENT := clients/python
 # The packages of tests/ that are held to the style of the client.
-TESTED := style wrong_bodies
+TESTED := run.py language.py harness checks style wrong_bodies
 LOADER := $(abspath $(or $(SEFGULAW_LOADER),$(PROGRAM)))
 
-.PHONY: help clients clients-long has-loader quick run build measures shelf-trials readers embedding overlaps trials schedules bell test lint digests language wrong-bodies answers limits allocations workers events batches under hostile giving-back bench harness
+.PHONY: help clients clients-long has-loader quick run build measures shelf-trials readers embedding overlaps trials schedules bell test lint digests language wrong-bodies answers limits allocations workers events batches under hostile giving-back bench harness check
 
 help:  ## prints this list
 	@awk -F ':.*## ' '/^[a-z][a-z -]*:.*## / { printf "%-17s %s\n", $$1, $$2 }' $(MAKEFILE_LIST)
@@ -33,18 +33,18 @@ build:  ## proves and builds the program (an hour)
 
 # The program that measures, proved and built over the libraries of `build`. The gate does not build it.
 measures: build  ## builds the program that measures, over the libraries of build (minutes)
-	@python3 bench/build_measures.py
+	@python3 tests/harness/build.py
 
 # The program that tries the shelf, built as `measures` is. Compares what readers find, and prints times.
 shelf-trials: build  ## compares what readers of the shelf find, and prints times (minutes)
-	@python3 bench/build_measures.py shelf_trials
+	@python3 tests/harness/build.py shelf_trials
 	@for word in rows threads loads requests; do bench/out/shelf_trials $$word || exit 1; done | diff bench/shelf_trials/stdout -
-	@python3 tests/shelf_allocations.py
+	@python3 tests/run.py shelf_allocations --program $(PROGRAM)
 	@for names in 1000 100000; do bench/out/shelf_trials times $$names || exit 1; done
 
 # The example of an editor that embeds the loader, built as `measures` is. Compares what its readers find.
 readers: build  ## builds and runs the example of an editor that embeds the loader (minutes)
-	@python3 bench/build_measures.py readers
+	@python3 tests/harness/build.py readers
 	@bench/out/readers | diff examples/readers/stdout -
 
 # The gate: the house's rules of style, each crate's wrong bodies refused at its present text, every crate proved, the
@@ -55,8 +55,7 @@ test:  ## is the gate: style, digests, all proofs, the built program, and the co
 	@tools/install-packages run test
 	@$(MAKE) --no-print-directory lint harness digests language
 	RT_JOBS=$$(nproc) rt ci
-	python3 tests/answers.py
-	python3 tests/talk.py
+	python3 tests/run.py
 	@$(MAKE) --no-print-directory clients
 
 # The command `sefgulaw` over the built program: format, style, types, and the tests that take minutes at most.
@@ -85,7 +84,12 @@ harness:  ## tests the scripts of tests/ themselves (seconds)
 	@cd tests && $(PYTHON) -m black --check --quiet $(TESTED)
 	@cd tests && $(PYTHON) -m flake8 $(TESTED)
 	@cd tests && $(PYTHON) -m mypy --no-error-summary $(TESTED)
-	@cd tests && $(PYTHON) -m unittest --quiet style.test_style style.test_dead wrong_bodies.test_wrong_bodies
+	@cd tests && $(PYTHON) -m unittest --quiet style.test_style style.test_dead wrong_bodies.test_wrong_bodies \
+	    harness.test_harness harness.test_build harness.test_refuse
+
+# Checks of the built program by their names, each a file of tests/checks.
+check: build  ## runs the checks NAME=.. of the built program, or those of the gate (minutes)
+	@python3 tests/run.py $(NAME)
 
 # Compares each crate with the digest at which its wrong bodies were refused.
 digests:  ## compares each crate with the texts at which its wrong bodies were refused (seconds)
@@ -102,19 +106,16 @@ wrong-bodies:  ## has the wrong bodies of changed crates refused; ALL=1 of all c
 
 # What the built program tells of its runs, its words and its devices, and its answers to texts that were cut.
 answers: build  ## compares the built program's journal, words, devices and cut texts (seconds)
-	@python3 tests/answers.py
-	@python3 tests/talk.py
+	@python3 tests/run.py
 
 # Lines, texts and paths at their limits, and the memory of a program that is told many edits.
 limits: build  ## tries lines, texts and paths at their limits, and memory (minutes)
-	python3 tests/limits.py
+	python3 tests/run.py limits --program $(PROGRAM)
 
 # Each allocation of the program fails in turn, over examples and scripts, each of the parser over two files, and each
 # of a script of values, of one of edits and look-ups, of one of a list of choices, and of two of sessions. Needs cc.
 allocations: build measures  ## makes each allocation fail in turn; needs cc (minutes)
-	python3 tests/allocations.py
-	python3 tests/parse_allocations.py
-	python3 tests/script_allocations.py
+	python3 tests/run.py allocations parse_allocations script_allocations --program $(PROGRAM)
 
 # The loader in a program of another repository, as docs/EMBEDDING.md shows it, in a folder outside this checkout.
 embedding: build  ## does what docs/EMBEDDING.md says, in a folder outside this checkout (minutes)
@@ -122,7 +123,7 @@ embedding: build  ## does what docs/EMBEDDING.md says, in a folder outside this 
 
 # Turns that are under way at once, the rows of the board, and a thousand jobs; built as `measures` is.
 overlaps: build  ## tries turns that are under way at once (minutes)
-	@python3 bench/build_measures.py overlaps
+	@python3 tests/harness/build.py overlaps
 	@bench/out/overlaps | diff tests/overlaps/stdout -
 
 # All interleavings of threads that ring the bells of `pool` and of threads that wait by them: no ring is lost. It takes
@@ -134,36 +135,35 @@ bell:  ## tries all interleavings of threads that wait for each other (seconds)
 # and lists of choices (`schedules`). Built as `measures` is, with the libraries that `build` lacks. Each program reads
 # its file `stdin`, and what it writes has to be its file `stdout`.
 trials schedules: build  ## compares sessions and budgets, and lists of choices (minutes)
-	@python3 bench/build_measures.py $@
+	@python3 tests/harness/build.py $@
 	@bench/out/$@ < tests/$@/stdin > bench/out/$@.stdout
 	@diff tests/$@/stdout bench/out/$@.stdout
-	@test $@ = schedules || python3 tests/talk.py bench/out/$@ talk
-	@test $@ = schedules || python3 tests/changes.py
+	@test $@ = schedules || python3 tests/run.py talk changes --command 'bench/out/$@ talk' --program $(PROGRAM)
 	@echo "$@: $$(wc -l < tests/$@/stdout) lines compared, 0 wrong"
 
 # The same answers with 1 to 16 workers, over the gate's commands, scripts and 10,000 random scripts.
 workers: build  ## compares answers with 1 to 16 workers (minutes)
-	python3 tests/workers.py
+	python3 tests/run.py workers --program $(PROGRAM)
 
 # The events of the program beside its answers and its journal, and causes over 1,000 random scripts.
 events: build  ## compares events with answers, journals and fresh loaders (minutes)
-	python3 tests/events.py
+	python3 tests/run.py events --program $(PROGRAM)
 
 # Batches of edits and the same edits one by one, over 10,000 random scripts.
 batches: build  ## compares batches with the same edits one by one (minutes)
-	python3 tests/batches.py
+	python3 tests/run.py batches --program $(PROGRAM)
 
 # All packages under a directory, and globs with directories, over 2,000 random trees, compared with plain models.
 under: build  ## compares packages under directories with plain models (minutes)
-	python3 tests/under.py
+	python3 tests/run.py under --program $(PROGRAM)
 
 # Deep and wide sources by 1 and 16 workers, the stack that they take, and the costs of lines at their limits.
 hostile: build  ## tries deep and wide sources, their stack and their costs (minutes)
-	python3 tests/hostile.py --stack --costs
+	python3 tests/run.py hostile stack costs --program $(PROGRAM)
 
 # Values that are held by each kind of expression and statement while others are given back.
 giving-back: build  ## holds values while others are given back (minutes)
-	python3 tests/giving_back.py
+	python3 tests/run.py garbage --program $(PROGRAM)
 
 # Times of the program; prints a table.
 bench: build measures  ## prints the times of the program (minutes)
