@@ -367,7 +367,7 @@ def test_a_buffer_of_another_client_is_not_in_the_events(
     editor.close()
     told = events_in(recorded)
     assert [it["op"] for it in told[before.count(b"\n") :]] == ["edit", "load"]
-    assert keys_in(recorded, len(told)) == {"file a/BUILD", "package //a"}
+    assert keys_in(recorded, len(told)) == {"file a/BUILD", "lookup //a", "package //a"}
     assert b"unbound" not in recorded.read_bytes() and not Path(f"{recorded}.1").exists()
 
 

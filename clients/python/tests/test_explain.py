@@ -125,7 +125,7 @@ def test_a_picture_that_dot_takes(run: Runner, events: Path, tmp_path: Path) -> 
 
 def test_the_keys_with_most_turns(run: Runner, events: Path, tmp_path: Path) -> None:
     done = run("explain", "--top", "1", "--events", str(events), cwd=tmp_path)
-    assert (done.status, done.lines) == (0, ["12\t4\tmodule //m:y.bzl"])
+    assert (done.status, done.lines) == (0, ["12\t3\tpackage //a"])
 
 
 @pytest.mark.parametrize(
