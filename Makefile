@@ -8,10 +8,10 @@ EXAMPLE := examples/session.jsonl
 PYTHON := /usr/bin/python3
 CLIENT := clients/python
 # The packages of tests/ that are held to the style of the client.
-TESTED := run.py language.py harness checks style wrong_bodies
+TESTED := run.py harness checks style wrong_bodies
 LOADER := $(abspath $(or $(SEFGULAW_LOADER),$(PROGRAM)))
 
-.PHONY: help clients clients-long has-loader quick run build measures shelf-trials readers embedding overlaps trials schedules bell test lint digests language wrong-bodies answers limits allocations workers events batches under hostile giving-back bench harness check
+.PHONY: help clients clients-long has-loader quick run build measures shelf-trials readers embedding overlaps trials schedules bell test lint digests golden language wrong-bodies answers limits allocations workers events batches under hostile giving-back bench harness check
 
 help:  ## prints this list
 	@awk -F ':.*## ' '/^[a-z][a-z -]*:.*## / { printf "%-17s %s\n", $$1, $$2 }' $(MAKEFILE_LIST)
@@ -48,12 +48,12 @@ readers: build  ## builds and runs the example of an editor that embeds the load
 	@bench/out/readers | diff examples/readers/stdout -
 
 # The gate: the house's rules of style, each crate's wrong bodies refused at its present text, every crate proved, the
-# program run, and more answers of the built program compared. What takes a second comes first, with the
-# lines of the program compared with the topic files. A proof gets one job, since two cost a quarter more in sum.
+# program run, and the checks of the built program. What takes a second comes first. A proof gets one job, since two cost
+# a quarter more in sum.
 # At its end the command `sefgulaw` is tried over the program.
 test:  ## is the gate: style, digests, all proofs, the built program, and the command sefgulaw (an hour)
 	@tools/install-packages run test
-	@$(MAKE) --no-print-directory lint harness digests language
+	@$(MAKE) --no-print-directory lint harness digests
 	RT_JOBS=$$(nproc) rt ci
 	python3 tests/run.py
 	@$(MAKE) --no-print-directory clients
@@ -95,17 +95,17 @@ check: build  ## runs the checks NAME=.. of the built program, or those of the g
 digests:  ## compares each crate with the texts at which its wrong bodies were refused (seconds)
 	@python3 tests/wrong_bodies --digests
 
-# Compares the programs of tests/language with the lines of crates/cli that the program is run on.
-language:  ## compares the programs of tests/language with the lines that the gate runs (seconds)
-	@python3 tests/language.py --check
+# The golden sessions and the programs of the language, by the built program.
+golden language: build  ## compares the golden sessions, or the programs of the language (seconds)
+	@python3 tests/run.py $@
 
 # Tries the wrong bodies of the crates that have changed since they were refused, or with ALL=1 of all crates, over the
 # work that `rt check` kept. Two crates at once, or JOBS=N. Writes wrong-bodies.txt.
 wrong-bodies:  ## has the wrong bodies of changed crates refused; ALL=1 of all crates (an hour)
 	@python3 tests/wrong_bodies $(if $(ALL),--all) $(if $(JOBS),--jobs $(JOBS))
 
-# What the built program tells of its runs, its words and its devices, and its answers to texts that were cut.
-answers: build  ## compares the built program's journal, words, devices and cut texts (seconds)
+# The checks of the gate: golden sessions, programs of the language, the journal, words, devices, and texts that were cut.
+answers: build  ## runs the gate's checks of the built program (seconds)
 	@python3 tests/run.py
 
 # Lines, texts and paths at their limits, and the memory of a program that is told many edits.

@@ -24,7 +24,7 @@ from harness.context import Context, path_of  # noqa: E402
 from harness.report import Report  # noqa: E402
 
 # The checks that the gate runs, in their order.
-GATE = ["stored", "many", "journal", "words", "devices", "cuts", "talk"]
+GATE = ["golden", "language", "many", "journal", "words", "devices", "cuts", "talk"]
 BUILT = "crates/cli/out/cli"
 
 

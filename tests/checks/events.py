@@ -18,10 +18,12 @@ import tempfile
 from collections.abc import Iterator
 from typing import Any
 
+from checks.language import all_lines
 from checks.limits import MAX_GROWTH, most_memory
 from harness import scripts
 from harness.commands import Command, find, lines_of_commands, load, put, under
-from harness.context import Context, bytes_of
+from harness.context import Context
+from harness.golden import sessions
 from harness.loader import Run
 from harness.model import make_change
 from harness.report import Report, processors
@@ -205,9 +207,12 @@ def compare_memory(context: Context) -> Report:
 
 def run(context: Context) -> Report:
     """Makes all comparisons."""
-    lines = bytes_of("crates/cli/stdin")
-    some = lines.splitlines(keepends=True)[:60]
-    report = compare_streams(context, lines)
+    given = {session.name: session.given() for session in sessions()}
+    some = given["rows.session"].splitlines(keepends=True)[:60]
+    report = Report()
+    for name, lines in [*given.items(), ("language", all_lines())]:
+        found = compare_streams(context, lines)
+        report.add(*[f"{name}, {it}" for it in found.wrong], compared=found.compared)
     faults = compare_faults(context, b"".join(some))
     report.add(*faults.wrong, compared=faults.compared)
     for count in KILLED_AFTER:

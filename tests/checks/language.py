@@ -5,7 +5,7 @@ are made of the comments in the topic files alone (harness/programs.py says how 
 from harness.commands import line_of
 from harness.context import Context
 from harness.programs import Row, programs_of, topics, words_of_faults
-from harness.report import Report, compare_each, differs
+from harness.report import Report, compare_each, differs, run_differs
 
 # A program with its place, and its rows.
 Placed = tuple[str, list[Row]]
@@ -20,24 +20,33 @@ def numbered(programs: list[Placed]) -> list[tuple[str, bytes, bytes]]:
             if "ok" in answer:
                 version += 1
                 answer = {"ok": version}
-            rows.append((place, line_of(command), line_of(answer, sort_keys=True)))
+            rows.append((place, line_of(command), line_of(answer, sort_keys=True)[:-1]))
     return rows
+
+
+def all_programs() -> list[Placed]:
+    """All programs of all topics."""
+    words = words_of_faults()
+    return [(it.place, list(it.rows(words))) for path in topics() for it in programs_of(path)]
+
+
+def all_lines() -> bytes:
+    """The lines of all programs, one after the other."""
+    return b"".join(line for _, line, _ in numbered(all_programs()))
 
 
 def run(context: Context) -> Report:
     """Runs all programs one after the other in one session."""
-    words = words_of_faults()
-    programs = [(it.place, list(it.rows(words))) for path in topics() for it in programs_of(path)]
+    programs = all_programs()
     rows = numbered(programs)
     given = b"".join(line for _, line, _ in rows)
 
     def check(count: int) -> str | None:
-        ran, name = context.serving(count).run(given), f"--workers {count}"
-        for (place, _, wanted), got in zip(rows, ran.written.splitlines(keepends=True)):
+        ran, what = context.serving(count).run(given), f"--workers {count}"
+        for (place, _, wanted), got in zip(rows, ran.lines()):
             if got != wanted:
-                return differs(f"{name}, {place}", got, wanted)
-        got_end, wanted_end = (ran.ended(), len(ran.lines())), ((0, b""), len(rows))
-        return differs(f"{name}: status, what it said, and number of answers", got_end, wanted_end)
+                return differs(f"{what}, {place}", got, wanted)
+        return run_differs(what, ran, [wanted for _, _, wanted in rows])
 
     report = compare_each(check, context.workers)
     report.compared *= len(programs)

@@ -2,10 +2,9 @@
 
 from collections.abc import Iterator
 
-from checks.stored import wrong_in
 from harness.commands import Command, line_of, load, module, put
 from harness.context import Context
-from harness.report import Report, compare_each
+from harness.report import Report, compare_each, run_differs
 
 MANY = 256
 
@@ -46,7 +45,7 @@ def run(context: Context) -> Report:
         given = b"".join(line_of(line) for line, _ in parts[name])
         wanted = [line_of(answer)[:-1] for _, answer in parts[name]]
         what = f"{name}, --workers {count}"
-        return wrong_in(context.serving(count).run(given), wanted, what)
+        return run_differs(what, context.serving(count).run(given), wanted)
 
     report = compare_each(check, [(name, it) for name in parts for it in context.workers])
     report.compared = sum(map(len, parts.values())) * len(context.workers)

@@ -1,14 +1,16 @@
-"""The same bytes with one worker and with more: the commands of the gate and the scripts of
-tests/scripts with 2, 3 and 16 workers, and random small scripts with 16."""
+"""The same bytes with one worker and with more: the golden sessions, the programs of the language
+and the scripts of tests/scripts with 2, 3 and 16 workers, and random small scripts with 16."""
 
 import glob
 import os
 from collections.abc import Iterator
 from functools import partial
 
+from checks.language import all_lines
 from harness import scripts
 from harness.commands import lines_of_commands
 from harness.context import Context, bytes_of, path_of
+from harness.golden import sessions
 from harness.report import Comparison, Report, compare_all
 
 SCRIPTS = 10_000
@@ -36,8 +38,10 @@ def random_differs(context: Context, number: int) -> str | None:
 
 
 def stored() -> Iterator[tuple[str, bytes]]:
-    """The names and the lines of the stored scripts."""
-    yield "stdin", bytes_of("crates/cli/stdin")
+    """The names and the lines of what is stored."""
+    for session in sessions():
+        yield session.name, session.given()
+    yield "language", all_lines()
     for file in sorted(glob.glob(path_of("tests/scripts/*.jsonl"))):
         yield os.path.basename(file), bytes_of(file)
 

@@ -8,6 +8,8 @@ import subprocess
 from collections.abc import Callable, Iterable
 from typing import TypeVar
 
+from harness.loader import Run
+
 # How many of the things that are wrong are printed.
 MAX_SHOWN = 10
 
@@ -68,6 +70,12 @@ def first_difference(what: str, got: list[bytes], wanted: list[bytes]) -> str | 
 def processors() -> int:
     """How many processors this process may use, which is how many comparisons are made at once."""
     return len(os.sched_getaffinity(0))
+
+
+def run_differs(what: str, ran: Run, wanted: list[bytes]) -> str | None:
+    """A text of what is wrong with a run that has to end well and to write these lines, or None."""
+    ends = differs(f"{what}: status and what it said", ran.ended(), (0, b""))
+    return ends or first_difference(what, ran.lines(), wanted)
 
 
 def outcome(comparison: Comparison) -> str | None:

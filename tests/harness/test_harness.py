@@ -1,6 +1,7 @@
 """Tests the harness with a program of Python in the loader's place: each check that it can answer
 is right about it, and finds what such a program does wrong."""
 
+import json
 import os
 import subprocess
 import sys
@@ -12,11 +13,15 @@ HERE = os.path.dirname(os.path.abspath(__file__))
 TESTS = os.path.dirname(HERE)
 sys.path.insert(0, TESTS)
 
-from checks import batches, devices, many, talk, under, words, workers  # noqa: E402
+from checks import batches, devices, golden, many, talk, under, words, workers  # noqa: E402
+from checks.language import all_programs, numbered  # noqa: E402
 from harness import loader as loaders  # noqa: E402
 from harness.commands import find, line_of, put  # noqa: E402
 from harness.context import Context  # noqa: E402
+from harness.golden import Malformed as MalformedSession  # noqa: E402
+from harness.golden import Session, read_session, sessions, with_versions  # noqa: E402
 from harness.loader import LATE, Loader, Run  # noqa: E402
+from harness.model import Answer, Files  # noqa: E402
 from harness.programs import Malformed, programs_of, words_of_faults  # noqa: E402
 from harness.report import Report, compare_each, first_difference  # noqa: E402
 
@@ -199,6 +204,84 @@ class RunnerTest(unittest.TestCase):
         self.assertIn("there is no check nothing", lines[-1])
 
 
+SESSION = b"""# A package.
+> {"op":"put","path":"x/BUILD","text":""}
+< {"ok":1}
+> {"op":"find","name":"x"}
+< {"build":"BUILD"}
+
+# It goes.
+> {"op":"del","path":"x/BUILD"}
+< {"ok":2}
+>\x20
+< {"refused":1}
+"""
+
+
+class GoldenTest(unittest.TestCase):
+    """Golden sessions."""
+
+    def read(self, text: bytes) -> Session:
+        """Reads a session."""
+        with tempfile.NamedTemporaryFile(suffix=".session") as file:
+            file.write(text)
+            file.flush()
+            return read_session(file.name)
+
+    def test_session(self) -> None:
+        session = self.read(SESSION)
+        self.assertEqual(
+            session.replies, [b'{"ok":1}', b'{"build":"BUILD"}', b'{"ok":2}', b'{"refused":1}']
+        )
+        self.assertEqual(session.places, [2, 4, 8, 10])
+        with mock.patch.dict(os.environ, {"FAKE_FAULT": ""}):
+            self.assertIsNone(golden.session_differs(Context(FAKE), (session, 1)))
+
+    def test_wrong_reply(self) -> None:
+        session = self.read(SESSION.replace(b'"BUILD"}', b'"BUILD.bazel"}'))
+        with mock.patch.dict(os.environ, {"FAKE_FAULT": ""}):
+            wrong = golden.session_differs(Context(FAKE), (session, 1))
+        self.assertIn("--workers 1, line 4: b", wrong or "")
+
+    def test_malformed_sessions(self) -> None:
+        for text in (
+            b"",
+            b"> a\n",
+            b"< a\n",
+            b"> a\n> b\n< c\n",
+            b"x\n> a\n< b\n",
+            b"> a\n# b\n< c\n",
+        ):
+            with self.subTest(text):
+                self.assertRaises(MalformedSession, self.read, text)
+
+    def test_versions(self) -> None:
+        moved = SESSION.replace(b'{"ok":1}', b'{"ok":7}').replace(b'{"ok":2}', b'{"ok":7}')
+        self.assertEqual(with_versions(moved), SESSION)
+
+    def test_stored_sessions(self) -> None:
+        found = sessions()
+        self.assertGreater(sum(len(it.replies) for it in found), 1000)
+        compared = 0
+        for session in found:
+            files = Files()
+            for place, command, reply in zip(session.places, session.commands, session.replies):
+                with self.subTest(f"{session.name}, line {place}"):
+                    wanted = plain_reply(files, command, json.loads(reply))
+                    self.assertEqual(json.loads(reply), wanted)
+                    compared += 1
+        self.assertGreater(compared, 1000)
+
+
+def plain_reply(files: Files, line: bytes, reply: Answer) -> Answer:
+    """The reply of a plain model of files to an edit. That of another line, or of one that is no
+    command or has a long text, is the reply itself, which no model tells."""
+    if reply.get("refused") in (1, 7) or not reply.keys() & {"ok", "refused"}:
+        return reply
+    command = json.loads(line)
+    return files.edit(command)[0] if command["op"] in ("put", "del", "edit") else reply
+
+
 TOPIC = """Notes.
 --- values
 1 + 1 ### gives 2
@@ -240,6 +323,11 @@ class ProgramTest(unittest.TestCase):
         ):
             with self.subTest(text):
                 self.assertRaises(Malformed, self.programs, text)
+
+    def test_stored_topics(self) -> None:
+        programs = all_programs()
+        self.assertGreater(len(programs), 700)
+        self.assertGreater(len(numbered(programs)), 3 * len(programs))
 
     def test_words_of_faults(self) -> None:
         words = words_of_faults()
