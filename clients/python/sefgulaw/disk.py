@@ -22,6 +22,7 @@ VERSION_CONTROL = frozenset((b".git", b".hg", b".svn"))
 _SETTLED_NS = 100_000_000
 _BUILD_NAMES = (b"BUILD", b"BUILD.bazel")
 _FLAGS = os.O_RDONLY | os.O_NONBLOCK | os.O_CLOEXEC | os.O_NOCTTY
+_LEAST_ROOM = 4096
 
 
 class Stamp(NamedTuple):
@@ -69,7 +70,9 @@ class Ignore:
 
 def is_source(path: bytes) -> bool:
     """Tells whether the loader reads the text of this file."""
-    return path.endswith(b".bzl") or path.rpartition(b"/")[2] in _BUILD_NAMES
+    if path.endswith(_BUILD_NAMES):
+        return path.rpartition(b"/")[2] in _BUILD_NAMES
+    return path.endswith(b".bzl")
 
 
 def stamp_of(found: os.stat_result) -> Stamp:
@@ -159,7 +162,8 @@ def _content(number: int, size: int) -> bytes | Unreadable:
     parts: list[bytes] = []
     length = 0
     while length <= LONGEST_TEXT:
-        part = os.read(number, LONGEST_TEXT + 1 - length)
+        room = max(size + 1 - length, _LEAST_ROOM)
+        part = os.read(number, min(room, LONGEST_TEXT + 1 - length))
         if not part:
             return b"".join(parts)
         parts.append(part)
@@ -198,6 +202,24 @@ def walk(root: bytes, ignore: Ignore) -> Iterator[Found]:
                 found = entry_file(path, entry)
                 if found:
                     yield found
+
+
+def plain_file(path: bytes, name: bytes, entry: os.DirEntry[bytes]) -> Found | None:
+    """Looks at an entry that is a regular file and has no second name, which most are.
+
+    None says that the entry has to be looked at in another way.
+    """
+    if not entry.is_file(follow_symlinks=False):
+        return None
+    if not (name.endswith(b".bzl") or name in _BUILD_NAMES):
+        return Found(path, "other")
+    try:
+        found = entry.stat(follow_symlinks=False)
+    except OSError:
+        return None
+    if found.st_nlink > 1 or not stat.S_ISREG(found.st_mode):
+        return None
+    return Found(path, "source", stamp_of(found))
 
 
 def enters(root: bytes, path: bytes, entry: os.DirEntry[bytes], ignore: Ignore) -> bool:

@@ -259,10 +259,11 @@ class Inotify:
         waiting = [top]
         while waiting:
             directory = waiting.pop()
-            if not self._add_watch(directory):
+            full = self._full(directory)
+            if not self._add_watch(directory, full):
                 continue
             try:
-                with os.scandir(self._full(directory)) as scanned:
+                with os.scandir(full) as scanned:
                     entries = list(scanned)
             except OSError as error:
                 if not directory:
@@ -271,14 +272,21 @@ class Inotify:
                 entries = []
             else:
                 self.unlisted.pop(directory, None)
+            head = directory + b"/" if directory else b""
             names: set[bytes] = set()
             for entry in entries:
-                names.add(entry.name)
-                path = _join(directory, entry.name)
-                if self._look_at_entry(path, entry):
+                name = entry.name
+                names.add(name)
+                path = head + name
+                # Nothing is known of any path yet in the first walk.
+                found = None if self._is_begun else disk.plain_file(path, name, entry)
+                if found is not None:
+                    self.files[path] = found
+                    self._changed.add(path)
+                elif self._look_at_entry(path, entry):
                     waiting.append(path)
-            for name in self._names.get(directory, set()) - names:
-                self._gone(_join(directory, name))
+            for name in self._names.get(directory, names) - names:
+                self._gone(head + name)
             self._names[directory] = names
 
     def _look_at_entry(self, path: bytes, entry: os.DirEntry[bytes]) -> bool:
@@ -297,8 +305,7 @@ class Inotify:
         self._set(path, found)
         return enters
 
-    def _add_watch(self, directory: bytes) -> bool:
-        full = self._full(directory)
+    def _add_watch(self, directory: bytes, full: bytes) -> bool:
         is_link = directory in self._elsewhere
         if is_link and not os.path.isdir(full):
             self._leave(directory)
