@@ -73,7 +73,7 @@ def join(directory: str, name: str) -> Path:
 
 def is_build(path: str) -> bool:
     """Tells whether a path is that of a BUILD or BUILD.bazel file."""
-    return basename(path) in BUILD_NAMES
+    return path.endswith(BUILD_NAMES) and basename(path) in BUILD_NAMES
 
 
 def is_source(path: str) -> bool:

@@ -23,14 +23,19 @@ def _directories(directory: Path) -> Iterator[Path]:
 
 
 class Needs:
-    """The loads and the directories of the files that a loader was told."""
+    """The loads and the directories of the files that a loader was told.
+
+    `moves` is another number whenever a file has come or gone.
+    """
 
     def __init__(self) -> None:
-        self._names: dict[Path, set[str]] = {}
+        self.moves = 0
+        self._names: dict[str, set[str]] = {}
+        self._packages: set[str] = set()
         self._below: dict[Path, set[str]] = {}
         self._labels: dict[Path, tuple[str, ...]] = {}
         self._users: defaultdict[Path, set[Path]] = defaultdict(set)
-        self._moved: dict[Path, set[Path]] = {}
+        self._moved: dict[Path, set[Path | None]] = {}
 
     def update(self, path: Path, text: str | None, own: Iterable[str] = ()) -> None:
         """Takes in a file's told text, or that the file is not told any more (None).
@@ -39,20 +44,25 @@ class Needs:
         itself loads, and both count.
         """
         directory, name = parent(path), basename(path)
-        if is_source(path):
+        if is_source(name):
             labels = () if text is None else (*load_labels(text), *own)
             self._set_labels(path, labels)
-        if self.has(path) == (text is not None):
+        names = self._names.get(directory)
+        if (names is not None and name in names) == (text is not None):
             return
+        self.moves += 1
         around = {self.nearest(directory)}
         if text is None:
             self._remove(directory, name)
         else:
             self._add(directory, name)
-        if is_build(path):
+        if name in BUILD_NAMES:
             around |= {directory, self.nearest(parent(directory))}
-        packages = self._moved.setdefault(path, set())
-        packages.update(package for package in around if package is not None)
+        moved = self._moved.get(path)
+        if moved is None:
+            self._moved[path] = around
+        else:
+            moved |= around
 
     def has(self, path: Path) -> bool:
         """Tells whether a file is told."""
@@ -68,18 +78,24 @@ class Needs:
 
     def is_package(self, directory: Path) -> bool:
         """Tells whether a directory has a BUILD file among the told ones."""
-        names = self._names.get(directory)
-        return names is not None and any(name in names for name in BUILD_NAMES)
+        return directory in self._packages
 
     def nearest(self, directory: Path) -> Path | None:
         """Returns the nearest package at or above a directory."""
-        return next((at for at in _directories(directory) if self.is_package(at)), None)
+        while directory not in self._packages:
+            if not directory:
+                return None
+            directory = parent(directory)
+        return directory
 
     def _add(self, directory: Path, name: str) -> None:
-        if directory not in self._names:
-            self._names[directory] = set()
+        names = self._names.get(directory)
+        if names is None:
+            names = self._names[directory] = set()
             self._link(directory)
-        self._names[directory].add(name)
+        names.add(name)
+        if name in BUILD_NAMES:
+            self._packages.add(directory)
 
     def _link(self, directory: Path) -> None:
         """Enters a directory into those above it, as far as they do not know it."""
@@ -96,6 +112,8 @@ class Needs:
         if names is None:
             return
         names.discard(name)
+        if names.isdisjoint(BUILD_NAMES):
+            self._packages.discard(directory)
         if not names:
             del self._names[directory]
         while directory and directory not in self._names and not self._below.get(directory):
@@ -126,7 +144,7 @@ class Needs:
         Directories that are no packages any more are among them. A file with no update counts as
         one whose text has changed.
         """
-        packages: set[Path] = set()
+        packages: set[Path | None] = set()
         sources: set[Path] = set()
         boundaries: set[Path] = set()
         for path in changed:
@@ -135,13 +153,13 @@ class Needs:
                 packages |= around
             if is_build(path):
                 packages.add(parent(path))
-            if is_build(path) and around is not None:
-                boundaries.add(parent(path))
-            if path.endswith(".bzl"):
+                if around is not None:
+                    boundaries.add(parent(path))
+            elif path.endswith(".bzl"):
                 sources.add(path)
         sources |= self._modules_at_or_below(boundaries)
         packages |= {parent(path) for path in self._with_loaders(sources) if is_build(path)}
-        return set(packages)
+        return {package for package in packages if package is not None}
 
     def _modules_at_or_below(self, directories: set[Path]) -> set[Path]:
         """The modules, there or only named by a load, in some directories and below them."""

@@ -65,14 +65,24 @@ def loads(text: str) -> list[LoadText]:
     which does no harm.
     """
     found = []
-    for match in _LOAD.finditer(text):
+    for match in _loads(text):
         found.append(LoadText(_unquoted(match[1]), _span_of(text, match.start(1), match.end(1))))
     return found
 
 
 def load_labels(text: str) -> list[str]:
     """Returns the labels of `loads`, which takes no time for their places."""
-    return [_unquoted(match[1]) for match in _LOAD.finditer(text)]
+    return [_unquoted(match[1]) for match in _loads(text)]
+
+
+def _loads(text: str) -> Iterator[re.Match[str]]:
+    """Yields what `_LOAD.finditer` yields, and tries the pattern only where a line begins so."""
+    at = text.find("load")
+    while at >= 0:
+        found = _LOAD.match(text, at) if at == 0 or text[at - 1] == "\n" else None
+        if found is not None:
+            yield found
+        at = text.find("load", at + 4 if found is None else found.end())
 
 
 def _unquoted(literal: str) -> str:
