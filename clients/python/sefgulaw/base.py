@@ -32,7 +32,7 @@ from sefgulaw.names import (
 from sefgulaw.needs import Needs
 from sefgulaw.settings import StandIns
 from sefgulaw.store import Store, Target
-from sefgulaw.telling import Absent, Note, Text, Told
+from sefgulaw.telling import Absent, Note, Told
 from sefgulaw.watch import Watch
 from sefgulaw.watch.fallback import FallBack
 from sefgulaw.watch.poll import Poll
@@ -152,7 +152,7 @@ class Base:
         if not fits(path):
             return telling.too_long(path)
         if found.kind == "other":
-            return Text("")
+            return telling.EMPTY
         return telling.told_source(path, self._read(name))
 
     @property
@@ -171,8 +171,9 @@ class Base:
 
     def _take_in(self, changed: Iterable[Path]) -> None:
         changed = list(changed)
+        told = self.told
         for path in changed:
-            self.needs.update(path, self.told.get(path))
+            self.needs.update(path, told.get(path))
             if "__x" in path:
                 self._note_odd(path)
         for name in self.needs.affected(changed):

@@ -27,6 +27,9 @@ from sefgulaw.wire import (
 )
 
 Change = Union[Put, Del]
+Worded = tuple[Change, str]
+"""A change with its words, which are made once."""
+
 Progress = Callable[[int, int, str], None]
 
 MOST_REFUSALS = 3
@@ -139,14 +142,16 @@ class Mirror:
 
     def _wanted(self, path: Path) -> str | None:
         """Returns the text that a path is to have, and keeps the note that stands beside it."""
+        told = self._source(path)
+        if isinstance(told, Text) and path not in self.notes and path not in self._blamed:
+            return told.text
         before = self.notes.get(path)
-        text = self._wanted_text(path)
+        text = self._wanted_text(path, told)
         if self.notes.get(path) != before:
             self._noted.add(path)
         return text
 
-    def _wanted_text(self, path: Path) -> str | None:
-        told = self._source(path)
+    def _wanted_text(self, path: Path, told: Told) -> str | None:
         blame = self._blamed.get(path)
         if blame is not None:
             if isinstance(told, Text) and told.text == blame.text:
@@ -175,9 +180,10 @@ class Mirror:
     def _changes(self, wanted: dict[Path, str | None]) -> list[Change]:
         """Returns the changes from what is told, deletions first and deepest first."""
         wanted = dict(wanted)
+        clear: set[str] = set()
         for path in [path for path, text in wanted.items() if text is not None]:
             if path not in self.told:
-                for other in self._in_the_way(path, wanted):
+                for other in self._in_the_way(path, wanted, clear):
                     wanted[other] = self._wanted(other)
         deleted = [path for path, text in wanted.items() if text is None and path in self.told]
         deleted.sort(key=lambda path: (-path.count("/"), path))
@@ -187,11 +193,17 @@ class Mirror:
                 changes.append(Put(path, text))
         return changes
 
-    def _in_the_way(self, path: Path, wanted: dict[Path, str | None]) -> list[Path]:
-        """Returns told files above a new path, or below it, that nobody looked at yet."""
+    def _in_the_way(
+        self, path: Path, wanted: dict[Path, str | None], clear: set[str]
+    ) -> list[Path]:
+        """Returns told files above a new path, or below it, that nobody looked at yet.
+
+        `clear` are the directories above which all was looked at, as for the paths before this one.
+        """
         found = []
         above = path.rpartition("/")[0]
-        while above:
+        while above and above not in clear:
+            clear.add(above)
             if above in self.told and Path(above) not in wanted:
                 found.append(Path(above))
             above = above.rpartition("/")[0]
@@ -207,17 +219,17 @@ class Mirror:
             self._send(batch, again, differing)
         return again
 
-    def _send(self, batch: list[Change], again: set[Path], differing: set[Path]) -> None:
+    def _send(self, batch: list[Worded], again: set[Path], differing: set[Path]) -> None:
         """Sends one batch. A change that is refused is put aside, and the others are sent again."""
         refusals = 0
         while batch:
             refused = self._edit(batch)
             if refused is None:
-                for change in batch:
+                for change, _ in batch:
                     self._note_told(change)
                     differing.add(change.path)
                 return
-            again.add(batch.pop(refused).path)
+            again.add(batch.pop(refused)[0].path)
             refusals += 1
             if refusals > MOST_REFUSALS and len(batch) > 1:
                 middle = len(batch) // 2
@@ -233,7 +245,7 @@ class Mirror:
         instead = failing(path, "refused", "the loader does not take it")
         again: set[Path] = set()
         if is_source(path):
-            self._send([Put(path, instead.text)], again, differing)
+            self._send(_worded(Put(path, instead.text)), again, differing)
         self.notes[path] = instead.note
 
     def _note_told(self, change: Change) -> None:
@@ -249,16 +261,21 @@ class Mirror:
             self._count(path, -1)
 
     def _count(self, path: Path, by: int) -> None:
+        """Counts the told files in each directory, and the directories in it that have any."""
         above = path.rpartition("/")[0]
         while above:
-            self._directories[above] = self._directories.get(above, 0) + by
-            if not self._directories[above]:
+            before = self._directories.get(above, 0)
+            if before + by:
+                self._directories[above] = before + by
+            else:
                 del self._directories[above]
+            if before and before + by:
+                break
             above = above.rpartition("/")[0]
 
-    def _edit(self, batch: Sequence[Change]) -> int | None:
+    def _edit(self, batch: Sequence[Worded]) -> int | None:
         """Makes an edit, over ends of the loader. Returns the place of a change that is refused."""
-        line = edit_line([change.words() for change in batch])
+        line = edit_line([words for _, words in batch])
         while True:
             try:
                 refused = self._edit_once(line)
@@ -317,7 +334,7 @@ class Mirror:
             self._blamed[one.path] = _Blame(one.note, self.told[one.path], one.closure)
             self.notes[one.path] = one.note
             instead = failing(one.path, one.note.code, one.note.text)
-            self._send([Put(one.path, instead.text)], set(), set())
+            self._send(_worded(Put(one.path, instead.text)), set(), set())
         if not guilty and len(group) > 1:
             self._most_names = max(1, len(group) // 8)
 
@@ -336,8 +353,8 @@ class Mirror:
                 raise BrokenLoader(str(stop))
         self._loader_version = 0
         try:
-            for batch in _batches([Put(path, text) for path, text in self.told.items()]):
-                if self._edit_once(edit_line([change.words() for change in batch])) is not None:
+            for batch in _batches(Put(path, text) for path, text in self.told.items()):
+                if self._edit_once(edit_line([words for _, words in batch])) is not None:
                     raise Stopped("killed", 0, "the loader refuses what it took before")
         except Stopped as again:
             self._restart(again, explained=False)
@@ -348,18 +365,21 @@ def _nonsense(answer: bytes) -> Stopped:
     return Stopped("killed", 0, f"an answer that is none: {answer[:80]!r}")
 
 
-def _batches(changes: Sequence[Change]) -> Iterator[list[Change]]:
-    """Yields the changes in groups that fit into one line each."""
-    group: list[Change] = []
+def _worded(change: Change) -> list[Worded]:
+    return [(change, change.words())]
+
+
+def _batches(changes: Iterable[Change]) -> Iterator[list[Worded]]:
+    """Yields the changes with their words, in groups that fit into one line each."""
+    group: list[Worded] = []
     size = 0
     for change in changes:
-        length = len(change.path) + 40
-        if isinstance(change, Put) and change.text:
-            length = len(change.words()) + 1
+        words = change.words()
+        length = len(words) + 1
         if group and (len(group) == MOST_EDITS or size + length > MOST_BYTES):
             yield group
             group, size = [], 0
-        group.append(change)
+        group.append((change, words))
         size += length
     if group:
         yield group

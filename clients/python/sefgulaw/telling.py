@@ -69,6 +69,9 @@ class Absent:
 
 Told = Union[Text, Instead, Absent]
 
+EMPTY = Text("")
+"""Told for a file that the loader does not read."""
+
 
 def failing(path: Path, code: str, text: str) -> Instead:
     """Returns what is told for a source that cannot be told or must not be."""

@@ -15,9 +15,9 @@ import select
 import signal
 import subprocess
 import time
-from collections.abc import Sequence
+from collections.abc import Callable, Sequence
 from dataclasses import dataclass
-from typing import Literal, Union
+from typing import Literal, NamedTuple, Union
 
 from sefgulaw.names import Path
 
@@ -33,6 +33,7 @@ Why = Literal["memory", "budget", "read", "write", "killed", "deadline"]
 _CHUNK = 1 << 20
 _SET_PIPE_SIZE = 1031
 _WORDS = json.JSONEncoder(separators=(",", ":")).encode
+_STRING: Callable[[str], str] = json.encoder.encode_basestring_ascii  # type: ignore[attr-defined]
 
 
 class Stopped(Exception):
@@ -49,8 +50,7 @@ class NoLoader(Exception):
     """The loader's program cannot be started."""
 
 
-@dataclass(frozen=True)
-class Put:
+class Put(NamedTuple):
     """Sets the text of a file."""
 
     path: Path
@@ -58,22 +58,21 @@ class Put:
 
     def words(self) -> str:
         """Returns the JSON object of this change."""
-        return f'{{"op":"put","path":{_WORDS(self.path)},"text":{_WORDS(self.text)}}}'
+        return f'{{"op":"put","path":{_STRING(self.path)},"text":{_STRING(self.text)}}}'
 
     def line(self) -> bytes:
         """Returns the line of this command."""
         return _checked(self.words())
 
 
-@dataclass(frozen=True)
-class Del:
+class Del(NamedTuple):
     """Takes a file away."""
 
     path: Path
 
     def words(self) -> str:
         """Returns the JSON object of this change."""
-        return f'{{"op":"del","path":{_WORDS(self.path)}}}'
+        return f'{{"op":"del","path":{_STRING(self.path)}}}'
 
     def line(self) -> bytes:
         """Returns the line of this command."""

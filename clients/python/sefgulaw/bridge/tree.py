@@ -83,6 +83,8 @@ class Bridge:
 
     def told(self, path: Path) -> Text | None:
         """Returns what is told of a path instead of its own text, if anything."""
+        if not (self.states or self._stand_ins):
+            return None
         stand_in = self._stand_ins.get(path)
         if stand_in is not None:
             return Text(stand_in)
