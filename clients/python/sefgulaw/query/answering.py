@@ -3,7 +3,7 @@
 from __future__ import annotations
 
 import os
-from collections.abc import Collection, Iterable, Iterator
+from collections.abc import Collection, Iterator
 
 from sefgulaw.messages import dumps, named
 from sefgulaw.names import Path, encode, is_encoded, real
@@ -41,7 +41,7 @@ class Queries:
             raise BadWords(str(error)) from None
         is_path = isinstance(expression, Call) and expression.name == "somepath"
         world.prepare(found)
-        absent = self._missing(world, found)
+        absent = world.missing(found)
         if asked.missing:
             found, is_path = absent, False
         lines = self._lines(world, asked.output, list(found) if is_path else _sorted(found))
@@ -57,13 +57,6 @@ class Queries:
         )
         return Answer(end, iter([*lines, *faults]))
 
-    def _missing(self, world: TreeWorld, labels: Iterable[str]) -> list[str]:
-        """Returns what targets name, or are, that nothing declares and no file of the tree is."""
-        named_labels = {it for label in labels for it in (label, *world.needs(label))}
-        own = [it for it in named_labels if it.startswith("//")]
-        world.prepare(own)
-        return [it for it in own if world.kind(it) == MISSING]
-
     def _lines(self, world: TreeWorld, form: str, labels: list[str]) -> list[bytes]:
         if form == "package":
             names = {package_of(it).removeprefix("//") for it in labels}
@@ -78,14 +71,15 @@ class Queries:
     def _label_lines(self, world: TreeWorld, labels: list[str]) -> Iterator[bytes]:
         exact: dict[str, bool] = {}
         for label in labels:
-            package = package_of(label)[2:]
-            if package not in exact:
-                exact[package] = self._is_exact(package)
+            package = label.partition(":")[0]
+            is_exact = exact.get(package)
+            if is_exact is None:
+                is_exact = exact[package] = self._is_exact(package[2:])
             kind = world.kind(label)
-            if exact[package] and "__x" not in label and "@" not in label:
-                yield b'{"kind":"%s","label":"%s"}' % (kind.encode(), label.encode())
+            if is_exact and "__x" not in label and "@" not in label:
+                yield f'{{"kind":"{kind}","label":"{label}"}}'.encode()
             else:
-                yield _line({"kind": kind}, "label", label, exact[package])
+                yield _line({"kind": kind}, "label", label, is_exact)
 
     def _is_exact(self, package: str) -> bool:
         return not self._tree.exactness.reasons(package)

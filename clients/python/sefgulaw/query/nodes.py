@@ -5,6 +5,7 @@ from __future__ import annotations
 import json
 from collections.abc import Iterable, Iterator, Mapping, Sequence
 from dataclasses import dataclass, field
+from typing import NamedTuple
 
 from sefgulaw.base import Base
 from sefgulaw.names import Path, basename, join
@@ -29,8 +30,7 @@ OUTS = "outs"
 NO_LABELS = ("visibility", "tags", OUTS)
 
 
-@dataclass(frozen=True)
-class Rule:
+class Rule(NamedTuple):
     """A target that a rule declares."""
 
     kind: str
@@ -45,6 +45,10 @@ class PackageNodes:
     rules: dict[str, Rule] = field(default_factory=dict)
     generated: dict[str, str] = field(default_factory=dict)
     needs: dict[str, tuple[str, ...]] = field(default_factory=dict)
+
+    def declares(self, label: str) -> bool:
+        """Tells whether a label is that of a rule of the package, or of an output of one."""
+        return label in self.rules or label in self.generated
 
 
 def looks_like_labels(name: str, value: Value) -> bool:
@@ -68,21 +72,30 @@ def label_attributes(rule: Rule) -> Iterator[tuple[str, Sequence[str]]]:
 def read_nodes(raw: bytes, package: str) -> PackageNodes:
     """Returns the nodes of a package from the loader's answer about it."""
     nodes = PackageNodes(raw)
+    rules, generated, needs = nodes.rules, nodes.generated, nodes.needs
     head = f"//{package}:"
     for target in json.loads(raw)["targets"]:
         label = head + target["name"]
-        rule = Rule(target["kind"], target["attrs"])
-        nodes.rules[label] = rule
-        needed = [it for _, labels in label_attributes(rule) for it in labels]
-        nodes.needs[label] = tuple(dict.fromkeys(needed))
-        outs = rule.attrs.get(OUTS, ())
-        for name in [outs] if isinstance(outs, str) else outs:
-            generated = head + name.removeprefix(":")
-            if generated not in nodes.rules:
-                nodes.generated[generated] = label
-    for generated, label in nodes.generated.items():
-        nodes.needs.setdefault(generated, (label,))
+        rules[label] = rule = Rule(target["kind"], target["attrs"])
+        needs[label] = _needed(rule)
+        outs = rule.attrs.get(OUTS)
+        if outs:
+            for name in [outs] if isinstance(outs, str) else outs:
+                output = head + name.removeprefix(":")
+                if output not in rules:
+                    generated[output] = label
+    for output, label in generated.items():
+        needs.setdefault(output, (label,))
     return nodes
+
+
+def _needed(rule: Rule) -> tuple[str, ...]:
+    """Returns the labels that a target names, each once."""
+    known = LABELS.get(rule.kind)
+    if known is not None and len(known) == 1:
+        value = rule.attrs.get(known[0], ())
+        return (value,) if isinstance(value, str) else tuple(dict.fromkeys(value))
+    return tuple(dict.fromkeys(it for _, labels in label_attributes(rule) for it in labels))
 
 
 class Nodes:
@@ -91,6 +104,8 @@ class Nodes:
     def __init__(self, base: Base) -> None:
         self._base = base
         self._kept: dict[str, PackageNodes] = {}
+        self._sources: dict[str, bool] = {}
+        self._sources_at = -1
         self.stamp = 0
 
     def of(self, package: str) -> PackageNodes | None:
@@ -106,6 +121,18 @@ class Nodes:
             return None
         self._kept[package] = read_nodes(raw, package)
         return self._kept[package]
+
+    def is_source_label(self, label: str) -> bool:
+        """Tells whether a label is that of a source file, which is known until files move."""
+        moves = self._base.needs.moves
+        if self._sources_at != moves:
+            self._sources_at = moves
+            self._sources.clear()
+        known = self._sources.get(label)
+        if known is None:
+            package, _, name = label[2:].partition(":")
+            known = self._sources[label] = self.is_source(package, name)
+        return known
 
     def is_source(self, package: str, name: str) -> bool:
         """Tells whether a package has a file or a directory of this name that is its own."""

@@ -25,6 +25,19 @@ from sefgulaw.query.world import (
 from sefgulaw.requests import BadWords, Tree
 
 
+def by_package(labels: Iterable[str]) -> dict[str, list[str]]:
+    """Returns labels by their packages, in the order given."""
+    found: dict[str, list[str]] = {}
+    for label in labels:
+        package = label.partition(":")[0]
+        own = found.get(package)
+        if own is None:
+            found[package] = [label]
+        else:
+            own.append(label)
+    return found
+
+
 class Reversed:
     """The users within the last universe that was asked for, kept until a package differs."""
 
@@ -43,6 +56,7 @@ class TreeWorld:
         self._nodes, self._kept = nodes, kept
         self._at = encode(os.fsencode(cwd))
         self._ready: set[str] = set()
+        self._known: dict[str, PackageNodes | None] = {}
         self._missing: dict[str, Message] = {}
         self._untold = self._base.untold_packages()
 
@@ -74,13 +88,26 @@ class TreeWorld:
         packages = {package_of(label) for label in labels}
         self.load(it[2:] for it in packages if it.startswith("//"))
 
-    def _of(self, label: str) -> PackageNodes | None:
-        package = package_of(label)
+    def declared(self, package: str) -> PackageNodes | None:
+        """Returns what a package declares, by its label without a name; None where it has no nodes.
+
+        It is the same throughout a request, since no file is looked at again before the next one.
+        """
+        try:
+            return self._known[package]
+        except KeyError:
+            found = self._known[package] = self._look_up(package)
+            return found
+
+    def _look_up(self, package: str) -> PackageNodes | None:
         if not package.startswith("//"):
             return None
         if package[2:] not in self._ready:
             self.load([package[2:]])
         return self._nodes.of(package[2:]) if package[2:] in self._ready else None
+
+    def _of(self, label: str) -> PackageNodes | None:
+        return self.declared(label.partition(":")[0])
 
     # Patterns.
 
@@ -154,8 +181,33 @@ class TreeWorld:
             return rule.kind + RULE_END
         if label in nodes.generated:
             return GENERATED
-        package, _, name = label[2:].partition(":")
-        return SOURCE if self._nodes.is_source(package, name) else MISSING
+        return SOURCE if self._nodes.is_source_label(label) else MISSING
+
+    def missing(self, labels: Iterable[str]) -> list[str]:
+        """Returns what targets name, or are, that nothing declares and no file of the tree is."""
+        named: set[str] = set()
+        for package, own in by_package(labels).items():
+            nodes = self.declared(package)
+            if nodes is None:
+                named.update(own)
+                continue
+            rules, generated, needs = nodes.rules, nodes.generated, nodes.needs
+            named.update(it for it in own if it not in rules and it not in generated)
+            for label in own:
+                for other in needs.get(label, ()):
+                    if other not in rules and other not in generated:
+                        named.add(other)
+        around = by_package(it for it in named if it.startswith("//"))
+        self.load(package[2:] for package in around)
+        found: list[str] = []
+        for package, own in around.items():
+            nodes = self.declared(package)
+            if nodes is None:
+                found += own
+                continue
+            is_source = self._nodes.is_source_label
+            found += [it for it in own if not (nodes.declares(it) or is_source(it))]
+        return found
 
     def attribute(self, label: str, name: str) -> Value | None:
         """Returns an attribute of a rule's target."""
