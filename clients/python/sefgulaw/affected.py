@@ -5,12 +5,16 @@ Nothing is asked here. The two sides are given as targets by label, with the fau
 
 from __future__ import annotations
 
+import re
 from collections.abc import Callable, Collection, Iterable, Mapping
 from dataclasses import dataclass, field
 
 from sefgulaw.query.nodes import PackageNodes, Rule
 
 NEW, GONE = "new", "gone"
+
+_MENTION = re.compile(rb'"(//[^":]*):')
+"""The package of a label in an answer. No character of a package's name is escaped in a string."""
 
 
 @dataclass
@@ -45,51 +49,77 @@ def declared(reasons: Reasons, old: Mapping[str, Rule], new: Mapping[str, Rule])
 
 
 class Users:
-    """Which targets name each label, kept up package by package."""
+    """Which targets name each label, kept up package by package.
 
-    def __init__(self) -> None:
-        self._users: dict[str, set[str]] = {}
-        self._nodes: dict[str, PackageNodes] = {}
-        self.makers: dict[str, str] = {}
+    What a package declares is read only once a label is asked about that its answer mentions.
+    `read` reads it, and gives None where the package has none, or a fault.
+    """
 
-    def of(self, label: str) -> Iterable[str]:
-        """Returns the targets that name a label."""
-        return self._users.get(label, ())
+    def __init__(self, read: Callable[[str], PackageNodes | None]) -> None:
+        self._read = read
+        self._raws: dict[str, bytes] = {}
+        self._mentions: dict[str, frozenset[bytes]] = {}
+        self._mentioning: dict[bytes, set[str]] = {}
+        self._users: dict[str, tuple[PackageNodes, Mapping[str, list[str]]]] = {}
+
+    def of(self, label: str) -> list[str]:
+        """Returns the targets that name a label, each once."""
+        package = label.partition(":")[0].encode("utf-8", "surrogateescape")
+        found: list[str] = []
+        for name in self._mentioning.get(package, ()):
+            found += self._users_in(name).get(label, ())
+        return found
+
+    def _users_in(self, name: str) -> Mapping[str, list[str]]:
+        """Returns which targets of a package name each label."""
+        nodes = self._read(name)
+        if nodes is None:
+            return {}
+        kept = self._users.get(name)
+        if kept is not None and kept[0] is nodes:
+            return kept[1]
+        users: dict[str, list[str]] = {}
+        for label in nodes.rules:
+            for other in nodes.needs[label]:
+                users.setdefault(other, []).append(label)
+        self._users[name] = nodes, users
+        return users
+
+    def _nodes_of(self, label: str) -> PackageNodes | None:
+        name = label.partition(":")[0][2:]
+        return self._read(name) if name in self._raws else None
 
     def declares(self, label: str) -> bool:
         """Tells whether a label is that of a rule or of an output of one."""
-        nodes = self._nodes.get(label.partition(":")[0][2:])
-        return nodes is not None and (label in nodes.rules or label in nodes.generated)
+        nodes = self._nodes_of(label)
+        return nodes is not None and nodes.declares(label)
 
-    def take(self, package: str, nodes: PackageNodes | None) -> None:
-        """Takes in what a package declares now; None is nothing."""
-        before = self._nodes.get(package)
-        if before is nodes:
+    def take(self, package: str, raw: bytes | None) -> None:
+        """Takes in the loader's answer about a package; None is a package that is gone."""
+        if self._raws.get(package) is raw:
             return
-        if before is not None:
-            for label in before.rules:
-                for other in before.needs[label]:
-                    self._users[other].discard(label)
-            for generated in before.generated:
-                self.makers.pop(generated, None)
-            del self._nodes[package]
-        if nodes is not None:
-            for label in nodes.rules:
-                for other in nodes.needs[label]:
-                    self._users.setdefault(other, set()).add(label)
-            self.makers.update(nodes.generated)
-            self._nodes[package] = nodes
+        mentions = frozenset() if raw is None else frozenset(_MENTION.findall(raw))
+        before = self._mentions.get(package, frozenset())
+        for other in before - mentions:
+            self._mentioning[other].discard(package)
+        for other in mentions - before:
+            self._mentioning.setdefault(other, set()).add(package)
+        if raw is None:
+            del self._raws[package], self._mentions[package]
+            self._users.pop(package, None)
+        else:
+            self._raws[package], self._mentions[package] = raw, mentions
 
     def outputs(self, label: str) -> Iterable[str]:
         """Returns the files that a target makes."""
-        nodes = self._nodes.get(label.partition(":")[0][2:])
+        nodes = self._nodes_of(label)
         if nodes is None or label not in nodes.rules:
             return ()
         return [it for it, maker in nodes.generated.items() if maker == label]
 
     def packages(self) -> Collection[str]:
         """Returns the packages that something was taken in of."""
-        return self._nodes.keys()
+        return self._raws.keys()
 
 
 def sources(reasons: Reasons, users: Users, paths: Iterable[str]) -> None:

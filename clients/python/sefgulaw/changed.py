@@ -83,7 +83,7 @@ class Compared:
     def __init__(self, pair: Pair) -> None:
         self.pair = pair
         self._nodes = Nodes(pair.base)
-        self._users = Users()
+        self._users = Users(self._nodes.of)
         self._old: dict[str, PackageNodes] = {}
 
     def answer(self, state: State) -> Answer:
@@ -95,7 +95,7 @@ class Compared:
         for name in set(self._users.packages()).difference(names):
             self._users.take(name, None)
         for name in names:
-            self._users.take(name, self._nodes.of(name))
+            self._users.take(name, base.store.raw(name))
         messages = self._new_faults(names)
         paths = {encode(path) for path in pair.paths(state)}
         reasons = self._reasons(names, messages)

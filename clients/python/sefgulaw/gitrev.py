@@ -51,11 +51,10 @@ class Revision:
         left_out = []
         for entry in _entries(git(root, "ls-tree", "-r", "-z", commit)):
             head, _, path = entry.partition(b"\t")
-            mode, _, identity = head.split()
-            if mode in (_LINK, _SUBMODULE):
-                left_out.append((path, "a link" if mode == _LINK else "a submodule"))
+            if head.startswith((_LINK, _SUBMODULE)):
+                left_out.append((path, "a link" if head.startswith(_LINK) else "a submodule"))
             else:
-                files[path] = identity.decode("ascii")
+                files[path] = head.rpartition(b" ")[2].decode("ascii")
         return Revision(root, commit, files, tuple(left_out))
 
     def texts(self, paths: Iterable[bytes]) -> dict[bytes, bytes]:
