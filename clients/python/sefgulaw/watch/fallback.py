@@ -12,15 +12,25 @@ from sefgulaw.watch.poll import Poll
 
 
 class FallBack:
-    """A watch that goes over to walks where the kernel tells no more, and says so in one line."""
+    """A watch that goes over to walks where the kernel tells no more, and says so in one line.
+
+    It is opened when it is first asked for files, since some questions are about revisions alone.
+    """
 
     def __init__(self, root: bytes, ignore: Ignore, say: Callable[[str], None]) -> None:
         self._root, self._ignore, self._say = root, ignore, say
-        self._inner: Watch
+        self._inner: Watch | None = None
+
+    def _opened(self) -> Watch:
+        if self._inner is not None:
+            return self._inner
+        opened: Watch
         try:
-            self._inner = Inotify(root, ignore)
+            opened = Inotify(self._root, self._ignore)
         except CannotWatch as reason:
-            self._inner = self._poll(reason, {})
+            opened = self._poll(reason, {})
+        self._inner = opened
+        return opened
 
     def _poll(self, reason: CannotWatch, known: Mapping[bytes, Found]) -> Poll:
         self._say(f"{os.fsdecode(self._root)} is walked over for each answer, since {reason}")
@@ -29,17 +39,17 @@ class FallBack:
     @property
     def files(self) -> Mapping[bytes, Found]:
         """The files below the root as they were at the last `drain`."""
-        return self._inner.files
+        return self._opened().files
 
     @property
     def unlisted(self) -> Mapping[bytes, str]:
         """The directories that could not be listed then, each with the reason."""
-        return self._inner.unlisted
+        return self._opened().unlisted
 
     @property
     def is_told(self) -> bool:
-        """Whether the kernel tells of changes."""
-        return isinstance(self._inner, Inotify)
+        """Whether the kernel tells of changes, as far as that was tried."""
+        return not isinstance(self._inner, Poll)
 
     @property
     def overflows(self) -> int:
@@ -54,7 +64,7 @@ class FallBack:
     def drain(self) -> Changes:
         """Takes in all that was changed before the call."""
         try:
-            return self._inner.drain()
+            return self._opened().drain()
         except CannotWatch as reason:
             return self._go_over(reason)
 
@@ -70,8 +80,9 @@ class FallBack:
 
     def fileno(self) -> int | None:
         """A descriptor that is readable when something changed; None where nothing tells."""
-        return self._inner.fileno()
+        return self._opened().fileno()
 
     def close(self) -> None:
         """Gives back what the watch holds of the system."""
-        self._inner.close()
+        if self._inner is not None:
+            self._inner.close()
