@@ -5,6 +5,7 @@ from __future__ import annotations
 import json
 import os
 import socket
+from collections import deque
 from collections.abc import Iterator
 from typing import NamedTuple, cast
 
@@ -74,6 +75,7 @@ class Client:
     def __init__(self, connection: socket.socket) -> None:
         self._connection = connection
         self._left = b""
+        self._lines: deque[bytes] = deque()
         self._number = 0
 
     def close(self) -> None:
@@ -122,6 +124,12 @@ class Client:
                 return
 
     def _line(self) -> bytes:
+        if not self._lines:
+            self._receive()
+        return self._lines.popleft()
+
+    def _receive(self) -> None:
+        """Waits until at least one more line is whole."""
         parts = [self._left]
         while b"\n" not in parts[-1]:
             try:
@@ -131,5 +139,5 @@ class Client:
             if not part:
                 raise Lost
             parts.append(part)
-        line, _, self._left = b"".join(parts).partition(b"\n")
-        return line
+        *lines, self._left = b"".join(parts).split(b"\n")
+        self._lines.extend(lines)
