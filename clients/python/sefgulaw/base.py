@@ -135,8 +135,9 @@ class Base:
             dropped = self.bridge.drop(changed)
             self._stale.update(map(parent, dropped))
             changed |= dropped
-            synced = self.mirror.sync(sorted(changed))
+            synced = self.mirror.sync(sorted(changed), self._note)
             self._again = synced.again
+            self._note(synced.changed - synced.noted)
             self._take_in(synced.changed)
         return self.mirror.version
 
@@ -169,13 +170,16 @@ class Base:
         content = self._read(decode(path))
         return content if isinstance(content, bytes) else None
 
-    def _take_in(self, changed: Iterable[Path]) -> None:
-        changed = list(changed)
+    def _note(self, changed: Iterable[Path]) -> None:
+        """Notes what files need that were told otherwise than before."""
         told = self.told
         for path in changed:
             self.needs.update(path, told.get(path))
             if "__x" in path:
                 self._note_odd(path)
+
+    def _take_in(self, changed: Iterable[Path]) -> None:
+        """Takes in which packages changes can reach, once all of them were noted."""
         for name in self.needs.affected(changed):
             self.touched.add(name)
             if self.needs.is_package(Path(name)):

@@ -7,30 +7,18 @@ that is guilty is searched for, and told from then on by a text that fails, unti
 
 from __future__ import annotations
 
-import json
 from collections.abc import Callable, Iterable, Iterator, Sequence
-from typing import NamedTuple, Union
+from typing import NamedTuple
 
+from sefgulaw.batches import Change, Directories, Worded, batches
+from sefgulaw.batches import in_the_way, line_of, outcome, worded
 from sefgulaw.guilty import Guilty
-from sefgulaw.messages import REFUSALS
 from sefgulaw.names import Path, is_source
-from sefgulaw.telling import MOST_BYTES, Absent, Note, Text, Told, failing
-from sefgulaw.wire import (
-    MOST_EDITS,
-    MOST_NAMES,
-    Del,
-    Load,
-    Loader,
-    Put,
-    Stopped,
-    edit_line,
-)
-
-Change = Union[Put, Del]
-Worded = tuple[Change, str]
-"""A change with its words, which are made once."""
+from sefgulaw.telling import Absent, Note, Text, Told, failing
+from sefgulaw.wire import MOST_NAMES, Del, Load, Loader, Put, Stopped
 
 Progress = Callable[[int, int, str], None]
+Noting = Callable[[Sequence[Path]], None]
 
 MOST_REFUSALS = 3
 MOST_RESTARTS = 3
@@ -42,10 +30,14 @@ class BrokenLoader(Exception):
 
 
 class Synced(NamedTuple):
-    """Which files are told otherwise than before, and which are to be looked at again."""
+    """Which files are told otherwise than before, and which are to be looked at again.
+
+    `noted` are those of the changed ones that the caller was told of meanwhile.
+    """
 
     changed: frozenset[Path]
     again: frozenset[Path]
+    noted: frozenset[Path] = frozenset()
 
 
 class _Blame(NamedTuple):
@@ -82,7 +74,7 @@ class Mirror:
         self._start, self._source, self._search = start, source, search
         self._loader: Loader | None = None
         self._loader_version = 0
-        self._directories: dict[str, int] = {}
+        self._directories = Directories()
         self._blamed: dict[Path, _Blame] = {}
         self._noted: set[Path] = set()
         self._unexplained = 0
@@ -113,12 +105,19 @@ class Mirror:
 
     # Telling files.
 
-    def sync(self, changed: Iterable[Path]) -> Synced:
-        """Looks at some paths again, and tells the loader what differs from what it was told."""
+    def sync(self, changed: Iterable[Path], note: Noting | None = None) -> Synced:
+        """Looks at some paths again, and tells the loader what differs from what it was told.
+
+        The first files of all are looked at while the loader takes those before them. `note` is
+        called with files that were told, while the loader takes others.
+        """
         looked = dict.fromkeys(changed)
-        wanted = self._look_at(looked)
         differing: set[Path] = set()
-        again = self._tell(self._changes(wanted), differing)
+        noted: set[Path] = set()
+        if self.told or self._blamed:
+            again = self._tell(self._changes(self._look_at(looked)), differing)
+        else:
+            again = self._tell(self._first_changes(looked), differing, note, noted)
         if again:
             wanted = self._look_at(dict.fromkeys(again))
             again = self._tell(self._changes(wanted), differing)
@@ -126,16 +125,23 @@ class Mirror:
                 self._give_up(path, wanted.get(path), differing)
         differing |= self._noted
         self._noted.clear()
-        return Synced(frozenset(differing), frozenset(again))
+        return Synced(frozenset(differing), frozenset(again), frozenset(noted))
 
-    def _look_at(self, paths: dict[Path, None]) -> dict[Path, str | None]:
-        """Returns the text that each path is to have; None is a file that is not there."""
-        wanted: dict[Path, str | None] = {}
+    def _looks(self, paths: dict[Path, None]) -> Iterator[tuple[Path, str | None]]:
+        """Yields the text that each path is to have; None is a file that is not there."""
         total = len(paths)
         for done, path in enumerate(paths):
             if done % _PROGRESS_STEP == 0 and total > _PROGRESS_STEP:
                 self.progress(done, total, "files")
-            wanted[path] = self._wanted(path)
+            yield path, self._wanted(path)
+
+    def _first_changes(self, paths: dict[Path, None]) -> Iterator[Change]:
+        """Yields the changes where nothing was told, so that no file is in the way of others."""
+        return (Put(path, text) for path, text in self._looks(paths) if text is not None)
+
+    def _look_at(self, paths: dict[Path, None]) -> dict[Path, str | None]:
+        """Returns the text that each path is to have, with those that are pardoned by a change."""
+        wanted = dict(self._looks(paths))
         for path in self._pardoned(wanted):
             wanted[path] = self._wanted(path)
         return wanted
@@ -183,8 +189,9 @@ class Mirror:
         clear: set[str] = set()
         for path in [path for path, text in wanted.items() if text is not None]:
             if path not in self.told:
-                for other in self._in_the_way(path, wanted, clear):
-                    wanted[other] = self._wanted(other)
+                for other in in_the_way(path, self.told, self._directories, clear):
+                    if other not in wanted:
+                        wanted[other] = self._wanted(other)
         deleted = [path for path, text in wanted.items() if text is None and path in self.told]
         deleted.sort(key=lambda path: (-path.count("/"), path))
         changes: list[Change] = [Del(path) for path in deleted]
@@ -193,31 +200,63 @@ class Mirror:
                 changes.append(Put(path, text))
         return changes
 
-    def _in_the_way(
-        self, path: Path, wanted: dict[Path, str | None], clear: set[str]
-    ) -> list[Path]:
-        """Returns told files above a new path, or below it, that nobody looked at yet.
+    def _tell(
+        self,
+        changes: Iterable[Change],
+        differing: set[Path],
+        note: Noting | None = None,
+        noted: set[Path] | None = None,
+    ) -> set[Path]:
+        """Sends changes in batches. Returns the paths whose changes were refused.
 
-        `clear` are the directories above which all was looked at, as for the paths before this one.
+        While the loader takes a batch the next one is made, and `note` gets the one before it.
         """
-        found = []
-        above = path.rpartition("/")[0]
-        while above and above not in clear:
-            clear.add(above)
-            if above in self.told and Path(above) not in wanted:
-                found.append(Path(above))
-            above = above.rpartition("/")[0]
-        if self._directories.get(path):
-            below = path + "/"
-            found += [it for it in self.told if it.startswith(below) and it not in wanted]
-        return found
-
-    def _tell(self, changes: list[Change], differing: set[Path]) -> set[Path]:
-        """Sends changes in batches. Returns the paths whose changes were refused."""
         again: set[Path] = set()
-        for batch in _batches(changes):
-            self._send(batch, again, differing)
+        sent: list[Worded] = []
+        ended: Stopped | None = None
+        for batch in batches(changes):
+            told = self._finish(sent, ended, again, differing)
+            sent, ended = batch, self._begin(batch)
+            if note is not None and noted is not None and told:
+                note(told)
+                noted.update(told)
+        self._finish(sent, ended, again, differing)
         return again
+
+    def _begin(self, batch: Sequence[Worded]) -> Stopped | None:
+        """Sends a batch, and returns how the loader has ended if it has."""
+        try:
+            self.loader.send_line(line_of(batch))
+        except Stopped as stop:
+            return stop
+        return None
+
+    def _finish(
+        self,
+        batch: list[Worded],
+        ended: Stopped | None,
+        again: set[Path],
+        differing: set[Path],
+    ) -> list[Path]:
+        """Reads the answer to a batch that was sent. Returns the paths if it was taken as it is."""
+        if not batch:
+            return []
+        try:
+            if ended is not None:
+                raise ended
+            refused = self._outcome(self.loader.receive())
+        except Stopped as stop:
+            self._restart(stop, explained=False)
+            self._send(batch, again, differing)
+            return []
+        self._unexplained = 0
+        if refused is not None:
+            again.add(batch.pop(refused)[0].path)
+            self._send(batch, again, differing)
+            return []
+        self.version += 1
+        self._note_batch(batch, differing)
+        return [change.path for change, _ in batch]
 
     def _send(self, batch: list[Worded], again: set[Path], differing: set[Path]) -> None:
         """Sends one batch. A change that is refused is put aside, and the others are sent again."""
@@ -225,9 +264,7 @@ class Mirror:
         while batch:
             refused = self._edit(batch)
             if refused is None:
-                for change, _ in batch:
-                    self._note_told(change)
-                    differing.add(change.path)
+                self._note_batch(batch, differing)
                 return
             again.add(batch.pop(refused)[0].path)
             refusals += 1
@@ -245,37 +282,29 @@ class Mirror:
         instead = failing(path, "refused", "the loader does not take it")
         again: set[Path] = set()
         if is_source(path):
-            self._send(_worded(Put(path, instead.text)), again, differing)
+            self._send(worded(Put(path, instead.text)), again, differing)
         self.notes[path] = instead.note
+
+    def _note_batch(self, batch: Sequence[Worded], differing: set[Path]) -> None:
+        for change, _ in batch:
+            self._note_told(change)
+            differing.add(change.path)
 
     def _note_told(self, change: Change) -> None:
         if isinstance(change, Del):
             self._drop(change.path)
             return
         if change.path not in self.told:
-            self._count(change.path, 1)
+            self._directories.count(change.path, 1)
         self.told[change.path] = change.text
 
     def _drop(self, path: Path) -> None:
         if self.told.pop(path, None) is not None:
-            self._count(path, -1)
-
-    def _count(self, path: Path, by: int) -> None:
-        """Counts the told files in each directory, and the directories in it that have any."""
-        above = path.rpartition("/")[0]
-        while above:
-            before = self._directories.get(above, 0)
-            if before + by:
-                self._directories[above] = before + by
-            else:
-                del self._directories[above]
-            if before and before + by:
-                break
-            above = above.rpartition("/")[0]
+            self._directories.count(path, -1)
 
     def _edit(self, batch: Sequence[Worded]) -> int | None:
         """Makes an edit, over ends of the loader. Returns the place of a change that is refused."""
-        line = edit_line([words for _, words in batch])
+        line = line_of(batch)
         while True:
             try:
                 refused = self._edit_once(line)
@@ -288,17 +317,17 @@ class Mirror:
             return refused
 
     def _edit_once(self, line: bytes) -> int | None:
-        answer = self.loader.ask_line(line)
+        return self._outcome(self.loader.ask_line(line))
+
+    def _outcome(self, answer: bytes) -> int | None:
+        """Returns the place of a change that is refused, by the answer to an edit."""
         try:
-            members = json.loads(answer)
-            if "ok" in members and int(members["ok"]) == self._loader_version + 1:
-                self._loader_version += 1
-                return None
-            if "edit" in members and int(members["refused"]) in REFUSALS:
-                return int(members["edit"])
-        except (ValueError, TypeError):
-            pass
-        raise _nonsense(answer)
+            refused = outcome(answer, self._loader_version + 1)
+        except ValueError:
+            raise _nonsense(answer) from None
+        if refused is None:
+            self._loader_version += 1
+        return refused
 
     # Asking for packages.
 
@@ -334,7 +363,7 @@ class Mirror:
             self._blamed[one.path] = _Blame(one.note, self.told[one.path], one.closure)
             self.notes[one.path] = one.note
             instead = failing(one.path, one.note.code, one.note.text)
-            self._send(_worded(Put(one.path, instead.text)), set(), set())
+            self._send(worded(Put(one.path, instead.text)), set(), set())
         if not guilty and len(group) > 1:
             self._most_names = max(1, len(group) // 8)
 
@@ -353,8 +382,8 @@ class Mirror:
                 raise BrokenLoader(str(stop))
         self._loader_version = 0
         try:
-            for batch in _batches(Put(path, text) for path, text in self.told.items()):
-                if self._edit_once(edit_line([words for _, words in batch])) is not None:
+            for batch in batches(Put(path, text) for path, text in self.told.items()):
+                if self._edit_once(line_of(batch)) is not None:
                     raise Stopped("killed", 0, "the loader refuses what it took before")
         except Stopped as again:
             self._restart(again, explained=False)
@@ -363,23 +392,3 @@ class Mirror:
 def _nonsense(answer: bytes) -> Stopped:
     """Returns how an answer that no loader gives is treated: as an end of the loader."""
     return Stopped("killed", 0, f"an answer that is none: {answer[:80]!r}")
-
-
-def _worded(change: Change) -> list[Worded]:
-    return [(change, change.words())]
-
-
-def _batches(changes: Iterable[Change]) -> Iterator[list[Worded]]:
-    """Yields the changes with their words, in groups that fit into one line each."""
-    group: list[Worded] = []
-    size = 0
-    for change in changes:
-        words = change.words()
-        length = len(words) + 1
-        if group and (len(group) == MOST_EDITS or size + length > MOST_BYTES):
-            yield group
-            group, size = [], 0
-        group.append((change, words))
-        size += length
-    if group:
-        yield group

@@ -165,6 +165,7 @@ class Loader:
         self._process = process
         self._in, self._out, self._err = process.stdin, process.stdout, process.stderr
         self._left = b""
+        self._is_unread = False
         self.answered = 0
         for stream in (self._in, self._out):
             try:
@@ -203,11 +204,29 @@ class Loader:
 
     def ask_line(self, line: bytes) -> bytes:
         """Sends one line that ends with byte 10, and returns its answer without that byte."""
-        until = None if self.deadline is None else time.monotonic() + self.deadline
-        self._write(line, until)
-        answer = self._read(until)
+        self.send_line(line)
+        return self.receive()
+
+    def send_line(self, line: bytes) -> None:
+        """Sends one line that ends with byte 10. Its answer is read by `receive`, before the next
+        line is sent, so the loader works while its client makes another line.
+
+        An answer that was not read is passed over, so none is taken for that to another line.
+        """
+        while self._is_unread:
+            self.receive()
+        self._write(line, self._until())
+        self._is_unread = True
+
+    def receive(self) -> bytes:
+        """Returns the answer to the line that was sent, without its byte 10."""
+        self._is_unread = False
+        answer = self._read(self._until())
         self.answered += 1
         return answer
+
+    def _until(self) -> float | None:
+        return None if self.deadline is None else time.monotonic() + self.deadline
 
     def close(self) -> int:
         """Ends the input, waits for the program's end, and returns its status."""

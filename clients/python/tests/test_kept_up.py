@@ -218,6 +218,18 @@ class Files:
     def __init__(self) -> None:
         self.paths: set[str] = set()
         self.version = self.refusals = 0
+        self.line: bytes | None = None
+
+    def send_line(self, line: bytes) -> None:
+        """Takes a line, whose answer `receive` gives."""
+        assert self.line is None
+        self.line = line
+
+    def receive(self) -> bytes:
+        """Returns the answer to the line."""
+        line, self.line = self.line, None
+        assert line is not None
+        return self.ask_line(line)
 
     def ask_line(self, line: bytes) -> bytes:
         """Makes an edit whole, or names the change that is refused."""
@@ -270,7 +282,7 @@ def test_files_make_way_for_new_ones_that_alone_were_looked_at() -> None:
         if chance.random() < 0.1:
             disk.clear()
             mirror.sync(Path(it) for it in sorted(loader.paths))
-            assert not mirror._directories
+            assert not len(mirror._directories)
     assert made_way > 100
 
 
