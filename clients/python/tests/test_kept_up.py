@@ -112,6 +112,9 @@ def test_users_are_those_of_the_present_packages() -> None:
             seen += len(found)
             assert sorted(found) == sorted(expected)
             assert users.declares(label) == any(it.declares(label) for it in tree.all_nodes())
+            for nodes in tree.all_nodes():
+                named = {it for labels in nodes.needs.values() for it in labels}
+                assert nodes.outside == {it for it in named if not nodes.declares(it)}
             outputs = {
                 output
                 for nodes in tree.all_nodes()

@@ -3,12 +3,13 @@
 from __future__ import annotations
 
 import os
-from collections.abc import Collection, Iterator
+from collections.abc import Collection, Iterator, Mapping
+from itertools import groupby
 
 from sefgulaw.messages import dumps, named
 from sefgulaw.names import Path, encode, is_encoded, real
 from sefgulaw.placing import Placed, Placer
-from sefgulaw.query.nodes import Nodes
+from sefgulaw.query.nodes import Nodes, Rule
 from sefgulaw.query.parsing import BadQuery, Call, parse
 from sefgulaw.query.running import run
 from sefgulaw.query.tree_world import Reversed, TreeWorld
@@ -69,17 +70,17 @@ class Queries:
         return lines
 
     def _label_lines(self, world: TreeWorld, labels: list[str]) -> Iterator[bytes]:
-        exact: dict[str, bool] = {}
-        for label in labels:
-            package = label.partition(":")[0]
-            is_exact = exact.get(package)
-            if is_exact is None:
-                is_exact = exact[package] = self._is_exact(package[2:])
-            kind = world.kind(label)
-            if is_exact and "__x" not in label and "@" not in label:
-                yield f'{{"kind":"{kind}","label":"{label}"}}'.encode()
-            else:
-                yield _line({"kind": kind}, "label", label, is_exact)
+        for package, own in groupby(labels, package_of):
+            is_exact = self._is_exact(package[2:])
+            nodes = world.declared(package)
+            rules: Mapping[str, Rule] = nodes.rules if nodes is not None else {}
+            for label in own:
+                rule = rules.get(label)
+                kind = world.kind(label) if rule is None else rule.kind + RULE_END
+                if is_exact and "__x" not in label and "@" not in label:
+                    yield f'{{"kind":"{kind}","label":"{label}"}}'.encode()
+                else:
+                    yield _line({"kind": kind}, "label", label, is_exact)
 
     def _is_exact(self, package: str) -> bool:
         return not self._tree.exactness.reasons(package)

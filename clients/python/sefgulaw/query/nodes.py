@@ -5,6 +5,7 @@ from __future__ import annotations
 import json
 from collections.abc import Iterable, Iterator, Mapping, Sequence
 from dataclasses import dataclass, field
+from functools import cached_property
 from typing import NamedTuple
 
 from sefgulaw.base import Base
@@ -45,6 +46,12 @@ class PackageNodes:
     rules: dict[str, Rule] = field(default_factory=dict)
     generated: dict[str, str] = field(default_factory=dict)
     needs: dict[str, tuple[str, ...]] = field(default_factory=dict)
+
+    @cached_property
+    def outside(self) -> frozenset[str]:
+        """The labels that targets of the package name and that it does not declare."""
+        named = {label for labels in self.needs.values() for label in labels}
+        return frozenset(named - self.rules.keys() - self.generated.keys())
 
     def declares(self, label: str) -> bool:
         """Tells whether a label is that of a rule of the package, or of an output of one."""

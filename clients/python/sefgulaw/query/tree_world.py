@@ -192,6 +192,10 @@ class TreeWorld:
                 named.update(own)
                 continue
             rules, generated, needs = nodes.rules, nodes.generated, nodes.needs
+            if len(own) >= len(rules) and rules.keys() <= set(own):
+                named |= nodes.outside
+                named.update(it for it in own if it not in needs)
+                continue
             named.update(it for it in own if it not in rules and it not in generated)
             for label in own:
                 for other in needs.get(label, ()):
