@@ -22,7 +22,7 @@ get_right (x ∷ xs) ys i =
     let more : length (x ∷ xs) + i ≡ suc (length xs + i) = omega arith in
     ap (slice_get (x ∷ (xs ++ ys))) more ∙ get_right xs ys i
 
-get_drop : {A : Type 0} (n : ℕ) (xs : List A) (i : ℕ) → slice_get (drop n xs) i ≡ slice_get xs (n + i)
+pub get_drop : {A : Type 0} (n : ℕ) (xs : List A) (i : ℕ) → slice_get (drop n xs) i ≡ slice_get xs (n + i)
 get_drop zero xs i = ap (slice_get xs) (omega arith)
 get_drop (suc n) [] i = refl
 get_drop (suc n) (x ∷ xs) i =

@@ -4,3 +4,4 @@ pub mod Standing
 pub mod Laid
 pub mod Lent
 pub mod Places
+pub mod Halving

@@ -1,19 +1,17 @@
 -- What stands at the places of a heap, told of its own objects and its ranges.
-use Rattle.std.proofs.Common.{◌≡◌, ℕ, zero, suc, ◌+◌, ◌*◌, ◌-◌, ◌<◌, ◌≤◌, Bool, true, false, cond, drop, get_or, List, [], ◌∷◌, ◌++◌, length, set, map, Option, Some, None, option_map, refl, sym, subst, ap, ◌∙◌, arith, Result, Ok, Err, is_none}
-use Rattle.std.specs.Prelude.{slice_get, nat_lt, ◌||◌, OnErr}
+use Rattle.std.proofs.Common.{◌≡◌, ℕ, zero, suc, ◌+◌, ◌*◌, ◌-◌, Bool, true, false, cond, List, [], ◌∷◌, ◌++◌, length, set, map, Option, Some, None, option_map, refl, sym, subst, ap, ◌∙◌, arith, Result, Ok, Err, is_none}
+use Rattle.std.specs.Prelude.{slice_get, ◌||◌, OnErr}
 use Rattle.std.specs.Arc.{arc_value}
 use Rattle.std.specs.Borrow.{Bor}
 use Rattle.std.proofs.lemmas.List.{length-map, map-set, map-append}
-use Rattle.std.proofs.lemmas.Option.{slice_get-map, slice_get_read}
-use Rattle.std.proofs.lemmas.Bool.{le-ltb, lt-ltb}
-use Rattle.heap.proofs.Lent.{there}
+use Rattle.std.proofs.lemmas.Option.{slice_get-map}
 use Rattle.meaning.specs.Heap.{Obj}
 use Rattle.meaning.specs.Heap as m
 use Rattle.heap.specs.MemoryUse.{object_bytes}
 use Rattle.heap.specs.Reclamation.{standing_bytes, counted_bytes, bytes_while}
 use Rattle.heap.specs.declared.object.Object.{Object}
 use Rattle.heap.specs.declared.objects.Range.{Range}
-use Rattle.heap.specs.Standings.{Standing, own, standing_of, has_gone, is_gone, is_lent, stays, laid, laid_by, InOrder, range_standings, where_is, found_there, own_number, among_own, among_lent, lent_at}
+use Rattle.heap.specs.Standings.{Standing, own, standing_of, has_gone, is_gone, is_lent, stays, laid, laid_by, InOrder, range_standings, where_is, found_there, own_number, among_lent, lent_at}
 use Rattle.frozen_objects.specs.Shift.{moved, moved_val, moved_pair}
 use Rattle.frozen_objects.specs.Objects.{frozen_obj}
 use Rattle.frozen_objects.specs.declared.object.FrozenObject.{FrozenObject}
@@ -179,19 +177,13 @@ moved_bytes b (m.dict entries g) = ap (λ n. n * 96 + 64) (length-map entries (m
 moved_bytes b (m.function label name) = refl
 
 -- a place within a range
-pub lent_found : (rs : List Range) (i s p : ℕ) (r : Range) (objects : List Obj) (found : Option (Bor FrozenObject)) → i < length rs → r ≡ get_or rs i r → where_is (drop i rs) s p ≡ where_is rs 0 p → r.start ≤ p → p < r.end → objects ≡ arc_value r.objects → option_map (λ o. frozen_obj o.now) found ≡ slice_get objects (p - r.start) → (os : List Standing) → option_map (λ o. lent_at r.start (frozen_obj o.now)) found ≡ found_there range_standings os (where_is rs 0 p)
-lent_found rs i s p r objects found lt is inv past before same got os =
-    twice found ∙ ap (option_map (lent_at r.start)) (got ∙ ap (λ xs. slice_get xs (p - r.start)) same) ∙ sym (slice_get-map (lent_at r.start) (arc_value r.objects) (p - r.start)) ∙ ap (found_there range_standings os) (sym here ∙ inv)
+pub lent_found : (rs : List Range) (p : ℕ) (r : Range) (objects : List Obj) (found : Option (Bor FrozenObject)) → where_is rs 0 p ≡ among_lent r (p - r.start) → objects ≡ arc_value r.objects → option_map (λ o. frozen_obj o.now) found ≡ slice_get objects (p - r.start) → (os : List Standing) → option_map (λ o. lent_at r.start (frozen_obj o.now)) found ≡ found_there range_standings os (where_is rs 0 p)
+lent_found rs p r objects found here same got os =
+    twice found ∙ ap (option_map (lent_at r.start)) (got ∙ ap (λ xs. slice_get xs (p - r.start)) same) ∙ sym (slice_get-map (lent_at r.start) (arc_value r.objects) (p - r.start)) ∙ ap (found_there range_standings os) (sym here)
   where
     twice : (o : Option (Bor FrozenObject)) → option_map (λ o. lent_at r.start (frozen_obj o.now)) o ≡ option_map (lent_at r.start) (option_map (λ o. frozen_obj o.now) o)
     twice (Some o) = refl
     twice None = refl
-
-    here : where_is (drop i rs) s p ≡ among_lent r (p - r.start)
-    here =
-        ap (λ l. where_is l s p) (there rs i r (slice_get_read rs (length rs) i r refl lt is))
-        ∙ ap (λ b. cond b (among_own (p - s)) (cond (nat_lt p r.end) (among_lent r (p - r.start)) (where_is (drop (suc i) rs) r.through p))) (le-ltb p r.start past)
-        ∙ ap (λ b. cond b (among_lent r (p - r.start)) (where_is (drop (suc i) rs) r.through p)) (lt-ltb p r.end before)
 
 -- ---- the store
 

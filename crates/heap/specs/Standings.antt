@@ -1,5 +1,5 @@
 -- What stands at the places of a heap: its own objects, and the ranges that are lent to it among them.
-use Rattle.std.specs.Prelude.{◌≡◌, ℕ, ◌+◌, ◌-◌, ◌≤◌, Bool, true, false, List, [], ◌∷◌, ◌++◌, map, drop, length, Option, Some, None, if◌then◌else◌, nat_lt, slice_get, is_none, ◌||◌}
+use Rattle.std.specs.Prelude.{◌≡◌, ℕ, suc, ◌+◌, ◌-◌, ◌<◌, ◌≤◌, Bool, true, false, List, [], ◌∷◌, ◌++◌, map, drop, length, Option, Some, None, if◌then◌else◌, nat_lt, slice_get, is_none, ◌||◌}
 use Rattle.std.specs.Arc.{arc_value}
 use Rattle.meaning.specs.Heap.{Obj}
 use Rattle.meaning.specs.Indexing.{between}
@@ -58,6 +58,12 @@ abbrev pub InOrder : List Range → (first lent_before number from all_lent : �
 InOrder [] first lent_before number from all_lent = (from ≡ first + lent_before) × (all_lent ≡ lent_before) × (first ≤ number)
 InOrder (r ∷ rs) first lent_before number from all_lent =
     (first + lent_before ≤ r.start) × (r.start ≤ number + lent_before) × (r.end ≡ r.start + length (arc_value r.objects)) × (r.through ≡ lent_before + length (arc_value r.objects)) × InOrder rs (r.start - lent_before) r.through number from all_lent
+
+-- so many of the ranges begin at a place or before it: the last of these does, and the next one does not
+pub record Begun (rs : List Range) (place n : ℕ) : Type 0 where
+  pub within : n ≤ length rs
+  pub last : (i : ℕ) (r : Range) → n ≡ suc i → slice_get rs i ≡ Some r → r.start ≤ place
+  pub next : (r : Range) → slice_get rs n ≡ Some r → place < r.start
 
 -- at a place stands an own object, by its number among these, or one of a range, by its number in that
 pub data Where : Type 0 where

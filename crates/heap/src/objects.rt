@@ -5,7 +5,7 @@ ghost use Rattle.heap.specs.Looks.{seen_object};
 ghost use Rattle.heap.specs.MemoryUse.{found_bytes};
 ghost use Rattle.heap.specs.Objects.{object_of};
 ghost use Rattle.heap.specs.Reclamation.{IsGone, IsLent, IsKept, bytes_at, standing_bytes};
-ghost use Rattle.heap.specs.Standings.{Standing, own, has_gone, standing_of, lent_at, laid, InOrder, where_is, found_there, own_number, range_standings};
+ghost use Rattle.heap.specs.Standings.{Standing, Begun, own, has_gone, standing_of, lent_at, laid, InOrder, where_is, found_there, own_number, range_standings};
 ghost use Rattle.heap.specs.Sought.{sought, sought_number};
 ghost use Rattle.heap.specs.View.{object_in};
 ghost use Rattle.heap.specs.Own.{written_object};
@@ -71,29 +71,42 @@ enum Spot<'a> {
     },
 }
 
-// Finds what stands at a place, range by range.
-fn seek_in<'a>(ranges: &'a [Range], place: usize) -> Spot<'a>
-    ensures number { sought_number result ≡ own_number (where_is ranges.now 0 place) }
-    ensures found { (objects : List Standing) → sought objects result ≡ found_there
-        range_standings objects (where_is ranges.now 0 place) }
+// Returns how many ranges begin at a place or before it. The ranges stand in order, and are halved.
+fn count_begun(ranges: &[Range], place: usize) -> usize
+    ensures { Begun ranges.now place result }
 {
-    let mut lent: u32 = 0;
-    for i in 0..ranges.len() {
-        let range = &ranges[i];
-        if place < range.start as usize {
-            return Spot::Own(place.saturating_sub(lent as usize));
+    let mut low = 0;
+    let mut high = ranges.len();
+    'halving: while low < high {
+        let middle = low + (high - low) / 2;
+        if ranges[middle].start as usize <= place {
+            low = middle + 1;
+            continue 'halving;
         }
-        if place < range.end as usize {
-            let base = range.start;
-            let found = range.objects.get(place - base as usize);
-            return Spot::Lent {
-                object: found,
-                base,
-            };
-        }
-        lent = range.through;
+        high = middle;
     }
-    Spot::Own(place.saturating_sub(lent as usize))
+    low
+}
+
+// Finds what stands at a place, in the last range that begins there or before, or behind it.
+fn seek_in<'a>(ranges: &'a [Range], place: usize) -> Spot<'a>
+    ensures number { (number from lent : ℕ) → InOrder ranges.now 0 0 number from lent →
+        sought_number result ≡ own_number (where_is ranges.now 0 place) }
+    ensures found { (number from lent : ℕ) → InOrder ranges.now 0 0 number from lent → (objects :
+        List Standing) → sought objects result ≡ found_there range_standings objects (where_is
+        ranges.now 0 place) }
+{
+    let begun = count_begun(ranges, place);
+    if begun == 0 {
+        return Spot::Own(place);
+    }
+    let range = &ranges[begun - 1];
+    if place >= range.end as usize {
+        return Spot::Own(place.saturating_sub(range.through as usize));
+    }
+    let base = range.start;
+    let object = range.objects.get(place - base as usize);
+    Spot::Lent { object, base }
 }
 
 // Finds what stands at a place. Behind the last range that takes one comparison.
