@@ -14,6 +14,7 @@ MAKERS = {
         "crates/heap/src/objects.rt",
         "crates/numbered/src/flat.rt",
         "crates/numbered/src/table.rt",
+        "crates/round/src/out_keys.rt",
         "crates/shelf/src/keeper/publishing.rt",
     },
     "over_the_heap_limit": {"crates/heap/src/heap.rt"},

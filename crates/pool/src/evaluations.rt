@@ -29,8 +29,17 @@ use std::thread::{Scope, Threads};
 use std::{mem, thread};
 use texts::Memory;
 
-// How many jobs are out at most.
-const CAPACITY: usize = 64;
+// How many places a board has at least.
+const FEWEST_PLACES: usize = 8;
+
+// Returns how many jobs may be out at once: four for each hand, so that a hand finds its next job without the host, and
+// a look at the board goes over few places.
+fn places_for(hands: usize) -> usize
+    requires { hands ≤ 16 }
+    ensures { (0 < result) × (result ≤ 64) }
+{
+    if hands < 2 { FEWEST_PLACES } else { 4 * hands }
+}
 
 // What comes back from the scope of the workers.
 struct ScopeResult<R: Rules> {
@@ -203,7 +212,7 @@ fn by_workers<R: Rules + Send + Drop, T: Threads + Wait + Sync>(
     ensures spent { IsErrOf result Stop.Budget → HasTurnToMake R.next (leaves.read tree.now)
         (standing round).roots entry.value graph.new }
 {
-    let (board, host, seats) = match Board::open(alloc, CAPACITY, hands.len()) {
+    let (board, host, seats) = match Board::open(alloc, places_for(hands.len()), hands.len()) {
         Ok(made) => made,
         Err(OpenError::Memory(error)) => return Err(Stop::Memory(error)),
         Err(OpenError::Range) => unreachable!(),

@@ -62,9 +62,6 @@ module _ (graph : GraphView) (before later : Table) (k : Key) (at : ℕ) (c : Is
   abbrev r : Record Key Value
   r = stand.0
 
-  pub its_record : (r : Record Key Value) × (record_at graph k ≡ Some r)
-  its_record = (stand.0, stand.1)
-
   -- what a check finds, by the node's record
   compared_there : (found : Comparison) → Compares (record_at graph) (record_at graph k) at found → Compares (record_at graph) (Some r) at found
   compared_there found f = subst (λ o. Compares (record_at graph) o at found) stand.1 f

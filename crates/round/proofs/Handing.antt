@@ -12,7 +12,7 @@ use Rattle.keys.specs.Keys.{key_eq}
 use Rattle.keys.specs.declared.key.Key.{Key}
 use Rattle.keys.specs.declared.value.Value.{Value}
 use Rattle.node.specs.Graphs.{GraphView, record_at}
-use Rattle.node.specs.Edges.{IsRemoved}
+use Rattle.node.specs.Edges.{IsAdded, IsRemoved}
 use Rattle.node.proofs.Lists.{some_is, decide_key, in_left, in_right}
 use Rattle.open_nodes.proofs.Lookups.{other_key}
 use Rattle.open_nodes.specs.Nodes.{node_at, groups_of, pending, IsPlain, Stands, IsWhole, AreOut}
@@ -32,7 +32,7 @@ use Rattle.open_nodes.proofs.Followings.{Grows, grows_one}
 use Rattle.open_nodes.proofs.Settlings.{truth_changes}
 use Rattle.open_nodes.specs.Members.{AreAnswers, Answers}
 use Rattle.round.specs.NodeStates.{NodeStates, NeedsValues, kept_answers}
-use Rattle.round.specs.Turning.{IsOutWith}
+use Rattle.round.specs.Turning.{IsOutAt, IsOutWith}
 use Rattle.open_nodes.proofs.Grouping.{never_none, items_length}
 use Rattle.round.specs.Moves.{StaysTrueBy, KeepsWanted}
 use Rattle.round.proofs.Wanting.{wanted_set}
@@ -58,6 +58,13 @@ module _ (graph : GraphView) (before later : Table) (k : Key) (w : IsWhole (reco
   needs_all kept e slice q (Some found) a = (ready, λ m x. subst (λ o. AreAnswers (record_at graph) (groups_of m) (kept_answers o ++ found)) (sym e) (subst (λ gs. AreAnswers (record_at graph) gs found) (q m x) a))
   needs_all kept e slice q None a = λ i. has_answers slice q a
 
+  -- and its job is not out yet
+  pub ready_not_out : IsOutAt before k → ⊥
+  ready_not_out o = apart (sym (w.ready_now k ready).2 ∙ ap (λ (x : Node). x.phase) (some_is (sym there ∙ o.1)) ∙ o.2)
+    where
+      apart : phase.Running ≡ phase.Out → ⊥
+      apart e = cc
+
   module _ (h : HasPhase before.nodes later.nodes k phase.Out) (removed : IsRemoved before.ready.keys later.ready.keys k) (pends : pending later ≡ pending before) where
     abbrev m : Node
     m = record n { phase = phase.Out }
@@ -77,6 +84,15 @@ module _ (graph : GraphView) (before later : Table) (k : Key) (w : IsWhole (reco
     handed_more keys out j x e f = elim (decide_key k j) [
       | inl q ↦ subst (λ y. In y (k ∷ keys)) q first
       | inr d ↦ after (out j x (sym (other_key before.nodes later.nodes k (Some m) (h n there) j d) ∙ e) f)
+    ]
+
+    pub handed_out : (old new : List Key) → IsAdded old new k → ((j : Key) → In j old → IsOutAt before j) → (j : Key) → In j new → IsOutAt later j
+    handed_out old new added all j i = elim (decide_key k j) [
+      | inl q ↦ subst (IsOutAt later) q (m, (h n there).1, refl)
+      | inr d ↦ elim (added.from j i) [
+        | inl x ↦ let o = all j x in (o.0, other_key before.nodes later.nodes k (Some m) (h n there) j d ∙ o.1, o.2)
+        | inr q ↦ absurd (d q)
+      ]
     ]
 
     pub handed_keeps : KeepsWanted graph graph before later

@@ -13,6 +13,7 @@ pub mod Walking
 pub mod Stalls
 pub mod Closings
 pub mod Resting
+pub mod JobsOut
 pub mod Rounding
 pub mod Rotations
 pub mod Framing

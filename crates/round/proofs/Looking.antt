@@ -159,9 +159,6 @@ module _ (graph : GraphView) (before later : Table) (k : Key) (pends : Pends bef
           go (first {xs = zs}) e = let q : k ≡ j = cc in subst (λ y. In y (xs ++ k ∷ [])) q (in_right xs first)
           go (after {xs = zs} h) e = let q : zs ≡ xs = cc in in_left (k ∷ []) (subst (In j) q h)
 
-  pub again_out : (keys : List Key) → AreOut before.nodes keys → AreOut later.nodes keys
-  again_out keys out j m e f = out j m (ap (λ x. node_at x j) (sym nodes) ∙ e) f
-
   pub again_turns : MakesNone before later
   again_turns = counts_same before later nodes (ap turns_of pends.runs)
 
@@ -217,12 +214,6 @@ module _ (graph : GraphView) (before : Table) (k : Key) (group : List Key) (run 
   now_ready later readies nodes plain = subst (λ (x : Nodes). IsWhole (record_at graph) x later.ready.keys (pending later)) (sym nodes) (subst (λ (xs : List Key). IsWhole (record_at graph) before.nodes later.ready.keys xs) (sym readies.pends)
       (becomes_ready (record_at graph) before.nodes before.ready.keys later.ready.keys (pending before) k node run.1 run.2 (all_plain plain) readies.ready w))
 
-pub ready_out : (before later : Table) → later.nodes ≡ before.nodes → (keys : List Key) → AreOut before.nodes keys → AreOut later.nodes keys
-ready_out before later nodes keys out j m e f = out j m (ap (λ x. node_at x j) (sym nodes) ∙ e) f
-
-pub ready_true : (graph : GraphView) (before later : Table) (k : Key) → Readies before later k → later.nodes ≡ before.nodes → (read : Key → Option Value) → StaysTrue read graph graph before later
-ready_true graph before later k readies nodes read = λ next laws past cs t. subst (λ (x : Nodes). IsTrueOf next read past cs graph x later.runs.items) (sym nodes) (subst (λ (x : List Run). IsTrueOf next read past cs graph before.nodes x) (sym readies.runs) t)
-
 -- the members that wait of a node that makes turns
 pub running_awaits : (graph : GraphView) (before : Table) (k : Key) (group missing : List Key) → IsRunningAt before k group → IsMissing (record_at graph) group missing → (missing ≡ [] → ⊥) → IsAwaiting graph before k missing
 running_awaits graph before k group missing run m n = record { node = run.0; there = run.1; group = group; current = subst (λ (p : Phase). IsCurrent (record_at graph) k (groups_of run.0) p group) (sym run.2) (current run.3); of_group = m }
@@ -261,13 +252,6 @@ none_missing records group missing m b h t j i = elim (m.rest j i) [ inl x ↦ a
 
 -- the first of those that are to be looked at is taken off
 module _ (graph : GraphView) (before later : Table) (k : Key) (next_key : IsNextKey before later (Some k)) where
-  pub next_whole : IsWhole (record_at graph) before.nodes before.ready.keys (pending before) → IsWhole (record_at graph) later.nodes later.ready.keys (k ∷ pending later)
-  next_whole w = subst (λ (x : Nodes). IsWhole (record_at graph) x later.ready.keys (k ∷ pending later)) (sym next_key.1) (subst (λ (xs : List Key). IsWhole (record_at graph) before.nodes xs (k ∷ pending later)) (sym next_key.2)
-      (subst (λ (xs : List Key). IsWhole (record_at graph) before.nodes before.ready.keys xs) next_key.0 w))
-
-  pub next_out : (keys : List Key) → AreOut before.nodes keys → AreOut later.nodes keys
-  next_out = ready_out before later next_key.1
-
   pub next_true : (read : Key → Option Value) → StaysTrue read graph graph before later
   next_true read = λ next laws past cs t. subst (λ (x : Nodes). IsTrueOf next read past cs graph x later.runs.items) (sym next_key.1) (subst (λ (x : List Run). IsTrueOf next read past cs graph before.nodes x) (sym next_key.3) t)
 

@@ -1,5 +1,5 @@
 -- States kept between turns.
-use Rattle.std.proofs.Common.{◌≡◌, ◌≢◌, inl, inr, ℕ, ◌-◌, Bool, false, true, cond, List, [], ◌∷◌, ◌++◌, map, Option, Some, None, refl, sym, ◌∙◌, ap, subst, length, take, drop, arith, length-append, append_assoc}
+use Rattle.std.proofs.Common.{◌≡◌, ◌≢◌, inl, inr, ℕ, ◌-◌, Bool, false, true, cond, List, [], ◌∷◌, ◌++◌, map, Option, Some, None, IfSome, refl, sym, ◌∙◌, ap, subst, length, take, drop, arith, length-append, append_assoc}
 use Rattle.std.specs.Bool.{Decides}
 use Rattle.indexmap.specs.IndexMap.{get, Updates}
 use Rattle.std.specs.Option.{is_some}
@@ -87,6 +87,11 @@ paused_on old new before later f k w p = let n = f.1 k p.node p.there p.running 
 
 pub are_paused_on : (old new : GraphView) (before later : Table) (kept : NodeStates) → KeepsSettled old new × KeepsRunning before later → ArePaused old before kept → ArePaused new later kept
 are_paused_on old new before later kept f a k w e = paused_on old new before later f k w (a k w e)
+
+-- a state that is kept has its node's key
+pub of_key : (graph : GraphView) (table : Table) (key : Key) (paused : Option Waits) → IfSome paused (IsPaused graph table key) → IfSome paused (λ w. w.key ≡ key)
+of_key graph table key (Some w) p = p.same_key
+of_key graph table key None p = tt
 
 pub none_paused : (graph : GraphView) (table : Table) (kept : NodeStates) → kept.entries ≡ [] → ArePaused graph table kept
 none_paused graph table kept q k w e = absurd (none_some (sym empty ∙ e))
@@ -213,10 +218,6 @@ same_again old new key w e u k = elim (same_or_key old new key (Some w) u k) [
   | inl q ↦ ap (get key_eq new) (sym q) ∙ u.1 ∙ sym e ∙ ap (get key_eq old) q
   | inr p ↦ p
 ]
-
--- nothing was kept of the key
-pub none_out : (old : NodeStates) (key : Key) → get key_eq old key ≡ None → TakesOut old old key
-none_out old key e = (e, λ k d. refl)
 
 -- a state was written over and taken out
 pub written_out : (old middle new : NodeStates) (key : Key) (o : Option Waits) → Updates key_eq old middle key o → Updates key_eq middle new key None → TakesOut old new key

@@ -33,9 +33,9 @@ none_out graph s turns e o = record {
 
 -- where a round is not at a stall, a node is open
 pub one_open : {R S : Type 0} (graph : GraphView) (round : Round R S) (turns : List Outcome) → IsPlaying graph round turns → (IsStalled (standing round) → ⊥) → (k : Key) × IsOpen round.table.nodes k
-one_open graph round turns p n = go round.table.ready.keys refl round.out.keys refl
+one_open graph round turns p n = go round.table.ready.keys refl round.out refl
   where
-    go : (ready : List Key) → round.table.ready.keys ≡ ready → (out : List Key) → round.out.keys ≡ out → (k : Key) × IsOpen round.table.nodes k
+    go : (ready : List Key) → round.table.ready.keys ≡ ready → (out : List Key) → round.out ≡ out → (k : Key) × IsOpen round.table.nodes k
     go [] e [] f = absurd (n (e, f))
     go (k ∷ ks) e out f = let y = p.0.0.whole.ready_now k (subst (λ (xs : List Key). In k xs) (sym e) first) in (k, (y.0, y.1))
     go [] e (k ∷ ks) f =
@@ -77,10 +77,6 @@ counted_here false more old new f c = c
 -- no choice more
 pub counted_still : (went : Bool) (more old new before base : ℕ) → went ≡ false → CountsIf went more old new → old ≡ base + before → new ≡ base + before
 counted_still went more old new before base f c o = counted_here went more old new f c ∙ o
-
--- no more turns than the budget were made
-pub within_budget : (old now new left handed budget : ℕ) → now ≡ old + handed → left + handed ≡ budget → (now ≤ new) × (new ≤ now + left) → (old ≤ new) × (new ≤ old + budget)
-within_budget old now new left handed budget c s b = let x = b.0 in let y = b.1 in (omega (arith, c, s, x, y), omega (arith, c, s, x, y))
 
 -- what is left and what was made are the budget
 pub within_left : (left made budget : ℕ) → left + made ≡ budget → made ≤ budget

@@ -15,9 +15,6 @@ use Rattle.round.proofs.Confirming.{take_whole}
 use Rattle.open_nodes.proofs.Grouping.{split_at}
 use Rattle.round.proofs.Reaching.{rest_is}
 
-key_of : Outcome → Key
-key_of turn = turn.asked.key
-
 -- one turn more
 pub one_more : (graph : GraphView) (before later : Standing) (turns new : List Outcome) (turn : Outcome) → AreOutTurns graph before turns → new ≡ turns ++ turn ∷ [] → ((job : JobView) → IsOfJobOut graph before job → IsOfJobOut graph later job)
     → IsOfJobOut graph later turn.asked → IsAdded before.out later.out turn.asked.key → ((job : JobView) → IsOfJobOut graph before job → job.key ≢ turn.asked.key) → AreOutTurns graph later new

@@ -1,13 +1,6 @@
 -- A round beside its graph.
-use Rattle.std.proofs.Common.{◌≡◌, inl, inr, ℕ, ◌+◌, ◌<◌, ◌≤◌, Bool, true, false, cond, not, ◌&&◌, ◌||◌, List, [], ◌∷◌, ◌++◌, map, Option, Some, None, refl, sym, ◌∙◌, ap, subst, length, take, slice_index_or}
+use Rattle.std.proofs.Common.{◌≡◌, inl, inr, ℕ, ◌+◌, ◌<◌, ◌≤◌, Bool, true, false, ◌&&◌, List, [], ◌∷◌, ◌++◌, map, Option, Some, None, refl, sym, ◌∙◌, ap, subst, length, take, slice_index_or}
 use Rattle.std.specs.Bool.{Decides}
-use Rattle.std.specs.BTreeMap.{is_at}
-use Rattle.std.specs.BTreeSet.{BTreeSet, contains, insert_key}
-use Rattle.std.specs.List.{list_any}
-use Rattle.std.specs.Ordering.{is_eq, match_ordering}
-use Rattle.std.specs.Set.{remove_key}
-use Rattle.std.specs.declared.cmp.Ordering.{Ordering}
-use Rattle.std.specs.declared.cmp.Ordering.TheVariants.{Less, Equal, Greater}
 use Rattle.std.specs.Option.{is_some}
 use Rattle.std.specs.Arc.{arc_value}
 use Rattle.std.specs.declared.alloc.Global.{Global}
@@ -15,7 +8,6 @@ use Rattle.std.specs.declared.sync.Arc.{Arc}
 use Rattle.std.proofs.Math.Seq.{take_all}
 use lib.Pointwise.{pointwise, pointwise_decides}
 use Rattle.evaluation.specs.Value.{In, first, after, IsMember}
-use Rattle.keys.specs.Keys.{key_cmp}
 use Rattle.keys.specs.Turns.{values}
 use Rattle.keys.specs.Values.{value_eq}
 use Rattle.keys.specs.ValueLaws.{exact_values}
@@ -24,7 +16,6 @@ use Rattle.keys.specs.declared.value.Value.{Value}
 use Rattle.node.specs.Edges.{IsAdded, IsRemoved}
 use Rattle.node.specs.Graphs.{GraphView, record_at}
 use Rattle.node.proofs.Lists.{in_split, in_one, some_is, true_false}
-use Rattle.node.proofs.Joining.{itself}
 use Rattle.node.proofs.Reaching.{one_more}
 use Rattle.open_nodes.specs.Nodes.{Nodes, node_at, groups_of, pending, IsOpen, IsPlain, Stands, AreOut}
 use Rattle.open_nodes.specs.declared.table.Node.{Node}
@@ -33,9 +24,9 @@ use Rattle.open_nodes.specs.declared.table.Phase.TheVariants as phase
 use Rattle.open_nodes.specs.declared.table.Table.{Table}
 use Rattle.open_nodes.specs.Members.{AreAnswers, Answers}
 use Rattle.round.specs.Moves.{IsWholeNow}
-use Rattle.round.specs.Rounds.{keys_without}
 use Rattle.round.specs.Since.{IsFresh}
-use Rattle.round.specs.Turning.{IsOutWith}
+use Rattle.round.specs.Frames.{KeepsHandedBut}
+use Rattle.round.specs.Turning.{IsOutAt, IsOutWith}
 use Rattle.open_nodes.proofs.Grouping.{never_none}
 
 pub is_fresh : (table : Table) → table.nodes.entries ≡ [] → table.ready.keys ≡ [] → pending table ≡ [] → table.runs.items ≡ [] → IsFresh table
@@ -84,26 +75,6 @@ none_again old middle (x ∷ new) k key e a r q = elim (a.from x (r.from x first
   | inr p ↦ absurd (r.gone (subst (λ y. In y (x ∷ new)) (sym (q ∙ p)) first))
 ]
 
--- a key that was put in is taken out again
-remove_inserted : (k : Key) (ks : List Key) → list_any (is_at (key_cmp k)) ks ≡ false → remove_key (is_at (key_cmp k)) (insert_key key_cmp ks k) ≡ ks
-remove_inserted k [] h = ap (λ b. cond b [] (k ∷ [])) (itself k)
-remove_inserted k (x ∷ xs) h = by (key_cmp k x) refl (remove_inserted k xs)
-  where
-    by : (o : Ordering) → key_cmp k x ≡ o → (list_any (is_at (key_cmp k)) xs ≡ false → remove_key (is_at (key_cmp k)) (insert_key key_cmp xs k) ≡ xs)
-        → remove_key (is_at (key_cmp k)) (match_ordering o (k ∷ x ∷ xs) (x ∷ xs) (x ∷ insert_key key_cmp xs k)) ≡ x ∷ xs
-    by Less e f = ap (λ b. cond b (x ∷ xs) (k ∷ remove_key (is_at (key_cmp k)) (x ∷ xs))) (itself k)
-    by Equal e f = absurd (true_false (ap (λ b. b || list_any (is_at (key_cmp k)) xs) (ap is_eq e)) h)
-    by Greater e f = ap (λ b. cond b (insert_key key_cmp xs k) (x ∷ remove_key (is_at (key_cmp k)) (insert_key key_cmp xs k))) (ap is_eq e)
-        ∙ ap (λ ys. x ∷ ys) (f (sym (ap (λ b. b || list_any (is_at (key_cmp k)) xs) (ap is_eq e)) ∙ h))
-
-pub out_undone : (old new : BTreeSet Key) (k : Key) (added : Bool) → added ≡ not (contains key_cmp old k) → new.keys ≡ insert_key key_cmp old.keys k → (added ≡ false → new.keys ≡ old.keys) → keys_without added k new.keys ≡ old.keys
-out_undone old new k true a e u = ap (remove_key (is_at (key_cmp k))) e ∙ remove_inserted k old.keys (was_not (contains key_cmp old k) a)
-  where
-    was_not : (b : Bool) → true ≡ not b → b ≡ false
-    was_not true q = absurd (true_false refl q)
-    was_not false q = refl
-out_undone old new k false a e u = u refl
-
 -- the jobs out after one more
 pub out_added : (nodes : Nodes) (old new : List Key) (k key : Key) → key ≡ k → IsAdded old new key → AreOut nodes (k ∷ old) → AreOut nodes new
 out_added nodes old new k key q a o j x e f = go (o j x e f) refl
@@ -118,6 +89,12 @@ out_removed nodes old new k key q r o j x e f = elim (r.keeps j (o j x e f)) [
   | inl i ↦ after i
   | inr p ↦ subst (λ y. In y (k ∷ new)) (sym q ∙ p) first
 ]
+
+-- what is out after one less is out still
+pub out_still : (before later : Table) (k : Key) (old new : List Key) → KeepsHandedBut k before later → IsRemoved old new k → ((j : Key) → In j old → IsOutAt before j) → (j : Key) → In j new → IsOutAt later j
+out_still before later k old new frame r all j i =
+    let o = all j (r.from j i) in
+    let n = frame j o.0 (λ q. r.gone (subst (λ x. In x new) (sym q) i)) o.1 o.2 in (n.0, n.1, n.2)
 
 -- none of the keys so far is open
 abbrev pub NoneSoFar : Nodes → List Key → Type 0

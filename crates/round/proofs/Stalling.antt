@@ -31,10 +31,6 @@ use Rattle.round.specs.declared.closing.Closing.{Closing}
 use Rattle.round.specs.declared.closing.Stall.{Stall}
 use Rattle.open_nodes.proofs.Grouping.{items_length, snoc_in}
 
-items_snoc : (xs : List (Vec Key Global)) (x : Vec Key Global) → items_of (xs ++ x ∷ []) ≡ items_of xs ++ x.items ∷ []
-items_snoc [] x = refl
-items_snoc (y ∷ xs) x = ap (λ z. y.items ∷ z) (items_snoc xs x)
-
 append_assoc : {X : Type 0} (xs ys zs : List X) → (xs ++ ys) ++ zs ≡ xs ++ (ys ++ zs)
 append_assoc [] ys zs = refl
 append_assoc (x ∷ xs) ys zs = ap (λ w. x ∷ w) (append_assoc xs ys zs)

@@ -26,7 +26,7 @@ use Rattle.node.specs.Writes.{stored}
 use Rattle.node.specs.Laws.{SettlingKeepsLawful}
 use Rattle.node.proofs.Lists.{some_is, none_some, true_false, decide_key, in_split, in_left, in_right}
 use Rattle.open_nodes.proofs.Lookups.{other_key}
-use Rattle.open_nodes.specs.Nodes.{Nodes, Records, node_at, groups_of, pending, IsOpen, IsUnsettled, Stands, IsWhole}
+use Rattle.open_nodes.specs.Nodes.{Nodes, Records, node_at, groups_of, pending, IsUnsettled, Stands, IsWhole}
 use Rattle.open_nodes.specs.Steps.{HasEntered, Pends, Readies, HasNoted, SameRuns}
 use Rattle.open_nodes.specs.TurnCounts.{turns_of, asked_by}
 use Rattle.open_nodes.specs.Truths.{LeadsBy, LeadsOf, LeadsToEnd, AreSought, IsWantedBy, IsNext, Past, IsAfter, IsTrueOf, IsRun, nothing, IsDoing, TellOut, IsUntold, IsSettledTruly, by_read}
@@ -35,7 +35,7 @@ use Rattle.open_nodes.specs.declared.table.Node.{Node}
 use Rattle.open_nodes.specs.declared.table.Phase.{Phase}
 use Rattle.open_nodes.specs.declared.table.Phase.TheVariants as phase
 use Rattle.open_nodes.specs.declared.table.Table.{Table}
-use Rattle.open_nodes.proofs.Wholes.{unsettled_not_clean, node_changes, node_settles, keeps_clean, widens_refl, widens_on}
+use Rattle.open_nodes.proofs.Wholes.{unsettled_not_clean, node_changes, node_settles, keeps_clean, widens_on}
 use Rattle.open_nodes.proofs.Counting.{turns_snoc, counts_same, counts_none, makes_on}
 use Rattle.open_nodes.proofs.Followings.{grows_none}
 use Rattle.open_nodes.proofs.Settlings.{same_since, truth_changes, settles_by_run}
@@ -161,9 +161,6 @@ module _ (graph : GraphView) (before after : Table) (k : Key) (p : Phase) (no_ou
       no_member : (i : Key) → IsMember i [] → ⊥
       no_member i m = elim m.1 [ ]
 
-  pub begin_open : IsOpen after.nodes k
-  begin_open = (n, entered.1.1)
-
   module _ (next : Key → List Value → Reply Key Value) (read : Key → Option Value) (no_leaf : read k ≡ None)
       (laws : IsNext next) (past : Past read) (cs : List (Choice Key)) (sought : AreSought next read past cs (k ∷ [])) (t : IsTrueOf next read past cs graph before.nodes before.runs.items) (runs : SameRuns before after)
       (doing : record_at graph k ≡ record_at past.entry k → IsUntold next read past cs k → IsDoing next read past cs graph k [] p × TellOut next read past cs k p) where
@@ -245,9 +242,6 @@ read_sets old new a k v gs e f s = subst (λ (x : Key). Sets (record_at old) (re
 
 pub read_keeps : (old new : GraphView) (a k : Key) (v : Value) (gs : List (Vec Key Global)) → a ≡ k → gs ≡ [] → SettlingKeepsLawful old new a v (items_of gs) → SettlingKeepsLawful old new k v []
 read_keeps old new a k v gs e f s = subst (λ (x : Key). SettlingKeepsLawful old new x v []) e (subst (λ (xs : List (Vec Key Global)). SettlingKeepsLawful old new a v (items_of xs)) f s)
-
-pub wants_refl : (graph : GraphView) (table : Table) → Wants graph graph table table
-wants_refl graph table = record { version = refl; widens = widens_refl (record_at graph) table.nodes; whole = λ spare w. w; out = λ keys o. o; turns = λ made h. h }
 
 pub wants_on : (a b c : GraphView) (x y z : Table) → Wants a b x y → Wants b c y z → Wants a c x z
 wants_on a b c x y z f g = record {

@@ -6,6 +6,7 @@ pub mod Closing
 pub mod Showing
 pub mod Since
 pub mod Here
+pub mod JobsOut
 pub mod Rounds
 pub mod Choosing
 pub mod Frames

@@ -1,10 +1,7 @@
 -- What a contract sees of a round, and how it stands beside the graph that it is lent.
-use Rattle.std.specs.Prelude.{◌≡◌, ◌≢◌, Bool, true, false, List, [], Option, Some, None, Result, Ok, Err, ⊤}
-use Rattle.std.specs.BTreeMap.{is_at}
-use Rattle.std.specs.Set.{remove_key}
+use Rattle.std.specs.Prelude.{◌≡◌, ◌≢◌, List, [], Option, Some, None, Result, Ok, Err, ⊤}
 use Rattle.evaluation.specs.Value.{In}
 use Rattle.keys.specs.Jobs.{JobView, Outcome}
-use Rattle.keys.specs.Keys.{key_cmp}
 use Rattle.keys.specs.declared.key.Key.{Key}
 use Rattle.node.specs.Edges.{IsAdded, IsRemoved}
 use Rattle.node.specs.Graphs.{GraphView}
@@ -14,7 +11,7 @@ use Rattle.open_nodes.specs.declared.run.Run.{Run}
 use Rattle.open_nodes.specs.declared.table.Table.{Table}
 use Rattle.round.specs.Moves.{IsWanted, IsWholeNow}
 use Rattle.round.specs.NodeStates.{NodeStates, ArePaused, HasState, SameStates}
-use Rattle.round.specs.Turning.{IsOutWith}
+use Rattle.round.specs.Turning.{IsOutAt, IsOutWith}
 use Rattle.round.specs.declared.rounds.Round.{Round}
 use Rattle.round.specs.declared.rounds.TakeBackError.{TakeBackError}
 use Rattle.round.specs.declared.rounds.TakeBackError.TheVariants as not_taken
@@ -26,13 +23,14 @@ pub record Standing : Type 0 where
   pub out : List Key
 
 abbrev pub standing : {R S : Type 0} → Round R S → Standing
-standing round = record { roots = round.roots.items; table = round.table; out = round.out.keys }
+standing round = record { roots = round.roots.items; table = round.table; out = round.out }
 
--- the round stands beside the graph: nothing is to be looked at, no other job is out, and each root is settled or open
+-- the round stands beside the graph: nothing is to be looked at, these jobs are out and no other ones, and each root is settled or open
 pub record IsBeside (graph : GraphView) (s : Standing) : Type 0 where
   pub whole : IsWholeNow graph s.table
   pub none_pending : pending s.table ≡ []
   pub only_out : AreOut s.table.nodes s.out
+  pub all_out : (k : Key) → In k s.out → IsOutAt s.table k
   pub wanted : (k : Key) → In k s.roots → IsWanted graph s.table k
 
 -- and the states that it keeps may be resumed
@@ -42,11 +40,6 @@ StandsBeside graph round = IsBeside graph (standing round) × ArePaused graph ro
 -- nothing that a contract sees of the round has changed: neither its standing nor a state that it keeps
 abbrev pub IsAsBefore : {R S : Type 0} → Round R S → Round R S → Type 0
 IsAsBefore before after = (standing after ≡ standing before) × SameStates before.kept after.kept
-
--- the keys without this one, if it was added to them
-abbrev pub keys_without : Bool → Key → List Key → List Key
-keys_without true k keys = remove_key (is_at (key_cmp k)) keys
-keys_without false k keys = keys
 
 -- no turn can be handed out, and no job is out
 abbrev pub IsStalled : Standing → Type 0

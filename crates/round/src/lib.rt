@@ -7,6 +7,7 @@ mod close;
 mod closing;
 mod look;
 mod loops;
+mod out_keys;
 mod play;
 mod replaying;
 mod rounds;

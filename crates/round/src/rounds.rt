@@ -14,14 +14,13 @@ ghost use Rattle.keys.specs.Jobs.{Made};
 ghost use Rattle.keys.specs.Keys.{key_cmp};
 ghost use Rattle.keys.specs.declared.key.Key.{Key};
 ghost use Rattle.keys.specs.declared.value.Value.{Value};
-ghost use Rattle.node.specs.Edges.{IsAdded, IsRemoved};
 ghost use Rattle.open_nodes.specs.TurnCounts.{HasMade, MakesNone, turns_of};
 ghost use Rattle.open_nodes.specs.Nodes.{IsOpen};
 ghost use Rattle.open_nodes.specs.Truths.{LeadsBy};
 ghost use Rattle.round.specs.Choosing.{IsPossibleAfter, ForChoices, HandsWherePossible, TakesJobOut, StrangerWhereNotOut, Follows, FollowsHand, FollowsBack, IsFollowing};
 ghost use Rattle.round.specs.Since.{IsTrueSince, IsAfterSince};
 ghost use Rattle.round.specs.Moves.{StaysTrueBy, Ends, IsWanted};
-ghost use Rattle.round.specs.Rounds.{standing, StandsBeside, IsStalled, CanDrop, HandsOut, IsAsBefore, IsOfJobOut, NoneOpen, EndsWith, Refuses, TakesBack, KeepsJobs, KeepsAllJobs, keys_without};
+ghost use Rattle.round.specs.Rounds.{standing, StandsBeside, IsStalled, CanDrop, HandsOut, IsAsBefore, IsOfJobOut, NoneOpen, EndsWith, Refuses, TakesBack, KeepsJobs, KeepsAllJobs};
 ghost use Rattle.round.specs.Turning.{IsOutAt};
 ghost use Rattle.round.specs.Call.{Calls, HasOpenRoot, HasTurnToMake};
 ghost use Rattle.round.specs.Here.{TurnsOnce, Finishes};
@@ -29,6 +28,7 @@ ghost use Rattle.round.specs.declared.stop.Stop.{Stop};
 
 use crate::close::close_cycles;
 use crate::look::{is_open, look_at_all, want_all};
+use crate::out_keys::OutKeys;
 use crate::stop::Stop;
 use crate::turns::{is_out_with, take, take_job, values_needed};
 use filetree::Tree;
@@ -37,7 +37,6 @@ use keys::{Job, Key, Rules, Turned, Waiting};
 use node::Graph;
 use open_nodes::{Nodes, Run, Table, set_out, share_all};
 use std::alloc::Global;
-use std::collections::BTreeSet;
 use texts::Memory;
 
 /// One evaluation of roots, turn by turn. It keeps neither the graph nor the tree: its calls are lent the same ones,
@@ -48,7 +47,7 @@ pub struct Round<R: Rules> {
     alloc: Global,
     roots: Vec<Key>,
     table: Table,
-    out: BTreeSet<Key>,
+    out: OutKeys,
     kept: IndexMap<Key, Waiting<R>>,
 }
 
@@ -73,41 +72,16 @@ impl<R: Rules> From<Memory> for TakeBackError<R> {
     }
 }
 
-// Adds the key to those whose jobs are out. Returns whether it was none of them.
-fn put_out(out: &mut BTreeSet<Key>, key: Key) -> Result<bool, Memory>
-    ensures added { OnOk result (IsAdded out.old.keys out.new.keys key) }
-    ensures undone { IfOk result (λ added. keys_without added key out.new.keys ≡ out.old.keys) }
-    ensures refused { OnErr result (out.new.keys ≡ out.old.keys) }
-{
-    let added = out.insert(key)?;
-    Ok(added)
-}
-
-// Takes the key out of those whose jobs are out, if it was added.
-fn undo_out(out: &mut BTreeSet<Key>, key: &Key, added: bool)
-    ensures { out.new.keys ≡ keys_without added key.now out.old.keys }
-{
-    if added {
-        let _was_there = out.remove(key);
-    }
-}
-
-// Takes the key from those whose jobs are out.
-fn take_from(out: &mut BTreeSet<Key>, key: &Key)
-    ensures { IsRemoved out.old.keys out.new.keys key.now }
-{
-    let _was_there = out.remove(key);
-}
-
 // Keeps the state, if there is one.
 fn keep<R: Rules>(
     kept: &mut IndexMap<Key, Waiting<R>>,
-    key: Key,
     paused: Option<Waiting<R>>,
 ) -> Result<(), Memory>
-    ensures { OnOk result (PutsState kept.old kept.new key paused) }
+    ensures { (key : Key) → IfSome paused (λ w. w.key ≡ key)
+        → OnOk result (PutsState kept.old kept.new key paused) }
 {
     if let Some(waiting) = paused {
+        let key = waiting.key().share()?;
         let _before = kept.insert(key, waiting)?;
     }
     Ok(())
@@ -161,7 +135,7 @@ impl<R: Rules> Round<R> {
             alloc,
             roots,
             table,
-            out: BTreeSet::new(alloc),
+            out: OutKeys::new(),
             kept: IndexMap::new(alloc),
         })
     }
@@ -208,14 +182,14 @@ impl<R: Rules> Round<R> {
             return Ok(None);
         };
         let name = key.share()?;
-        let added = put_out(&mut self.out, key.share()?)?;
+        self.out.add(key)?;
         match take_job(&mut self.kept, name, found) {
             Ok(job) => {
                 set_out(&mut self.table, key);
                 Ok(Some(job))
             }
             Err(error) => {
-                undo_out(&mut self.out, key, added);
+                self.out.remove(key);
                 Err(error)
             }
         }
@@ -276,11 +250,10 @@ impl<R: Rules> Round<R> {
         ensures truth { LeadsBy (Back turned.asked.key ∷ []) R.next (leaves.read tree.now) graph.old
             graph.new self.old.table self.new.table result }
     {
-        let key = turned.key().share()?;
+        self.out.remove(turned.key());
         let paused = take(self.alloc, graph, &mut self.table, turned)?;
         look_at_all(self.alloc, graph, tree, &mut self.table)?;
-        take_from(&mut self.out, &key);
-        keep(&mut self.kept, key, paused)?;
+        keep(&mut self.kept, paused)?;
         Ok(())
     }
 

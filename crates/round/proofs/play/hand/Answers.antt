@@ -36,7 +36,7 @@ returns-in_ok-put_turn-in-Some-clause-playing g c =
       c.hand_out.ensures.beside,
       one_more c.args.graph.now (standing c.args.round.now) (standing c.hand_out.new.self) c.args.turns.now.items c.put_turn.new.turns.items c.in_ok-turned-in-Some.turned c.requires.1 c.in_ok-put_turn-in-Some.ensures c.in_ok-hand_out.ensures.others
           (subst (λ (a : JobView). IsOfJobOut c.args.graph.now (standing c.hand_out.new.self) a) (sym asked) (subst (λ (k : Key). IsOfJobOut c.args.graph.now (standing c.hand_out.new.self) (record { key = k; answers = c.in-Some.job.answers })) (sym s.1) s.2))
-          (subst (IsAdded c.args.round.now.out.keys c.hand_out.new.self.out.keys) (sym same) s.3)
+          (subst (IsAdded c.args.round.now.out c.hand_out.new.self.out) (sym same) s.3)
           (λ job o q. ready_apart c.args.graph.now c.args.round.now c.args.key.now c.requires.0 s.0 job o (q ∙ same)),
     )
 

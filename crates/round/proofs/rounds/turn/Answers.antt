@@ -21,7 +21,7 @@ returns-clause-turns g c = λ roots turns r.
     let t = c.in_ok-take_known-in-Some.ensures in
     record {
       beside = t.beside;
-      none_out = none_again c.args.round.now.out.keys c.hand_out.new.self.out.keys c.take_known.new.self.out.keys c.args.key.now c.make-turned.result.asked.key r.none_out h.3 t.back.1 (ap (λ (a : JobView). a.key) c.make-turned.ensures.same ∙ h.1);
+      none_out = none_again c.args.round.now.out c.hand_out.new.self.out c.take_known.new.self.out c.args.key.now c.make-turned.result.asked.key r.none_out h.3 t.back.1 (ap (λ (a : JobView). a.key) c.make-turned.ensures.same ∙ h.1);
       same_roots = t.back.0 ∙ h.4 ∙ r.same_roots;
       made = t.back.2 turns (h.5 turns r.made);
     }

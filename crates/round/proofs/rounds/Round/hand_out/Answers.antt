@@ -4,18 +4,24 @@ use Rattle.keys.specs.Keys.{key_eq}
 use Rattle.keys.specs.Turns.{values}
 use Rattle.keys.specs.declared.key.Key.{Key}
 use Rattle.keys.specs.declared.value.Value.{Value}
-use Rattle.node.specs.Edges.{IsAdded}
+use Rattle.evaluation.specs.Value.{In, first}
 use Rattle.node.specs.Graphs.{record_at}
 use Rattle.open_nodes.specs.Members.{AreAnswers}
 use Rattle.open_nodes.specs.Nodes.{groups_of}
 use Rattle.round.specs.NodeStates.{TakesOut, kept_answers}
-use Rattle.round.specs.Rounds.{IsBeside, Standing, keys_without, standing}
-use Rattle.round.proofs.Handing.{handed_whole, handed_keeps, handed_with, handed_more, handed_turns, handed_true}
+use Rattle.round.specs.Rounds.{IsBeside, Standing, standing}
+use Rattle.round.proofs.Handing.{ready_not_out, handed_whole, handed_keeps, handed_with, handed_more, handed_out, handed_turns, handed_true}
 use Rattle.round.proofs.Pausing.{fewer_paused, out_fewer, same_fewer, handed_paused, jobs_beside}
 use Rattle.round.proofs.Choosing.{ready_can, can_ready}
 use Rattle.round.proofs.Following.{follows_hand}
+use Rattle.round.proofs.JobsOut.{put_in, again}
 use Rattle.round.proofs.Rounding.{out_added}
 use Rattle.round.proofs.rounds.Round.hand_out.Goals as goal
+
+pub add-requires : goal.add-requires
+add-requires g c = λ i.
+    let j = rw c.in-Some.is at c.in_ok-needed.ensures in
+    ready_not_out c.args.graph.now c.args.self.now.table c.args.self.now.table c.args.key.now c.requires.0.whole j.0 (c.requires.0.all_out c.args.key.now i)
 
 pub take_job-requires-after_bounds : goal.take_job-requires-after_bounds
 take_job-requires-after_bounds g c κs within = λ w e. let same = c.in_ok-name.ensures in
@@ -27,12 +33,14 @@ returns-in-Ok-clause-beside g c =
     let t = subst (TakesOut c.args.self.now.kept c.take_job.new.kept) c.in_ok-name.ensures c.in-Ok.ensures.taken in
     let s = c.set_out.ensures in
     let b = c.requires.0 in
+    let added = put_in c.args.self.now.out c.add.new.self c.args.key.now c.in_ok-add.ensures.added in
     let ready = b.whole.ready_now c.args.key.now j.0 in (
       record {
         whole = handed_whole c.args.graph.now c.args.self.now.table c.set_out.new.table c.args.key.now b.whole j.0 s.phase s.ready s.pends;
         none_pending = s.pends ∙ b.none_pending;
-        only_out = out_added c.set_out.new.table.nodes c.args.self.now.out.keys c.put_out.new.out.keys c.args.key.now c.in_ok-share.field-0 c.in_ok-share.ensures c.in_ok-added.ensures.added
-            (handed_more c.args.graph.now c.args.self.now.table c.set_out.new.table c.args.key.now b.whole j.0 s.phase s.ready s.pends c.args.self.now.out.keys b.only_out);
+        only_out = out_added c.set_out.new.table.nodes c.args.self.now.out c.add.new.self c.args.key.now c.args.key.now refl added
+            (handed_more c.args.graph.now c.args.self.now.table c.set_out.new.table c.args.key.now b.whole j.0 s.phase s.ready s.pends c.args.self.now.out b.only_out);
+        all_out = handed_out c.args.graph.now c.args.self.now.table c.set_out.new.table c.args.key.now b.whole j.0 s.phase s.ready s.pends c.args.self.now.out c.add.new.self added b.all_out;
         wanted = λ k i. handed_keeps c.args.graph.now c.args.self.now.table c.set_out.new.table c.args.key.now b.whole j.0 s.phase s.ready s.pends k (b.wanted k i);
       },
       handed_paused c.args.graph.now c.args.self.now.table c.set_out.new.table c.take_job.new.kept c.args.key.now ready.0 ready.1 s.phase t.0
@@ -51,7 +59,7 @@ returns-in-Ok-clause-hands g c =
       c.in-Ok.ensures.key ∙ same,
       handed_with c.args.graph.now c.args.self.now.table c.set_out.new.table c.args.key.now b.whole j.0 s.phase s.ready s.pends c.in-Ok.job.answers
           (λ x e. subst (λ (xs : List Value). AreAnswers (record_at c.args.graph.now) (groups_of x) xs) (sym all) (j.1 x e)),
-      subst (IsAdded c.args.self.now.out.keys c.put_out.new.out.keys) c.in_ok-share.ensures c.in_ok-added.ensures.added,
+      put_in c.args.self.now.out c.add.new.self c.args.key.now c.in_ok-add.ensures.added,
       refl,
       handed_turns c.args.graph.now c.args.self.now.table c.set_out.new.table c.args.key.now b.whole j.0 s.phase s.ready s.pends s.runs,
     )
@@ -78,29 +86,34 @@ returns-in-Ok-clause-follows g c =
     let j = rw c.in-Some.is at c.in_ok-needed.ensures in
     let t = subst (TakesOut c.args.self.now.kept c.take_job.new.kept) c.in_ok-name.ensures c.in-Ok.ensures.taken in
     let ready = c.requires.0.whole.ready_now c.args.key.now j.0 in
-    follows_hand (standing c.args.self.now) (record { roots = c.args.self.now.roots.items; table = c.set_out.new.table; out = c.put_out.new.out.keys }) c.args.self.now.kept c.take_job.new.kept c.args.key.now ready.0 ready.1 c.set_out.ensures.phase t
-    (subst (IsAdded c.args.self.now.out.keys c.put_out.new.out.keys) c.in_ok-share.ensures c.in_ok-added.ensures.added)
+    follows_hand (standing c.args.self.now) (record { roots = c.args.self.now.roots.items; table = c.set_out.new.table; out = c.add.new.self }) c.args.self.now.kept c.take_job.new.kept c.args.key.now ready.0 ready.1 c.set_out.ensures.phase t
+    (put_in c.args.self.now.out c.add.new.self c.args.key.now c.in_ok-add.ensures.added)
 
 pub returns-in_default-clause-possible : goal.returns-in_default-clause-possible
 returns-in_default-clause-possible g c = λ read.
     let j = rw c.in_default.is at c.in_ok-needed.ensures in
     λ next laws past cs roots t h. j (can_ready next read laws past cs c.args.graph.now (standing c.args.self.now) c.requires.0 roots t c.args.key.now h)
 
-pub returns-in_err-added-clause-beside : goal.returns-in_err-added-clause-beside
-returns-in_err-added-clause-beside g c = (
-  subst (λ (ks : List Key). IsBeside c.args.graph.now (record { roots = c.args.self.now.roots.items; table = c.args.self.now.table; out = ks })) (sym c.in_err-added.ensures.refused) c.requires.0,
+pub remove-requires : goal.remove-requires
+remove-requires g c = subst (In c.args.key.now) (sym c.in_ok-add.ensures.added) first
+
+pub returns-in_err-add-clause-beside : goal.returns-in_err-add-clause-beside
+returns-in_err-add-clause-beside g c = (
+  subst (λ (ks : List Key). IsBeside c.args.graph.now (record { roots = c.args.self.now.roots.items; table = c.args.self.now.table; out = ks })) (sym c.in_err-add.ensures.refused) c.requires.0,
   c.requires.1,
 )
 
 pub returns-in-Err-clause-beside : goal.returns-in-Err-clause-beside
 returns-in-Err-clause-beside g c =
-    let out = c.undo_out.ensures ∙ ap (λ (k : Key). keys_without c.in_ok-added.added k c.put_out.new.out.keys) (sym c.in_ok-share.ensures) ∙ c.in_ok-added.ensures.undone in (
+    let j = rw c.in-Some.is at c.in_ok-needed.ensures in
+    let out = again c.args.self.now.out c.add.new.self c.remove.new.self c.args.key.now (λ i. ready_not_out c.args.graph.now c.args.self.now.table c.args.self.now.table c.args.key.now c.requires.0.whole j.0 (c.requires.0.all_out c.args.key.now i)) c.in_ok-add.ensures.added c.remove.ensures in (
       subst (λ (ks : List Key). IsBeside c.args.graph.now (record { roots = c.args.self.now.roots.items; table = c.args.self.now.table; out = ks })) (sym out) c.requires.0,
       fewer_paused c.args.graph.now c.args.self.now.table c.args.self.now.kept c.take_job.new.kept (same_fewer c.args.self.now.kept c.take_job.new.kept c.in-Err.ensures.refused) c.requires.1,
     )
 
 pub returns-in-Err-clause-refused : goal.returns-in-Err-clause-refused
 returns-in-Err-clause-refused g c =
-    let out = c.undo_out.ensures ∙ ap (λ (k : Key). keys_without c.in_ok-added.added k c.put_out.new.out.keys) (sym c.in_ok-share.ensures) ∙ c.in_ok-added.ensures.undone in
+    let j = rw c.in-Some.is at c.in_ok-needed.ensures in
+    let out = again c.args.self.now.out c.add.new.self c.remove.new.self c.args.key.now (λ i. ready_not_out c.args.graph.now c.args.self.now.table c.args.self.now.table c.args.key.now c.requires.0.whole j.0 (c.requires.0.all_out c.args.key.now i)) c.in_ok-add.ensures.added c.remove.ensures in
     let whole : List Key → Standing = λ ks. record { roots = c.args.self.now.roots.items; table = c.args.self.now.table; out = ks } in
     (ap whole out, c.in-Err.ensures.refused)

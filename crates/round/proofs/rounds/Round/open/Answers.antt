@@ -40,7 +40,8 @@ returns-clause-beside g c =
       record {
         whole = l.whole;
         none_pending = l.none;
-        only_out = l.out c.new.result.keys (w.wants.out c.new.result.keys (fresh_out c.args.graph.now c.new-table.result f c.new.result.keys));
+        only_out = l.out c.new.result (w.wants.out c.new.result (fresh_out c.args.graph.now c.new-table.result f c.new.result));
+        all_out = λ k i. elim (subst (In k) c.new.ensures i) [ ];
         wanted = λ k i. l.keeps k (w.wanted k (subst (In k) (sym c.as_slice.ensures.value) i));
       },
       none_paused c.look_at_all.new.graph c.look_at_all.new.table c.new-2.result c.new-2.ensures.empty,
@@ -61,4 +62,4 @@ returns-clause-truth g c = λ next laws past h.
     (fresh_true c.args.graph.now c.new-table.result f next (leaves.read c.args.tree.now) c.args.roots.items past h))
 
 pub returns-clause-follows : goal.returns-clause-follows
-returns-clause-follows g c = follows_none (record { roots = c.args.roots.items; table = c.look_at_all.new.table; out = c.new.result.keys }) c.new-2.result c.new-2.ensures.empty c.new.ensures.empty
+returns-clause-follows g c = follows_none (record { roots = c.args.roots.items; table = c.look_at_all.new.table; out = c.new.result }) c.new-2.result c.new-2.ensures.empty c.new.ensures
