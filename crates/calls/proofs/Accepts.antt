@@ -37,14 +37,6 @@ pub given_more : (b : Block) (p : Pa) (ps : List Pa) (xs : List Val) (ns : Keywo
 given_more b p ps [] ns ds x e = ap (λ c. before b (then_checked c (λ y. with_parameter p y (given ps [] ns (other_defaults p ds))))) e ∙ one_more b p x (given ps [] ns (other_defaults p ds))
 given_more b p ps (y ∷ ys) ns ds x e = ap (λ c. before b c) (plainly (is_named p.name ns) x y p (given ps ys ns (other_defaults p ds)) e) ∙ one_more b p x (given ps ys ns (other_defaults p ds))
 
-refused : (t : Bool) (n : ℕ) (y : Val) (p : Pa) (c : ValueOrFault Block) → cond t (bad 25) (good y) ≡ bad n → cond t (bad 25) (with_parameter p y c) ≡ bad n
-refused true n y p c e = cc
-refused false n y p c e = cc
-
-pub given_stops : (b : Block) (p : Pa) (ps : List Pa) (xs : List Val) (ns : KeywordArguments) (ds : List Val) (n : ℕ) → taken p xs ns ds ≡ bad n → before b (given (p ∷ ps) xs ns ds) ≡ bad n
-given_stops b p ps [] ns ds n e = ap (λ c. before b (then_checked c (λ y. with_parameter p y (given ps [] ns (other_defaults p ds))))) e
-given_stops b p ps (y ∷ ys) ns ds n e = ap (λ c. before b c) (refused (is_named p.name ns) n y p (given ps ys ns (other_defaults p ds)) e)
-
 chosen : (f : Fn) (xs : List Val) (ns : KeywordArguments) (ds : List Val) (t u : Bool) → is_twice ns ≡ t → are_parameters ns f.params ≡ u → arguments f xs ns ds ≡ cond (t || not u) (bad 25) (given f.params xs ns ds)
 unfolding arguments
 chosen f xs ns ds t u e g = ap (λ b. cond (b || not (are_parameters ns f.params)) (bad 25) (given f.params xs ns ds)) e ∙ ap (λ b. cond (t || not b) (bad 25) (given f.params xs ns ds)) g

@@ -45,6 +45,3 @@ pub values_more : (done : List Fz) (x : Val) (xs : List Val) (f : Fz) (s t : Sto
 values_more done x xs f s t e =
     ap (λ o. and_then o (λ fs. gives (onto done fs))) (values_first x xs s ∙ ap (λ o. and_then o (λ f t. and_then (freeze_values xs t) (λ fs. gives (member f fs)))) e)
     ∙ joined done f (freeze_values xs t)
-
-pub values_stop : (done : List Fz) (x : Val) (xs : List Val) (c : ℕ) (s : Store) → freezes x s ≡ faults c → and_then (freeze_values (x ∷ xs) s) (λ fs. gives (onto done fs)) ≡ faults c
-values_stop done x xs c s e = ap (λ o. and_then o (λ fs. gives (onto done fs))) (values_first x xs s ∙ ap (λ o. and_then o (λ f t. and_then (freeze_values xs t) (λ fs. gives (member f fs)))) e)

@@ -4,6 +4,7 @@ pub mod Bodies
 pub mod Each
 pub mod Ends
 pub mod Freezes
+pub mod NamedTables
 pub mod ParameterValues
 pub mod Runs
 pub mod Still

@@ -1,4 +1,6 @@
+pub mod ExportTables
 pub mod Freeze
+pub mod NamedArguments
 pub mod Once
 pub mod ParameterValue
 pub mod Thaw

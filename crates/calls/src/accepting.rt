@@ -1,66 +1,18 @@
 //! The arguments of a call and the parameters of a function.
-ghost use Rattle.std.specs.Prelude.{◌≡◌, map, zip, drop};
-ghost use Rattle.meaning.specs.Functions.{is_twice};
-ghost use Rattle.language.specs.Arguments.{plain_part, named_part, value_named, is_parameter, are_parameters, next_default, other_defaults, given, arguments};
+ghost use Rattle.std.specs.Prelude.{◌≡◌, map, drop};
+ghost use Rattle.language.specs.Arguments.{plain_part, named_part, next_default, other_defaults, given, arguments};
 ghost use Rattle.tree.specs.Statements.{fn_of, param_of};
 ghost use Rattle.heap.specs.View.{Checks};
 ghost use Rattle.calls.specs.View.{Blocks};
 ghost use Rattle.calls.specs.ParameterValue.{taken};
 
+use crate::named_arguments::NamedArguments;
 use heap::{Halt, Val};
 use meaning::faults;
 use names::Slot;
 use std::alloc::Global;
 use texts::Text;
 use tree::{Def, Param};
-
-// Returns the value of a named argument.
-fn value_named(names: &[Text], values: &[Val], x: &Text) -> Option<Val>
-    ensures { result ≡ value_named x.now (zip names.now values.now) }
-{
-    for i in 0..names.len().min(values.len()) {
-        if *x == names[i] {
-            return Some(values[i]);
-        }
-    }
-    None
-}
-
-// Returns whether a name is given twice.
-fn is_twice(names: &[Text], values: &[Val]) -> bool
-    ensures { result ≡ is_twice (zip names.now values.now) }
-{
-    for i in 0..names.len().min(values.len()) {
-        if value_named(&names[i + 1..], &values[i + 1..], &names[i]).is_some() {
-            return true;
-        }
-    }
-    false
-}
-
-// Returns whether a name is a parameter's.
-fn is_parameter(params: &[Param], x: &Text) -> bool
-    ensures { result ≡ is_parameter x.now (map param_of params.now) }
-{
-    for param in params.iter() {
-        if *x == param.name {
-            return true;
-        }
-    }
-    false
-}
-
-// Returns whether each named argument has the name of a parameter.
-fn are_parameters(names: &[Text], values: &[Val], params: &[Param]) -> bool
-    ensures { result ≡ are_parameters (zip names.now values.now) (map param_of params.now) }
-{
-    for i in 0..names.len().min(values.len()) {
-        if !is_parameter(params, &names[i]) {
-            return false;
-        }
-    }
-    true
-}
 
 // Returns the values behind the first.
 fn behind(xs: &[Val]) -> &[Val]
@@ -93,14 +45,12 @@ fn other_defaults<'a>(param: &Param, defaults: &'a [Val]) -> &'a [Val]
 fn taken(
     param: &Param,
     plain: &[Val],
-    names: &[Text],
-    values: &[Val],
+    arguments: &NamedArguments<'_>,
     defaults: &[Val],
 ) -> Result<Val, Halt>
-    ensures { Checks (taken (param_of param.now) plain.now (zip names.now values.now) defaults.now)
-        result }
+    ensures { Checks (taken (param_of param.now) plain.now arguments.now defaults.now) result }
 {
-    let named = value_named(names, values, &param.name);
+    let named = arguments.value(&param.name);
     match plain.first() {
         Some(x) => if named.is_some() {
             Err(Halt::Code(faults::WRONG_ARGUMENTS))
@@ -123,18 +73,16 @@ fn given(
     room: usize,
     params: &[Param],
     plain: &[Val],
-    names: &[Text],
-    values: &[Val],
+    named: &NamedArguments<'_>,
     defaults: &[Val],
 ) -> Result<Vec<Slot>, Halt>
-    ensures { Blocks (given (map param_of params.now) plain.now (zip names.now values.now)
-        defaults.now) result }
+    ensures { Blocks (given (map param_of params.now) plain.now named.now defaults.now) result }
 {
     let mut block = Vec::with_capacity(alloc, room)?;
     let mut left = plain;
     let mut others = defaults;
     for param in params.iter() {
-        let value = match taken(param, left, names, values, others) {
+        let value = match taken(param, left, named, others) {
             Ok(x) => Some(x),
             Err(halt) => return Err(halt),
         };
@@ -169,12 +117,12 @@ pub fn arguments(
 {
     let (plain, values) = xs.split_at(xs.len().saturating_sub(names.len()));
     let params = def.params.as_slice();
-    if is_twice(names, values) {
+    let Some(named) = NamedArguments::new(alloc, names, values)? else {
         return Err(Halt::Code(faults::WRONG_ARGUMENTS));
-    }
-    if !are_parameters(names, values, params) {
+    };
+    if !named.are_parameters(alloc, params)? {
         return Err(Halt::Code(faults::WRONG_ARGUMENTS));
     }
     let room = def.names.len();
-    given(alloc, room, params, plain, names, values, defaults)
+    given(alloc, room, params, plain, &named, defaults)
 }

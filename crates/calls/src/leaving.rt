@@ -6,7 +6,7 @@ ghost use Rattle.language.specs.Modules.{all_bodies, each_once};
 ghost use Rattle.tree.specs.Statements.{top_of, item_of, load_of};
 ghost use Rattle.calls.specs.Once.{labels_of};
 
-use crate::reaching::exported;
+use crate::exports::Exports;
 use indexmap::IndexSet;
 use module_values::{Binding, Function, Module, ModuleValue};
 use std::alloc::Global;
@@ -14,12 +14,18 @@ use texts::{Memory, Text};
 use tree::{LoadItem, LoadStmt, Top};
 
 // Puts the values of a load's items, under their names, behind others.
-fn add_items(all: &mut Vec<Binding>, body: &Module, items: &[LoadItem]) -> Result<(), Memory>
+fn add_items(
+    all: &mut Vec<Binding>,
+    body: &Module,
+    exports: &Exports<'_>,
+    items: &[LoadItem],
+) -> Result<(), Memory>
+    requires { exports.now ≡ body.now.own }
     ensures { OnOk result (all.new.items ≡ all.old.items ++ frozen_items body.now
         (map item_of items.now)) }
 {
     for item in items.iter() {
-        if let Some(f) = exported(body, &item.exported) {
+        if let Some(f) = exports.value(&item.exported) {
             let value = f.share()?;
             let name = item.local.share()?;
             all.push(Binding::new(name, value))?;
@@ -38,7 +44,9 @@ pub fn frozen_loads(
 {
     let mut all = Vec::new(alloc);
     for i in 0..loads.len().min(modules.len()) {
-        add_items(&mut all, modules[i].body(), loads[i].items.as_slice())?;
+        let (body, items) = (modules[i].body(), loads[i].items.as_slice());
+        let exports = Exports::of(alloc, body, items.len())?;
+        add_items(&mut all, body, &exports, items)?;
     }
     Ok(all)
 }

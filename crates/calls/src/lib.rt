@@ -6,11 +6,13 @@
 mod accepting;
 mod blocks;
 mod ending;
+mod exports;
 mod freeze;
 mod functions;
 mod keeping;
 mod leaving;
 mod loading;
+mod named_arguments;
 mod naming;
 mod reaching;
 mod thaw;

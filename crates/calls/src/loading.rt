@@ -4,7 +4,7 @@ ghost use Rattle.language.specs.Files.{load_items};
 ghost use Rattle.tree.specs.Statements.{item_of};
 ghost use Rattle.names.specs.View.{world_of, here_of, Ran};
 
-use crate::reaching::exported;
+use crate::exports::Exports;
 use crate::thaw::thaw_value;
 use heap::Halt;
 use meaning::faults;
@@ -14,13 +14,20 @@ use std::sync::atomic::AtomicUsize;
 use tree::LoadItem;
 
 // Binds an item of a load.
-fn load_item(state: &mut State, at: &Standing, body: &Module, item: &LoadItem) -> Result<(), Halt>
+fn load_item(
+    state: &mut State,
+    at: &Standing,
+    body: &Module,
+    exports: &Exports<'_>,
+    item: &LoadItem,
+) -> Result<(), Halt>
+    requires { exports.now ≡ body.now.own }
     ensures says { (line : ℕ) (running : List (List ℕ × List ℕ)) → let here = here_of at.now line
         running in Ran here.site (load_items body.now (item_of item.now ∷ []) here
         (world_of state.old)) result (world_of state.new) }
     ensures steps { IfOk result (λ _. state.new.heap.steps ≡ state.old.heap.steps) }
 {
-    let Some(f) = exported(body, &item.exported) else {
+    let Some(f) = exports.value(&item.exported) else {
         return Err(Halt::Code(faults::NOT_EXPORTED));
     };
     let x = match thaw_value(&mut state.heap, f) {
@@ -47,8 +54,9 @@ pub fn load_items(
         (world_of state.old)) result (world_of state.new) }
     ensures steps { IfOk result (λ _. state.new.heap.steps ≡ state.old.heap.steps) }
 {
+    let exports = Exports::of(state.heap.alloc, body, items.len())?;
     for item in items.iter() {
-        match load_item(state, at, body, item) {
+        match load_item(state, at, body, &exports, item) {
             Ok(()) => {}
             Err(halt) => return Err(halt),
         }

@@ -41,8 +41,8 @@ pub fn reached<'a>(loads: &'a [ModuleValue], label: &Text) -> Option<&'a Module>
     None
 }
 
-// Returns the value of a name.
-fn frozen_at<'a>(bindings: &'a [Binding], x: &Text) -> Option<&'a FrozenValue>
+/// Returns the value of a name.
+pub(crate) fn frozen_at<'a>(bindings: &'a [Binding], x: &Text) -> Option<&'a FrozenValue>
     ensures { option_map (λ f. f.now) result ≡ frozen_at x.now bindings.now }
 {
     for b in bindings.iter() {
@@ -53,8 +53,8 @@ fn frozen_at<'a>(bindings: &'a [Binding], x: &Text) -> Option<&'a FrozenValue>
     None
 }
 
-// Returns whether a name is its file's own.
-fn is_private(x: &Text) -> bool
+/// Returns whether a name is its file's own.
+pub(crate) fn is_private(x: &Text) -> bool
     ensures { result ≡ is_private x.now }
 {
     match x.as_str().as_bytes().first() {

@@ -24,7 +24,7 @@ gathered_step answers excludes includes i p q done more whole lt is same m inv =
     ∙ ap (λ ps. done ++ kept_of excludes (found_all answers ps)) (sym (drop_item includes i p lt is))
     ∙ inv
 
-has-append : (x : List ℕ) (xs ys : List (List ℕ)) → has_name x (xs ++ ys) ≡ (has_name x xs || has_name x ys)
+pub has-append : (x : List ℕ) (xs ys : List (List ℕ)) → has_name x (xs ++ ys) ≡ (has_name x xs || has_name x ys)
 has-append x [] ys = refl
 has-append x (y ∷ xs) ys = by (same_text x y) (has-append x xs ys)
   where
@@ -37,10 +37,6 @@ or_turned true true = refl
 or_turned true false = refl
 or_turned false true = refl
 or_turned false false = refl
-
-or_none : (b : Bool) → (if b then true else false) ≡ b
-or_none true = refl
-or_none false = refl
 
 has_turned : (x : List ℕ) (xs : List (List ℕ)) → has_name x (reverse xs) ≡ has_name x xs
 has_turned x [] = refl

@@ -1,9 +1,13 @@
+pub mod AnswerTables
 pub mod ArgumentsByName
 pub mod AsciiTexts
 pub mod Asking
+pub mod FieldNames
 pub mod Gathering
 pub mod LabelTexts
 pub mod RuleCalls
+pub mod RuleReads
+pub mod RuleSlots
 pub mod Steps
 pub mod TargetSets
 pub mod TextSets

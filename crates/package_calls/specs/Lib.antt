@@ -1,4 +1,6 @@
+pub mod AnswerTables
 pub mod Fields
+pub mod Lists
 pub mod RuleArguments
 pub mod GlobCalls
 pub mod GlobResults

@@ -1,5 +1,5 @@
 //! The answer of a call of `glob`.
-ghost use Rattle.std.specs.Prelude.{◌≡◌, ◌++◌, [], map, IfOk, OnOk, option_map};
+ghost use Rattle.std.specs.Prelude.{◌≡◌, ◌++◌, [], map, IfOk, OnOk};
 ghost use Rattle.labels.specs.Paths.{segments};
 ghost use Rattle.pattern.specs.Globs.{some_matches};
 ghost use Rattle.meaning.specs.Methods.{makes_texts};
@@ -10,28 +10,19 @@ ghost use Rattle.language.specs.Globs as globs;
 ghost use Rattle.language.specs.Globs.{answer_to, found_or_none, makes_paths};
 ghost use Rattle.heap.specs.View.{store_of, Says, SaysItems};
 ghost use Rattle.package_calls.specs.GlobResults.{kept_of, found_all, with_unanswered};
-ghost use Rattle.package_calls.specs.View.{answers_of};
+ghost use Rattle.package_calls.specs.AnswerTables.{HasTexts};
 
-use crate::kinds::Answer;
+use crate::answers::Answers;
 use crate::ordering::in_order;
 use heap::{Bytes, Halt, Heap, LONGEST, Object, Val};
 use meaning::faults;
 use pattern::Pattern;
 use std::alloc::Global;
+use std::collections::HashSet;
 use texts::{Memory, Text};
 
-// Returns the paths that answer a question, if it has an answer.
-fn answer_to<'a>(answers: &'a [Answer], question: &Text) -> Option<&'a [Text]>
-    ensures { option_map (λ paths. paths.now) result ≡ answer_to question.now
-        (answers_of answers.now) }
-{
-    for answer in answers {
-        if *question == answer.pattern {
-            return Some(answer.paths.as_slice());
-        }
-    }
-    None
-}
+/// So many questions are compared with one another; for more a set of those that were seen is made.
+const FEW: usize = 16;
 
 // Returns whether a text is among others.
 fn has_name(x: &Text, texts: &[Text]) -> bool
@@ -48,12 +39,14 @@ fn has_name(x: &Text, texts: &[Text]) -> bool
 /// Returns the questions that have no answer, in order and each once.
 pub fn unanswered(
     alloc: Global,
-    answers: &[Answer],
+    answers: &Answers<'_>,
     questions: &[Text],
 ) -> Result<Vec<Text>, Memory>
-    ensures { IfOk result (λ v. v.items ≡ globs.unanswered (answers_of answers.now) []
-        questions.now) }
+    ensures { IfOk result (λ v. v.items ≡ globs.unanswered answers.now [] questions.now) }
 {
+    if questions.len() > FEW {
+        return many_unanswered(alloc, answers, questions);
+    }
     let mut all = Vec::new(alloc);
     for question in questions {
         add_unanswered(&mut all, answers, question)?;
@@ -62,11 +55,11 @@ pub fn unanswered(
 }
 
 // Adds a question, unless it has an answer or is there already.
-fn add_unanswered(all: &mut Vec<Text>, answers: &[Answer], question: &Text) -> Result<(), Memory>
-    ensures { OnOk result (all.new.items ≡ with_unanswered question.now (answers_of answers.now)
+fn add_unanswered(all: &mut Vec<Text>, answers: &Answers<'_>, question: &Text) -> Result<(), Memory>
+    ensures { OnOk result (all.new.items ≡ with_unanswered question.now answers.now
         all.old.items) }
 {
-    if answer_to(answers, question).is_some() {
+    if answers.answer(question).is_some() {
         return Ok(());
     }
     if has_name(question, all.as_slice()) {
@@ -76,17 +69,55 @@ fn add_unanswered(all: &mut Vec<Text>, answers: &[Answer], question: &Text) -> R
     Ok(())
 }
 
+// Returns those of many questions that have no answer, in order and each once.
+fn many_unanswered(
+    alloc: Global,
+    answers: &Answers<'_>,
+    questions: &[Text],
+) -> Result<Vec<Text>, Memory>
+    ensures { IfOk result (λ v. v.items ≡ globs.unanswered answers.now [] questions.now) }
+{
+    let mut seen = HashSet::new(alloc);
+    let mut all = Vec::new(alloc);
+    for question in questions {
+        note_unanswered(&mut seen, &mut all, answers, question)?;
+    }
+    Ok(all)
+}
+
+// Adds a question, unless it has an answer or is one of those that were seen.
+fn note_unanswered(
+    seen: &mut HashSet<Text>,
+    all: &mut Vec<Text>,
+    answers: &Answers<'_>,
+    question: &Text,
+) -> Result<(), Memory>
+    requires { HasTexts seen.old all.old.items }
+    ensures added { OnOk result (all.new.items ≡ with_unanswered question.now answers.now
+        all.old.items) }
+    ensures noted { OnOk result (HasTexts seen.new all.new.items) }
+{
+    if answers.answer(question).is_some() {
+        return Ok(());
+    }
+    if seen.contains(question) {
+        return Ok(());
+    }
+    seen.insert(question.share()?)?;
+    all.push(question.share()?)?;
+    Ok(())
+}
+
 /// Returns the paths that a call's questions find by their answers and that no exclude matches, in byte order and
 /// without repeats.
 pub fn found(
     alloc: Global,
-    answers: &[Answer],
+    answers: &Answers<'_>,
     questions: &[Text],
     excludes: &[Pattern],
 ) -> Result<Vec<Text>, Memory>
-    ensures { IfOk result
-        (λ v. v.items ≡ in_order (λ path. path)
-        (kept_of excludes.now (found_all (answers_of answers.now) questions.now))) }
+    ensures { IfOk result (λ v. v.items ≡ in_order (λ path. path)
+        (kept_of excludes.now (found_all answers.now questions.now))) }
 {
     let all = gathered(alloc, answers, questions, excludes)?;
     in_order(alloc, all.as_slice())
@@ -95,12 +126,12 @@ pub fn found(
 // Returns the paths that some question finds and no exclude matches, as they are found.
 fn gathered(
     alloc: Global,
-    answers: &[Answer],
+    answers: &Answers<'_>,
     questions: &[Text],
     excludes: &[Pattern],
 ) -> Result<Vec<Text>, Memory>
     ensures { IfOk result
-        (λ v. v.items ≡ kept_of excludes.now (found_all (answers_of answers.now) questions.now)) }
+        (λ v. v.items ≡ kept_of excludes.now (found_all answers.now questions.now)) }
 {
     let mut all = Vec::new(alloc);
     for question in questions {
@@ -112,14 +143,14 @@ fn gathered(
 // Adds the paths that a question finds and no exclude matches.
 fn add_found(
     all: &mut Vec<Text>,
-    answers: &[Answer],
+    answers: &Answers<'_>,
     question: &Text,
     excludes: &[Pattern],
 ) -> Result<(), Memory>
     ensures { OnOk result (all.new.items ≡ all.old.items ++ kept_of excludes.now
-        (found_or_none (answer_to question.now (answers_of answers.now)))) }
+        (found_or_none (answer_to question.now answers.now))) }
 {
-    match answer_to(answers, question) {
+    match answers.answer(question) {
         Some(paths) => {
             add_paths(all, paths, excludes)?;
             Ok(())

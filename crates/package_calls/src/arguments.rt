@@ -1,8 +1,7 @@
 //! The arguments of a call: plain ones, and those by name.
-ghost use Rattle.std.specs.Prelude.{◌≡◌, IfOk};
+ghost use Rattle.std.specs.Prelude.{◌≡◌, ◌-◌, IfOk, drop, length, zip};
 ghost use Rattle.meaning.specs.Functions.{is_named, is_twice};
-ghost use Rattle.language.specs.Arguments.{plain_part, named_part, value_named};
-ghost use Rattle.language.specs.Rules.{not_none};
+ghost use Rattle.language.specs.Arguments.{plain_part, value_named};
 
 use heap::Val;
 use std::alloc::Global;
@@ -16,27 +15,21 @@ pub fn plain_part<'a>(xs: &'a [Val], names: &[Text]) -> &'a [Val]
     &xs[..xs.len().saturating_sub(names.len())]
 }
 
-/// Returns the arguments by name, with their names.
-pub fn named_part(alloc: Global, xs: &[Val], names: &[Text]) -> Result<Vec<(Text, Val)>, Memory>
-    ensures { IfOk result (λ v. v.items ≡ named_part xs.now names.now) }
+/// Returns the values of the arguments by name: the last ones, which have these names.
+pub fn named_values<'a>(xs: &'a [Val], names: &[Text]) -> &'a [Val]
+    ensures { result.now ≡ drop (length xs.now - length names.now) xs.now }
 {
-    let values = &xs[xs.len().saturating_sub(names.len())..];
-    let mut all = Vec::new(alloc);
-    for i in 0..values.len() {
-        all.push((names[i].share()?, values[i]))?;
-    }
-    Ok(all)
+    &xs[xs.len().saturating_sub(names.len())..]
 }
 
-/// Returns the arguments by name that are not None.
-pub fn not_none(alloc: Global, ns: &[(Text, Val)]) -> Result<Vec<(Text, Val)>, Memory>
-    ensures { IfOk result (λ v. v.items ≡ not_none ns.now) }
+/// Returns the arguments by name, with their names.
+pub fn named_part(alloc: Global, names: &[Text], values: &[Val]) -> Result<Vec<(Text, Val)>, Memory>
+    ensures { IfOk result (λ v. v.items ≡ zip names.now values.now) }
 {
-    let mut all = Vec::new(alloc);
-    for n in ns {
-        if !matches!(n.1, Val::Nothing) {
-            all.push((n.0.share()?, n.1))?;
-        }
+    let number = names.len().min(values.len());
+    let mut all = Vec::with_capacity(alloc, number)?;
+    for i in 0..number {
+        all.push((names[i].share()?, values[i]))?;
     }
     Ok(all)
 }

@@ -1,49 +1,69 @@
 //! The attributes that a rule is given.
-ghost use Rattle.std.specs.Prelude.{◌≡◌, IfOk, map};
+ghost use Rattle.std.specs.Prelude.{◌≡◌, map, if◌then◌else◌};
 ghost use Rattle.std.specs.List.{list_all};
 ghost use Rattle.labels.specs.Paths as paths;
-ghost use Rattle.module_values.specs.Values.{single, several};
-ghost use Rattle.language.specs.Rules.{all_typed, typed, all_shaped, as_shape, labels_in};
-ghost use Rattle.heap.specs.View.{store_of, ChecksItems};
+ghost use Rattle.meaning.specs.Methods.{bytes_of};
+ghost use Rattle.meaning.specs.Outcome.{then_checked, good, bad};
+ghost use Rattle.language.specs.Globs.{texts_in};
+ghost use Rattle.language.specs.Rules.{typed, label_in};
+ghost use Rattle.heap.specs.View.{store_of, Checks, ChecksItems};
 ghost use Rattle.names.specs.View.{attribute_of, attributed_of};
-ghost use Rattle.package_calls.specs.Fields.{field_shape, shapes};
-ghost use Rattle.package_calls.specs.RuleArguments.{given_of};
+ghost use Rattle.package_calls.specs.Fields.{field_name, field_shape};
+ghost use Rattle.package_calls.specs.Lists.{tested};
+ghost use Rattle.package_calls.specs.RuleArguments.{typed_fields, read_as, read_fields, labels_each, labels_at};
 ghost use Rattle.package_calls.specs.View.{ChecksAs};
 
-use crate::arguments::value_named;
-use crate::fields::{Field, field_name};
+use crate::fields::{FIELDS, Field, field_name};
+use crate::slots::value_at;
 use crate::spelling::{is_path, label_in};
-use crate::strings::{text_in, texts_in};
-use heap::{Bytes, Halt, Heap, Val};
+use crate::strings::{are_texts, is_text, list_at, text_at, text_in, texts_in};
+use heap::{Bytes, Halt, Heap, Members, Val};
 use meaning::faults;
 use names::{Attribute, TargetAttribute};
 use std::alloc::Global;
-use texts::{Memory, Text};
+use texts::Text;
 
-/// An attribute that is given, with its texts as they were written.
-#[derive(Drop)]
-pub struct RuleArgument {
-    pub field: Field,
-    pub value: Attribute,
+/// Tests that the attributes that are given have their types, or returns fault 5.
+pub fn are_typed(heap: &Heap, fields: &[Field], slots: &[Option<Val>; FIELDS]) -> Result<(), Halt>
+    ensures { Checks (tested (typed_fields fields.now slots.now (store_of heap.now))) result }
+{
+    for field in fields {
+        if let Some(x) = value_at(slots, *field) {
+            match is_typed(heap, *field, x) {
+                Ok(()) => {}
+                Err(halt) => return Err(halt),
+            }
+        }
+    }
+    Ok(())
 }
 
-/// Returns the attributes that are given, in byte order, or fault 5.
-pub fn all_typed(
-    heap: &Heap,
-    fields: &[Field],
-    ns: &[(Text, Val)],
-) -> Result<Vec<RuleArgument>, Halt>
-    ensures { ChecksAs (λ v. map given_of v.items)
-        (all_typed (shapes fields.now) ns.now (store_of heap.now)) result }
+// Tests that an attribute has its type, or returns fault 5.
+fn is_typed(heap: &Heap, field: Field, x: Val) -> Result<(), Halt>
+    ensures { Checks (tested (typed (field_shape field) x (store_of heap.now)))
+        result }
 {
-    let mut all = Vec::new(heap.alloc);
+    match field {
+        Field::Actual | Field::Cmd | Field::Name => is_text(heap, x),
+        _ => are_texts(heap, x),
+    }
+}
+
+/// Returns the attributes that are given, in byte order, with their labels read in the package, or fault 5 or 15.
+pub fn all_read(
+    heap: &Heap,
+    package_name: &Text,
+    fields: &[Field],
+    slots: &[Option<Val>; FIELDS],
+) -> Result<Vec<TargetAttribute>, Halt>
+    ensures { ChecksAs (λ v. map attributed_of v.items)
+        (read_fields package_name.now fields.now slots.now (store_of heap.now)) result }
+{
+    let mut all = Vec::with_capacity(heap.alloc, fields.len())?;
     for field in fields {
-        if let Some(x) = value_named(field_name(*field), ns) {
-            match typed(heap, *field, x) {
-                Ok(value) => all.push(RuleArgument {
-                    field: *field,
-                    value,
-                })?,
+        if let Some(x) = value_at(slots, *field) {
+            match attribute_read(heap, package_name, *field, x) {
+                Ok(attribute) => all.push(attribute)?,
                 Err(halt) => return Err(halt),
             }
         }
@@ -51,120 +71,99 @@ pub fn all_typed(
     Ok(all)
 }
 
-// Returns the texts of an attribute, or fault 5.
-fn typed(heap: &Heap, field: Field, x: Val) -> Result<Attribute, Halt>
-    ensures { ChecksAs attribute_of (typed (field_shape field) x (store_of heap.now)) result }
+// Returns an attribute under its name, or fault 5 or 15.
+fn attribute_read(
+    heap: &Heap,
+    package_name: &Text,
+    field: Field,
+    x: Val,
+) -> Result<TargetAttribute, Halt>
+    ensures { ChecksAs attributed_of (then_checked (read_as package_name.now (field_shape field) x
+        (store_of heap.now)) (λ a. good (field_name field, a))) result }
+{
+    match value_read(heap, package_name, field, x) {
+        Ok(value) => {
+            let name = Bytes::of_text(Text::new(heap.alloc, field_name(field))?);
+            Ok(TargetAttribute { name, value })
+        }
+        Err(halt) => Err(halt),
+    }
+}
+
+// Returns what an attribute holds, with its labels read in the package, or fault 5 or 15.
+fn value_read(heap: &Heap, package_name: &Text, field: Field, x: Val) -> Result<Attribute, Halt>
+    ensures { ChecksAs attribute_of (read_as package_name.now (field_shape field) x
+        (store_of heap.now)) result }
 {
     match field {
-        Field::Actual | Field::Cmd => {
+        Field::Actual => {
+            let label = label_at(heap, package_name, x)?;
+            Ok(Attribute::Single(label))
+        }
+        Field::Cmd | Field::Name => {
             let text = text_in(heap, x)?;
             Ok(Attribute::Single(text))
         }
-        _ => {
+        Field::Data | Field::Srcs | Field::Tests | Field::Tools => {
+            let labels = labels_at(heap, package_name, x)?;
+            Ok(Attribute::Several(labels))
+        }
+        Field::Outs => {
+            let paths = paths_at(heap, x)?;
+            Ok(Attribute::Several(paths))
+        }
+        Field::Tags | Field::Visibility => {
             let texts = texts_in(heap, x)?;
             Ok(Attribute::Several(texts))
         }
     }
 }
 
-/// Returns the attributes with their labels read in the package, or fault 15.
-pub fn all_shaped(
-    alloc: Global,
-    package_name: &Text,
-    given: &[RuleArgument],
-) -> Result<Vec<TargetAttribute>, Halt>
-    ensures { ChecksAs (λ v. map attributed_of v.items)
-        (all_shaped package_name.now (map given_of given.now)) result }
-{
-    let mut all = Vec::new(alloc);
-    for g in given {
-        match as_shape(alloc, package_name, g) {
-            Ok(value) => {
-                let name = Bytes::of_text(Text::new(alloc, field_name(g.field))?);
-                all.push(TargetAttribute { name, value })?;
-            }
-            Err(halt) => return Err(halt),
-        }
-    }
-    Ok(all)
-}
-
-// Returns an attribute with its labels read in the package, or fault 15.
-fn as_shape(alloc: Global, package_name: &Text, given: &RuleArgument) -> Result<Attribute, Halt>
-    ensures { ChecksAs attribute_of (as_shape package_name.now (field_shape given.now.field)
-        (attribute_of given.now.value)) result }
-{
-    match &given.value {
-        Attribute::Single(text) => {
-            let shaped = single_shaped(alloc, package_name, given.field, text)?;
-            Ok(Attribute::Single(shaped))
-        }
-        Attribute::Several(texts) => {
-            let shaped = several_shaped(alloc, package_name, given.field, texts.as_slice())?;
-            Ok(Attribute::Several(shaped))
-        }
-    }
-}
-
-// Returns the text of an attribute, read in the package if it is a label, or fault 15.
-fn single_shaped(
-    alloc: Global,
-    package_name: &Text,
-    field: Field,
-    text: &Bytes,
-) -> Result<Bytes, Halt>
-    ensures { ChecksAs single (as_shape package_name.now (field_shape field) (single text.now))
+// Returns the text of a label, read in the package, or fault 5 or 15.
+fn label_at(heap: &Heap, package_name: &Text, x: Val) -> Result<Bytes, Halt>
+    ensures { Checks (then_checked (bytes_of x (store_of heap.now)) (label_in package_name.now))
         result }
 {
-    match field {
-        Field::Actual => label_in(alloc, package_name, text.as_slice()),
-        _ => {
-            let text = text.share()?;
-            Ok(text)
-        }
+    match text_at(heap, x) {
+        Ok(text) => label_in(heap.alloc, package_name, text.as_slice()),
+        Err(halt) => Err(halt),
     }
 }
 
-// Returns the texts of an attribute, or fault 15. Labels are read in the package, and outputs must be paths.
-fn several_shaped(
-    alloc: Global,
-    package_name: &Text,
-    field: Field,
-    texts: &[Bytes],
-) -> Result<Vec<Bytes>, Halt>
-    ensures { ChecksAs (λ v. several v.items) (as_shape package_name.now (field_shape field)
-        (several texts.now)) result }
+// Returns the texts of labels in a list, read in the package, or fault 5 or 15.
+fn labels_at(heap: &Heap, package_name: &Text, x: Val) -> Result<Vec<Bytes>, Halt>
+    ensures { ChecksItems (labels_at package_name.now x (store_of heap.now)) result }
 {
-    match field {
-        Field::Data | Field::Srcs | Field::Tests | Field::Tools => {
-            labels_in(alloc, package_name, texts)
-        }
-        Field::Outs => {
-            if !are_paths(texts) {
-                return Err(Halt::Code(faults::BAD_LABEL));
-            }
-            let texts = copy_of(alloc, texts)?;
-            Ok(texts)
-        }
-        Field::Actual | Field::Cmd | Field::Tags | Field::Visibility => {
-            let texts = copy_of(alloc, texts)?;
-            Ok(texts)
-        }
+    match list_at(heap, x) {
+        Ok(members) => labels_each(heap, package_name, &members),
+        Err(halt) => Err(halt),
     }
 }
 
-// Returns the texts of labels that are read in a package, or fault 15.
-fn labels_in(alloc: Global, package_name: &Text, texts: &[Bytes]) -> Result<Vec<Bytes>, Halt>
-    ensures { ChecksItems (labels_in package_name.now texts.now) result }
+// Returns the texts of labels, read in the package one after the other, or fault 5 or 15.
+fn labels_each(heap: &Heap, package_name: &Text, members: &Members<'_>) -> Result<Vec<Bytes>, Halt>
+    ensures { ChecksItems (labels_each package_name.now members.now (store_of heap.now)) result }
 {
-    let mut all = Vec::new(alloc);
-    for text in texts {
-        match label_in(alloc, package_name, text.as_slice()) {
+    let mut all = Vec::with_capacity(heap.alloc, members.len())?;
+    for i in 0..members.len() {
+        match label_at(heap, package_name, members.at(i)) {
             Ok(label) => all.push(label)?,
             Err(halt) => return Err(halt),
         }
     }
     Ok(all)
+}
+
+// Returns the texts of a list, which have to be paths, or fault 5 or 15.
+fn paths_at(heap: &Heap, x: Val) -> Result<Vec<Bytes>, Halt>
+    ensures { ChecksItems (then_checked (texts_in x (store_of heap.now))
+        (λ ts. if list_all paths.is_path ts then good ts else bad 15)) result }
+{
+    let texts = texts_in(heap, x)?;
+    if !are_paths(texts.as_slice()) {
+        return Err(Halt::Code(faults::BAD_LABEL));
+    }
+    Ok(texts)
 }
 
 // Returns whether all texts are paths.
@@ -177,15 +176,4 @@ fn are_paths(texts: &[Bytes]) -> bool
         }
     }
     true
-}
-
-// Returns the same texts, shared.
-fn copy_of(alloc: Global, texts: &[Bytes]) -> Result<Vec<Bytes>, Memory>
-    ensures { IfOk result (λ v. v.items ≡ texts.now) }
-{
-    let mut all = Vec::new(alloc);
-    for text in texts {
-        all.push(text.share()?)?;
-    }
-    Ok(all)
 }

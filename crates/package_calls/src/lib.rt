@@ -3,6 +3,7 @@
 #![tactic(auto)]
 
 mod answering;
+mod answers;
 mod arguments;
 mod attributes;
 mod by_name;
@@ -11,6 +12,7 @@ mod globbing;
 mod kinds;
 mod ordering;
 mod rules;
+mod slots;
 mod spelling;
 mod strings;
 mod targets;

@@ -1,36 +1,34 @@
 //! The package calls: `package_name`, `glob`, and the rules filegroup, genrule, alias and test_suite.
-ghost use Rattle.std.specs.Prelude.{◌≡◌, IfOk, map, codes, ◌≤◌};
+ghost use Rattle.std.specs.Prelude.{◌≡◌, IfOk, ◌≤◌, zip};
 ghost use Rattle.meaning.specs.Builtins.{builtin_name};
 ghost use Rattle.language.specs.World.{Here, World};
-ghost use Rattle.language.specs.Arguments.{value_named, plain_part, named_part};
-ghost use Rattle.meaning.specs.Outcome.{then_checked};
-ghost use Rattle.language.specs.Rules.{rule, target_of, all_typed, are_arguments, are_attributes, not_none, name_text, makes_target};
-ghost use Rattle.language.specs.Names.{has_name};
+ghost use Rattle.language.specs.Arguments.{plain_part, named_part};
+ghost use Rattle.language.specs.Rules.{rule, target_of, name_text};
 ghost use Rattle.language.specs.Environment.{Env};
 ghost use Rattle.language.specs.Globs.{glob};
 ghost use Rattle.language.specs.Packages.{package_call};
-ghost use Rattle.heap.specs.View.{store_of, Checks, Says};
+ghost use Rattle.heap.specs.View.{store_of, Says};
 ghost use Rattle.names.specs.View as view;
 ghost use Rattle.names.specs.View.{world_of, Ran};
-ghost use Rattle.package_calls.specs.Fields.{shapes, known_names};
-ghost use Rattle.package_calls.specs.RuleArguments.{given_of};
+ghost use Rattle.package_calls.specs.RuleArguments.{value_at, described, target_read};
 ghost use Rattle.package_calls.specs.View.{ChecksAs, IsOf, EndsAs, IfWaits, answers_of};
 ghost use Rattle.package_calls.specs.Within.{within, named_package};
 
 use crate::answering::{found, make_paths, make_text, unanswered};
-use crate::arguments::{is_named, is_twice, named_part, not_none, plain_part, value_named};
-use crate::attributes::{RuleArgument, all_shaped, all_typed};
-use crate::fields::{Field, field_name, fields_of};
+use crate::answers::Answers;
+use crate::arguments::{named_part, named_values, plain_part};
+use crate::attributes::{all_read, are_typed};
+use crate::fields::{FIELDS, Field, fields_of};
 use crate::globbing::{questions, read_call};
 use crate::kinds::{Answer, CallOutcome, Package};
+use crate::slots::{take_arguments, value_at};
 use crate::spelling::is_path;
-use crate::strings::text_in;
+use crate::strings::text_at;
 use grammar::FileKind;
 use heap::{Builtin, Bytes, Halt, Heap, Val};
 use meaning::faults;
 use names::{State, Target};
-use std::alloc::Global;
-use texts::{Memory, Text, beside};
+use texts::{Text, beside};
 
 /// Makes a package call, whose last arguments have the names. It gives a value, or waits for the answers to questions.
 /// Where it waits, nothing has changed, and the same call is made again once they are answered. Returns fault 23 in a
@@ -52,8 +50,8 @@ pub fn package_call(
         FileKind::Bzl => Err(Halt::Code(faults::NOT_ALLOWED)),
         FileKind::Build => {
             let plain = plain_part(xs, names);
-            let named = named_part(state.heap.alloc, xs, names)?;
-            in_package(state, known, f, plain, named.as_slice())
+            let values = named_values(xs, names);
+            in_package(state, known, f, plain, names, values)
         }
     }
 }
@@ -64,29 +62,53 @@ fn in_package(
     known: &Package,
     f: Builtin,
     xs: &[Val],
-    ns: &[(Text, Val)],
+    names: &[Text],
+    values: &[Val],
 ) -> Result<CallOutcome, Halt>
     ensures says { (here : Here) → EndsAs here.site
-        (within known.now.name (answers_of known.now.answers.items) f xs.now ns.now here
-        (world_of state.old)) result (world_of state.new) }
+        (within known.now.name (answers_of known.now.answers.items) f xs.now
+        (zip names.now values.now) here (world_of state.old)) result (world_of state.new) }
     ensures waits { IfWaits result (state.new ≡ state.old) }
     ensures steps { IfOk result (λ _. state.new.heap.steps ≤ state.old.heap.steps) }
 {
     match f {
-        Builtin::PackageName => match package_name(&mut state.heap, &known.name, xs, ns) {
-            Ok(name) => Ok(CallOutcome::Value(name)),
-            Err(halt) => Err(halt),
-        },
-        Builtin::Glob => glob(&mut state.heap, known.answers.as_slice(), xs, ns),
-        _ => match rule(state, f, &known.name, xs, ns) {
+        Builtin::PackageName => {
+            match package_name(&mut state.heap, &known.name, xs, names, values) {
+                Ok(name) => Ok(CallOutcome::Value(name)),
+                Err(halt) => Err(halt),
+            }
+        }
+        Builtin::Glob => glob_call(&mut state.heap, known.answers.as_slice(), xs, names, values),
+        _ => match rule(state, f, &known.name, xs, names, values) {
             Ok(made) => Ok(CallOutcome::Value(made)),
             Err(halt) => Err(halt),
         },
     }
 }
 
+// Returns the name of the package, or fault 25 or 13. The named arguments are given by their names and values.
+fn package_name(
+    heap: &mut Heap,
+    name: &Text,
+    xs: &[Val],
+    names: &[Text],
+    values: &[Val],
+) -> Result<Val, Halt>
+    ensures says { Says (named_package name.now xs.now (zip names.now values.now)
+        (store_of heap.old)) result (store_of heap.new) }
+    ensures steps { IfOk result (λ _. heap.new.steps ≤ heap.old.steps) }
+{
+    let named = named_part(heap.alloc, names, values)?;
+    name_of_package(heap, name, xs, named.as_slice())
+}
+
 // Returns the name of the package, or fault 25 or 13.
-fn package_name(heap: &mut Heap, name: &Text, xs: &[Val], ns: &[(Text, Val)]) -> Result<Val, Halt>
+fn name_of_package(
+    heap: &mut Heap,
+    name: &Text,
+    xs: &[Val],
+    ns: &[(Text, Val)],
+) -> Result<Val, Halt>
     ensures says { Says (named_package name.now xs.now ns.now (store_of heap.old)) result
         (store_of heap.new) }
     ensures steps { IfOk result (λ _. heap.new.steps ≤ heap.old.steps) }
@@ -96,6 +118,24 @@ fn package_name(heap: &mut Heap, name: &Text, xs: &[Val], ns: &[(Text, Val)]) ->
     }
     let made = make_text(heap, name)?;
     Ok(made)
+}
+
+// Calls `glob`, whose named arguments are given by their names and values.
+fn glob_call(
+    heap: &mut Heap,
+    answers: &[Answer],
+    xs: &[Val],
+    names: &[Text],
+    values: &[Val],
+) -> Result<CallOutcome, Halt>
+    ensures says { (here : Here) (w : World) → w.store ≡ store_of heap.old → EndsAs here.site
+        (glob (answers_of answers.now) xs.now (zip names.now values.now) here w) result
+        (record w { store = store_of heap.new }) }
+    ensures waits { IfWaits result (heap.new ≡ heap.old) }
+    ensures steps { IfOk result (λ _. heap.new.steps ≤ heap.old.steps) }
+{
+    let named = named_part(heap.alloc, names, values)?;
+    glob(heap, answers, xs, named.as_slice())
 }
 
 // Calls `glob`.
@@ -116,13 +156,14 @@ fn glob(
         Err(halt) => return Err(halt),
     };
     let questions = questions(heap.alloc, asked.directories, asked.includes.as_slice())?;
-    let open = unanswered(heap.alloc, answers, questions.as_slice())?;
+    let answers = Answers::of(heap.alloc, answers, questions.len())?;
+    let open = unanswered(heap.alloc, &answers, questions.as_slice())?;
     if !open.is_empty() {
         return Ok(CallOutcome::Waits(open));
     }
     let paths = found(
         heap.alloc,
-        answers,
+        &answers,
         questions.as_slice(),
         asked.excludes.as_slice(),
     )?;
@@ -138,14 +179,15 @@ pub fn rule(
     f: Builtin,
     package_name: &Text,
     xs: &[Val],
-    ns: &[(Text, Val)],
+    names: &[Text],
+    values: &[Val],
 ) -> Result<Val, Halt>
-    ensures says { (here : Here)
-        → Ran here.site (rule f package_name.now xs.now ns.now here (world_of state.old)) result
-        (world_of state.new) }
+    ensures says { (here : Here) → Ran here.site
+        (rule f package_name.now xs.now (zip names.now values.now) here (world_of state.old))
+        result (world_of state.new) }
     ensures heap { state.new.heap ≡ state.old.heap }
 {
-    let target = match target_of(&state.heap, f, package_name, xs, ns) {
+    let target = match target_of(&state.heap, f, package_name, xs, names, values) {
         Ok(target) => target,
         Err(halt) => return Err(halt),
     };
@@ -161,109 +203,73 @@ fn target_of(
     f: Builtin,
     package_name: &Text,
     xs: &[Val],
-    ns: &[(Text, Val)],
+    names: &[Text],
+    values: &[Val],
 ) -> Result<Target, Halt>
     ensures { ChecksAs view.target_of
-        (target_of f package_name.now xs.now ns.now (store_of heap.now)) result }
+        (target_of f package_name.now xs.now (zip names.now values.now) (store_of heap.now))
+        result }
 {
     let fields = fields_of(f);
-    let given = not_none(heap.alloc, ns)?;
-    if !are_arguments(heap.alloc, xs, ns, given.as_slice(), fields)? {
+    let mut slots = [None; FIELDS];
+    if !xs.is_empty() {
         return Err(Halt::Code(faults::WRONG_ARGUMENTS));
     }
-    described(heap, f, package_name, given.as_slice(), fields)
+    if !take_arguments(heap.alloc, fields, names, values, &mut slots)? {
+        return Err(Halt::Code(faults::WRONG_ARGUMENTS));
+    }
+    described(heap, f, package_name, fields, &slots)
 }
 
-// Returns the target that arguments by name describe, of a rule with these attributes, or fault 25, 5 or 15.
+// Returns the target that arguments at their places describe, of a rule with these attributes, or fault 25, 5 or 15.
 fn described(
     heap: &Heap,
     f: Builtin,
     package_name: &Text,
-    given: &[(Text, Val)],
     fields: &[Field],
+    slots: &[Option<Val>; FIELDS],
 ) -> Result<Target, Halt>
     ensures { ChecksAs view.target_of
-        (then_checked (name_text (value_named (codes "name") given.now) (store_of heap.now))
-        (λ name. then_checked (all_typed (shapes fields.now) given.now (store_of heap.now))
-        (makes_target (builtin_name f) package_name.now name))) result }
+        (described f package_name.now fields.now slots.now (store_of heap.now)) result }
 {
-    let name = name_in(heap, given)?;
-    let (name, typed) = beside(name, all_typed(heap, fields, given))?;
-    make_target(heap.alloc, f, package_name, name, typed.as_slice())
-}
-
-// Returns whether a rule with these attributes takes the arguments, where `given` are those by name that are not None.
-fn are_arguments(
-    alloc: Global,
-    xs: &[Val],
-    ns: &[(Text, Val)],
-    given: &[(Text, Val)],
-    fields: &[Field],
-) -> Result<bool, Memory>
-    requires { given.now ≡ not_none ns.now }
-    ensures { IfOk result (λ b. b ≡ are_arguments xs.now ns.now (shapes fields.now)) }
-{
-    if !xs.is_empty() {
-        return Ok(false);
+    let name = match name_at(heap, slots) {
+        Ok(name) => name,
+        Err(halt) => return Err(halt),
+    };
+    match are_typed(heap, fields, slots) {
+        Ok(()) => make_target(heap, f, package_name, name, fields, slots),
+        Err(halt) => Err(halt),
     }
-    if is_twice(alloc, ns)? {
-        return Ok(false);
-    }
-    Ok(are_attributes(given, fields) && is_named("name", given))
-}
-
-// Returns whether each name is `name` or the name of an attribute.
-fn are_attributes(given: &[(Text, Val)], fields: &[Field]) -> bool
-    ensures { result ≡ are_attributes given.now (shapes fields.now) }
-{
-    for n in given {
-        if !is_known(n.0.as_str(), fields) {
-            return false;
-        }
-    }
-    true
-}
-
-// Returns whether a name is `name` or the name of an attribute.
-fn is_known(name: &str, fields: &[Field]) -> bool
-    ensures { result ≡ has_name name.now (known_names (shapes fields.now)) }
-{
-    if name == "name" {
-        return true;
-    }
-    for field in fields {
-        if name == field_name(*field) {
-            return true;
-        }
-    }
-    false
 }
 
 // Returns the name of a target, or fault 25 or 5.
-fn name_in(heap: &Heap, given: &[(Text, Val)]) -> Result<Bytes, Halt>
-    ensures { Checks (name_text (value_named (codes "name") given.now) (store_of heap.now)) result }
+fn name_at<'a>(heap: &'a Heap, slots: &[Option<Val>; FIELDS]) -> Result<&'a Bytes, Halt>
+    ensures { ChecksAs (λ b. b.now)
+        (name_text (value_at slots.now Field.Name) (store_of heap.now)) result }
 {
-    match value_named("name", given) {
-        Some(x) => text_in(heap, x),
+    match value_at(slots, Field::Name) {
+        Some(x) => text_at(heap, x),
         None => Err(Halt::Code(faults::WRONG_ARGUMENTS)),
     }
 }
 
-// Makes the target with a name and attributes, or returns fault 15.
+// Makes the target with a name and attributes, or returns fault 5 or 15.
 fn make_target(
-    alloc: Global,
+    heap: &Heap,
     f: Builtin,
     package_name: &Text,
-    name: Bytes,
-    given: &[RuleArgument],
+    name: &Bytes,
+    fields: &[Field],
+    slots: &[Option<Val>; FIELDS],
 ) -> Result<Target, Halt>
-    ensures { ChecksAs view.target_of (makes_target (builtin_name f) package_name.now name
-        (map given_of given.now)) result }
+    ensures { ChecksAs view.target_of (target_read (builtin_name f) package_name.now name.now
+        fields.now slots.now (store_of heap.now)) result }
 {
     if !is_path(name.as_slice()) {
         return Err(Halt::Code(faults::BAD_LABEL));
     }
-    let attributes = all_shaped(alloc, package_name, given)?;
+    let attributes = all_read(heap, package_name, fields, slots)?;
+    let (attributes, name) = beside(attributes, name.share())?;
     Ok(Target {
         rule: f,
         name,

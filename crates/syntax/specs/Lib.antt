@@ -1,2 +1,3 @@
 pub mod Inners
 pub mod Answers
+pub mod ParameterNames

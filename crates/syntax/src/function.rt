@@ -1,12 +1,12 @@
 //! Functions.
-ghost use Rattle.std.specs.Prelude.{◌≡◌, map};
+ghost use Rattle.std.specs.Prelude.{map};
 ghost use Rattle.grammar.specs.Front.{and_then, gives, expect};
 ghost use Rattle.grammar.specs.Files as spec;
-ghost use Rattle.grammar.specs.Targets.{has_name, has_default};
 ghost use Rattle.expressions.specs.View.{left, Reads};
 ghost use Rattle.tree.specs.Statements.{stmt_of, param_of, fn_of};
 ghost use Rattle.tokens.specs.declared.symbol.Symbol.TheVariants as s;
 
+use crate::parameters::Parameters;
 use crate::statement::{LEVELS, Suites, stmt, test};
 use bindings::new_function;
 use expressions::{Stop, Tokens};
@@ -17,36 +17,12 @@ use texts::Text;
 use tokens::Symbol;
 use tree::{Def, Param, Stmt};
 
-/// Returns whether a parameter has that name.
-fn has_name(params: &[Param], name: &Text) -> bool
-    ensures { result ≡ has_name (map param_of params.now) name.now }
-{
-    for p in params {
-        if p.name == *name {
-            return true;
-        }
-    }
-    false
-}
-
-/// Returns whether a parameter has a default.
-fn has_default(params: &[Param]) -> bool
-    ensures { result ≡ has_default (map param_of params.now) }
-{
-    for p in params {
-        if p.default.is_some() {
-            return true;
-        }
-    }
-    false
-}
-
 /// Reads what stands behind the name of a parameter.
 #[tactic(auto, unfolding(grammar::specs::Files::param_rest))]
 fn param_rest(
     alloc: Global,
     t: &mut Tokens<'_, '_>,
-    params: &[Param],
+    params: &Parameters,
     name: Text,
 ) -> Result<Param, Stop>
     ensures { Reads param_of (spec.param_rest (map param_of params.now) name (left t.old)) result
@@ -60,7 +36,7 @@ fn param_rest(
             default: Some(default),
         });
     }
-    if has_default(params) {
+    if params.has_default() {
         return Err(Stop::Malformed);
     }
     Ok(Param {
@@ -71,12 +47,12 @@ fn param_rest(
 
 /// Reads a parameter.
 #[tactic(auto, unfolding(grammar::specs::Files::param))]
-fn param(alloc: Global, t: &mut Tokens<'_, '_>, params: &[Param]) -> Result<Param, Stop>
+fn param(alloc: Global, t: &mut Tokens<'_, '_>, params: &Parameters) -> Result<Param, Stop>
     ensures { Reads param_of (spec.param (map param_of params.now) (left t.old)) result
         (left t.new) }
 {
     let name = t.take_name(alloc)?;
-    if has_name(params, &name) {
+    if params.has_name(&name) {
         return Err(Stop::Malformed);
     }
     param_rest(alloc, t, params, name)
@@ -87,18 +63,18 @@ fn param(alloc: Global, t: &mut Tokens<'_, '_>, params: &[Param]) -> Result<Para
 fn params(alloc: Global, t: &mut Tokens<'_, '_>) -> Result<Vec<Param>, Stop>
     ensures { Reads (λ v. map param_of v.items) (spec.params (left t.old)) result (left t.new) }
 {
-    let mut found = Vec::new(alloc);
+    let mut found = Parameters::new(alloc);
     for _turn in 0..t.len() {
         if t.is_at(Symbol::RightParen) {
-            return Ok(found);
+            return Ok(found.into_params());
         }
-        let next = param(alloc, t, found.as_slice())?;
-        found.push(next)?;
+        let next = param(alloc, t, &found)?;
+        found = found.with(alloc, next)?;
         if !t.eat(Symbol::Comma) {
-            return Ok(found);
+            return Ok(found.into_params());
         }
     }
-    Ok(found)
+    Ok(found.into_params())
 }
 
 /// Reads the suite of a function.

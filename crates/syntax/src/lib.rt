@@ -3,6 +3,7 @@
 
 mod function;
 mod load;
+mod parameters;
 mod statement;
 
 pub use grammar::FileKind;

@@ -1,4 +1,5 @@
 use Rattle.std.proofs.Common.{refl, sym, subst, Err, List}
+use Rattle.std.specs.Prelude.{zip}
 use Rattle.meaning.specs.declared.val.Val.{Val}
 use Rattle.meaning.specs.declared.builtin.Builtin.{Builtin}
 use Rattle.language.specs.World.{Runs}
@@ -13,15 +14,16 @@ use Rattle.package_calls.proofs.rules.in_package.Goals as goal
 pub returns-in-Glob-clause-says : goal.returns-in-Glob-clause-says
 returns-in-Glob-clause-says c = λ here.
     let w = world_of c.args.state.now in
-    let u = record w { store = (world_of (record c.args.state.now { heap = c.glob.new.heap })).store } in
-    subst (λ (f : Builtin). EndsAs here.site (within c.args.known.now.name (answers_of c.args.known.now.answers.items) f c.args.xs.now c.args.ns.now here w) c.glob.result u) (sym c.in-Glob.is)
-    (subst (λ (l : List Answer). EndsAs here.site (glob (answers_of l) c.args.xs.now c.args.ns.now here w) c.glob.result u) c.as_slice.ensures.value (c.glob.ensures.says here w refl))
+    let u = record w { store = (world_of (record c.args.state.now { heap = c.glob_call.new.heap })).store } in
+    let ns = zip c.args.names.now c.args.values.now in
+    subst (λ (f : Builtin). EndsAs here.site (within c.args.known.now.name (answers_of c.args.known.now.answers.items) f c.args.xs.now ns here w) c.glob_call.result u) (sym c.in-Glob.is)
+    (subst (λ (l : List Answer). EndsAs here.site (glob (answers_of l) c.args.xs.now ns here w) c.glob_call.result u) c.as_slice.ensures.value (c.glob_call.ensures.says here w refl))
 
 pub returns-in-Err-rule : goal.returns-in-Err-rule
 returns-in-Err-rule c = record {
   says = λ here.
       let w = world_of c.args.state.now in
-      let same = within_rule c.args.known.now.name (answers_of c.args.known.now.answers.items) c.args.f c.args.xs.now c.args.ns.now here c.in_default.not-PackageName c.in_default.not-Glob in
+      let same = within_rule c.args.known.now.name (answers_of c.args.known.now.answers.items) c.args.f c.args.xs.now (zip c.args.names.now c.args.values.now) here c.in_default.not-PackageName c.in_default.not-Glob in
       subst (λ (m : Runs Val). EndsAs here.site (m w) (Err c.in-Err-rule.halt) (world_of c.rule.new.state)) (sym same) (fails_too here.site _ c.in-Err-rule.halt (world_of c.rule.new.state) (c.in-Err-rule.ensures.says here));
   waits = tt;
   steps = tt;

@@ -4,5 +4,5 @@ use Rattle.language.specs.Globs.{all_texts}
 use Rattle.heap.specs.View.{store_of}
 use Rattle.package_calls.proofs.strings.all_texts.Given as goal
 
-abbrev pub invariant-loop-x : goal.invariant-loop-x
-invariant-loop-x l = then_checked (all_texts (drop l.x-index l.xs) (store_of l.heap)) (λ ts. good (l.all.items ++ ts)) ≡ all_texts l.xs (store_of l.heap)
+abbrev pub invariant-loop-i : goal.invariant-loop-i
+invariant-loop-i l = then_checked (all_texts (drop l.i l.xs) (store_of l.heap)) (λ ts. good (l.all.items ++ ts)) ≡ all_texts l.xs (store_of l.heap)

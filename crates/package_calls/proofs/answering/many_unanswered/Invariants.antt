@@ -1,0 +1,10 @@
+use Rattle.std.proofs.Common.{◌≡◌, ◌++◌, [], drop, reverse}
+use Rattle.language.specs.Globs.{unanswered}
+use Rattle.package_calls.specs.AnswerTables.{HasTexts}
+use Rattle.package_calls.proofs.answering.many_unanswered.Given as goal
+
+abbrev pub invariant-loop-question : goal.invariant-loop-question
+invariant-loop-question l = record {
+  left : l.all.items ++ unanswered l.answers (reverse l.all.items) (drop l.question-index l.questions) ≡ unanswered l.answers [] l.questions;
+  noted : HasTexts l.seen l.all.items;
+}

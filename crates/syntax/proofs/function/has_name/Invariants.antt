@@ -1,7 +1,0 @@
-use Rattle.std.proofs.Common.{◌≡◌, drop, map}
-use Rattle.tree.specs.Statements.{param_of}
-use Rattle.grammar.specs.Targets.{has_name}
-use Rattle.syntax.proofs.function.has_name.Given as goal
-
-abbrev pub invariant-loop-p : goal.invariant-loop-p
-invariant-loop-p l = has_name (map param_of (drop l.p-index l.params)) l.name ≡ has_name (map param_of l.params) l.name
