@@ -1,0 +1,109 @@
+"""The growth of costs: each kind of line at two sizes, of which twice the size may take at most 2.5
+times as long. `--only TEXT` takes the kinds that have this text in their names."""
+
+from collections.abc import Callable
+
+from harness.commands import Command, lines_of_commands, load, module, put
+from harness.context import Context
+from harness.report import Report
+
+# Twice the size takes less than so many times as long.
+MAX_RATIO = 2.5
+# A shorter time tells nothing of growth, in seconds.
+LEAST_TIME = 0.05
+# The least of so many runs counts.
+RUNS = 3
+EMPTY = '{"packages":[{"name":"s","targets":[]}]}'
+WRONG_ARGUMENTS = '{"fault":{"code":25,"line":2,"path":"s/m.bzl"}}'
+
+
+def listed(count: int, form: str) -> str:
+    """So many numbers in a form, with commas between them."""
+    return ", ".join(form.format(number) for number in range(count))
+
+
+def of_module(text: str) -> list[Command]:
+    """A module with this text, which is asked for its exports."""
+    return [put("s/BUILD", ""), put("s/m.bzl", text), module("//s:m.bzl")]
+
+
+def arguments_by_name(count: int) -> list[Command]:
+    """A function of so many parameters, called with all of them by name."""
+    return of_module(f"def f({listed(count, 'p{}')}): pass\nf({listed(count, 'p{}=0')})\n")
+
+
+def unknown_names(count: int) -> list[Command]:
+    """A function without parameters, called with so many arguments by name."""
+    return of_module(f"def f(): pass\nf({listed(count, 'p{}=0')})\n")
+
+
+def defaults(count: int) -> list[Command]:
+    """A function of so many defaults, called a thousand times."""
+    calls = "def g():\n    for i in range(1000): f()\ng()\n"
+    return of_module(f"def f({listed(count, 'p{}=0')}): pass\n{calls}")
+
+
+def includes(count: int) -> list[Command]:
+    """A glob with so many includes."""
+    text = f"x = glob([str(i) for i in range({count})])\n"
+    return [put("s/BUILD", text), load("s")]
+
+
+def loaded_names(count: int) -> list[Command]:
+    """A load of so many names of one module."""
+    names = "".join(f"x{number}=0\n" for number in range(count))
+    quoted = listed(count, '"x{}"')
+    return [put("s/m.bzl", names), put("s/BUILD", f'load(":m.bzl", {quoted})\n'), load("s")]
+
+
+def loaded_tables(count: int) -> list[Command]:
+    """A package that loads so many tables, and looks through each of them."""
+    modules = [put(f"m/m{it}.bzl", f"X{it} = list(range(64))\n") for it in range(count)]
+    loads = "".join(f'load("//m:m{it}.bzl", "X{it}")\n' for it in range(count))
+    looks = "".join(f"y{it} = [i for i in X{it}]\n" for it in range(count))
+    return [put("m/BUILD", ""), *modules, put("s/BUILD", loads + looks), load("s")]
+
+
+def targets(count: int) -> list[Command]:
+    """So many targets of one package."""
+    text = f'x = [filegroup(name = "t" + str(i)) for i in range({count})]\nfail("last")\n'
+    return [put("s/BUILD", text), load("s")]
+
+
+# The lines of so many, the lesser size, and the last answer or a part of it.
+GROWTHS: dict[str, tuple[Callable[[int], list[Command]], int, str]] = {
+    "arguments by name": (arguments_by_name, 6_000, '{"exports":["f"]}'),
+    "arguments under names of no parameter": (unknown_names, 12_000, WRONG_ARGUMENTS),
+    "defaults of a function": (defaults, 6_000, '{"exports":["f","g"]}'),
+    "includes of a glob": (includes, 16_384, EMPTY),
+    "names of a load": (loaded_names, 12_000, EMPTY),
+    "tables that are loaded": (loaded_tables, 450, EMPTY),
+    "targets of a package": (targets, 32_768, '"line":2,"path":"s/BUILD"'),
+}
+
+
+def least_time(context: Context, lines: list[Command], wanted: str) -> tuple[float, str | None]:
+    """The least time of some runs, and what is wrong with the last answer."""
+    times = []
+    for _ in range(RUNS):
+        ran, took, _most = context.loader("run").run_measured(lines_of_commands(lines))
+        times.append(took)
+        if ran.status or wanted not in ran.last().decode():
+            return min(times), f"status {ran.status}, {ran.last()[:200].decode()}"
+    return min(times), None
+
+
+def run(context: Context) -> Report:
+    """Prints both times of each kind and their ratio, and compares the answers and the growth."""
+    report = Report()
+    for name, (lines, count, wanted) in GROWTHS.items():
+        if context.only not in name:
+            continue
+        small, wrong = least_time(context, lines(count), wanted)
+        large, also = least_time(context, lines(2 * count), wanted)
+        ratio = large / max(small, LEAST_TIME)
+        print(f"  {count:6d} {name:40s}{small:8.2f} s{large:8.2f} s{ratio:8.2f}", flush=True)
+        if not wrong and not also and ratio >= MAX_RATIO:
+            also = f"twice the size takes {ratio:.2f} times as long"
+        report.add(f"{name}: {wrong or also}" if wrong or also else None, compared=2)
+    return report
