@@ -8,7 +8,7 @@ import subprocess
 import tempfile
 import threading
 import time
-from collections.abc import Callable, Iterable, Sequence
+from collections.abc import Callable, Collection, Iterable, Sequence
 
 from wrong_bodies.batches import answer_files, full_names, next_batch
 from wrong_bodies.digest import Digests, Table
@@ -202,11 +202,11 @@ class Trials:
             line = (str(len(edits)), before) if is_well else None
             Table(self.repository).write(name, line)
 
-    def lane(self, processor: int) -> None:
-        """Tries crates one after the other until none is left. A lane has a processor of its own,
-        since the prover's front end works on several at once where it may, which takes a fifth more
-        of them in sum."""
-        os.sched_setaffinity(0, {processor})
+    def lane(self, processors: Collection[int]) -> None:
+        """Tries crates one after the other until none is left. Of several lanes each has a
+        processor of its own, since the prover's front end works on several at once where it may,
+        which takes a fifth more of them in sum."""
+        os.sched_setaffinity(0, processors)
         while True:
             with self.lock:
                 if not self.names:
@@ -221,9 +221,9 @@ class Trials:
     def run(self, jobs: int) -> None:
         """Tries all crates, so many at once."""
         processors = sorted(os.sched_getaffinity(0))
+        own = [{it} for it in processors] if jobs > 1 else [set(processors)]
         lanes = [
-            threading.Thread(target=self.lane, args=(processors[it % len(processors)],))
-            for it in range(jobs)
+            threading.Thread(target=self.lane, args=(own[it % len(own)],)) for it in range(jobs)
         ]
         for it in lanes:
             it.start()
