@@ -74,9 +74,11 @@ clients-long: has-loader  ## runs the long tests of the command sefgulaw (an hou
 has-loader:
 	@test -x $(LOADER) || { echo "no loader at $(LOADER): 'make run' builds it" >&2; exit 1; }
 
-# Sentences, words and links of the documents, sizes of files and functions, the layout of the crates.
-lint:  ## checks documents, names, sizes and layout (seconds)
+# Sentences, words and links of the documents, sizes of files and functions, the layout of the crates, and definitions
+# and lemmas that nothing reaches.
+lint:  ## checks documents, names, sizes, layout and dead definitions (seconds)
 	@python3 tests/style
+	@python3 tests/style/dead.py
 
 # What the scripts of tests/ say of kept texts, which needs no prover and no program, with their format, style and types.
 harness:  ## tests the scripts of tests/ themselves (seconds)
@@ -157,9 +159,10 @@ batches: build  ## compares batches with the same edits one by one (minutes)
 under: build  ## compares packages under directories with plain models (minutes)
 	python3 tests/run.py under --program $(PROGRAM)
 
-# Deep and wide sources by 1 and 16 workers, the stack that they take, and the costs of lines at their limits.
+# Deep and wide sources by 1 and 16 workers, the stack that they take, the costs of lines at their limits, and how costs
+# grow with the input.
 hostile: build  ## tries deep and wide sources, their stack and their costs (minutes)
-	python3 tests/run.py hostile stack costs --program $(PROGRAM)
+	python3 tests/run.py hostile stack costs growth --program $(PROGRAM)
 
 # Values that are held by each kind of expression and statement while others are given back.
 giving-back: build  ## holds values while others are given back (minutes)

@@ -79,7 +79,11 @@ def wrong_places(room):
     for name, more, said in (
         ("named", {"crates/texts/src/lib.rt": "// another\n"}, "has a crate of this name"),
         ("listed", {"crates.txt": "texts:\nmine: texts\n"}, "has a crate of this name"),
-        ("strict", {"HANDLES": "Handles allowed: Wait.\n"}, "HANDLES allows too little: these crates need Threads and Wait"),
+        (
+            "strict",
+            {"HANDLES": "Handles allowed: Wait.\n"},
+            "HANDLES allows too little: these crates need Threads and Wait",
+        ),
     ):
         files = {**own, **more}
         status, words, found = placed(room, made(room, name, files), "labels")
@@ -89,7 +93,10 @@ def wrong_places(room):
     status, words, first = placed(room, repository, "shelf", "labels")
     if status or not words.startswith("embed: 3 crates are placed, of which "):
         yield f"three crates: status {status}, {words!r}"
-    if not first["crates.txt"].endswith("# end: crates of sefgulaw\nmine: texts\n") or "HANDLES" not in first:
+    if (
+        not first["crates.txt"].endswith("# end: crates of sefgulaw\nmine: texts\n")
+        or "HANDLES" not in first
+    ):
         yield "three crates: another crates.txt, or no HANDLES"
     os.unlink(os.path.join(repository, "crates/labels/src/lib.rt"))
     status, words, second = placed(room, repository, "shelf", "labels")
@@ -118,7 +125,9 @@ def run(room, text):
 
 
 def main():
-    words = argparse.ArgumentParser(description=__doc__, formatter_class=argparse.RawDescriptionHelpFormatter)
+    words = argparse.ArgumentParser(
+        description=__doc__, formatter_class=argparse.RawDescriptionHelpFormatter
+    )
     words.add_argument("--crates", metavar="CHECKOUT", help="take the crates of another checkout")
     found = words.parse_args()
     with open(PAGE, encoding="utf-8") as file:

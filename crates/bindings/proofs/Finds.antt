@@ -6,7 +6,7 @@ use Rattle.std.specs.List.{list_any}
 use Rattle.std.specs.Cmp.Lexicographic.{pointwise}
 use lib.Pointwise.{bytes_decides}
 use Rattle.indexmap.specs.IndexSet.{insert_key}
-use Rattle.tree.specs.Bindings.{has_name, names_once, differ}
+use Rattle.tree.specs.Bindings.{has_name, names_once}
 use Rattle.bindings.specs.NameSets.{seen, SameNames, kept_with, Finds}
 use Rattle.bindings.specs.declared.finding.NameSet.{NameSet}
 
@@ -42,9 +42,6 @@ finds_new f g x e same kept = record {
       ∙ ap (λ b. f.kept.items ++ cond b (names_once (seen f) others) (x ∷ names_once (x ∷ seen f) others)) (sym e);
 }
 
-pub finds_nothing : (f : NameSet) → Finds f [] f
-finds_nothing f = record { then_others = λ others. refl }
-
 pub finds_both : (f g h : NameSet) (xs ys : List (List ℕ)) → Finds f xs g → Finds g ys h → Finds f (xs ++ ys) h
 finds_both f g h xs ys p q = record { then_others = λ others. q.then_others others ∙ p.then_others (ys ++ others) ∙ ap (λ l. kept_with f l) (sym (append_assoc xs ys others)) }
 
@@ -67,15 +64,6 @@ only_these xs ys zs h e = record { same = λ x. h.same x ∙ ap (λ l. has_name 
 -- of these names the rest is left to be found
 pub record Left (old : NameSet) (names : List (List ℕ)) (now : NameSet) (rest : List (List ℕ)) : Type 0 where
   pub then_others : (others : List (List ℕ)) → kept_with now (rest ++ others) ≡ kept_with old (names ++ others)
-
-pub left_all : (f : NameSet) (names : List (List ℕ)) → Left f names f names
-left_all f names = record { then_others = λ others. refl }
-
-pub left_none : (old now : NameSet) (names : List (List ℕ)) → Left old names now [] → Finds old names now
-left_none old now names h = record { then_others = h.then_others }
-
-pub left_more : (old now next : NameSet) (names xs rest : List (List ℕ)) → Left old names now (xs ++ rest) → Finds now xs next → Left old names next rest
-left_more old now next names xs rest h p = record { then_others = λ others. p.then_others (rest ++ others) ∙ ap (λ l. kept_with now l) (sym (append_assoc xs rest others)) ∙ h.then_others others }
 
 -- one more name, before or behind the others
 pub same_front : (x : List ℕ) (few more : List (List ℕ)) → SameNames ((few ++ x ∷ []) ++ more) (x ∷ (few ++ more))
@@ -152,7 +140,3 @@ params_more x xs before now all h s = record {
     turned true false c = refl
     turned false true c = refl
     turned false false c = refl
-
--- of these names the first stands again behind it, or it does not
-pub stands_again : (x : List ℕ) (xs : List (List ℕ)) → has_name x xs ≡ false → differ xs ≡ true → differ (x ∷ xs) ≡ true
-stands_again x xs e h = ap (λ b. cond b false (differ xs)) e ∙ h

@@ -15,12 +15,6 @@ total_drop_suc f (y ∷ ys) (suc p) x e = total_drop_suc f ys p x e
 pub total_drop : {X : Type 0} (f : X → ℕ) (xs : List X) (p : ℕ) (x : X) → get_elem? xs p ≡ some x → total f (drop p xs) ≡ f x + total f (drop (p + 1) xs)
 total_drop f xs p x e = let next : suc p ≡ p + 1 = omega arith in subst (λ (n : ℕ). total f (drop p xs) ≡ f x + total f (drop n xs)) next (total_drop_suc f xs p x e)
 
-pub total_end : {X : Type 0} (f : X → ℕ) (xs : List X) (p : ℕ) → length xs ≤ p → total f (drop p xs) ≡ 0
-total_end f [] zero h = refl
-total_end f [] (suc p) h = refl
-total_end f (x ∷ xs) zero h = absurd (omega (arith, h))
-total_end f (x ∷ xs) (suc p) h = total_end f xs p (omega (arith, h))
-
 -- the slot of a place was taken
 pub rest_after : (before after : List Bool) (place long : ℕ) → long ≡ length before → place < long → after ≡ set before place false → HasRest before place long → HasRest after (place + 1) long
 rest_after before after place long size near is r = (

@@ -9,9 +9,6 @@ use Rattle.builtins.specs.TextBuffers.{keep, kept, more, told}
 use Rattle.builtins.proofs.TextBufferLaws.{kept_alike}
 
 module _ (s : Store) (t : ℕ) where
-  after : ℕ → Store
-  after n = record s { steps = n }
-
   told_text : (out : Out ℕ (List ℕ)) (p : Option (List ℕ)) → and_then out (λ part. gives (more (Some []) part)) ≡ gives p t → (text : List ℕ) × ((p ≡ keep text) × (out ≡ gives text t))
   unfolding more
   told_text (faults c) p h = cc

@@ -69,9 +69,6 @@ module _ (ls : List (List Val)) (n i : ℕ) (tuples : List Val) (s : Store) (all
   pub rows_end : heads (map (drop i) ls) ≡ None → all ≡ gives tuples s
   rows_end h = sym (rw (no_rows (n - i) (map (drop i) ls) h, append-nil tuples) at inv)
 
-  pub rows_last : i ≡ n → all ≡ gives tuples s
-  rows_last e = let z : n - i ≡ 0 = omega arith in sym (rw (z, append-nil tuples) at inv)
-
   module _ (within : i < n) (r : List Val) (h : heads (map (drop i) ls) ≡ Some r) where
     now : and_then (makes_tuples (r ∷ rows (n - (i + 1)) (map (drop (i + 1)) ls)) s) (λ ts. gives (tuples ++ ts)) ≡ all
     now = rw (one_less n i within, h, dropped ls i) at inv

@@ -25,14 +25,6 @@ count_some (string s) ms h = absurd cc
 count_some (array ds) ms h = absurd cc
 count_some (object m) ms h = let e : ms ≡ m = cc in ap members_count e
 
-pub count_none : (d : Data) → None ≡ as_object d → 0 ≡ member_count d
-count_none null h = refl
-count_none (boolean b) h = refl
-count_none (number n) h = refl
-count_none (string s) h = refl
-count_none (array ds) h = refl
-count_none (object m) h = absurd cc
-
 pub count_view : (es : List (String Global × Value)) → length es ≡ members_count (members_view es)
 count_view [] = refl
 count_view (e ∷ es) = ap suc (count_view es)

@@ -36,20 +36,3 @@ module _ {K V : Type 0} (next : K → List V → Reply K V) (cycle : List K → 
   asked_recorded (leaf e) a = let n = a.no_leaf in cc
   asked_recorded (run e t) a = from_turns a.comes t refl a.asks
   asked_recorded (closed e s c) a = from_stops a.comes s refl a.asks
-
-  turns_ask : {k : K} {a : List V} {gs : List (List K)} {v : V} {g : List K} → Turns next read k a gs v → In g gs → (p : List (List K)) × (b : List V) × choices.Comes next cycle read k a p b × (next k b ≡ Ask g)
-  turns_ask (ends f) m = elim m [ ]
-  turns_ask {a = a} (asks f s t) first = ([], a, choices.stay, f)
-  turns_ask (asks {group = h} f s t) (after m) = let r = turns_ask t m in (h ∷ r.0, r.1, choices.asks f s r.2, r.3)
-
-  stops_ask : {k : K} {a : List V} {gs : List (List K)} {j : K} {g : List K} → Stops next read (IsUngrounded next read) k a gs j → In g gs → (p : List (List K)) × (b : List V) × choices.Comes next cycle read k a p b × (next k b ≡ Ask g)
-  stops_ask {a = a} (here f m) first = ([], a, choices.stay, f)
-  stops_ask (here f m) (after i) = elim i [ ]
-  stops_ask {a = a} (later f s t) first = ([], a, choices.stay, f)
-  stops_ask (later {group = h} f s t) (after m) = let r = stops_ask t m in (h ∷ r.0, r.1, choices.asks f s r.2, r.3)
-
-  -- what is recorded it asks
-  pub recorded_asked : {k : K} {gs : List (List K)} {v : V} {g : List K} → Settles next read cycle k gs v → In g gs → AsksGroup next cycle read k g
-  recorded_asked (leaf e) m = elim m [ ]
-  recorded_asked (run e t) m = let r = turns_ask t m in record { no_leaf = e; passed = r.0; answers = r.1; comes = r.2; asks = r.3 }
-  recorded_asked (closed e s c) m = let r = stops_ask s m in record { no_leaf = e; passed = r.0; answers = r.1; comes = r.2; asks = r.3 }

@@ -9,11 +9,9 @@ pub mod Settle
 pub mod Marking
 pub mod Least
 pub mod Deciding
-pub mod Possible
 pub mod Stall
 pub mod Passing
 pub mod Moves
 pub mod Justification
-pub mod Standing
 pub mod Rotating
 pub mod Groups

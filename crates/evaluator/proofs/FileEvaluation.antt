@@ -13,7 +13,7 @@ use Rattle.language.specs.World.{World, Here, Ends, ended, failed, waits, Runs, 
 use Rattle.language.specs.Environment.{Env, Answers}
 use Rattle.language.specs.Laws.{KnowsMore, with_answers}
 use Rattle.language.specs.Files as l
-use Rattle.language.specs.Files.{a_module, a_package, a_need, a_fault, all_steps, start, open_calls, file_level, leading, loads, tops, leaves, whole_file, outcome_of, evaluate}
+use Rattle.language.specs.Files.{a_fault, all_steps, start, open_calls, file_level, leading, loads, tops, leaves, outcome_of, evaluate}
 use Rattle.language.specs.Statements as s
 use Rattle.language.proofs.MoreAnswers.{answer_stays}
 use Rattle.names.specs.View.{world_of, here_of}
@@ -30,7 +30,7 @@ use Rattle.evaluator.specs.declared.outcome.Outcome.{Outcome}
 use Rattle.evaluator.specs.declared.outcome.Outcome.TheVariants as answers
 use Rattle.evaluator.specs.Machines.{env_of, here_in, means, site_at}
 use Rattle.evaluator.specs.Files.{opens, Opened, left_behind, Stands}
-use Rattle.evaluator.specs.Outcomes.{IsLeft, Evaluates, Shows}
+use Rattle.evaluator.specs.Outcomes.{Evaluates, Shows}
 use Rattle.evaluator.proofs.Levels.{tops_same}
 use Rattle.evaluator.proofs.Ending.{level_of}
 
@@ -99,14 +99,6 @@ stop_evaluates env (stops.Memory _) (Err m) e h = tt
 pub opens_faulty : (env : Env) (stop : Stop) (u : World) → Opened (opens env.file env.loads (file_level env) (start all_steps env)) (Err stop) u → EndsFaulty env stop
 opens_faulty env (stops.Fault code path line) u e = opened_outcome env (failed code (site_at path line)) e
 opens_faulty env (stops.Memory _) u e = tt
-
--- what a file leaves is its outcome
-pub left_evaluates : (env : Env) (out : Ends l.Outcome) (result : Result Outcome t.Memory) → evaluate env ≡ outcome_of out → IsLeft out result → Evaluates env result
-left_evaluates env out (Ok (answers.Module m)) e h = e ∙ h
-left_evaluates env out (Ok (answers.Package ts)) e h = e ∙ h
-left_evaluates env out (Ok (answers.Need ps s)) e h = absurd h
-left_evaluates env out (Ok (answers.Fault fault)) e h = e ∙ h
-left_evaluates env out (Err m) e h = tt
 
 -- what stands under some answers stands with more behind them
 pub stands_on : (e : Environment) (m : Machine) (control : Control) (again : Environment) (extra : Answers) → env_of again ≡ with_answers ((env_of e).globs ++ extra) (env_of e) → Stands e m control → Stands again m control

@@ -21,11 +21,6 @@ use Rattle.evaluator.specs.declared.machine.Progress.{Progress}
 use Rattle.evaluator.specs.declared.machine.Progress.TheVariants as t
 use Rattle.evaluator.specs.Machines.{IsActing, Lightens, TurnFalls, StaysLight}
 
--- a part that leaves nothing to do, where something was
-pub falls_light : (r : Result Control Halt) (s s' b weight : ℕ) → 0 < b → IfOk r (λ control. (s' ≤ s) × (control_weight control ≡ 0)) → IfOk r (λ control. Lighter s (weight + b) s' (weight + control_weight control))
-falls_light (Ok control) s s' b weight lt h = record { steps = h.0; weight = λ e. omega (arith, h.1) }
-falls_light (Err halt) s s' b weight lt h = tt
-
 -- what goes on within a function or a file
 pub within : (k : Control) → IsActing k
     → ((line : ℕ) (target : Arc Expr Global) (of : Arc Comprehension Global) (x : Val) → k ≡ c.First line target of x → ⊥)

@@ -247,7 +247,3 @@ pub names_there : (directory : List ℕ) (es gs : Entries) → (length directory
     → names_in directory (each (λ e. e.0) es) ≡ names_in [] (each (λ e. e.0) gs)
 names_there [] es gs h same = cc
 names_there (d ∷ ds) es gs h same = names_moved d ds es gs same
-
-pub no_names : (es : Entries) → (length es == 0) ≡ true → names_in [] (each (λ e. e.0) es) ≡ None
-no_names [] h = refl
-no_names (e ∷ es) h = let z = eqb-true (length (e ∷ es)) 0 h in absurd (omega (arith, z))

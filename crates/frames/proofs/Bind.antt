@@ -38,10 +38,6 @@ through (ended a w) k p j wrap fr h = ap (λ o. then_runs o j) (sym (h a w))
 through (failed c site) k p j wrap fr h = refl
 through (waits ps) k p j wrap fr h = refl
 
--- the same, behind a step
-pub ticked : {A B : Type 0} (t : Ends (Unit {0})) (u : World) (m : Runs A) (k : A → Runs B) (p : B → Runs Sig) (j j' : Sig → Runs Sig) (wrap : A → Sig) (fr : Sig → Runs Sig) → t ≡ ended tt u → ((a : A) (u : World) → fr (wrap a) u ≡ then_runs (k a u) p) → j' ≡ (λ (sig : Sig) (w : World). then_runs (fr sig w) j) → then_runs (then_runs (then_runs t (λ _ v. then_runs (m v) k)) p) j ≡ then_runs (then_runs (m u) (λ a. pure (wrap a))) j'
-ticked t u m k p j j' wrap fr e h pushed = ap (λ o. then_runs (then_runs (then_runs o (λ _ v. then_runs (m v) k)) p) j) e ∙ through (m u) k p j wrap fr h ∙ ap (λ i. then_runs (then_runs (m u) (λ a. pure (wrap a))) i) (sym pushed)
-
 pub tick_ends : (here : Here) (w : World) (s : Store) → walks (λ objects. o.tick) w.store ≡ o.gives tt s → tick here w ≡ ended tt (record w { store = s })
 unfolding tick
 tick_ends here w s e = ap (at_site here.site w) e

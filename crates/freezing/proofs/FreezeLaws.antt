@@ -7,7 +7,7 @@ use Rattle.meaning.specs.declared.val.Val.{Val}
 use Rattle.meaning.specs.declared.val.Entry.{Entry}
 use Rattle.meaning.specs.Outcome.{Out, gives, faults, Does, and_then, ◌>>=◌, ◌>>◌, pure, tick}
 use Rattle.meaning.specs.Heap.{Obj, Entries}
-use Rattle.meaning.specs.Freezing.{Fz, Fzs, Pairs, list, tuple, dict, no_members, member, no_pairs, pair, freeze, inner_freeze, visit_held, held, listed, tupled, mapped, freeze_members, freeze_entry, freeze_entries}
+use Rattle.meaning.specs.Freezing.{Fz, Fzs, Pairs, list, tuple, dict, member, pair, freeze, inner_freeze, visit_held, held, listed, tupled, mapped, freeze_members, freeze_entry, freeze_entries}
 use Rattle.heap.specs.declared.halt.Halt.{Halt}
 use Rattle.heap.specs.declared.halt.Halt.TheVariants.{Code, Memory}
 use Rattle.freezing.specs.View.{onto, pairs_onto, SaysFrozen, SaysMembers, SaysEntry, SaysEntries}
@@ -55,16 +55,6 @@ there [] i x h = cc
 there (y ∷ ys) zero x h = ap (λ o. unwrap_or o y ∷ ys) h
 there (y ∷ ys) (suc i) x h = there ys i x h
 
-drop_past : {A : Type 0} → (xs : List A) (i : ℕ) → slice_get xs i ≡ None → drop i xs ≡ []
-drop_past [] zero h = refl
-drop_past [] (suc i) h = refl
-drop_past (y ∷ ys) zero h = cc
-drop_past (y ∷ ys) (suc i) h = drop_past ys i h
-
-past_all : {A : Type 0} → (xs : List A) → None ≡ slice_get xs (length xs)
-past_all [] = refl
-past_all (x ∷ xs) = past_all xs
-
 onto_last : (gs : List Fz) (f : Fz) (fs : Fzs) → onto (gs ++ f ∷ []) fs ≡ onto gs (member f fs)
 onto_last [] f fs = refl
 onto_last (g ∷ gs) f fs = ap (member g) (onto_last gs f fs)
@@ -73,22 +63,8 @@ pairs_onto_last : (qs : List (Fz × Fz)) (q : Fz × Fz) (ps : Pairs) → pairs_o
 pairs_onto_last [] q ps = refl
 pairs_onto_last (r ∷ qs) q ps = ap (pair r.0 r.1) (pairs_onto_last qs q ps)
 
-pub members_begin : (out : Out ℕ Fzs) → and_then out (λ fs. gives (onto [] fs)) ≡ out
-members_begin (gives fs s) = refl
-members_begin (faults c) = refl
-
-pub entries_begin : (out : Out ℕ Pairs) → and_then out (λ ps. gives (pairs_onto [] ps)) ≡ out
-entries_begin (gives ps s) = refl
-entries_begin (faults c) = refl
-
 -- a turn of the loop over members, where `all` is what the whole loop gives
 module _ (fz : Val → Does ℕ Fz) (xs : List Val) (i : ℕ) (s : ℕ) (done : List Fz) (all : Out ℕ Fzs) (inv : and_then (freeze_members fz (drop i xs) s) (λ fs. gives (onto done fs)) ≡ all) where
-  pub members_over : None ≡ slice_get xs i → all ≡ gives (onto done no_members) s
-  members_over h = sym inv ∙ ap (λ l. and_then (freeze_members fz l s) (λ fs. gives (onto done fs))) (drop_past xs i (sym h))
-
-  pub members_end : i ≡ length xs → all ≡ gives (onto done no_members) s
-  members_end h = members_over (rw h (past_all xs))
-
   module _ (x : Val) (h : Some x ≡ slice_get xs i) where
     member_now : and_then (and_then (fz x s) (λ f. λ t. and_then (freeze_members fz (drop (suc i) xs) t) (λ fs. pure (member f fs)))) (λ fs. gives (onto done fs)) ≡ all
     member_now = ap (λ l. and_then (freeze_members fz l s) (λ fs. gives (onto done fs))) (sym (there xs i x (sym h))) ∙ inv
@@ -106,12 +82,6 @@ module _ (fz : Val → Does ℕ Fz) (xs : List Val) (i : ℕ) (s : ℕ) (done : 
 
 -- a turn of the loop over entries
 module _ (fz : Val → Does ℕ Fz) (xs : Entries) (i : ℕ) (s : ℕ) (done : List (Fz × Fz)) (all : Out ℕ Pairs) (inv : and_then (freeze_entries fz (drop i xs) s) (λ ps. gives (pairs_onto done ps)) ≡ all) where
-  pub entries_over : None ≡ slice_get xs i → all ≡ gives (pairs_onto done no_pairs) s
-  entries_over h = sym inv ∙ ap (λ l. and_then (freeze_entries fz l s) (λ ps. gives (pairs_onto done ps))) (drop_past xs i (sym h))
-
-  pub entries_end : i ≡ length xs → all ≡ gives (pairs_onto done no_pairs) s
-  entries_end h = entries_over (rw h (past_all xs))
-
   module _ (k : List Part) (x : Entry) (h : Some (k, x) ≡ slice_get xs i) where
     entry_now : and_then (and_then (freeze_entry fz x s) (λ p. λ t. and_then (freeze_entries fz (drop (suc i) xs) t) (λ ps. pure (pair p.0 p.1 ps)))) (λ ps. gives (pairs_onto done ps)) ≡ all
     entry_now = ap (λ l. and_then (freeze_entries fz l s) (λ ps. gives (pairs_onto done ps))) (sym (there xs i (k, x) (sym h))) ∙ inv

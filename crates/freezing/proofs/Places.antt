@@ -193,10 +193,6 @@ mutual
 abbrev pub empty : Store
 empty = record { heap = []; iterated = []; steps = 0 }
 
--- thawing never faults, and only adds objects
-pub thaw_ends : (f : Fz) (s : Store) → (x : Val) × (os : List Obj) × (thaw f s ≡ gives x (record s { heap = s.heap ++ os }))
-thaw_ends f s = let r = placed f (length s.heap) in (r.0, r.1, thaw_placed f s)
-
 -- a value with the objects behind it, where some are given
 abbrev given : Val × List Obj → Out Store Val → Val × List Obj
 given r (gives x s) = (x, s.heap)

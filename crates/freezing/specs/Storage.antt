@@ -27,10 +27,6 @@ abbrev texts_after : List (List ℕ) → List (List ℕ)
 texts_after [] = []
 texts_after (t ∷ ts) = ts
 
-abbrev number_of : ℤ → ℕ
-number_of (pos n) = n
-number_of (negsuc n) = 0
-
 abbrev put_nothing : ℕ → ℤ → List (List ℕ) → List Item → List Item
 put_nothing n z ts st = frozen nothing ∷ st
 

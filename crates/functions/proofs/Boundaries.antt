@@ -73,9 +73,6 @@ boundaries_rise t h = go (length t.package_name == 0) refl
 abbrev pub look_up : List ℕ → Key
 look_up name = key.Lookup name
 
-shorter_names : ℕ → List Key → Type 0
-shorter_names n done = AllByRecursion (λ j. length (name_of j) < n) done
-
 absent : (x : List ℕ) (done : List Key) → AllByRecursion (λ j. length (name_of j) < length x) done → has_key (look_up x) done ≡ false
 absent x [] h = refl
 absent x (j ∷ done) h = go (key_eq (look_up x) j) refl (absent x done h.1)

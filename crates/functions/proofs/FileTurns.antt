@@ -1,6 +1,5 @@
 -- What a file, a module and a package come to behind the answers that they have taken.
 use Rattle.std.proofs.Common.{◌≡◌, ℕ, ◌-◌, ◌≤◌, List, ◌∷◌, ◌++◌, length, take, drop, cond, None, Ok, Result, IfOk, ◌∙◌, ap, sym, subst, arith, length-append}
-use Rattle.texts.specs.declared.memory.Memory.{Memory}
 use Rattle.std.specs.Arc.{arc_value}
 use Rattle.std.specs.declared.sync.Arc.{Arc}
 use Rattle.std.specs.declared.alloc.Global.{Global}
@@ -15,16 +14,15 @@ use Rattle.keys.specs.declared.key.Key.{Key}
 use Rattle.keys.specs.declared.value.Value.{Value}
 use Rattle.keys.specs.declared.value.Value.TheVariants as value
 use Rattle.functions.specs.declared.file_node.Source.{Source}
-use Rattle.functions.specs.Goes.{Table, Follows, IsMade}
-use Rattle.functions.specs.Replies.{IsReply}
+use Rattle.functions.specs.Goes.{Follows}
 use Rattle.functions.specs.Modules.{lookups, after_lookups, by_lookups}
 use Rattle.functions.specs.Once.{once}
 use Rattle.functions.specs.Packages as packages
-use Rattle.functions.specs.Sources.{fault_at, faulty, all_modules, after_modules, after_loads}
+use Rattle.functions.specs.Sources.{fault_at, all_modules, after_modules, after_loads}
 use Rattle.functions.specs.declared.reply.Reply as made
 use Rattle.functions.specs.declared.reply.Reply.TheVariants as reply
 use Rattle.functions.proofs.Further.{modules_more}
-use Rattle.functions.proofs.SourceSteps.{rest_values, weaken}
+use Rattle.functions.proofs.SourceSteps.{rest_values}
 
 abbrev asking : List Key → Reply Key Value
 asking group = Ask group
@@ -75,14 +73,3 @@ lookups_on t group answers n g e h = λ more.
     ∙ (λ i. after_lookups t (take-map (λ (x : Arc Value Global). arc_value x) n answers i) (rest_values answers n i ++ more))
 
 -- ---- faults
-
-made_of : (next : Table) (answers : List Value) (r : made.Reply) → IsReply (next answers) r → IsMade next answers r
-made_of next answers (reply.Ask group) h = h
-made_of next answers (reply.Wait group held) h = absurd h
-made_of next answers (reply.Done v) h = h
-
--- where a table ends with a fault, the fault is made of it
-pub faulted : (next : Table) (answers : List Value) (code : ℕ) (path : List ℕ) (line : ℕ) (result : Result made.Reply Memory) → next answers ≡ faulty code path line
-    → IfOk result (IsReply (faulty code path line)) → IfOk result (IsMade next answers)
-faulted next answers code path line result e =
-    weaken (IsReply (faulty code path line)) (IsMade next answers) result (λ r h. made_of next answers r (subst (λ x. IsReply x r) (sym e) h))

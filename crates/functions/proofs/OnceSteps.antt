@@ -56,9 +56,6 @@ module _ (all keys : List Key) (n : ℕ) (k : Key) (e : drop n keys ≡ k ∷ dr
   step : all ++ once_behind all (k ∷ drop (n + 1) keys) ≡ total
   step = ap (λ ks. all ++ once_behind all ks) (sym e) ∙ so_far
 
-  pub once_seen : has_key k all ≡ true → all ++ once_behind all (drop (n + 1) keys) ≡ total
-  once_seen h = sym (ap (λ b. all ++ cond b (once_behind all (drop (n + 1) keys)) (k ∷ once_behind (all ++ k ∷ []) (drop (n + 1) keys))) h) ∙ step
-
   pub once_new : has_key k all ≡ false → (all ++ k ∷ []) ++ once_behind (all ++ k ∷ []) (drop (n + 1) keys) ≡ total
   once_new h = append_assoc all (k ∷ []) (once_behind (all ++ k ∷ []) (drop (n + 1) keys))
       ∙ sym (ap (λ b. all ++ cond b (once_behind all (drop (n + 1) keys)) (k ∷ once_behind (all ++ k ∷ []) (drop (n + 1) keys))) h) ∙ step

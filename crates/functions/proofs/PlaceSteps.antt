@@ -10,7 +10,7 @@ use Rattle.keys.specs.Keys.{key_cmp, key_eq}
 use Rattle.keys.specs.declared.key.Key.{Key}
 use Rattle.keys.specs.declared.value.Value.{Value}
 use Rattle.keys.proofs.KeyLaws.{keys_total, exact_keys, exact_key_eq}
-use Rattle.functions.specs.Once.{answer_at, answer_by, ArePlaces}
+use Rattle.functions.specs.Once.{answer_at}
 
 -- the answer at a place, or what stands behind
 abbrev pub answer_or : Option ℕ → List Value → Option Value → Option Value
@@ -49,9 +49,6 @@ same_key k j e = (exact_key_eq k j).0 e
 
 not_both : (b : Bool) → b ≡ true → b ≡ false → ⊥
 not_both b t f = cc
-
-no_place : (p : ℕ) → ◌≡◌ {A = Option ℕ} (Some p) None → ⊥
-no_place p e = cc
 
 module _ (i : ℕ) (places : BTreeMap Key ℕ) (group : List Key) (j : Key) (next : drop i group ≡ j ∷ drop (i + 1) group) (so_far : ArePlacesUpTo i places group) where
   -- what the key at i adds
@@ -101,11 +98,3 @@ module _ (i : ℕ) (places : BTreeMap Key ℕ) (group : List Key) (j : Key) (nex
           kept : (o : Option ℕ) → get key_cmp places k ≡ o → answer_or o answers (answer_at k (drop (i + 1) group) (drop (i + 1) answers)) ≡ answer_or o answers rest
           kept (Some p) e = refl
           kept None e = later k answers (apart (key_eq k j) refl)
-
--- at the end each key has its place
-pub all_placed : (i : ℕ) (places : BTreeMap Key ℕ) (group : List Key) → drop i group ≡ [] → ArePlacesUpTo i places group → ArePlaces places group
-all_placed i places group end so_far k answers = go (get key_cmp places k) ∙ ap (λ g. answer_or (get key_cmp places k) answers (answer_at k g (drop i answers))) (sym end) ∙ so_far k answers
-  where
-    go : (o : Option ℕ) → answer_by o answers ≡ answer_or o answers None
-    go None = refl
-    go (Some p) = refl

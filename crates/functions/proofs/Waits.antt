@@ -10,8 +10,7 @@ use Rattle.evaluator.specs.declared.outcome.Outcome.{Outcome}
 use Rattle.keys.specs.declared.key.Key.{Key}
 use Rattle.keys.specs.declared.value.Value.{Value}
 use Rattle.functions.specs.declared.reply.PackageEvaluation.{PackageEvaluation}
-use Rattle.functions.specs.declared.reply.Continuation.TheVariants.{Globs}
-use Rattle.functions.specs.Goes.{led, env_in, GoesOn, IsWaiting, IsNext}
+use Rattle.functions.specs.Goes.{led, env_in, IsWaiting, IsNext}
 use Rattle.functions.specs.GlobAnswers.{Gives}
 use Rattle.functions.specs.Sources.{glob_keys, glob_group, paths_by, with_paths}
 use Rattle.functions.proofs.EvaluationSteps.{some_group, led_to_group, led_further}
@@ -33,13 +32,6 @@ module _ (paused : PackageEvaluation) (w : IsWaiting paused) where
     asks_again h =
         let all = group_is group g in
         led_to_group env patterns answers w.asks (subst (λ (l : List Key). length answers < length l) all h) ∙ ap (λ (l : List Key). Ask l) (sym all)
-
-    -- with none its group is asked, and what comes further leads on from there
-    pub asks_first : answers ≡ [] → (led env answers ≡ Ask group) × GoesOn (led env) answers (Globs paused)
-    asks_first none =
-        let all = group_is group g in
-        let some : length answers < length group = subst (λ (l : List Key). length answers < length l) (sym all) (subst (λ (l : List Value). length l < length (glob_group env.package_name patterns)) (sym none) (some_group env patterns w.asks)) in
-        (asks_again some, record { may = w; goes = λ more. ap (λ l. led env (l ++ more)) none })
 
   -- with those of its group it goes on to the outcome of the file with their paths
   pub goes_on_by : (answers : List Value) (n : ℕ) (paths : List (List (List ℕ))) (outcome : Outcome) → Gives paused.package_name patterns answers paths n

@@ -13,7 +13,7 @@ use Rattle.grammar.specs.Front.{is_at, line_at, gives, same}
 use Rattle.grammar.specs.Targets.{is_target, all_targets, is_some_ex}
 use Rattle.grammar.specs.Statements.{a_test, exprs, exprs_after, more_exprs, small, simple, stmts, stmts_after, some_stmts, suite, branch, branches_after, more_branches, other, statement, stmt}
 use Rattle.grammar.specs.Grammar as g
-use Rattle.grammar.specs.Grammar.{IsToken, Is, IsTest, IsTests, IsTarget, IsSomeTargets, IsTargets, IsExprs, IsSmall, IsSimple, IsSuite, IsStmts, IsStmt, IsBranches, IsElse}
+use Rattle.grammar.specs.Grammar.{Is, IsTest, IsTests, IsTarget, IsSomeTargets, IsTargets, IsExprs, IsSmall, IsSimple, IsSuite, IsStmts, IsStmt, IsBranches, IsElse}
 use Rattle.grammar.proofs.Moves.{test_moves, tests_moves, targets_moves}
 use Rattle.grammar.proofs.Rooms.{inside_can, inside_after_list, inside_separated, can_fewer, nested}
 use Rattle.grammar.proofs.Starts.{exprs_start, simple_starts, stmt_starts}
@@ -34,9 +34,6 @@ record Tested (ts : List Lex) (es : List Ex) (us : List Lex) : Type 0 where
   reads : Reads a_test ts first left
   at_comma : is_at s.Comma left ≡ true
   comes : Comes (more_exprs first left) (λ n. exprs_after n es us) us
-
-tests_line : {ts rest : List Lex} {es : List Ex} → IsTests ts es rest → (i : ℕ) → Line i ts → Line i rest
-tests_line d i x = (line_passes (tests_moves d i) x).line
 
 tests_listed : {ts us vs : List Lex} {es : List Ex} → IsTests ts es us → (i : ℕ) → Line i ts → Is s.Comma us vs → Tested ts es us
 tests_listed {us} (g.one_test {e = a} d) i x is = record { first = a; left = us; reads = test_read d i x (comma_stops is); at_comma = at_is is; comes = f.exprs_begin a us }

@@ -54,9 +54,6 @@ module _ {m : ℕ} {ts us : List Lex} where
   pub inside_after_list : Inside m ts → ((i : ℕ) (o : List ℕ) → MovesOn 1 i o ts us) → Inside m us
   inside_after_list x f = inside_be x.room (f x.indents x.outer x.count x.fits)
 
-  pub inside_after_some : Inside m ts → ((i : ℕ) (o : List ℕ) → Moves 0 i o ts us) → Inside m us
-  inside_after_some x f = inside_be x.room (f x.indents x.outer x.count x.fits)
-
 module _ {m : ℕ} {ts us : List Lex} {found : Tok} where
   pub can_counted : Can m ts → IsToken found ts us → role_of found ≡ role s.Plus → Can m us
   can_counted x is e = can_be x.room (counted (begins x.fits) is e)

@@ -236,7 +236,3 @@ unfolding is_at same
 stmt_starts (g.small d) = let x = simple_starts d in (x.1, x.6, x.7)
 stmt_starts (g.if_else d e) = branches_start d
 stmt_starts (g.for_each is target in_is e colon d) = front StartsStmt is (λ line. (refl, refl, refl))
-
-pub branches_if : {c : Within} {ts rest : List Lex} {bs : List Br} → IsBranches c ts bs rest → (us : List Lex) × Is s.If ts us
-branches_if (g.if_branch {us = us} is e colon d) = (us, is)
-branches_if (g.elif_branch d is e colon body) = branches_if d

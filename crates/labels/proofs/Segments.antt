@@ -8,10 +8,6 @@ use Rattle.std.specs.List.{list_all, onto_first, position_or_len, after_last}
 use Rattle.labels.specs.Paths.{is_name_byte, is_segment, segments, is_path, is_package_name}
 use Rattle.labels.specs.Labels.{Target, is_colon, is_slash, is_target, label_file, label_text, absolute, would_name, label_of}
 
--- the parts of a text and of another behind a slash
-onto_first_append : (b : ℕ) (part : List ℕ) (parts more : List (List ℕ)) → onto_first b ((part ∷ parts) ++ more) ≡ onto_first b (part ∷ parts) ++ more
-onto_first_append b part parts more = refl
-
 first_part : (text : List ℕ) → (part : List ℕ) × (parts : List (List ℕ)) × (segments text ≡ part ∷ parts)
 first_part [] = ([], [], refl)
 first_part (b ∷ text) =

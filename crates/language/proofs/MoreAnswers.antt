@@ -41,10 +41,6 @@ same_answer answers more knows p = go (answer_to p answers) refl
     go None e h = cc
     go (Some paths) e h = knows p paths e
 
-or_none : (b : Bool) → (b || false) ≡ b
-or_none true = refl
-or_none false = refl
-
 -- where no pattern is unanswered, the first has an answer and none of the others is unanswered
 pub first_answered : (answers : Answers) (p : List ℕ) (ps : List (List ℕ)) → unanswered answers [] (p ∷ ps) ≡ [] → (is_some (answer_to p answers) ≡ true) × (unanswered answers [] ps ≡ [])
 first_answered answers p ps = go (is_some (answer_to p answers))

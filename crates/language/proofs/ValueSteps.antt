@@ -19,7 +19,7 @@ use Rattle.meaning.specs.Heap.{Entries, Obj, text, list, tuple, dict, function, 
 use Rattle.meaning.specs.Operators.{is_true}
 use Rattle.meaning.specs.Functions.{KeywordArguments, the_items, builtin}
 use Rattle.meaning.specs.Methods.{makes_texts, method}
-use Rattle.language.specs.World.{World, Block, Here, Ends, Runs, then_runs, ended, on_heap, tick, pure, with_block, without_block, ◌>>=◌}
+use Rattle.language.specs.World.{World, Here, Ends, Runs, then_runs, on_heap, tick, pure, with_block, ◌>>=◌}
 use Rattle.language.specs.Names.{is_native_name, first_named, new_block, clause_names}
 use Rattle.language.specs.Environment.{Env, Answers}
 use Rattle.language.specs.Globs.{Glob, read_call, questions, found, makes_paths, answered, unanswered, glob}
@@ -90,11 +90,6 @@ over_sinks x here body h w =
 gather_sinks : (turn : Val → Collection → Runs Collection) → ((x : Val) (g : Collection) → Sinking (turn x g)) → (xs : List Val) (g : Collection) → Sinking (gather turn xs g)
 gather_sinks turn h [] g w = gives_sink g w
 gather_sinks turn h (x ∷ xs) g w = also (h x g w) λ i u. gather_sinks turn h xs i u
-
-out_of_block : {A : Type 0} (n : World) (block : Block) (e : Ends A) → Sinks n e → Sinks n (then_runs e (λ a u. ended a (without_block u)))
-out_of_block n block e h = then_sinks n e _ h λ a u. ends_sink a u _ refl refl
-
--- ---- operators
 
 both_sinks : (op : BinaryOp) (m n : Runs Val) → Sinking m → Sinking n → (here : Here) → Sinking (both (operator_of op) m n here)
 both_sinks op m n p q here w = also (p w) λ x u. also (q u) λ y z. heap_sinks here _ (binary_down (operator_of op) x y) z

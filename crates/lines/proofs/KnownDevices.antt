@@ -25,8 +25,3 @@ at_end_kept None before after told p q end = tt
 at_end_kept (Some xs) None after told p q end = absurd p
 at_end_kept (Some xs) (Some ys) None told p q end = absurd q
 at_end_kept (Some xs) (Some ys) (Some zs) told p q end = q ∙ end
-
--- a reader that is at its end is so where its first bytes are known
-pub at_end_known : (first after : Option (List ℕ)) → IsAtEnd after → OnSome first (IsAtEnd after)
-at_end_known None after end = tt
-at_end_known (Some xs) after end = end

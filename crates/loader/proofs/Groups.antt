@@ -1,7 +1,7 @@
 -- The recorded groups of a settled key are those that it asks.
 use Rattle.std.proofs.Common.{None, ◌≡◌, ◌<◌, length, arith, List, [], ◌∷◌, Option, refl, sym, subst}
 use Rattle.evaluation.specs.Reply.{Reply, Ask}
-use Rattle.evaluation.specs.Value.{has_run, Turns, ends, asks, Grounded, AllGrounded, none, one, IsUngrounded, First, at_head, further, Stops, here, later, Settles, leaf, run, closed, In, first, after}
+use Rattle.evaluation.specs.Value.{Turns, ends, asks, Grounded, AllGrounded, none, one, IsUngrounded, First, at_head, further, Stops, here, later, Settles, leaf, run, closed, In, first, after}
 use Rattle.evaluation.specs.Choices as choices
 use Rattle.evaluation.specs.Reachability.{AsksGroup}
 use Rattle.evaluation.proofs.Unique.{same_values}
@@ -53,13 +53,3 @@ module _ {K V : Type 0} (next : K → List V → Reply K V) (cycle : List K → 
   recorded_asked (leaf e) m = elim m [ ]
   recorded_asked (run e t) m = let r = turns_ask t m in record { no_leaf = e; passed = r.0; answers = r.1; comes = r.2; asks = r.3 }
   recorded_asked (closed e s c) m = let r = stops_ask s m in record { no_leaf = e; passed = r.0; answers = r.1; comes = r.2; asks = r.3 }
-
-  stops_some : {k : K} {a : List V} {gs : List (List K)} {j : K} → Stops next read (IsUngrounded next read) k a gs j → 0 < length gs
-  stops_some (here f m) = omega arith
-  stops_some (later f s t) = omega arith
-
-  -- a key that is not grounded asks a group
-  pub asks_some : {k : K} {gs : List (List K)} {v : V} → Settles next read cycle k gs v → read k ≡ None → IsUngrounded next read k → 0 < length gs
-  asks_some (leaf e) n u = cc
-  asks_some {v = v} (run e t) n u = absurd (u v (has_run e t))
-  asks_some (closed e s c) n u = stops_some s

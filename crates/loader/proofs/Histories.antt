@@ -7,7 +7,7 @@ use Rattle.keys.specs.Leaves.{read}
 use Rattle.keys.proofs.LeafReads.{leaf_stays, changes_read}
 use Rattle.keys.specs.declared.key.Key.{Key}
 use Rattle.node.specs.Graphs.{GraphView, IsTouched}
-use Rattle.node.specs.Laws.{TouchKeepsLawful, IsAlwaysLawful}
+use Rattle.node.specs.Laws.{TouchKeepsLawful}
 use Rattle.loader.specs.State.{Edit, changes_of, changed_files, changed}
 use Rattle.loader.specs.Sessions.{SessionView, files_after, files_of, state_of, paths_of, Follows, IsHistory, IsLawful, files_at, paths_at}
 
@@ -34,10 +34,6 @@ module _ (files : ℕ → Files) (paths : ℕ → List (List ℕ)) where
 -- an edit changes no leaf that it does not touch
 pub edit_reads : (files : Files) (edit : Edit) (k : Key) → (IsTouched (paths_of edit) k → ⊥) → read (changed_files edit files) k ≡ read files k
 edit_reads files edit k n = changes_read files (changes_of edit) k n
-
--- a session without edits
-pub lawful_start : (began : ℕ) (graph : GraphView) → graph.version ≡ began → IsAlwaysLawful graph → IsLawful (record { began = began; edits = []; graph = graph })
-lawful_start began graph v always = record { version = omega (arith, v); lawful = λ files paths h. always next (λ u. read (files u)) paths }
 
 -- one more edit leaves a session lawful
 pub lawful_after : (began : ℕ) (edits : List Edit) (old new : GraphView) (edit : Edit) → IsLawful (record { began = began; edits = edits; graph = old }) → new.version ≡ old.version + 1 → TouchKeepsLawful old new (paths_of edit)

@@ -73,11 +73,6 @@ one_output budget budget' input told told' written written' held held' runs runs
     let one = one_answer_each start (lines_of b.input) a.answers b.answers (subst (λ (x : List ℕ). AreAnswers start (lines_of x) a.answers) same a.are) b.are in
     append_cancel_left held written (texts a.answers) a.held_is ∙ ap texts one ∙ sym (append_cancel_left held' written' (texts b.answers) b.held_is)
 
--- what answers to some lines and to further ones wrote
-texts_append : (xs ys : List Data) → texts (xs ++ ys) ≡ texts xs ++ texts ys
-texts_append [] ys = refl
-texts_append (x ∷ xs) ys = ap (λ r. answer_text x ++ r) (texts_append xs ys) ∙ sym (append_assoc (answer_text x) (texts xs) (texts ys))
-
 -- the answers to further lines begin with those to the first ones
 begin_part : (s : State) (left more : List (List ℕ)) (part : List ℕ) (ds : List Data) → IsPart left s part → AreAnswers s (left ++ more) ds → IsBeginning part (texts ds)
 begin_part s left more part ds nothing are = (texts ds, refl)

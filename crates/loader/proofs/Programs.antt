@@ -2,21 +2,13 @@
 use Rattle.std.proofs.Common.{◌≡◌, ◌∙◌, ap, sym, subst, refl, ℕ, ◌<◌, List, [], ◌++◌, Some, None, IfSome, OnSome, append-nil}
 use Rattle.std.specs.Prelude.{Option}
 use Rattle.std.specs.Io.KnownBytes.{Appends, Consumes, IsAtEnd, Keeps}
-use Rattle.open_nodes.specs.declared.run.Run.{Run}
 use Rattle.lines.specs.Devices.{EndsWithNothing}
 use Rattle.lines.specs.Lines.{lines_of}
 use Rattle.loader.specs.State.{start}
-use Rattle.loader.specs.Answers.{AreAnswers, texts}
-use Rattle.loader.specs.Service.{Served, Stopped}
-use Rattle.loader.specs.Programs.{AnswersAll, AnswersPart}
+use Rattle.loader.specs.Service.{Stopped}
+use Rattle.loader.specs.Programs.{AnswersPart}
 use Rattle.loader.proofs.OneAnswers.{stop_begins}
 use Rattle.loader.proofs.SomeAnswers.{some_answer_each}
-
--- a reader at its end told all that it had
-all_told : (unread left : Option (List ℕ)) (told : List ℕ) → Consumes unread left told → OnSome unread (IsAtEnd left) → IfSome unread (λ bytes. bytes ≡ told) × OnSome unread (left ≡ Some [])
-all_told None left told consumed end = (tt, tt)
-all_told (Some xs) None told consumed end = absurd consumed
-all_told (Some xs) (Some ys) told consumed end = (consumed ∙ ap (λ r. told ++ r) end ∙ append-nil told, ap Some end)
 
 -- what a reader has left is an end of what it had; where its bytes are not known, nothing is said of it
 rest_told : (n : ℕ) (unread left : Option (List ℕ)) (told : List ℕ) → Consumes unread left told → EndsWithNothing n unread left
@@ -34,20 +26,6 @@ all_written (Some xs) (Some ys) written appended = ap Some appended
 module _ (unread left held holds : Option (List ℕ)) (T told H written : List ℕ) (ends ends' : ℕ)
     (begun : T ≡ []) (empty : H ≡ []) (none : ends ≡ 0)
     (consumed : Consumes unread left told) (ended : EndsWithNothing ends' unread left) (appended : Appends held holds written) where
-  pub answers_all : {budget : ℕ} {runs : List Run} → ends < ends' → Served budget T told H written runs → AnswersAll unread left held holds
-  answers_all {budget} {runs} more s =
-      let read = all_told unread left told consumed (ended (subst (λ n. n < ends') none more)) in
-      let input : told ≡ s.input = s.told_is ∙ ap (λ t. t ++ s.input) begun in
-      let output : written ≡ texts s.answers = s.held_is ∙ ap (λ h. h ++ texts s.answers) empty in
-      record {
-        input = told;
-        answers = s.answers;
-        input_is = read.0;
-        nothing_left = read.1;
-        are = subst (λ (i : List ℕ). AreAnswers start (lines_of i) s.answers) (sym input) s.are;
-        output_is = all_written held holds (texts s.answers) (subst (Appends held holds) output appended);
-      }
-
   pub answers_part : Stopped ends ends' T told H written → AnswersPart unread left held holds
   answers_part stopped =
       let rest = rest_told ends' unread left told consumed ended in
@@ -63,14 +41,3 @@ module _ (unread left held holds : Option (List ℕ)) (T told H written : List �
         begins = stop_begins ends ends' told rest.0 [] written [] (λ more. rest.3 (subst (λ n. n < ends') none more)) s all.0 all.1;
         output_is = all_written held holds written appended;
       }
-
--- a reader of which nothing was read, and a writer to which nothing was written, are as they were
-pub kept_reader : (unread left : Option (List ℕ)) (told : List ℕ) → told ≡ [] → Consumes unread left told → Keeps unread left
-kept_reader None left told none consumed = tt
-kept_reader (Some xs) None told none consumed = absurd consumed
-kept_reader (Some xs) (Some ys) told none consumed = sym (consumed ∙ ap (λ t. t ++ ys) none)
-
-pub kept_writer : (held holds : Option (List ℕ)) (written : List ℕ) → written ≡ [] → Appends held holds written → Keeps held holds
-kept_writer None holds written none appended = tt
-kept_writer (Some xs) None written none appended = absurd appended
-kept_writer (Some xs) (Some ys) written none appended = appended ∙ ap (λ w. xs ++ w) none ∙ append-nil xs

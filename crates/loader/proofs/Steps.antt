@@ -12,9 +12,7 @@ use Rattle.loader.specs.Effects.{line_effect, Moves}
 use Rattle.loader.specs.LineJournal.{IsKept, IsJournalOf}
 use Rattle.loader.proofs.Keeping.{kept_line, kept_journal, kept_at_start}
 use Rattle.serde_json.specs.Data.{Data}
-use Rattle.serde_json.specs.Written.{compact_text}
-use Rattle.commands.specs.Commands.{Command, data_of, command_of}
-use Rattle.loader.specs.Answers.{refused, IsAnswer, IsAnswerIf, IsAnswerOf, AreAnswers, Tells, answer_text, texts, state_if, line_state, state_after}
+use Rattle.loader.specs.Answers.{IsAnswer, AreAnswers, answer_text, texts, line_state, state_after}
 use Rattle.loader.specs.Service.{Served, Stopped, IsPart, Between, After, nothing, of_next}
 
 state_append : (s : State) (ls ms : List (List ℕ)) → state_after s (ls ++ ms) ≡ state_after (state_after s ls) ms
@@ -230,19 +228,3 @@ stopped_since le stop = record {
   begins = stop.begins;
   held_is = stop.held_is;
 }
-
--- a line that is no command
-pub no_command : (o : Option Command) (s : State) (text : List ℕ) → o ≡ None → text ≡ compact_text (refused 1) → Tells (IsAnswerIf o s) text × (s ≡ state_if o s)
-no_command None s text e is = ((refused 1, refl, is), refl)
-no_command (Some command) s text e is = absurd cc
-
--- a line that is too long
-pub too_long : (b : Bool) (line : List ℕ) (s : State) (text : List ℕ) → b ≡ true → text ≡ compact_text (refused 6) → Tells (IsAnswerOf b line s) text × (s ≡ (if b then s else state_if (option_and_then command_of (data_of line)) s))
-too_long true line s text e is = ((refused 6, refl, is), refl)
-too_long false line s text e is = absurd cc
-
--- and one that is not
-pub not_long : (b : Bool) (line : List ℕ) (s next : State) (text : List ℕ) → b ≡ false → Tells (IsAnswerIf (option_and_then command_of (data_of line)) s) text × (next ≡ state_if (option_and_then command_of (data_of line)) s)
-    → Tells (IsAnswerOf b line s) text × (next ≡ (if b then s else state_if (option_and_then command_of (data_of line)) s))
-not_long true line s next text e is = absurd cc
-not_long false line s next text e is = is

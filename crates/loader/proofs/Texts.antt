@@ -26,12 +26,6 @@ module _ (text : List ℕ → List ℕ) where
       go true same later e = let is : x.1 ≡ t = cc in sym is ∙ head_is x xs h ∙ ap text (one_text x.0 name same)
       go false same later e = later e
 
-  pub held_more : (name : List ℕ) (entries : Entries) → entries ≡ with_texts (names_in entries)
-      → entries ++ (name, text name) ∷ [] ≡ with_texts (names_in (entries ++ (name, text name) ∷ []))
-  held_more name entries h =
-      ap (λ es. es ++ (name, text name) ∷ []) h ∙ sym (map-append (λ n. (n, text n)) (names_in entries) (name ∷ []))
-      ∙ ap with_texts (sym (map-append (λ (e : List ℕ × List ℕ). e.0) entries ((name, text name) ∷ [])))
-
 pub name_found : (name t : List ℕ) (entries : Entries) → lookup (λ n. same_text n name) entries ≡ Some t → has_name name (names_in entries) ≡ true
 name_found name t [] e = absurd (cc e)
 name_found name t (x ∷ xs) e = go (same_text x.0 name) (λ later. name_found name t xs later) e

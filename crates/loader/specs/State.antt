@@ -11,11 +11,6 @@ pub record State : Type 0 where
   pub files : Files
   pub version : ℕ
 
--- how a proof tells two states apart
-abbrev pub state_code : Coded State
-state_code =
-    code_by (Files × ℕ) (coded× (map.code (coded_list coded_ℕ) (coded_list coded_ℕ)) coded_ℕ) (λ s. (s.files, s.version)) (λ p. record { files = p.0; version = p.1 }) (λ _. refl)
-
 -- no files, at a version
 abbrev pub start_at : ℕ → State
 start_at version = record { files = map.empty; version = version }

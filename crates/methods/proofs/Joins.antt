@@ -2,7 +2,6 @@
 use Rattle.std.proofs.Common.{◌≡◌, ℕ, ◌+◌, List, [], ◌∷◌, ◌++◌, length, false, sym, ap, ◌∙◌, append_assoc, arith, length-append}
 use Rattle.std.proofs.lemmas.List.{append-nil}
 use Rattle.std.proofs.lemmas.Bool.Decides.{nat_tests}
-use Rattle.meaning.specs.Heap.{is_sized}
 use Rattle.meaning.specs.Methods.{with_between}
 
 -- what follows the first text
@@ -13,12 +12,6 @@ each_after sep (t ∷ ts) = (sep ++ t) ++ each_after sep ts
 pub between_first : (sep t : List ℕ) (ts : List (List ℕ)) → with_between sep (t ∷ ts) ≡ t ++ each_after sep ts
 between_first sep t [] = sym (append-nil t)
 between_first sep t (u ∷ us) = ap (λ l. t ++ sep ++ l) (between_first sep u us) ∙ (append_assoc t sep (u ++ each_after sep us) ∙ ap (λ l. t ++ l) (sym (append_assoc sep u (each_after sep us))))
-
-pub still_long : (xs ys zs : List ℕ) → is_sized (length xs) ≡ false → xs ++ ys ≡ zs → is_sized (length zs) ≡ false
-still_long xs ys zs h e = by_length (length xs) (length ys) (length zs) h (omega (arith, length-append xs ys, ap length e))
-  where
-    by_length : (n m k : ℕ) → is_sized n ≡ false → k ≡ n + m → is_sized k ≡ false
-    by_length n m k h e = grind (arith, nat_tests)
 
 -- the first text is written, the others are not yet
 pub first_written : (sep : List ℕ) (all new : List ℕ) (t : List ℕ) (ts whole : List (List ℕ)) → whole ≡ t ∷ ts → new ≡ [] → all ≡ new ++ t → all ++ each_after sep ts ≡ with_between sep whole

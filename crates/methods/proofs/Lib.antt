@@ -1,4 +1,3 @@
-pub mod Room
 pub mod Endings
 pub mod Separators
 pub mod Joins

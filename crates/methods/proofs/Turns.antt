@@ -19,10 +19,6 @@ one_more done y (faults c) = refl
 pub made : {S B : Type 0} (done : List B) (first : Out S B) (rest : Does S (List B)) (y : B) (t : S) (whole : Out S (List B)) → behind done (turn first rest) ≡ whole → first ≡ gives y t → behind (done ++ y ∷ []) (rest t) ≡ whole
 made done first rest y t whole h e = sym (one_more done y (rest t)) ∙ (sym (ap (λ o. behind done (turn o rest)) e) ∙ h)
 
--- a fault is that of the whole
-pub failed : {S B : Type 0} (done : List B) (first : Out S B) (rest : Does S (List B)) (c : ℕ) (whole : Out S (List B)) → behind done (turn first rest) ≡ whole → first ≡ faults c → whole ≡ faults c
-failed done first rest c whole h e = sym h ∙ ap (λ o. behind done (turn o rest)) e
-
 -- where none is left, the members that are there are all
 pub ended : {S B : Type 0} (done : List B) (s : S) (whole : Out S (List B)) → behind done (gives [] s) ≡ whole → whole ≡ gives done s
 ended done s whole h = sym h ∙ ap (λ zs. gives zs s) (append-nil done)

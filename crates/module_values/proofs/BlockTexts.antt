@@ -12,13 +12,6 @@ number_more n h =
     let r : n % 255 ≡ (n - 255) % 255 = omega arith in
     (λ i. replicate (q i) 255 ++ r i ∷ [])
 
--- one below 255
-pub number_last : (n : ℕ) → n < 255 → number_bytes n ≡ n ∷ []
-number_last n h =
-    let q : n / 255 ≡ 0 = omega arith in
-    let r : n % 255 ≡ n = omega arith in
-    (λ i. replicate (q i) 255 ++ r i ∷ [])
-
 last_number : (r : ℕ) (rest : List ℕ) → r < 255 → number_in (r ∷ rest) ≡ r
 last_number r rest h = grind (arith, nat_tests)
 

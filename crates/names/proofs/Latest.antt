@@ -31,13 +31,6 @@ take_more (k ∷ ks) (suc i) d lt = ap (λ l. k ∷ l) (take_more ks i d (omega 
 take_next : (ks : List FunctionDefaults) (i : ℕ) (d : FunctionDefaults) → i < length ks → take (i + 1) ks ≡ take i ks ++ get_or ks i d ∷ []
 take_next ks i d lt = ap (λ n. take n ks) (one_more i) ∙ take_more ks i d lt
 
--- the newest is the last
-pub newest_more : (ks : List FunctionDefaults) (k : FunctionDefaults) → newest_first (ks ++ k ∷ []) ≡ kept_of k ∷ newest_first ks
-newest_more ks k = ap (map kept_of) (reverse-append ks (k ∷ []))
-
-pub newest_next : (ks : List FunctionDefaults) (i : ℕ) (d : FunctionDefaults) → i < length ks → newest_first (take (i + 1) ks) ≡ kept_of (get_or ks i d) ∷ newest_first (take i ks)
-newest_next ks i d lt = ap newest_first (take_next ks i d lt) ∙ newest_more (take i ks) (get_or ks i d)
-
 pub names_behind : (ks : List FunctionDefaults) (k : FunctionDefaults) → kept_names (ks ++ k ∷ []) ≡ kept_names ks ++ k.function ∷ []
 names_behind [] k = refl
 names_behind (j ∷ ks) k = ap (λ l. j.function ∷ l) (names_behind ks k)

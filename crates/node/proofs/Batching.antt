@@ -24,7 +24,7 @@ use Rattle.node.proofs.Showing.{some_kept}
 use Rattle.node.specs.Edges.{HasLinkedSome, HasLinkedAll, HasCut, HasUsers}
 use Rattle.node.specs.Writes.{stored, groups_at}
 use Rattle.node.specs.Graphs.{Sets, seen}
-use Rattle.node.specs.Batches.{asked, keys_of, HasReadyEntries, HasPlacedSome, IsThere, HasPlacedAll, HasLinkedEntries, HasLinkedEach, kept_members, HasCutAll, IsToWrite, IsWritten, IsWriting, HasReadyFlat, flats_in}
+use Rattle.node.specs.Batches.{asked, keys_of, HasPlacedSome, IsThere, HasPlacedAll, HasLinkedEntries, HasLinkedEach, kept_members, HasCutAll, IsToWrite, IsWritten, IsWriting, HasReadyFlat, flats_in}
 use Rattle.node.proofs.Lists.{in_split, in_left, in_right, in_one, not_in, none_of, true_false, decide_key}
 use Rattle.node.proofs.Joining.{in_taken, is_in}
 use Rattle.node.proofs.Rewriting.{decide_member}
@@ -115,12 +115,6 @@ module _ (entries : List Entry) (n : ℕ) (x : Entry) (e : x ≡ slice_index_or 
 pub placed_more : (original old new : Records) (x : Key × NodeRecord) → new ≡ old ++ x ∷ [] → HasPlacedSome original old → HasPlacedSome original new
 placed_more original old new x e h = (h.0 ++ x ∷ [], e ∙ ap (λ (es : Records). es ++ x ∷ []) h.1 ∙ append_assoc original h.0 (x ∷ []))
 
-pub placed_none : (records : Records) → HasPlacedSome records records
-placed_none records = ([], sym (append-nil records))
-
-pub nothing_placed : (records : Key → Option (Record Key Value)) (version : ℕ) → HasPlacedAll records records [] version
-nothing_placed records version = record { there = λ e i. elim i [ ]; others = λ k f. refl }
-
 there_later : (start old new : Key → Option (Record Key Value)) (e : Entry) (version : ℕ) → new e.key ≡ old e.key → IsThere start old e version → IsThere start new e version
 there_later start old new e version q (inl t) = inl (t.0, t.1, q ∙ t.2)
 there_later start old new e version q (inr t) = inr (t.0, q ∙ t.1)
@@ -159,10 +153,6 @@ removed_last original old new out r f l h = go out refl
 pub all_removed : (original records : Records) → length records ≤ length original → HasPlacedSome original records → records ≡ original
 all_removed original records l h = h.1 ∙ ap (λ (es : Records). original ++ es) (none_of h.0 (omega (arith, ap length h.1, length-append original h.0))) ∙ append-nil original
 
--- edges of one more entry
-pub entries_none : (users : Users) (entries : List Entry) → HasLinkedEntries users users entries
-entries_none users entries = record { from = λ j k i. inl i; keeps = λ j k i. i }
-
 module _ (start old new : Users) (entries : List Entry) (n : ℕ) (x : Entry) (e : x ≡ slice_index_or entries n x) (h : n < length entries)
     (groups : List (List Key)) (g : groups ≡ asked x) (some : HasLinkedSome old new x.key (λ j. IsMember j groups)) where
   pub entries_linked : HasLinkedEntries start old entries → HasLinkedEntries start new entries
@@ -193,9 +183,6 @@ kept_member records k j m = members_at records k j (records k) refl m
 
 pub member_kept : (records : Key → Option (Record Key Value)) (k j : Key) → kept_members records k j → IsMember j (groups_at (records k))
 member_kept records k j p = subst (λ o. IsMember j (groups_at o)) (sym p.1) p.2
-
-pub nothing_cut : (records : Key → Option (Record Key Value)) (users : Users) → HasCutAll records users users []
-nothing_cut records users = record { from = λ j k i. i; gone = λ e i. elim i [ ]; kept = λ j k i m. i }
 
 pub cut_step : (records : Key → Option (Record Key Value)) (start old new : Users) (entries : List Entry) (n : ℕ) (x : Entry) → x ≡ slice_index_or entries n x → n < length entries
     → (groups keep : List (List Key)) → groups ≡ asked x → keep ≡ groups_at (records x.key) → HasCut old new x.key (λ j. IsMember j groups) (λ j. IsMember j keep)
@@ -314,16 +301,3 @@ ready_flat start now x flat d e have f = record {
   groups = (λ i. map (named (e i)) flat) ∙ ap (groups_in start) f ∙ groups_back start d (asked x) have;
   within = subst (λ l. All (All (λ n. n < l)) flat) (sym (same_length start now e)) (subst (All (All (λ n. n < length start))) (sym f) (groups_below start d (asked x) have));
 }
-
--- two entries that ask for one another
-pub pair_ready : (records : Key → Option (Record Key Value)) (entries : List Entry) (x y : Entry) → entries ≡ x ∷ y ∷ [] → asked x ≡ (y.key ∷ []) ∷ [] → asked y ≡ (x.key ∷ []) ∷ [] → HasReadyEntries records entries
-pair_ready records entries x y is a b = subst (HasReadyEntries records) (sym is) ready
-  where
-    only : {k j : Key} {gs : List (List Key)} → gs ≡ (k ∷ []) ∷ [] → IsMember j gs → k ≡ j
-    only {j = j} e m = sym (in_one (subst (In j) (in_one (subst (In m.0) e m.1)) m.2))
-
-    ready : HasReadyEntries records (x ∷ y ∷ [])
-    ready e i j m = elim (in_cons i) [
-      | inl q ↦ inl (subst (λ k. In k (keys_of (x ∷ y ∷ []))) (only a (subst (λ (z : Entry). IsMember j (asked z)) (sym q) m)) (after first))
-      | inr n ↦ inl (subst (λ k. In k (keys_of (x ∷ y ∷ []))) (only b (subst (λ (z : Entry). IsMember j (asked z)) (in_one n) m)) first)
-    ]

@@ -163,9 +163,6 @@ module _ {X : Type 0} (old new : Key → List X) (member : Key) (key : X) (list 
   pub same_set : list ≡ old member → SameUsers old new
   same_set e j = elim (decide_key member j) [ inl q ↦ at_member j q ∙ e ∙ ap old q | inr n ↦ elsewhere j n ]
 
-pub unlinked_none : {X : Type 0} (users : Key → List X) (member : Key) (key : X) → users member ≡ [] → HasUnlinked users users member key
-unlinked_none users member key e = record { from = λ j k i. i; keeps = λ j k i. inl i; gone = λ i. not_in i e }
-
 -- more members
 module _ {X : Type 0} (old middle new : Key → List X) (key : X) (M : Key → Type 0) where
   pub linked_more : (m : Key) → HasLinkedSome old middle key M → HasLinked middle new m key → M m → HasLinkedSome old new key M
@@ -185,9 +182,6 @@ module _ {X : Type 0} (old middle new : Key → List X) (key : X) (M : Key → T
     from = λ j k x. elim (h.from j k x) [ inl y ↦ s.from j k y | inr y ↦ inr (f j y.0, y.1) ];
     keeps = λ j k x. h.keeps j k (s.keeps j k x);
   }
-
-pub linked_none : {X : Type 0} (users : Key → List X) (key : X) (M : Key → Type 0) → HasLinkedSome users users key M
-linked_none users key M = record { from = λ j k x. inl x; keeps = λ j k x. x }
 
 pub cut_none : {X : Type 0} (users : Key → List X) (key : X) (M K : Key → Type 0) → ((j : Key) → M j → ⊥) → HasCut users users key M K
 cut_none users key M K f = record { from = λ j k x. x; gone = λ j m. absurd (f j m); others = λ j k n x. x; kept = λ j k x. x }
@@ -304,10 +298,6 @@ one_linked_more old new key group n m e h l a j i = elim (in_taken group n m j e
 -- of one member it was a user
 pub one_linked_same : {X : Type 0} (users : Key → List X) (key : X) (group : List Key) (n : ℕ) (m : Key) → m ≡ slice_index_or group n m → n < length group → In key (users m) → HasLinkedAll users key (λ j. In j (take n group)) → HasLinkedAll users key (λ j. In j (take (n + 1) group))
 one_linked_same users key group n m e h l a j i = elim (in_taken group n m j e h i) [ inl x ↦ a j x | inr x ↦ subst (λ y. In key (users y)) x l ]
-
-pub group_linked_more : {X : Type 0} (old new : Key → List X) (key : X) (groups : List (Vec Key Global)) (n : ℕ) (g : Vec Key Global) → g ≡ slice_index_or groups n g → n < length groups → HasLinkedSome old new key (λ j. In j g.items) → HasLinkedAll new key (λ j. In j g.items)
-    → HasLinkedAll old key (λ j. IsMember j (items_of (take n groups))) → HasLinkedAll new key (λ j. IsMember j (items_of (take (n + 1) groups)))
-group_linked_more old new key groups n g e h s a b j i = elim (member_taken groups n g j e h i) [ inl x ↦ s.keeps j key (b j x) | inr x ↦ a j x ]
 
 pub group_some : {X : Type 0} (start old new : Key → List X) (key : X) (groups : List (Vec Key Global)) (n : ℕ) (g : Vec Key Global) → g ≡ slice_index_or groups n g → n < length groups → HasLinkedSome start old key (λ j. IsMember j (items_of groups)) → (items : List Key) → items ≡ g.items → HasLinkedSome old new key (λ j. In j items) → HasLinkedSome start new key (λ j. IsMember j (items_of groups))
 group_some start old new key groups n g e h s items q l = linked_some start old new key (λ j. IsMember j (items_of groups)) (λ j. In j items) s l (λ j i. group_member groups n g j e h (subst (In j) q i))

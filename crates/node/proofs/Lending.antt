@@ -7,7 +7,7 @@ use Rattle.std.proofs.lemmas.List.Elements.{All-head, All-tail}
 use Rattle.std.proofs.lemmas.Option.{slice_get-map}
 use Rattle.keys.specs.declared.key.Key.{Key}
 use Rattle.numbered.specs.Tables.{key_at}
-use Rattle.numbered.specs.Flats.{members_in, groups_in}
+use Rattle.numbered.specs.Flats.{members_in}
 use Rattle.node.specs.Records.{Records}
 use Rattle.node.proofs.Numbering.{key_there}
 
@@ -28,9 +28,3 @@ member_at records (m ∷ ns) a zero n k e h =
 member_at records (m ∷ ns) a (suc i) n k e h =
     let j = key_there records m (All-head (λ n. n < length records) m ns a) in
     ap (λ o. slice_get (option_to_list o ++ members_in records ns) (suc i)) j.1 ∙ member_at records ns (All-tail (λ n. n < length records) m ns a) i n k e h
-
-pub groups_length : (records : Records) (groups : List (List ℕ)) → length (groups_in records groups) ≡ length groups
-groups_length records groups = length-map groups (members_in records)
-
-pub group_at : (records : Records) (groups : List (List ℕ)) (i : ℕ) (group : List ℕ) → slice_get groups i ≡ Some group → slice_get (groups_in records groups) i ≡ Some (members_in records group)
-group_at records groups i group e = slice_get-map (members_in records) groups i ∙ ap (option_map (members_in records)) e

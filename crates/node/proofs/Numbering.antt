@@ -78,9 +78,6 @@ module _ {V : Type 0} where
   in_members es _ n k (first {xs = ns}) h = subst (λ o. In k (option_to_list o ++ members_in es ns)) (sym h) first
   in_members es _ n k (after {y = y} {xs = ns} i) h = in_right (option_to_list (key_at es y)) (in_members es ns n k i h)
 
-pub lists_none : (records : Records) (ns : List ℕ) → Lists records ns ns
-lists_none records ns = ([], sym (append-nil ns), All-nil (λ n. n < length records))
-
 pub lists_more : (start old : Records) (begun before now : List ℕ) → keys_of old ≡ keys_of start → Lists start begun before → Lists old before now → Lists start begun now
 lists_more start old begun before now e s t = (
   s.0 ++ t.0,

@@ -2,7 +2,7 @@
 use Rattle.std.proofs.Common.{◌≡◌, ◌⊎◌, inl, inr, ℕ, ◌+◌, ◌<◌, ◌≤◌, true, false, List, [], ◌∷◌, ◌++◌, Some, refl, sym, ◌∙◌, ap, subst, length, take, arith, append-nil, append_assoc, slice_index_or}
 use Rattle.std.proofs.lemmas.List.{take-append-le, length-append}
 use Rattle.std.proofs.Math.Seq.{take_all}
-use Rattle.evaluation.specs.Value.{In, first, after}
+use Rattle.evaluation.specs.Value.{In, first}
 use Rattle.std.specs.Map.{keys_of}
 use Rattle.numbered.specs.Tables.{Writes, key_at}
 use Rattle.numbered.specs.Flats.{members_in}
@@ -83,20 +83,6 @@ module _ (old new : Records) (before now : List Key) (key : Key) where
     grows = (reached_grows h).1 ∙ ap (λ xs. xs ++ (reached_grows h).0) s.grows ∙ append_assoc begun s.more (reached_grows h).0;
   }
 
--- no key yet
-pub some_none : (records : Records) (marked keys : List Key) → HasReachedSome records records marked marked keys
-some_none records marked keys = record {
-  marks = λ users leaves original m r. m;
-  still = λ k d. d;
-  same_keys = refl;
-  same_lists = λ j. refl;
-  more = [];
-  grows = sym (append-nil marked);
-}
-
-pub spread_none : (users : Users) (records : Records) (marked : List Key) → HasSpread users records records marked marked
-spread_none users records marked = record { marks = λ leaves original m. m; still = λ k d. d; same_keys = refl; same_lists = λ j. refl }
-
 module _ (users : Users) (start old new : Records) (begun before now : List Key) (j : Key) where
   -- from a listed key to its users
   pub spread_more : HasSpread users start old begun before → HasReachedSome old new before now (users_at users j) → In j before → HasSpread users start new begun now
@@ -126,32 +112,8 @@ module _ (users : Users) (old new : Records) (before now : List ℕ) (at n : ℕ
   pub within_more : at < length before → Lists old before now → at + 1 ≤ length now
   within_more l g = let e = ap length g.1 ∙ length-append before g.0 in omega arith
 
-pub passed_none : (users : Users) (records : Records) → HasPassed users records []
-passed_none users records j i = elim i [ ]
-
 pub all_passed : (users : Users) (records : Records) (marked : List ℕ) (at : ℕ) → HasPassed users records (members_in records (take at marked)) → length marked ≤ at → HasPassed users records (members_in records marked)
 all_passed users records marked at p h = subst (λ (ns : List ℕ). HasPassed users records (members_in records ns)) (take_all at marked h) p
-
--- one more of the keys that are gone over
-module _ (old new : Records) (before now : List Key) (keys left more : List Key) (key : Key) (e : left ≡ key ∷ more) where
-  in_rest : {k : Key} {zs : List Key} → In k zs → zs ≡ key ∷ more → (key ≡ k) ⊎ In k more
-  in_rest first h = inl (cc)
-  in_rest {k} (after {xs = ws} i) h = let q : ws ≡ more = cc in inr (subst (In k) q i)
-
-  pub all_more : HasReached old new before now key → ((k : Key) → In k keys → In k left ⊎ IsDirty old k) → (k : Key) → In k keys → In k more ⊎ IsDirty new k
-  all_more h f k i = elim (f k i) [
-    | inl a ↦ elim (in_rest a e) [ inl q ↦ inr (subst (IsDirty new) q (reached_dirty old new before now key h)) | inr b ↦ inl b ]
-    | inr d ↦ inr (reached_still old new before now key h k d)
-  ]
-
-  pub left_more : ((k : Key) → In k left → In k keys) → (k : Key) → In k more → In k keys
-  left_more f k i = f k (subst (In k) (sym e) (after i))
-
-  pub is_left : ((k : Key) → In k left → In k keys) → In key keys
-  is_left f = f key (subst (In key) (sym e) first)
-
-pub none_left : (records : Records) (keys left : List Key) → left ≡ [] → ((k : Key) → In k keys → In k left ⊎ IsDirty records k) → HasReachedAll records keys
-none_left records keys left e f k i = elim (f k i) [ inl a ↦ absurd (not_in a e) | inr d ↦ d ]
 
 -- from the leaves on, with nothing listed before
 pub from_leaves : (users : Users) (old middle : Records) (none listed leaves : List Key) → none ≡ [] → HasReachedSome old middle none listed leaves → Marked users leaves old middle listed

@@ -82,18 +82,6 @@ front_same [] ys n x h = absurd (none_some h)
 front_same (y ∷ xs) ys zero x h = h
 front_same (y ∷ xs) ys (suc n) x h = front_same xs ys n x h
 
--- what stands after the first word
-pub words_after : (gs : List (List ℕ)) (count : ℕ) (rest : List ℕ) → words_of gs ≡ count ∷ rest → rest ≡ ends 0 gs ++ concat gs
-words_after [] count rest h = cc
-words_after (g ∷ gs) count rest h = cc
-
-pub no_words : (gs : List (List ℕ)) → words_of gs ≡ [] → [] ≡ ends 0 gs ++ concat gs
-no_words [] h = refl
-no_words (g ∷ gs) h = cc
-
-pub end_among : (gs : List (List ℕ)) (i : ℕ) (g : List ℕ) (e : ℕ) → slice_get gs i ≡ Some g → slice_get (ends 0 gs ++ concat gs) i ≡ Some e → slice_get (ends 0 gs) i ≡ Some e
-end_among gs i g e h at = let p = end_is 0 gs i g h in let q = front_same (ends 0 gs) (concat gs) i ((0 + start gs i) + length g) p in p ∙ sym q ∙ at
-
 pub has_group : (gs : List (List ℕ)) (i : ℕ) → i < length gs → (g : List ℕ) × (slice_get gs i ≡ Some g)
 has_group [] i h = absurd (omega arith)
 has_group (g ∷ gs) zero h = (g, refl)

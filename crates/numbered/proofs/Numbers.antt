@@ -79,9 +79,6 @@ module _ {V : Type 0} where
   pub key_stays : (old new : List (Key × V)) → Grows old new → (k : Key) (n : ℕ) → key_at old n ≡ Some k → key_at new n ≡ Some k
   key_stays old new g k n h = ap (λ ks. slice_get ks n) g.keys ∙ front_same (keys_of old) g.more n k h
 
-  pub number_stays : (old new : List (Key × V)) → AreDistinct old → AreDistinct new → Grows old new → (k : Key) (n : ℕ) → number_of old k ≡ Some n → number_of new k ≡ Some n
-  number_stays old new d e g k n h = (number_iff new e k n).1 (key_stays old new g k n ((number_iff old d k n).0 h))
-
   -- a new key goes last
   pub pushed_last : (es : List (Key × V)) (k : Key) (v : V) → value_of es k ≡ None → insert_entry key_eq es k v ≡ es ++ (k, v) ∷ []
   pushed_last [] k v h = refl
@@ -155,14 +152,6 @@ module _ {V : Type 0} where
   pub others_pushed : (es : List (Key × V)) (k : Key) (v : V) (j : Key) → k ≢ j → value_of (es ++ (k, v) ∷ []) j ≡ value_of es j
   others_pushed [] k v j n = ap (λ b. cond b (Some v) None) (other_key j k (λ q. n (sym q)))
   others_pushed (e ∷ es) k v j n = ap (λ o. cond (key_eq j e.0) (Some e.1) o) (others_pushed es k v j n)
-
-  -- a write at the number of a key
-  pub written_at : (es new : List (Key × V)) (k : Key) (n : ℕ) (old v : V) → AreDistinct es → number_of es k ≡ Some n → new ≡ set_value_at es n v → Writes es new k v
-  written_at es new k n old v d h e = subst (λ l. Writes es l k v) (sym e) (written es n k v d ((number_iff es d k n).0 h))
-
-  -- the value with the number of a key is the key's
-  pub value_numbered : (es : List (Key × V)) (k : Key) (n : ℕ) (v : V) → AreDistinct es → number_of es k ≡ Some n → value_at es n ≡ Some v → value_of es k ≡ Some v
-  value_numbered es k n v d h at = value_by_number es d k n ((number_iff es d k n).0 h) ∙ at
 
   absent_value : (k : Key) (es : List (Key × V)) → AllByRecursion (λ y. key_eq k y ≡ false) (keys_of es) → value_of es k ≡ None
   absent_value k [] a = refl

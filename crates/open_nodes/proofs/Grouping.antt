@@ -121,13 +121,6 @@ module _ (records : Records) (k : Key) where
       behind (x ∷ xs) [] h = cc
       behind (x ∷ xs) (w ∷ vs) h = let t : plain_value (records x) ≡ Some w = cc in let r = behind xs vs (cc) in cc
 
-pub nothing_answered : (records : Records) (answers : List Value) → AnswersGroup records [] answers answers true
-nothing_answered records answers = ([], nil answers, refl)
-  where
-    nil : (xs : List Value) → xs ≡ xs ++ []
-    nil [] = refl
-    nil (x ∷ xs) = ap (λ z. x ∷ z) (nil xs)
-
 -- one group more
 pub group_answered : (records : Records) (groups : List (List Key)) (group : List Key) (old new : List Value) → AreAnswers records groups old → AnswersGroup records group old new true → AreAnswers records (groups ++ group ∷ []) new
 group_answered records groups group old new a g = behind groups ∙ ap (λ x. x ++ map (λ k. plain_value (records k)) group) a ∙ ap (λ x. map (λ v. Some v) old ++ x) g.2 ∙ sym (join old g.0) ∙ sym (ap (map (λ v. Some v)) g.1)
@@ -234,11 +227,6 @@ items_length (g ∷ gs) = ap suc (items_length gs)
 -- an element of a list, alone
 pub one_in : {X : Type 0} (xs : List X) (i : ℕ) (x : X) → x ≡ slice_index_or xs i x → i < length xs → {j : X} → In j (x ∷ []) → In j xs
 one_in xs i x e h {j = j} m = subst (λ y. In y xs) (sym (in_one m)) (in_at_is xs i x x e h)
-
-pub items_taken : (i : ℕ) (gs : List (Vec Key Global)) → items_of (take i gs) ≡ take i (items_of gs)
-items_taken zero gs = refl
-items_taken (suc i) [] = refl
-items_taken (suc i) (g ∷ gs) = ap (λ x. g.items ∷ x) (items_taken i gs)
 
 -- what there is from a place on
 pub rest_at : {X : Type 0} (xs : List X) (i : ℕ) (x : X) → x ≡ slice_index_or xs i x → i < length xs → drop i xs ≡ x ∷ drop (i + 1) xs

@@ -76,10 +76,6 @@ added_above (Some n) key old new a = record {
   has = after a.has;
 }
 
--- a key that is there is added
-pub added_there : (key : Key) (keys : List Key) → In key keys → IsAdded keys keys key
-added_there key keys i = record { from = λ k j. inl j; keeps = λ k j. j; has = i }
-
 pub removed_first : (next : Option Key) (key : Key) (rest : List Key) → next ≡ Some key → IsBelow next rest → IsRemoved (keys_of next rest) rest key
 removed_first None key rest q b = cc
 removed_first (Some n) key rest q b =

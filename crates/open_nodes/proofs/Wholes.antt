@@ -192,9 +192,6 @@ module _ (records later : Records) (nodes left : Nodes) (k : Key) (s : Record Ke
         }))
       ]
 
-pub widens_refl : (records : Records) (nodes : Nodes) → Widens records records nodes nodes
-widens_refl records nodes = record { clean = λ j s e d. e; open_still = λ j m e. e; same = λ j m e. refl }
-
 pub widens_on : (a b c : Records) (x y z : Nodes) → Widens a b x y → Widens b c y z → Widens a c x z
 widens_on a b c x y z f g = record {
   clean = λ j s e d. g.clean j s (f.clean j s e d) d;

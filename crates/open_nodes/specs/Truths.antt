@@ -44,9 +44,6 @@ module _ (next : Key → List Value → Reply Key Value) (read : Key → Option 
   abbrev pub IsReached : Key → Type 0
   IsReached k = Reached next cycle read past.roots k
 
-  abbrev pub AreReached : List Key → Type 0
-  AreReached keys = (k : Key) → In k keys → IsReached k
-
   -- the record is that of the entry, or the key was not settled at the entry and is now, since the roots reach it
   abbrev pub IsSince : GraphView → Key → Type 0
   IsSince graph k = (record_at graph k ≡ record_at past.entry k)

@@ -53,14 +53,6 @@ one_later w f p ps x xs plain h =
     let same : wild_matches w f (p ∷ ps) ≡ first_fits (f p) (wild_matches w f ps) = λ i ys. ap (λ b. cond b (some_end (wild_matches w f ps) ys) (first_fits (f p) (wild_matches w f ps) ys)) plain i in
     end_behind_first (f p) (wild_matches w f ps) x xs (ap (λ g. some_end g (x ∷ xs)) (sym same) ∙ h)
 
-pub one_fails : {P X : Type 0} (w : P → Bool) (f : P → X → Bool) (p : P) (ps : List P) (x : X) (xs : List X) → w p ≡ false → f p x ≡ false
-    → wild_matches w f (p ∷ ps) (x ∷ xs) ≡ false
-one_fails w f p ps x xs plain unfit =
-    ap (λ b. cond b (some_end (wild_matches w f ps) (x ∷ xs)) (f p x && wild_matches w f ps xs)) plain ∙ ap (λ b. b && wild_matches w f ps xs) unfit
-
-pub none_left : {P X : Type 0} (w : P → Bool) (f : P → X → Bool) (p : P) (ps : List P) → w p ≡ false → wild_matches w f (p ∷ ps) [] ≡ false
-none_left w f p ps plain = ap (λ b. cond b (wild_matches w f ps []) false) plain
-
 -- a piece that was found, where it ends the pattern with the list or a wild item is next
 pub found_here : {P X : Type 0} (w : P → Bool) (f : P → X → Bool) (ps rest : List P) (xs after : List X) → PieceFits w (wild_matches w f) ps xs rest after
     → (wild_matches w f rest after ≡ true) ⊎ (some_end (wild_matches w f rest) after ≡ wild_matches w f rest after)
@@ -82,10 +74,6 @@ pub wild_next : {P X : Type 0} (w : P → Bool) (f : P → X → Bool) (p : P) (
 wild_next w f p ps xs wild =
     let same : wild_matches w f (p ∷ ps) ≡ some_end (wild_matches w f ps) = λ i ys. ap (λ b. cond b (some_end (wild_matches w f ps) ys) (first_fits (f p) (wild_matches w f ps) ys)) wild i in
     ap (λ g. some_end g xs) same ∙ end_of_end (wild_matches w f ps) xs ∙ ap (λ g. g xs) (sym same)
-
-pub at_wild : {P X : Type 0} (w : P → Bool) (f : P → X → Bool) (p : P) (ps : List P) (xs : List X) → w p ≡ true
-    → wild_matches w f (p ∷ ps) xs ≡ some_end (wild_matches w f ps) xs
-at_wild w f p ps xs wild = ap (λ b. cond b (some_end (wild_matches w f ps) xs) (first_fits (f p) (wild_matches w f ps) xs)) wild
 
 -- a step of a piece, where the item and the list are given by equations
 pub step_same : {P X : Type 0} (w : P → Bool) (f : P → X → Bool) (qs ps : List P) (ys xs : List X) (p : P) (x : X) → qs ≡ p ∷ ps → ys ≡ x ∷ xs → w p ≡ false → f p x ≡ true

@@ -43,12 +43,6 @@ abbrev pub glob_below : (List ℕ → Bool) → List (List ℕ) → List ℕ →
 glob_below packages paths directory includes excludes =
     sorted_names (filter (λ rest. some_matches includes rest && not (some_matches excludes rest) && is_open packages directory rest) (filter_map (rest_below directory) paths))
 
--- the answer of a glob of the files in a package, and with directories of its directories too
-abbrev pub glob : Bool → Files → List ℕ → List (List (List ℕ)) → List (List (List ℕ)) → List (List ℕ)
-glob directories files package_name includes excludes = glob_below (is_package files) (sought directories (is_package files) (map.keys files)) package_name includes excludes
-
--- ---- what is asked for a pattern, as a text: the pattern, and with directories a space and `dirs` behind it
-
 abbrev pub is_space : ℕ → Bool
 is_space b = b == 32
 

@@ -2,7 +2,7 @@
 use Rattle.std.proofs.Common.{◌≡◌, ℕ, ◌+◌, ◌-◌, Bool, true, false, refl, ap, ◌∙◌, arith}
 use Rattle.std.specs.Prelude.{◌&&◌, nat_lt}
 use Rattle.std.proofs.lemmas.Bool.Decides.{nat_tests}
-use Rattle.quiet.specs.Making.{room, is_few}
+use Rattle.quiet.specs.Making.{room}
 
 grouped : (p q r : Bool) → ((p && q) && r) ≡ (p && (q && r))
 grouped true q r = refl
@@ -33,8 +33,3 @@ sliced p q r l m n k = ap (λ i. i - 1) (one_of_three p q r l m n k) ∙ one_mor
 pub nothing_left : (q : Bool) (m : ℕ) → room q m 0 ≡ 0
 nothing_left true m = omega arith
 nothing_left false m = refl
-
--- something is left of one more than the most
-pub few : (q : Bool) (m : ℕ) → nat_lt 0 (room q m 9) ≡ (q && is_few m)
-few true m = grind (arith, nat_tests)
-few false m = refl

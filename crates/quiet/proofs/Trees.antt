@@ -11,7 +11,6 @@ use Rattle.tree.specs.declared.stmt.Stmt.TheOpen.{Stmt-F}
 use Rattle.tree.specs.declared.stmt.Stmt.TheVariants as z
 use Rattle.tree.specs.declared.stmt.Branch.{Branch}
 use Rattle.tree.specs.Statements.{stmt_of, stmts_of, branch_trees, stmt_step, branch_step}
-use Rattle.tree.specs.declared.expr.Literal.{Literal}
 use Rattle.tree.specs.declared.expr.BinaryOp.{BinaryOp}
 use Rattle.tree.specs.declared.expr.UnaryOp.{UnaryOp}
 use Rattle.tree.specs.declared.expr.Expr.{Expr, fold-roll-Expr}
@@ -64,9 +63,6 @@ tree-Index a i = ap tree_of (sym (x.rolls-Index a i)) ∙ fold-roll-Expr Cl Ex c
 
 pub tree-Binary : (op : BinaryOp) (a b : Arc Expr Global) → tree_of (x.Binary op a b) ≡ t.binary op (shared_tree a) (shared_tree b)
 tree-Binary op a b = ap tree_of (sym (x.rolls-Binary op a b)) ∙ fold-roll-Expr Cl Ex clause_step expr_step (Expr-F.Binary op a b)
-
-pub tree-Literal : (l : Literal) → tree_of (x.Literal l) ≡ t.literal l
-tree-Literal l = ap tree_of (sym (x.rolls-Literal l)) ∙ fold-roll-Expr Cl Ex clause_step expr_step (Expr-F.Literal l)
 
 pub stmt-Eval : (l : ℕ) (e : Arc Expr Global) → stmt_of (z.Eval l e) ≡ t.eval l (shared_tree e)
 stmt-Eval l e = ap stmt_of (sym (z.rolls-Eval l e)) ∙ fold-roll-Stmt St Br stmt_step branch_step (Stmt-F.Eval l e)
